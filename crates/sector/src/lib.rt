@@ -1,0 +1,16 @@
+//! The units of every layer: sectors, chunks, runs of sectors, whole sectors of bytes, pairs of chunks,
+//! and why a call is refused. It stands on nothing, and promises that a `Range` lies inside its size.
+#![tactic(auto)]
+
+mod buf;
+mod pair;
+mod range;
+mod refusal;
+
+pub use buf::Buf;
+pub use pair::{Chunk, Pair, Sector};
+pub use range::Range;
+pub use refusal::Refusal;
+
+/// The bytes of a sector.
+pub const SECTOR_BYTES: usize = 512;
