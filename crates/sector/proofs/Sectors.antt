@@ -29,10 +29,10 @@ sectors_at-with_inside b first count new f c fits whole lo hi = same_lists _ _ (
 pub sector_after_write : (b : List ℕ) (first count : ℕ) (new : List ℕ) (s : ℕ) → 512 * first + length new ≤ length b → length new ≡ 512 * count → (sector_at (with_sectors b first new) s ≡ sector_at b s) ⊎ ((first ≤ s) × (s < first + count) × (sector_at (with_sectors b first new) s ≡ sector_at new (s - first)))
 sector_after_write b first count new s fits whole =
     elim (cases_lt s first) [
-      inl below ↦ inl (sectors_at-with_below b first new s 1 fits (omega arith))
-    | inr from ↦ elim (cases_lt s (first + count)) [
-        inl inside ↦ inr (from, inside, sectors_at-with_inside b first count new s 1 fits whole from (omega arith))
-      | inr past ↦ inl (sectors_at-with_above b first count new s 1 fits whole past)
+      | inl below ↦ inl (sectors_at-with_below b first new s 1 fits (omega arith))
+      | inr from ↦ elim (cases_lt s (first + count)) [
+        | inl inside ↦ inr (from, inside, sectors_at-with_inside b first count new s 1 fits whole from (omega arith))
+        | inr past ↦ inl (sectors_at-with_above b first count new s 1 fits whole past)
       ]
     ]
 
@@ -40,8 +40,8 @@ sector_after_write b first count new s fits whole =
 pub kept_or_written : (a b : List ℕ) (first count : ℕ) (new : List ℕ) (s : ℕ) (v : List ℕ) → a ≡ with_sectors b first new → 512 * first + length new ≤ length b → length new ≡ 512 * count → v ≡ sector_at a s → (v ≡ sector_at b s) ⊎ ((first ≤ s) × (s < first + count) × (v ≡ sector_at new (s - first)))
 kept_or_written a b first count new s v is fits whole h =
     elim (sector_after_write b first count new s fits whole) [
-      inl same ↦ inl (h ∙ ap (λ x. sector_at x s) is ∙ same)
-    | inr w ↦ inr (w.0, w.1, h ∙ ap (λ x. sector_at x s) is ∙ w.2)
+      | inl same ↦ inl (h ∙ ap (λ x. sector_at x s) is ∙ same)
+      | inr w ↦ inr (w.0, w.1, h ∙ ap (λ x. sector_at x s) is ∙ w.2)
     ]
 
 -- a vector after a write through its slice

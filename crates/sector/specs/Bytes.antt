@@ -5,9 +5,13 @@ use Rattle.std.specs.Prelude.{◌≡◌, ℕ, ◌+◌, ◌*◌, ◌%◌, ◌^◌
 abbrev pub sectors_at : List ℕ → ℕ → ℕ → List ℕ
 sectors_at bytes first count = take (512 * count) (drop (512 * first) bytes)
 
+-- the bytes with these in place from an offset on
+abbrev pub with_part : List ℕ → ℕ → List ℕ → List ℕ
+with_part bytes at part = take at bytes ++ (part ++ drop (at + length part) bytes)
+
 -- the bytes with these written from sector `first` on
 abbrev pub with_sectors : List ℕ → ℕ → List ℕ → List ℕ
-with_sectors bytes first new = take (512 * first) bytes ++ (new ++ drop (512 * first + length new) bytes)
+with_sectors bytes first new = with_part bytes (512 * first) new
 
 -- one sector
 abbrev pub sector_at : List ℕ → ℕ → List ℕ

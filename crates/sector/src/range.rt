@@ -41,3 +41,22 @@ impl Range {
         }
     }
 }
+
+#[cfg(test)]
+mod tests {
+    use super::*;
+
+    #[test]
+    fn ends_at_the_size_at_most(rt: HostRuntime) {
+        for (first, count, size, inside) in [
+            (0, 1, 1, true),
+            (0, 2, 1, false),
+            (1, 0, 1, true),
+            (2, 0, 1, false),
+            (u64::MAX, 1, u64::MAX, false),
+        ] {
+            let range = Range::new(first, count, size);
+            assert_eq!(rt; range.is_ok(), inside, "{count} from {first} of {size}");
+        }
+    }
+}

@@ -1,0 +1,4 @@
+pub mod Limits
+pub mod Chunks
+pub mod Cuts
+pub mod Whole

@@ -1,0 +1,8 @@
+-- The sizes of chunks. The kernel's admin-guide page on snapshots asks for a power of two; the limit is the
+-- project's own.
+use Rattle.std.specs.Prelude.{ℕ, Bool, ◌&&◌, nat_le}
+use Rattle.std.specs.Int.{is_power_of_two}
+
+-- a power of two from 1 to 1024
+abbrev pub is_chunk : ℕ → Bool
+is_chunk sectors = is_power_of_two sectors && nat_le sectors 1024

@@ -1,0 +1,5 @@
+pub mod Given
+pub mod Texts
+pub mod Words
+pub mod Numbers
+pub mod Names

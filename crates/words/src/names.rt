@@ -1,0 +1,89 @@
+// Names of devices.
+ghost use Rattle.std.specs.Prelude.{◌≡◌};
+ghost use Rattle.std.specs.List.{list_all};
+ghost use Rattle.std.specs.Str.{bytes_eq};
+ghost use Rattle.words.specs.Names.{is_name_byte, is_name, name_of};
+
+use sector::Refusal;
+use std::marker::Model;
+
+/// The name of a device: 1 to 16 of the characters a to z, 0 to 9 and `_`, the first of them a letter. Contracts
+/// see the list of its bytes. It takes no memory of the allocator.
+#[derive(Debug, Drop)]
+pub struct Name {
+    bytes: [u8; 16],
+    len: usize,
+}
+
+impl Model for Name {
+    ghost use Rattle.std.specs.Prelude.{ℕ, List, ◌≡◌, ◌≤◌, take, true};
+
+    ghost Value = { List ℕ };
+
+    ghost use Rattle.words.specs.Names.{is_name};
+
+    ghost view = { λ n. take n.len n.bytes };
+
+    ghost invariant = { λ n. (n.len ≤ 16) × (is_name (take n.len n.bytes) ≡ true) };
+}
+
+fn is_name_character(byte: u8) -> bool
+    ensures { result ≡ is_name_byte byte }
+{
+    byte.is_ascii_lowercase() || byte.is_ascii_digit() || byte == b'_'
+}
+
+fn are_name_characters(word: &[u8]) -> bool
+    ensures { result ≡ list_all is_name_byte word.now }
+{
+    word.iter().all(|byte| is_name_character(*byte))
+}
+
+/// Whether a word has the form of a name.
+pub fn is_a_name(word: &[u8]) -> bool
+    ensures { result ≡ is_name word.now }
+{
+    !word.is_empty()
+        && word.len() <= 16
+        && word[0].is_ascii_lowercase()
+        && are_name_characters(word)
+}
+
+impl Name {
+    /// The name that a word says. `BadTable` for a word that is no name.
+    pub fn new(word: &[u8]) -> Result<Name, Refusal>
+        ensures { result ≡ name_of word.now }
+    {
+        if !is_a_name(word) {
+            return Err(Refusal::BadTable);
+        }
+        let mut bytes = [0u8; 16];
+        let len = word.len();
+        bytes[..len].copy_from_slice(word);
+        Ok(Name { bytes, len })
+    }
+
+    /// Another with the same bytes.
+    pub fn copy(&self) -> Name
+        ensures { result ≡ self.now }
+    {
+        Name {
+            bytes: self.bytes,
+            len: self.len,
+        }
+    }
+
+    /// Its bytes.
+    pub fn as_slice(&self) -> &[u8]
+        ensures { result.now ≡ self.now }
+    {
+        &self.bytes[..self.len]
+    }
+
+    /// Whether both have the same bytes.
+    pub fn is_same(&self, other: &Name) -> bool
+        ensures { result ≡ bytes_eq self.now other.now }
+    {
+        self.as_slice() == other.as_slice()
+    }
+}
