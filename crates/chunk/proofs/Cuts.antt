@@ -1,11 +1,10 @@
 -- The pieces of a span, from the first on.
-use Rattle.std.proofs.Common.{◌≡◌, ℕ, zero, suc, ◌+◌, ◌-◌, ◌*◌, ◌/◌, ◌%◌, ◌<◌, ◌≤◌, min, max, List, [], ◌∷◌, map, arith, refl, ap, sym, ◌∙◌, inl, inr}
+use Rattle.std.proofs.Common.{◌≡◌, ℕ, zero, suc, ◌+◌, ◌-◌, ◌*◌, ◌/◌, ◌%◌, ◌<◌, ◌≤◌, min, [], ◌∷◌, map, arith, refl, ap, sym, ◌∙◌, inl, inr}
 use Rattle.std.specs.List.{range_with_len}
-use Rattle.std.proofs.lemmas.Grind.{common_steps}
 use Rattle.std.proofs.lemmas.Bool.{cases_lt}
 use borrow.Author.Tests.{tests}
 use Rattle.chunk.specs.Pieces.{Span, part_in, touched, pieces_of}
-use Rattle.chunk.proofs.Chunks.{chunk_begins, chunk_ends, in_chunk, chunk_order, next_border, same_chunk}
+use Rattle.chunk.proofs.Chunks.{chunk_begins, in_chunk, chunk_order, next_border, same_chunk}
 
 -- spans are the same where they say the same
 span_same : (f c z f' c' z' : ℕ) → f ≡ f' → c ≡ c' → z ≡ z' → (let s : Span = record { first = f; count = c; size = z } in s) ≡ record { first = f'; count = c'; size = z' }
@@ -57,23 +56,23 @@ pub pieces_first : (chunk : ℕ) (s : Span) (n : ℕ) → 0 < chunk → 0 < s.co
 pieces_first chunk s n some full is =
     let rest : Span = record { first = s.first + n; count = s.count - n; size = s.size } in
     elim (cases_lt (chunk - s.first % chunk) s.count) [
-      inl more ↦
-        let c : ℕ = s.first / chunk in
-        let border : s.first + n ≡ chunk * (c + 1) = omega (arith, next_border chunk s.first some) in
-        let next : (s.first + n) / chunk ≡ c + 1 = in_chunk chunk (c + 1) (s.first + n) (omega arith) (omega arith) in
-        let end : s.first + n + (s.count - n) - 1 ≡ s.first + s.count - 1 = omega arith in
-        let last : (s.first + n + (s.count - n) - 1) / chunk ≡ (s.first + s.count - 1) / chunk = ap (λ x. x / chunk) end in
-        let order : (s.first + n) / chunk ≤ (s.first + s.count - 1) / chunk = chunk_order chunk (s.first + n) (s.first + s.count - 1) some (omega arith) in
-        let count : touched chunk s ≡ touched chunk rest + 1 = omega (arith, touched_some chunk s full, touched_some chunk rest (omega arith)) in
-        let first : part_in chunk s c ≡ record { first = s.first; count = n; size = s.size } = part_first chunk s n some is in
-        let same : map (part_in chunk s) (range_with_len (c + 1) (touched chunk rest)) ≡ map (part_in chunk rest) (range_with_len (c + 1) (touched chunk rest)) = parts_same chunk s rest (touched chunk rest) (c + 1) refl (omega arith) (omega arith) (omega arith) in
-        let whole : pieces_of chunk s ≡ map (part_in chunk s) (range_with_len c (suc (touched chunk rest))) = pieces_are chunk s c (suc (touched chunk rest)) refl (omega arith) in
-        let others : pieces_of chunk rest ≡ map (part_in chunk rest) (range_with_len (c + 1) (touched chunk rest)) = pieces_are chunk rest (c + 1) (touched chunk rest) next refl in
-        cc
-    | inr all ↦
-        let e : n ≡ s.count = omega arith in
-        let one : pieces_of chunk s ≡ s ∷ [] = pieces_one chunk s some full all in
-        let whole : s ≡ record { first = s.first; count = n; size = s.size } = span_same _ _ _ _ _ _ refl (sym e) refl in
-        let none : pieces_of chunk rest ≡ [] = pieces_none chunk rest (omega arith) in
-        cc
+      | inl more ↦
+          let c : ℕ = s.first / chunk in
+          let border : s.first + n ≡ chunk * (c + 1) = omega (arith, next_border chunk s.first some) in
+          let next : (s.first + n) / chunk ≡ c + 1 = in_chunk chunk (c + 1) (s.first + n) (omega arith) (omega arith) in
+          let end : s.first + n + (s.count - n) - 1 ≡ s.first + s.count - 1 = omega arith in
+          let last : (s.first + n + (s.count - n) - 1) / chunk ≡ (s.first + s.count - 1) / chunk = ap (λ x. x / chunk) end in
+          let order : (s.first + n) / chunk ≤ (s.first + s.count - 1) / chunk = chunk_order chunk (s.first + n) (s.first + s.count - 1) some (omega arith) in
+          let count : touched chunk s ≡ touched chunk rest + 1 = omega (arith, touched_some chunk s full, touched_some chunk rest (omega arith)) in
+          let first : part_in chunk s c ≡ record { first = s.first; count = n; size = s.size } = part_first chunk s n some is in
+          let same : map (part_in chunk s) (range_with_len (c + 1) (touched chunk rest)) ≡ map (part_in chunk rest) (range_with_len (c + 1) (touched chunk rest)) = parts_same chunk s rest (touched chunk rest) (c + 1) refl (omega arith) (omega arith) (omega arith) in
+          let whole : pieces_of chunk s ≡ map (part_in chunk s) (range_with_len c (suc (touched chunk rest))) = pieces_are chunk s c (suc (touched chunk rest)) refl (omega arith) in
+          let others : pieces_of chunk rest ≡ map (part_in chunk rest) (range_with_len (c + 1) (touched chunk rest)) = pieces_are chunk rest (c + 1) (touched chunk rest) next refl in
+          cc
+      | inr all ↦
+          let e : n ≡ s.count = omega arith in
+          let one : pieces_of chunk s ≡ s ∷ [] = pieces_one chunk s some full all in
+          let whole : s ≡ record { first = s.first; count = n; size = s.size } = span_same _ _ _ _ _ _ refl (sym e) refl in
+          let none : pieces_of chunk rest ≡ [] = pieces_none chunk rest (omega arith) in
+          cc
     ]

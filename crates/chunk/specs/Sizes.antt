@@ -1,5 +1,4 @@
--- The sizes of chunks. The kernel's admin-guide page on snapshots asks for a power of two; the limit is the
--- project's own.
+-- The sizes of chunks. The kernel's snapshots take powers of two; the limit is this project's own.
 use Rattle.std.specs.Prelude.{ℕ, Bool, ◌&&◌, nat_le}
 use Rattle.std.specs.Int.{is_power_of_two}
 

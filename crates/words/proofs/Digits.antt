@@ -1,9 +1,8 @@
 -- A number read from its first digit on.
-use Rattle.std.proofs.Common.{◌≡◌, ℕ, ◌+◌, ◌*◌, ◌-◌, ◌<◌, ◌≤◌, List, [], ◌∷◌, length, get_or, drop, true, Bool, sym, ap, ◌∙◌, drop-cons, add-one, rules, arith}
+use Rattle.std.proofs.Common.{◌≡◌, ℕ, ◌+◌, ◌*◌, ◌-◌, ◌<◌, ◌≤◌, List, ◌∷◌, length, get_or, drop, true, sym, ap, ◌∙◌, drop-cons, add-one, arith}
 use Rattle.std.specs.List.{list_all}
 use Rattle.std.specs.Char.{is_ascii_digit}
 use Rattle.words.specs.Numbers.{number_after}
-use Rattle.std.proofs.lemmas.Grind.{common_steps}
 use borrow.Author.Tests.{tests}
 
 pub digit_head : (d : ℕ) (ds : List ℕ) → list_all is_ascii_digit (d ∷ ds) ≡ true → (48 ≤ d) × (d ≤ 57) × (list_all is_ascii_digit ds ≡ true)

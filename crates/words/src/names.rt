@@ -1,5 +1,5 @@
 // Names of devices.
-ghost use Rattle.std.specs.Prelude.{◌≡◌};
+ghost use Rattle.std.specs.Prelude.{◌≡◌, true, IfOk};
 ghost use Rattle.std.specs.List.{list_all};
 ghost use Rattle.std.specs.Str.{bytes_eq};
 ghost use Rattle.words.specs.Names.{is_name_byte, is_name, name_of};
@@ -52,7 +52,8 @@ pub fn is_a_name(word: &[u8]) -> bool
 impl Name {
     /// The name that a word says. `BadTable` for a word that is no name.
     pub fn new(word: &[u8]) -> Result<Name, Refusal>
-        ensures { result ≡ name_of word.now }
+        ensures name { result ≡ name_of word.now }
+        ensures form { IfOk result (λ name. is_name name ≡ true) }
     {
         if !is_a_name(word) {
             return Err(Refusal::BadTable);

@@ -1,0 +1,102 @@
+-- What the words of a command line say. The commands are this project's own choice; the table line after
+-- `create` is the kernel's. In each command every word's form is looked at first (BadTable), then the chunk of
+-- a table line (BadChunk), then the number of sectors (OutOfRange).
+use Rattle.std.specs.Prelude.{ℕ, List, [], ◌∷◌, if◌then◌else◌, Result, Ok, Err, codes}
+use Rattle.std.specs.Str.{bytes_eq}
+use Rattle.sector.specs.declared.refusal.Refusal.{Refusal}
+use Rattle.sector.specs.declared.refusal.Refusal.TheVariants.{BadTable}
+use Rattle.words.specs.Given.{◌>>=◌}
+use Rattle.words.specs.Names.{name_of}
+use Rattle.words.specs.Numbers.{numeral_of}
+use Rattle.command.specs.Words.{sectors_of}
+use Rattle.command.specs.DataWords.{payload_of}
+use Rattle.command.specs.TableLine.{table_line_of}
+use Rattle.command.specs.declared.grammar.Command.{Command}
+use Rattle.command.specs.declared.grammar.Command.TheVariants.{Disk, Create, Remove, Load, Save, Read, Write, Status}
+
+-- a name and a first sector
+abbrev pub place_of : List ℕ → List ℕ → Result (List ℕ × ℕ) Refusal
+place_of name first = do
+  name ← name_of name
+  first ← numeral_of first
+  Ok (name, first)
+
+-- a number of sectors alone
+abbrev pub amount_of : List (List ℕ) → Result ℕ Refusal
+amount_of (count ∷ []) = numeral_of count >>= sectors_of
+amount_of words = Err BadTable
+
+-- a name, a first sector and a number of sectors
+abbrev pub span_of : List (List ℕ) → Result (List ℕ × ℕ × ℕ) Refusal
+span_of (name ∷ first ∷ words) = do
+  place ← place_of name first
+  count ← amount_of words
+  Ok (place.0, place.1, count)
+span_of words = Err BadTable
+
+-- a name, a first sector and the bytes of sectors
+abbrev pub patch_of : List (List ℕ) → Result (List ℕ × ℕ × List ℕ) Refusal
+patch_of (name ∷ first ∷ words) = do
+  place ← place_of name first
+  bytes ← payload_of words
+  Ok (place.0, place.1, bytes)
+patch_of words = Err BadTable
+
+-- a name alone
+abbrev pub alone_of : List (List ℕ) → Result (List ℕ) Refusal
+alone_of (name ∷ []) = name_of name
+alone_of words = Err BadTable
+
+-- `disk NAME N`
+abbrev pub disk_of : List (List ℕ) → Result Command Refusal
+disk_of (name ∷ sectors ∷ []) = do
+  name ← name_of name
+  sectors ← numeral_of sectors
+  Ok (Disk name sectors)
+disk_of words = Err BadTable
+
+-- `create NAME LINE`
+abbrev pub create_of : List (List ℕ) → Result Command Refusal
+create_of (name ∷ words) = do
+  name ← name_of name
+  line ← table_line_of words
+  Ok (Create name line)
+create_of words = Err BadTable
+
+-- `remove NAME`
+abbrev pub remove_of : List (List ℕ) → Result Command Refusal
+remove_of words = alone_of words >>= λ name. Ok (Remove name)
+
+-- `load DISK S DATA`
+abbrev pub load_of : List (List ℕ) → Result Command Refusal
+load_of words = patch_of words >>= λ patch. Ok (Load patch.0 patch.1 patch.2)
+
+-- `save DISK S N`
+abbrev pub save_of : List (List ℕ) → Result Command Refusal
+save_of words = span_of words >>= λ span. Ok (Save span.0 span.1 span.2)
+
+-- `read DEV S N`
+abbrev pub read_of : List (List ℕ) → Result Command Refusal
+read_of words = span_of words >>= λ span. Ok (Read span.0 span.1 span.2)
+
+-- `write DEV S DATA`
+abbrev pub write_of : List (List ℕ) → Result Command Refusal
+write_of words = patch_of words >>= λ patch. Ok (Write patch.0 patch.1 patch.2)
+
+-- `status DEV`
+abbrev pub status_of : List (List ℕ) → Result Command Refusal
+status_of words = alone_of words >>= λ name. Ok (Status name)
+
+-- the command that some words say; an unknown one is BadTable
+abbrev pub command_of : List (List ℕ) → Result Command Refusal
+command_of [] = Err BadTable
+command_of (verb ∷ words) =
+    if bytes_eq verb (codes "disk") then disk_of words else
+    if bytes_eq verb (codes "create") then create_of words else
+    if bytes_eq verb (codes "remove") then remove_of words else
+    if bytes_eq verb (codes "load") then load_of words else
+    if bytes_eq verb (codes "save") then save_of words else
+    if bytes_eq verb (codes "read") then read_of words else
+    if bytes_eq verb (codes "write") then write_of words else
+    if bytes_eq verb (codes "status") then status_of words else
+    Err BadTable

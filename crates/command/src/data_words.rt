@@ -1,0 +1,154 @@
+// Data words, `COUNT*HH` each.
+ghost use Rattle.std.specs.Prelude.{◌≡◌, ◌≤◌, ◌<◌, ◌+◌, ◌*◌, ◌^◌, ◌++◌, length, replicate, true, OnOk, IfOk, IfSome, vec_len};
+ghost use Rattle.words.specs.Given.{Gives};
+ghost use Rattle.words.specs.Texts.{texts};
+ghost use Rattle.command.specs.Words.{sectors_of};
+ghost use Rattle.command.specs.DataWords.{is_hex, hex_value, run_of, are_runs, total, data_of, size_of, payload_of};
+
+use sector::{Buf, Refusal, SECTOR_BYTES};
+use std::alloc::{AllocError, Global};
+use words::number;
+
+/// The greatest count of a data word.
+const LONGEST_RUN: u32 = 1_048_576;
+
+/// The most sectors that one command reads or writes.
+const MOST_SECTORS: u32 = 2048;
+
+/// Equal bytes.
+#[derive(Clone, Copy)]
+pub struct Run {
+    pub count: u32,
+    pub byte: u8,
+}
+
+fn is_hex_digit(c: u8) -> bool
+    ensures { result ≡ is_hex c }
+{
+    c.is_ascii_digit() || (b'a' <= c && c <= b'f')
+}
+
+fn hex_number(c: u8) -> u8
+    requires { is_hex c ≡ true }
+    ensures value { result ≡ hex_value c }
+    ensures small { result < 16 }
+{
+    if c.is_ascii_digit() {
+        c - b'0'
+    } else {
+        c - b'a' + 10
+    }
+}
+
+/// The run that a word says.
+fn run_in(word: &[u8]) -> Option<Run>
+    ensures value { result ≡ run_of word.now }
+    ensures small { IfSome result (λ run. run.count ≤ 1048576) }
+{
+    let end = word.len();
+    if end < 4 {
+        return None;
+    }
+    let count = number(&word[..end - 3])?;
+    let (star, high, low) = (word[end - 3], word[end - 2], word[end - 1]);
+    if 0 < count
+        && count <= LONGEST_RUN
+        && star == b'*'
+        && is_hex_digit(high)
+        && is_hex_digit(low)
+    {
+        let byte = 16 * hex_number(high) + hex_number(low);
+        Some(Run { count, byte })
+    } else {
+        None
+    }
+}
+
+/// Whether each word is a run.
+fn are_all_runs(words: &[&[u8]]) -> bool
+    ensures { result ≡ are_runs (texts words.now) }
+{
+    for word in words {
+        if run_in(word).is_none() {
+            return false;
+        }
+    }
+    true
+}
+
+/// How many bytes the runs say.
+fn size_in(words: &[&[u8]]) -> u64
+    requires { length words.now ≤ 1048576 }
+    ensures total { result ≡ total (texts words.now) }
+    ensures small { result ≤ 2 ^ 40 }
+{
+    let mut size = 0u64;
+    for word in words {
+        size += match run_in(word) {
+            Some(run) => u64::from(run.count),
+            None => 0,
+        };
+    }
+    size
+}
+
+/// Adds equal bytes at the end.
+fn push_run(out: &mut Vec<u8>, run: Run) -> Result<(), AllocError>
+    requires { vec_len out.old + run.count < 2 ^ 64 }
+    ensures { OnOk result (out.new.items ≡ out.old.items ++ replicate run.count run.byte) }
+{
+    out.resize(out.len() + run.count as usize, run.byte)?;
+    Ok(())
+}
+
+/// The bytes that the runs say, in a vector made with room for `size` of them.
+fn data_in(alloc: Global, words: &[&[u8]], size: usize) -> Result<Vec<u8>, AllocError>
+    requires { length words.now ≤ 1048576 }
+    ensures { IfOk result (λ v. v.items ≡ data_of (texts words.now)) }
+{
+    let mut out = Vec::with_capacity(alloc, size)?;
+    for word in words {
+        if let Some(run) = run_in(word) {
+            push_run(&mut out, run)?;
+        }
+    }
+    Ok(out)
+}
+
+/// A number of sectors that one command may move: 1 to 2048, else `OutOfRange`.
+pub fn sectors(count: u32) -> Result<u32, Refusal>
+    ensures { result ≡ sectors_of count }
+{
+    if 0 < count && count <= MOST_SECTORS {
+        Ok(count)
+    } else {
+        Err(Refusal::OutOfRange)
+    }
+}
+
+/// How many bytes data words say for a command. `BadTable` where there is no word, where one has another form, or
+/// where they don't fill whole sectors, and then `OutOfRange` for more than 2048 sectors.
+fn payload_size(words: &[&[u8]]) -> Result<usize, Refusal>
+    requires { length words.now ≤ 1048576 }
+    ensures { result ≡ size_of (texts words.now) }
+{
+    if words.is_empty() || !are_all_runs(words) {
+        return Err(Refusal::BadTable);
+    }
+    let size = size_in(words);
+    if size % SECTOR_BYTES as u64 != 0 {
+        return Err(Refusal::BadTable);
+    }
+    sectors((size / SECTOR_BYTES as u64) as u32)?;
+    Ok(size as usize)
+}
+
+/// The bytes of the sectors that data words say. Refused as `payload_size` is; then `NoMemory`.
+pub fn payload(alloc: Global, words: &[&[u8]]) -> Result<Buf, Refusal>
+    requires { length words.now ≤ 1048576 }
+    ensures { Gives result (payload_of (texts words.now)) }
+{
+    let size = payload_size(words)?;
+    let bytes = data_in(alloc, words, size).map_err(|_| Refusal::NoMemory)?;
+    Ok(Buf::from_vec(bytes))
+}

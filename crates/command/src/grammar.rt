@@ -1,0 +1,223 @@
+// The commands, and the words that say them.
+ghost use Rattle.std.specs.Prelude.{◌≡◌, ◌≤◌, length};
+ghost use Rattle.words.specs.Given.{Gives};
+ghost use Rattle.words.specs.Texts.{texts};
+ghost use Rattle.command.specs.Grammar.{place_of, amount_of, span_of, patch_of, alone_of, disk_of, create_of, remove_of, load_of, save_of, read_of, write_of, status_of, command_of};
+
+use super::data_words::{payload, sectors};
+use super::table_line::{TableLine, table_line};
+use sector::{Buf, Refusal};
+use std::alloc::Global;
+use words::{Name, numeral};
+
+/// A command. Numbers of sectors and places are in sectors; bytes are whole sectors.
+#[derive(Debug, Drop)]
+pub enum Command {
+    /// `disk NAME N`: a disk of N zero sectors. Any N stands here, also one outside the limits of disks.
+    Disk {
+        name: Name,
+        sectors: u32,
+    },
+    /// `create NAME LINE`: a device by its table line.
+    Create {
+        name: Name,
+        line: TableLine,
+    },
+    /// `remove NAME`: takes a device away.
+    Remove {
+        name: Name,
+    },
+    /// `load DISK S DATA`: writes raw sectors of a disk. 1 to 2048 of them.
+    Load {
+        disk: Name,
+        first: u32,
+        bytes: Buf,
+    },
+    /// `save DISK S N`: prints raw sectors of a disk. `count` is 1 to 2048.
+    Save {
+        disk: Name,
+        first: u32,
+        count: u32,
+    },
+    /// `read DEV S N`: reads an origin or snapshot. `count` is 1 to 2048.
+    Read {
+        device: Name,
+        first: u32,
+        count: u32,
+    },
+    /// `write DEV S DATA`: writes an origin or snapshot. 1 to 2048 sectors.
+    Write {
+        device: Name,
+        first: u32,
+        bytes: Buf,
+    },
+    /// `status DEV`: prints the status line.
+    Status {
+        device: Name,
+    },
+}
+
+fn place(name: &[u8], first: &[u8]) -> Result<(Name, u32), Refusal>
+    ensures { result ≡ place_of name.now first.now }
+{
+    let name = Name::new(name)?;
+    let first = numeral(first)?;
+    Ok((name, first))
+}
+
+fn amount(words: &[&[u8]]) -> Result<u32, Refusal>
+    ensures { result ≡ amount_of (texts words.now) }
+{
+    match words {
+        [count] => {
+            let count = numeral(count)?;
+            sectors(count)
+        }
+        _ => Err(Refusal::BadTable),
+    }
+}
+
+#[tactic(auto, using(crate::proofs::Counts::span_short))]
+fn span(words: &[&[u8]]) -> Result<(Name, u32, u32), Refusal>
+    ensures { result ≡ span_of (texts words.now) }
+{
+    match words {
+        [name, first, words @ ..] => {
+            let (name, first) = place(name, first)?;
+            let count = amount(words)?;
+            Ok((name, first, count))
+        }
+        _ => Err(Refusal::BadTable),
+    }
+}
+
+#[tactic(auto, using(crate::proofs::Counts::patch_short))]
+fn patch(alloc: Global, words: &[&[u8]]) -> Result<(Name, u32, Buf), Refusal>
+    requires { length words.now ≤ 1048576 }
+    ensures { Gives result (patch_of (texts words.now)) }
+{
+    match words {
+        [name, first, words @ ..] => {
+            let (name, first) = place(name, first)?;
+            let bytes = payload(alloc, words)?;
+            Ok((name, first, bytes))
+        }
+        _ => Err(Refusal::BadTable),
+    }
+}
+
+fn alone(words: &[&[u8]]) -> Result<Name, Refusal>
+    ensures { result ≡ alone_of (texts words.now) }
+{
+    match words {
+        [name] => Name::new(name),
+        _ => Err(Refusal::BadTable),
+    }
+}
+
+fn disk(words: &[&[u8]]) -> Result<Command, Refusal>
+    ensures { result ≡ disk_of (texts words.now) }
+{
+    match words {
+        [name, sectors] => {
+            let name = Name::new(name)?;
+            let sectors = numeral(sectors)?;
+            Ok(Command::Disk { name, sectors })
+        }
+        _ => Err(Refusal::BadTable),
+    }
+}
+
+fn create(words: &[&[u8]]) -> Result<Command, Refusal>
+    ensures { result ≡ create_of (texts words.now) }
+{
+    match words {
+        [name, words @ ..] => {
+            let name = Name::new(name)?;
+            let line = table_line(words)?;
+            Ok(Command::Create { name, line })
+        }
+        _ => Err(Refusal::BadTable),
+    }
+}
+
+fn remove(words: &[&[u8]]) -> Result<Command, Refusal>
+    ensures { result ≡ remove_of (texts words.now) }
+{
+    let name = alone(words)?;
+    Ok(Command::Remove { name })
+}
+
+fn load(alloc: Global, words: &[&[u8]]) -> Result<Command, Refusal>
+    requires { length words.now ≤ 1048576 }
+    ensures { Gives result (load_of (texts words.now)) }
+{
+    let (disk, first, bytes) = patch(alloc, words)?;
+    Ok(Command::Load { disk, first, bytes })
+}
+
+fn save(words: &[&[u8]]) -> Result<Command, Refusal>
+    ensures { result ≡ save_of (texts words.now) }
+{
+    let (disk, first, count) = span(words)?;
+    Ok(Command::Save { disk, first, count })
+}
+
+fn read(words: &[&[u8]]) -> Result<Command, Refusal>
+    ensures { result ≡ read_of (texts words.now) }
+{
+    let (device, first, count) = span(words)?;
+    Ok(Command::Read {
+        device,
+        first,
+        count,
+    })
+}
+
+fn write(alloc: Global, words: &[&[u8]]) -> Result<Command, Refusal>
+    requires { length words.now ≤ 1048576 }
+    ensures { Gives result (write_of (texts words.now)) }
+{
+    let (device, first, bytes) = patch(alloc, words)?;
+    Ok(Command::Write {
+        device,
+        first,
+        bytes,
+    })
+}
+
+fn status(words: &[&[u8]]) -> Result<Command, Refusal>
+    ensures { result ≡ status_of (texts words.now) }
+{
+    let device = alone(words)?;
+    Ok(Command::Status { device })
+}
+
+/// The command that some words say.
+pub fn command_in(alloc: Global, words: &[&[u8]]) -> Result<Command, Refusal>
+    requires { length words.now ≤ 1048576 }
+    ensures { Gives result (command_of (texts words.now)) }
+{
+    let Some((verb, words)) = words.split_first() else {
+        return Err(Refusal::BadTable);
+    };
+    if *verb == b"disk".as_slice() {
+        disk(words)
+    } else if *verb == b"create".as_slice() {
+        create(words)
+    } else if *verb == b"remove".as_slice() {
+        remove(words)
+    } else if *verb == b"load".as_slice() {
+        load(alloc, words)
+    } else if *verb == b"save".as_slice() {
+        save(words)
+    } else if *verb == b"read".as_slice() {
+        read(words)
+    } else if *verb == b"write".as_slice() {
+        write(alloc, words)
+    } else if *verb == b"status".as_slice() {
+        status(words)
+    } else {
+        Err(Refusal::BadTable)
+    }
+}

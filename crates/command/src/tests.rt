@@ -1,0 +1,182 @@
+// Lines, and what they say by the rules as they are written for users.
+use super::*;
+use sector::Refusal;
+use std::test::Fail;
+
+#[test]
+fn refuses_each_line_with_its_first_refusal(rt: HostRuntime) {
+    let bad_table = [
+        "tick",
+        "disk",
+        "disk d",
+        "disk d 8 9",
+        "disk D 8",
+        "disk _d 8",
+        "disk 9d 8",
+        "disk abcdefghijklmnopq 8",
+        "disk d 4294967296",
+        "disk d 00000000008",
+        "disk d +8",
+        "disk d 8\t",
+        "disk d 8\r",
+        "Disk d 8",
+        " # disk d 8",
+        "read vol 0",
+        "read vol 0 0 0",
+        "read Vol 0 0",
+        "read vol x 0",
+        "save d 0 2049 2049",
+        "write vol 0",
+        "write vol 0 511*aa",
+        "write vol 0 512*AA",
+        "write vol 0 512*a",
+        "write vol 0 512aa",
+        "write vol 0 0*aa",
+        "write vol 0 1048577*00",
+        "write vol 0 512*aa x",
+        "write vol 0 1048576*00 1048576*00 1*00",
+        "load Disk 0 1048576*00 1048576*00",
+        "remove",
+        "remove a b",
+        "status",
+        "status a b",
+        "create",
+        "create o",
+        "create o 0 128",
+        "create o 00 128 snapshot-origin base",
+        "create o 1 128 snapshot-origin base",
+        "create o 0 128 snapshot-origin base 0",
+        "create o 0 128 snapshot-origin Base",
+        "create m 0 128 snapshot-merge base cow P 3",
+        "create s 0 128 snapshot base cow N 8",
+        "create s 0 128 snapshot base cow p 8",
+        "create s 0 128 snapshot base cow P",
+        "create s 0 128 snapshot base cow P x",
+        "create s 0 128 snapshot base cow P 4294967296",
+        "create s 0 128 snapshot base cow P 3 1",
+        "create s 0 128 snapshot base cow P 3 00",
+        "create s 0 128 snapshot base cow P 3 0 0",
+        "create S 0 128 snapshot base cow P 3",
+    ];
+    let bad_chunk = [
+        "create s 0 128 snapshot base cow P 3",
+        "create s 0 128 snapshot base cow P 0",
+        "create s 0 128 snapshot base cow P 2048",
+        "create s 0 128 snapshot base cow P 3 0",
+    ];
+    let out_of_range = [
+        "read nosuch 0 0",
+        "read vol 0 2049",
+        "save d 0 4294967295",
+        "write nosuch 0 1048576*00 1048576*00",
+        "load d 0 1048576*00 512*00",
+    ];
+    for line in bad_table {
+        assert_eq!(rt;
+            refusal_of(&rt, line.as_bytes()),
+            Some(Refusal::BadTable),
+            "in {line}"
+        );
+    }
+    for line in bad_chunk {
+        assert_eq!(rt;
+            refusal_of(&rt, line.as_bytes()),
+            Some(Refusal::BadChunk),
+            "in {line}"
+        );
+    }
+    for line in out_of_range {
+        assert_eq!(rt;
+            refusal_of(&rt, line.as_bytes()),
+            Some(Refusal::OutOfRange),
+            "in {line}"
+        );
+    }
+}
+
+fn refusal_of(rt: &HostRuntime, line: &[u8]) -> Option<Refusal> {
+    said(rt.alloc(), line, LINE_LIMIT).err()
+}
+
+#[test]
+fn looks_at_the_length_then_at_comments_then_at_odd_bytes(rt: HostRuntime) -> Result<(), Fail> {
+    for line in [b"".as_slice(), b"   ", b"#", b"# disk d 8", b"#\x80\t"] {
+        assert!(rt;
+            said(rt.alloc(), line, LINE_LIMIT)?.is_none(),
+            "at {line:?}"
+        );
+    }
+    let mut comment = vec![in rt.alloc(); b'#'; 65_536]?;
+    assert!(rt; said(rt.alloc(), &comment, LINE_LIMIT)?.is_none());
+    comment.push(b'#')?;
+    assert_eq!(rt; refusal_of(&rt, &comment), Some(Refusal::BadTable));
+    Ok(())
+}
+
+#[test]
+fn reads_each_command(rt: HostRuntime) -> Result<(), Fail> {
+    let line = b"load cow 0 1*53 1*6e 1*41 1*70 1*01 3*00 1*01 3*00 1*01 499*00";
+    let mut header = vec![in rt.alloc(); 0u8; 512]?;
+    header[..13].copy_from_slice(&[0x53, 0x6e, 0x41, 0x70, 1, 0, 0, 0, 1, 0, 0, 0, 1]);
+    let loaded = said(rt.alloc(), line, LINE_LIMIT)?;
+    let Some(Command::Load { disk, first, bytes }) = &loaded else {
+        return Err(Fail::from("no load"));
+    };
+    assert_eq!(rt; disk.as_slice(), b"cow".as_slice());
+    assert_eq!(rt; *first, 0);
+    assert_eq!(rt; bytes.as_slice(), header.as_slice());
+
+    let line = b"  create snap 0 0128  snapshot base cow P 16 0 ";
+    let created = said(rt.alloc(), line, LINE_LIMIT)?;
+    let Some(Command::Create { name, line }) = &created else {
+        return Err(Fail::from("no create"));
+    };
+    assert_eq!(rt; name.as_slice(), b"snap".as_slice());
+    let TableLine::Snapshot {
+        sectors,
+        device,
+        store,
+        chunk,
+    } = line
+    else {
+        return Err(Fail::from("no snapshot"));
+    };
+    assert_eq!(rt; device.as_slice(), b"base".as_slice());
+    assert_eq!(rt; store.as_slice(), b"cow".as_slice());
+    assert_eq!(rt; (*sectors, *chunk), (128, 16));
+    let kinds = [
+        ("disk abcdefghijklmnop 4294967295", "disk"),
+        ("create vol 0 128 snapshot-origin base", "origin"),
+        ("create snap 0 128 snapshot base cow P 1024", "snapshot"),
+        ("remove snap", "remove"),
+        ("save cow 4294967295 2048", "save"),
+        ("read vol 5 1", "read"),
+        ("write vol 5 1048576*aa", "write"),
+        ("status snap", "status"),
+    ];
+    for (line, want) in kinds {
+        let command = said(rt.alloc(), line.as_bytes(), LINE_LIMIT)?;
+        assert_eq!(rt; command.as_ref().map(kind_of), Some(want), "in {line}");
+    }
+    Ok(())
+}
+
+fn kind_of(command: &Command) -> &'static str {
+    match command {
+        Command::Disk { .. } => "disk",
+        Command::Create {
+            line: TableLine::Origin { .. },
+            ..
+        } => "origin",
+        Command::Create {
+            line: TableLine::Snapshot { .. },
+            ..
+        } => "snapshot",
+        Command::Remove { .. } => "remove",
+        Command::Load { .. } => "load",
+        Command::Save { .. } => "save",
+        Command::Read { .. } => "read",
+        Command::Write { .. } => "write",
+        Command::Status { .. } => "status",
+    }
+}

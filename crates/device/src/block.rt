@@ -1,0 +1,122 @@
+// A device of sectors: what every layer, disk and test device is to the code above it.
+ghost use Rattle.std.specs.Prelude.{◌≡◌, ◌⊎◌, ℕ, ◌+◌, ◌*◌, ◌-◌, ◌<◌, ◌≤◌, List, length, slice_index, if◌then◌else◌, is_ok, OnOk, OnErr, IsTrue};
+ghost use Rattle.sector.specs.Bytes.{sectors_at, with_sectors, sector_at, next_count};
+ghost use Rattle.device.specs.declared.operation.Operation.TheVariants.{Reads, Writes, Flushes};
+ghost use Rattle.device.specs.declared.operation.Fate.TheVariants.{Pass, Drop};
+ghost use Rattle.device.specs.Layers.{Layer, fate, is_answered, is_passed, layers_after, is_loud};
+
+use crate::Io;
+use sector::Range;
+
+/// A device of sectors of 512 bytes, with a volatile cache.
+///
+/// Each read, write and flush raises `done` by one. It answers `Io` exactly where `faults` rose, by one, in that call,
+/// and then the contents are as before. Whether it does is the fate that its layers give the operation. Both counts go
+/// from 2^64 - 1 to 0. No operation takes memory.
+pub trait Block {
+    /// How many sectors it has.
+    ghost size: { Self → ℕ };
+
+    /// The bytes below the layers, 512 for each sector.
+    ghost contents: { Self → List ℕ };
+
+    /// The bytes that a loss of all that was not flushed leaves.
+    ghost durable: { Self → List ℕ };
+
+    /// The layers above the disk, from the top.
+    ghost layers: { Self → List Layer };
+
+    /// How many operations answered a fault.
+    ghost fault_count: { Self → ℕ };
+
+    /// How many operations there were.
+    ghost done_count: { Self → ℕ };
+
+    /// What a stop at this moment may leave in a sector, each sector by itself.
+    ghost may_hold: { Self → ℕ → List ℕ → Type 0 };
+
+    /// How many sectors it has.
+    fn sectors(&self) -> u64
+        ensures { result ≡ size self.now };
+
+    /// How many operations answered a fault, modulo 2^64.
+    fn faults(&self) -> u64
+        ensures { result ≡ fault_count self.now };
+
+    /// How many operations there were, modulo 2^64.
+    fn done(&self) -> u64
+        ensures { result ≡ done_count self.now };
+
+    /// Reads sectors into a buffer that is as long. At `Io` the buffer is as it was.
+    fn read(&mut self, range: Range, out: &mut [u8]) -> Result<(), Io>
+        requires some { 0 < range.count }
+        requires inside { range.first + range.count ≤ size self.old }
+        requires room { length out.old ≡ 512 * range.count }
+
+        ensures answer { is_ok result ≡ is_answered (fate (layers self.old) (Reads range.first range.count)) }
+        ensures layers { layers self.new ≡ layers_after (layers self.old) (Reads range.first range.count) }
+        ensures loud { is_loud (layers self.new) ≡ is_loud (layers self.old) }
+
+        ensures data { OnOk result (out.new ≡ sectors_at (contents self.old) range.first range.count) }
+        ensures data_err { OnErr result (out.new ≡ out.old) }
+
+        ensures contents { contents self.new ≡ contents self.old }
+        ensures durable { durable self.new ≡ durable self.old }
+        ensures size { size self.new ≡ size self.old }
+        ensures faults { fault_count self.new ≡ (if is_ok result then fault_count self.old else next_count (fault_count self.old)) }
+        ensures done { done_count self.new ≡ next_count (done_count self.old) }
+        ensures stop { (s : ℕ) (v : List ℕ) → may_hold self.new s v → may_hold self.old s v };
+
+    /// Writes sectors from a buffer that is as long. What is written may be lost until the next flush. A device with a
+    /// layer that drops writes may answer `Ok` and write nothing. A stop within the write leaves each of its sectors
+    /// old or new, each by itself.
+    fn write(&mut self, range: Range, bytes: &[u8]) -> Result<(), Io>
+        requires some { 0 < range.count }
+        requires inside { range.first + range.count ≤ size self.old }
+        requires room { length bytes.now ≡ 512 * range.count }
+
+        ensures answer { is_ok result ≡ is_answered (fate (layers self.old) (Writes range.first range.count)) }
+        ensures layers { layers self.new ≡ layers_after (layers self.old) (Writes range.first range.count) }
+        ensures loud { is_loud (layers self.new) ≡ is_loud (layers self.old) }
+
+        // Done, as a loud device does whatever it answers; and dropped; and failed.
+        ensures passed { fate (layers self.old) (Writes range.first range.count) ≡ Pass → contents self.new ≡ with_sectors (contents self.old) range.first bytes.now }
+        ensures written { OnOk result (IsTrue (is_loud (layers self.old)) → contents self.new ≡ with_sectors (contents self.old) range.first bytes.now) }
+        ensures dropped { fate (layers self.old) (Writes range.first range.count) ≡ Drop → contents self.new ≡ contents self.old }
+        ensures err { OnErr result (contents self.new ≡ contents self.old) }
+
+        // In each of these cases.
+        ensures rest { (i : ℕ) → (i < 512 * range.first) ⊎ (512 * (range.first + range.count) ≤ i) → slice_index (contents self.new) i ≡ slice_index (contents self.old) i }
+        ensures durable { durable self.new ≡ durable self.old }
+        ensures size { size self.new ≡ size self.old }
+        ensures faults { fault_count self.new ≡ (if is_ok result then fault_count self.old else next_count (fault_count self.old)) }
+        ensures done { done_count self.new ≡ next_count (done_count self.old) }
+        ensures stop { (s : ℕ) (v : List ℕ) → may_hold self.new s v → may_hold self.old s v ⊎ ((range.first ≤ s) × (s < range.first + range.count) × (v ≡ sector_at bytes.now (s - range.first))) }
+        ensures stop_err { OnErr result ((s : ℕ) (v : List ℕ) → may_hold self.new s v → may_hold self.old s v) };
+
+    /// Makes all that was written last through a stop and a loss. At `Io` it may be lost as before.
+    fn flush(&mut self) -> Result<(), Io>
+        ensures answer { is_ok result ≡ is_answered (fate (layers self.old) Flushes) }
+        ensures layers { layers self.new ≡ layers_after (layers self.old) Flushes }
+        ensures loud { is_loud (layers self.new) ≡ is_loud (layers self.old) }
+
+        ensures contents { contents self.new ≡ contents self.old }
+        ensures durable { durable self.new ≡ (if is_passed (fate (layers self.old) Flushes) then contents self.old else durable self.old) }
+        ensures size { size self.new ≡ size self.old }
+        ensures faults { fault_count self.new ≡ (if is_ok result then fault_count self.old else next_count (fault_count self.old)) }
+        ensures done { done_count self.new ≡ next_count (done_count self.old) }
+        ensures stop { (s : ℕ) (v : List ℕ) → may_hold self.new s v → may_hold self.old s v }
+        ensures flushed { OnOk result (IsTrue (is_loud (layers self.old)) → (s : ℕ) (v : List ℕ) → s < size self.new → may_hold self.new s v → v ≡ sector_at (contents self.new) s) };
+
+    /// A device has whole sectors.
+    ghost whole: { (d : Self) → length (contents d) ≡ 512 * size d };
+
+    /// The largest disk has 2^24 sectors.
+    ghost small: { (d : Self) → size d ≤ 16_777_216 };
+
+    /// A stop may leave what is there.
+    ghost holds_now: { (d : Self) (s : ℕ) → s < size d → may_hold d s (sector_at (contents d) s) };
+
+    /// A stop may leave what was there at the last flush.
+    ghost holds_durable: { (d : Self) (s : ℕ) → s < size d → may_hold d s (sector_at (durable d) s) };
+}

@@ -1,0 +1,157 @@
+// A device that fails once, for tests of what one fault does.
+ghost use Rattle.std.specs.Prelude.{◌≡◌, ◌∷◌, if◌then◌else◌, Some};
+ghost use Rattle.sector.specs.Bytes.{next_count};
+ghost use Rattle.device.specs.Layers.{Counted, counted_passes, counted_after};
+
+use crate::{Block, Io};
+use sector::Range;
+
+/// Passes some operations to the device inside, answers the next with a counted fault that changes nothing, and passes
+/// all others.
+#[derive(Drop)]
+pub struct FailAt<B> {
+    /// The device inside.
+    pub inner: B,
+    /// How many operations pass before the one that fails; `None` once it has failed.
+    pub left: Option<u64>,
+    /// How many operations answered a fault, modulo 2^64.
+    pub faults: u64,
+    /// How many operations there were, modulo 2^64.
+    pub done: u64,
+}
+
+impl<B: Block> FailAt<B> {
+    /// A device that fails the operation after the next `k`.
+    pub fn new(inner: B, k: u64) -> FailAt<B>
+        ensures { result ≡ record { inner = inner; left = Some k; faults = 0; done = 0 } }
+    {
+        FailAt {
+            inner,
+            left: Some(k),
+            faults: 0,
+            done: 0,
+        }
+    }
+
+    // Counts an operation, and says whether it is passed on.
+    fn passes(&mut self) -> bool
+        ensures passes { result ≡ counted_passes self.old.left }
+        ensures counted { self.new ≡ record self.old { left = counted_after self.old.left; done = next_count self.old.done } }
+    {
+        self.done = self.done.wrapping_add(1);
+        match self.left {
+            Some(0) => {
+                self.left = None;
+                false
+            }
+            Some(k) => {
+                self.left = Some(k - 1);
+                true
+            }
+            None => true,
+        }
+    }
+}
+
+impl<B: Block> Block for FailAt<B> {
+    ghost size = { λ d. B.size d.inner };
+
+    ghost contents = { λ d. B.contents d.inner };
+
+    ghost durable = { λ d. B.durable d.inner };
+
+    ghost layers = { λ d. Counted d.left ∷ B.layers d.inner };
+
+    ghost fault_count = { λ d. d.faults };
+
+    ghost done_count = { λ d. d.done };
+
+    ghost may_hold = { λ d. B.may_hold d.inner };
+
+    fn sectors(&self) -> u64 {
+        self.inner.sectors()
+    }
+
+    fn faults(&self) -> u64 {
+        self.faults
+    }
+
+    fn done(&self) -> u64 {
+        self.done
+    }
+
+    fn read(&mut self, range: Range, out: &mut [u8]) -> Result<(), Io> {
+        if self.passes() {
+            if let Ok(()) = self.inner.read(range, out) {
+                return Ok(());
+            }
+        }
+        self.faults = self.faults.wrapping_add(1);
+        Err(Io)
+    }
+
+    fn write(&mut self, range: Range, bytes: &[u8]) -> Result<(), Io> {
+        if self.passes() {
+            if let Ok(()) = self.inner.write(range, bytes) {
+                return Ok(());
+            }
+        }
+        self.faults = self.faults.wrapping_add(1);
+        Err(Io)
+    }
+
+    fn flush(&mut self) -> Result<(), Io> {
+        if self.passes() {
+            if let Ok(()) = self.inner.flush() {
+                return Ok(());
+            }
+        }
+        self.faults = self.faults.wrapping_add(1);
+        Err(Io)
+    }
+
+    ghost whole = { λ d. B.whole d.inner };
+
+    ghost small = { λ d. B.small d.inner };
+
+    ghost holds_now = { λ d. B.holds_now d.inner };
+
+    ghost holds_durable = { λ d. B.holds_durable d.inner };
+}
+
+#[cfg(test)]
+mod tests {
+    use super::*;
+    use crate::MemDisk;
+    use std::test::Fail;
+
+    #[test]
+    fn the_third_operation_fails_and_changes_nothing(rt: HostRuntime) -> Result<(), Fail> {
+        let first = Range::new(0, 1, 2)?;
+        let mut device = FailAt::new(MemDisk::new(rt.alloc(), 2)?, 2);
+        device.write(first, &[1; 512])?;
+        device.flush()?;
+        assert_eq!(rt; device.write(first, &[2; 512]), Err(Io));
+        let mut out = [9; 512];
+        device.read(first, &mut out)?;
+        assert_eq!(rt; out.as_slice(), [1; 512].as_slice());
+        device.write(first, &[3; 512])?;
+        assert_eq!(rt;
+            (device.sectors(), device.faults(), device.done()),
+            (2, 1, 5)
+        );
+        assert_eq!(rt; device.inner.done(), 4, "the third did not reach the disk");
+        Ok(())
+    }
+
+    #[test]
+    fn a_failed_read_leaves_the_buffer(rt: HostRuntime) -> Result<(), Fail> {
+        let mut device = FailAt::new(MemDisk::new(rt.alloc(), 2)?, 0);
+        let mut out = [9; 512];
+        assert_eq!(rt; device.read(Range::new(0, 1, 2)?, &mut out), Err(Io));
+        assert_eq!(rt; out.as_slice(), [9; 512].as_slice());
+        device.read(Range::new(0, 1, 2)?, &mut out)?;
+        assert_eq!(rt; out.as_slice(), [0; 512].as_slice());
+        Ok(())
+    }
+}

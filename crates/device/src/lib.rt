@@ -1,0 +1,17 @@
+//! Devices of sectors: the trait `Block`, disks in memory, and a device that fails one operation.
+//!
+//! It stands on `sector`. It promises that a read gives what the writes left, that an operation answers `Io` exactly
+//! where a fault was counted, and says what a stop or a loss at any moment may leave in each sector.
+#![tactic(auto)]
+
+mod block;
+mod fail_at;
+mod io;
+mod mem_disk;
+mod operation;
+
+pub use block::Block;
+pub use fail_at::FailAt;
+pub use io::Io;
+pub use mem_disk::{MAX_SECTORS, MemDisk};
+pub use operation::{Fate, Operation};

@@ -1,0 +1,6 @@
+pub mod Disk
+pub mod Layer
+pub mod Messages
+pub mod Stack
+pub mod Ticks
+pub mod Whole

@@ -1,0 +1,297 @@
+// A stack of layers over a disk, as a device.
+ghost use Rattle.std.specs.Prelude.{◌≡◌};
+
+use crate::{Broken, Dust, Flakey};
+use device::{Block, Fate, Io, MemDisk, Operation};
+use sector::{Range, Refusal};
+use std::alloc::Global;
+
+/// A disk under layers, or an error layer, perhaps under others. The top layer comes first.
+///
+/// An operation goes down the stack: each layer passes it, fails it or, where a flakey layer drops writes, answers it
+/// without passing it. Each layer counts its own operations and faults; those of the top are the device's.
+#[derive(Drop)]
+pub enum Stack {
+    Disk(MemDisk),
+    Flakey(Flakey, Box<Stack>),
+    Dust(Dust, Box<Stack>),
+    Error(Broken),
+}
+
+impl Block for Stack {
+    ghost use Rattle.layers.specs.Stack.{stack_size, stack_contents, stack_durable, stack_layers, stack_faults, stack_done, stack_may_hold};
+    ghost use Rattle.layers.specs.Whole.{stack_whole, stack_small, stack_holds_now, stack_holds_durable};
+
+    ghost size = { stack_size };
+
+    ghost contents = { stack_contents };
+
+    ghost durable = { stack_durable };
+
+    ghost layers = { stack_layers };
+
+    ghost fault_count = { stack_faults };
+
+    ghost done_count = { stack_done };
+
+    ghost may_hold = { stack_may_hold };
+
+    fn sectors(&self) -> u64 {
+        match self {
+            Stack::Disk(disk) => disk.sectors(),
+            Stack::Flakey(flakey, below) => flakey
+                .sectors
+                .min(below.sectors().saturating_sub(flakey.offset)),
+            Stack::Dust(dust, below) => dust.sectors.min(below.sectors()),
+            Stack::Error(error) => error.sectors,
+        }
+    }
+
+    fn faults(&self) -> u64 {
+        match self {
+            Stack::Disk(disk) => disk.faults(),
+            Stack::Flakey(flakey, _) => flakey.faults,
+            Stack::Dust(dust, _) => dust.faults,
+            Stack::Error(error) => error.faults,
+        }
+    }
+
+    fn done(&self) -> u64 {
+        match self {
+            Stack::Disk(disk) => disk.done(),
+            Stack::Flakey(flakey, _) => flakey.done,
+            Stack::Dust(dust, _) => dust.done,
+            Stack::Error(error) => error.done,
+        }
+    }
+
+    fn read(&mut self, range: Range, out: &mut [u8]) -> Result<(), Io> {
+        match self {
+            Stack::Disk(disk) => disk.read(range, out),
+            Stack::Flakey(flakey, below) => {
+                flakey.done = flakey.done.wrapping_add(1);
+                if flakey.passes_read(range) {
+                    if let Ok(()) = below.read(range.shifted(flakey.offset), out) {
+                        return Ok(());
+                    }
+                }
+                flakey.faults = flakey.faults.wrapping_add(1);
+                Err(Io)
+            }
+            Stack::Dust(dust, below) => {
+                dust.done = dust.done.wrapping_add(1);
+                if dust.passes_read(range) {
+                    if let Ok(()) = below.read(range, out) {
+                        return Ok(());
+                    }
+                }
+                dust.faults = dust.faults.wrapping_add(1);
+                Err(Io)
+            }
+            Stack::Error(error) => {
+                error.done = error.done.wrapping_add(1);
+                error.faults = error.faults.wrapping_add(1);
+                Err(Io)
+            }
+        }
+    }
+
+    fn write(&mut self, range: Range, bytes: &[u8]) -> Result<(), Io> {
+        match self {
+            Stack::Disk(disk) => disk.write(range, bytes),
+            Stack::Flakey(flakey, below) => {
+                flakey.done = flakey.done.wrapping_add(1);
+                match flakey.fate(Operation::Writes(range.first, range.count)) {
+                    Fate::Drop => return Ok(()),
+                    Fate::Fail => {}
+                    Fate::Pass => {
+                        if let Ok(()) = below.write(range.shifted(flakey.offset), bytes) {
+                            return Ok(());
+                        }
+                    }
+                }
+                flakey.faults = flakey.faults.wrapping_add(1);
+                Err(Io)
+            }
+            Stack::Dust(dust, below) => {
+                dust.done = dust.done.wrapping_add(1);
+                if let Ok(()) = below.write(range, bytes) {
+                    dust.written(range);
+                    return Ok(());
+                }
+                dust.faults = dust.faults.wrapping_add(1);
+                Err(Io)
+            }
+            Stack::Error(error) => {
+                error.done = error.done.wrapping_add(1);
+                error.faults = error.faults.wrapping_add(1);
+                Err(Io)
+            }
+        }
+    }
+
+    fn flush(&mut self) -> Result<(), Io> {
+        match self {
+            Stack::Disk(disk) => match disk.flush() {
+                Ok(()) => Ok(()),
+                Err(error) => Err(error),
+            },
+            Stack::Flakey(flakey, below) => {
+                flakey.done = flakey.done.wrapping_add(1);
+                match flakey.fate(Operation::Flushes) {
+                    Fate::Drop => return Ok(()),
+                    Fate::Fail => {}
+                    Fate::Pass => {
+                        if let Ok(()) = below.flush() {
+                            return Ok(());
+                        }
+                    }
+                }
+                flakey.faults = flakey.faults.wrapping_add(1);
+                Err(Io)
+            }
+            Stack::Dust(dust, below) => {
+                dust.done = dust.done.wrapping_add(1);
+                if let Ok(()) = below.flush() {
+                    return Ok(());
+                }
+                dust.faults = dust.faults.wrapping_add(1);
+                Err(Io)
+            }
+            Stack::Error(error) => {
+                error.done = error.done.wrapping_add(1);
+                error.faults = error.faults.wrapping_add(1);
+                Err(Io)
+            }
+        }
+    }
+
+    ghost whole = { stack_whole };
+
+    ghost small = { stack_small };
+
+    ghost holds_now = { stack_holds_now };
+
+    ghost holds_durable = { stack_holds_durable };
+}
+
+impl Stack {
+    ghost use Rattle.std.specs.Prelude.{◌≡◌, ◌≤◌, ◌+◌, ◌*◌, ◌∷◌, ℕ, List, Some, length, IfOk, IfErr};
+    ghost use Rattle.std.specs.Option.{option_copied, is_some};
+    ghost use Rattle.sector.specs.Bytes.{sectors_at};
+    ghost use Rattle.sector.specs.declared.refusal.Refusal.TheVariants.{NoMemory};
+    ghost use Rattle.layers.specs.Disk.{disk_of, HasSectors, IsLoaded, IsLost};
+    ghost use Rattle.layers.specs.Layer.{flakey_layer, dust_layer};
+    ghost use Rattle.layers.specs.Stack.{below_of, stack_size, stack_contents, stack_durable, stack_layers, stack_faults, stack_done, stack_may_hold};
+
+    /// The stack under a flakey layer, whose sectors lie inside it. `NoMemory` where the allocator refuses room; the stack
+    /// is then given back.
+    pub fn under_flakey(self, alloc: Global, flakey: Flakey) -> Result<Stack, (Refusal, Stack)>
+        requires inside { flakey.offset + flakey.sectors ≤ stack_size self }
+        ensures below { IfOk result (λ s. below_of s ≡ Some self) }
+        ensures layers { IfOk result (λ s. stack_layers s ≡ flakey_layer flakey ∷ stack_layers self) }
+        ensures size { IfOk result (λ s. stack_size s ≡ flakey.sectors) }
+        ensures contents { IfOk result (λ s. stack_contents s ≡ sectors_at (stack_contents self) flakey.offset flakey.sectors) }
+        ensures durable { IfOk result (λ s. stack_durable s ≡ sectors_at (stack_durable self) flakey.offset flakey.sectors) }
+        ensures counts { IfOk result (λ s. (stack_faults s ≡ flakey.faults) × (stack_done s ≡ flakey.done)) }
+        ensures disk { IfOk result (λ s. disk_of s ≡ disk_of self) }
+        ensures err { IfErr result (λ e. (e.0 ≡ NoMemory) × (e.1 ≡ self)) }
+    {
+        match Box::new(alloc, self) {
+            Ok(below) => Ok(Stack::Flakey(flakey, below)),
+            Err(failed) => Err((Refusal::NoMemory, failed.value)),
+        }
+    }
+
+    /// The stack under a dust layer, which has no more sectors. `NoMemory` where the allocator refuses room; the stack is
+    /// then given back.
+    pub fn under_dust(self, alloc: Global, dust: Dust) -> Result<Stack, (Refusal, Stack)>
+        requires inside { dust.sectors ≤ stack_size self }
+        ensures below { IfOk result (λ s. below_of s ≡ Some self) }
+        ensures layers { IfOk result (λ s. stack_layers s ≡ dust_layer dust ∷ stack_layers self) }
+        ensures size { IfOk result (λ s. stack_size s ≡ dust.sectors) }
+        ensures contents { IfOk result (λ s. stack_contents s ≡ sectors_at (stack_contents self) 0 dust.sectors) }
+        ensures durable { IfOk result (λ s. stack_durable s ≡ sectors_at (stack_durable self) 0 dust.sectors) }
+        ensures counts { IfOk result (λ s. (stack_faults s ≡ dust.faults) × (stack_done s ≡ dust.done)) }
+        ensures disk { IfOk result (λ s. disk_of s ≡ disk_of self) }
+        ensures err { IfErr result (λ e. (e.0 ≡ NoMemory) × (e.1 ≡ self)) }
+    {
+        match Box::new(alloc, self) {
+            Ok(below) => Ok(Stack::Dust(dust, below)),
+            Err(failed) => Err((Refusal::NoMemory, failed.value)),
+        }
+    }
+
+    /// What is below the top layer, which is dropped. `None` for a disk and an error layer, which nothing is below.
+    pub fn into_below(self) -> Option<Stack>
+        ensures { result ≡ below_of self }
+    {
+        match self {
+            Stack::Disk(_) | Stack::Error(_) => None,
+            Stack::Flakey(_, below) => Some(Box::into_inner(below)),
+            Stack::Dust(_, below) => Some(Box::into_inner(below)),
+        }
+    }
+
+    /// The disk at the bottom. `None` over an error layer.
+    pub fn disk(&self) -> Option<&MemDisk>
+        ensures { option_copied result ≡ disk_of self.now }
+    {
+        match self {
+            Stack::Disk(disk) => Some(disk),
+            Stack::Flakey(_, below) | Stack::Dust(_, below) => below.disk(),
+            Stack::Error(_) => None,
+        }
+    }
+
+    /// The disk at the bottom, to be changed. `None` over an error layer.
+    pub fn disk_mut(&mut self) -> Option<&mut MemDisk>
+        ensures { is_some result ≡ is_some (disk_of self.old) }
+    {
+        match self {
+            Stack::Disk(disk) => Some(disk),
+            Stack::Flakey(_, below) => below.disk_mut(),
+            Stack::Dust(_, below) => below.disk_mut(),
+            Stack::Error(_) => None,
+        }
+    }
+
+    /// Puts bytes in the place of sectors of the disk at the bottom, past all layers; they count as flushed. The sectors
+    /// are the disk's own, whatever the layers' offsets. It counts no operation.
+    pub fn load(&mut self, range: Range, bytes: &[u8])
+        requires inside { HasSectors (disk_of self.old) range.first range.count }
+        requires room { length bytes.now ≡ 512 * range.count }
+        ensures disk { IsLoaded range.first bytes.now (disk_of self.old) (disk_of self.new) }
+        ensures layers { stack_layers self.new ≡ stack_layers self.old }
+        ensures size { stack_size self.new ≡ stack_size self.old }
+        ensures counts { (stack_faults self.new ≡ stack_faults self.old) × (stack_done self.new ≡ stack_done self.old) }
+    {
+        match self {
+            Stack::Disk(disk) => disk.load(range, bytes),
+            Stack::Flakey(_, below) => below.load(range, bytes),
+            Stack::Dust(_, below) => below.load(range, bytes),
+            Stack::Error(_) => {}
+        }
+    }
+
+    /// Loses what was not flushed: each sector of the disk at the bottom goes back to its value at the last flush that
+    /// reached it. The layers stay. It counts no operation.
+    pub fn lose(&mut self)
+        ensures disk { IsLost (disk_of self.old) (disk_of self.new) }
+        ensures contents { stack_contents self.new ≡ stack_durable self.old }
+        ensures durable { stack_durable self.new ≡ stack_durable self.old }
+        ensures layers { stack_layers self.new ≡ stack_layers self.old }
+        ensures size { stack_size self.new ≡ stack_size self.old }
+        ensures counts { (stack_faults self.new ≡ stack_faults self.old) × (stack_done self.new ≡ stack_done self.old) }
+    {
+        match self {
+            Stack::Disk(disk) => disk.lose(),
+            Stack::Flakey(_, below) => below.lose(),
+            Stack::Dust(_, below) => below.lose(),
+            Stack::Error(_) => {}
+        }
+    }
+}
+
+#[cfg(test)]
+mod tests;

@@ -1,0 +1,4 @@
+pub mod RunLemmas
+pub mod WordsAgain
+pub mod RunsAgain
+pub mod DataAgain

@@ -1,0 +1,97 @@
+//! Replies of the command program, and the lines that print them.
+//!
+//! It stands on `sector` and `words` for data, refusals and texts, on `lines` for the laws of one write after
+//! another, and on `command` for the grammar of data words, by which what is printed can be read again. It
+//! promises that exactly the stated line is written, byte by byte: data as longest runs that say the bytes
+//! again. Printing takes no memory, so a reply that was reached is never lost to want of it.
+#![tactic(auto)]
+
+ghost use Rattle.std.specs.Prelude.{◌≡◌, OnOk};
+ghost use Rattle.std.specs.Io.KnownBytes.{Appends};
+ghost use Rattle.reply.specs.Texts.{refusal_text, text_of};
+
+pub mod laws;
+mod runs;
+
+use itoa::Buffer;
+use runs::write_data;
+use sector::{Buf, Refusal};
+use std::io;
+use std::io::Write;
+use words::Text;
+
+/// What a command answers.
+#[derive(Debug, Drop)]
+pub enum Reply {
+    /// It is done: `ok`.
+    Done,
+    /// It is done, and these are the bytes that were asked for: `ok`, and the bytes as longest runs `COUNT*HH`.
+    Data(Buf),
+    /// It is done, and this is the text that was asked for: `ok TEXT`. The text holds no line end.
+    Said(Text),
+    /// It is refused: `err NUMBER NAME`.
+    Refused(Refusal),
+}
+
+/// Prints a refusal, without the end of its line.
+#[tactic(auto, using(lines::proofs::Written::appends_more))]
+fn write_refusal<W: Write>(writer: &mut W, refusal: Refusal) -> io::Result<()>
+    ensures { OnOk result (Appends (W.contents writer.old) (W.contents writer.new) (refusal_text refusal)) }
+{
+    let mut buffer = Buffer::new();
+    writer.write_all(b"err ")?;
+    writer.write_all(buffer.format(refusal.number()).as_bytes())?;
+    writer.write_all(b" ")?;
+    writer.write_all(refusal.name().as_bytes())
+}
+
+impl Reply {
+    /// Prints the line of a reply, its end included, straight into the writer. The one error is the writer's
+    /// own; then part of the line may stand in it.
+    #[tactic(auto, using(lines::proofs::Written::appends_more))]
+    pub fn write_to<W: Write>(&self, writer: &mut W) -> io::Result<()>
+        ensures { OnOk result (Appends (W.contents writer.old) (W.contents writer.new) (text_of self.now)) }
+    {
+        match self {
+            Reply::Done => writer.write_all(b"ok\n"),
+            Reply::Data(bytes) => {
+                writer.write_all(b"ok")?;
+                write_data(writer, bytes.as_slice())?;
+                writer.write_all(b"\n")
+            }
+            Reply::Said(text) => {
+                writer.write_all(b"ok ")?;
+                writer.write_all(text.as_slice())?;
+                writer.write_all(b"\n")
+            }
+            Reply::Refused(refusal) => {
+                write_refusal(writer, *refusal)?;
+                writer.write_all(b"\n")
+            }
+        }
+    }
+}
+
+#[cfg(test)]
+mod tests {
+    use super::*;
+    use std::test::Fail;
+
+    #[test]
+    fn prints_the_line_of_each_kind_of_reply(rt: HostRuntime) -> Result<(), Fail> {
+        // the first bytes of a store's header, as the kernel writes them, with a chunk size of one sector
+        let header = [
+            0x53, 0x6e, 0x41, 0x70, 1, 0, 0, 0, 1, 0, 0, 0, 1, 0, 0, 0, 0, 0,
+        ];
+        let mut out = Vec::new(rt.alloc());
+        Reply::Done.write_to(&mut out)?;
+        Reply::Data(Buf::from_slice(rt.alloc(), &header)?).write_to(&mut out)?;
+        Reply::Said(Text::from_slice(rt.alloc(), b"0 128 snapshot Invalid")?).write_to(&mut out)?;
+        Reply::Refused(Refusal::NoSuchDevice).write_to(&mut out)?;
+        Reply::Refused(Refusal::Overflow).write_to(&mut out)?;
+        let want =
+            b"ok\nok 1*53 1*6e 1*41 1*70 1*01 3*00 1*01 3*00 1*01 5*00\nok 0 128 snapshot Invalid\nerr 1 NoSuchDevice\nerr 23 Overflow\n";
+        assert_eq!(rt; out.as_slice(), want.as_slice());
+        Ok(())
+    }
+}

@@ -1,0 +1,58 @@
+// Data as longest runs of equal bytes.
+ghost use Rattle.std.specs.Prelude.{◌≡◌, ◌≤◌, ◌<◌, ◌∷◌, length, drop, slice_index, OnOk};
+ghost use Rattle.std.specs.Io.KnownBytes.{Appends};
+ghost use Rattle.reply.specs.Runs.{runs_of, hex_char, run_word, data_words};
+
+use itoa::Buffer;
+use std::io;
+use std::io::Write;
+
+/// The lower-case hexadecimal digit of a number below 16.
+fn hex_digit(d: u8) -> u8
+    requires { d < 16 }
+    ensures { result ≡ hex_char d }
+{
+    if d < 10 { b'0' + d } else { b'a' - 10 + d }
+}
+
+/// Prints a space and a run.
+#[tactic(auto, using(lines::proofs::Written::appends_more))]
+fn write_run<W: Write>(writer: &mut W, count: usize, byte: u8) -> io::Result<()>
+    ensures { OnOk result (Appends (W.contents writer.old) (W.contents writer.new) (run_word (count, byte))) }
+{
+    let mut buffer = Buffer::new();
+    writer.write_all(b" ")?;
+    writer.write_all(buffer.format(count).as_bytes())?;
+    writer.write_all(&[b'*', hex_digit(byte / 16), hex_digit(byte % 16)])
+}
+
+/// How many equal bytes the data begins with.
+#[tactic(auto, using(crate::proofs::RunLemmas::front_all, crate::proofs::RunLemmas::front_here, crate::proofs::RunLemmas::front_some, crate::proofs::RunLemmas::front_within, crate::proofs::RunLemmas::runs_cut))]
+fn run_len(bytes: &[u8]) -> usize
+    requires { 0 < length bytes.now }
+    ensures some { 0 < result }
+    ensures within { result ≤ length bytes.now }
+    ensures cut { runs_of bytes.now ≡ (result, slice_index bytes.now 0) ∷ runs_of (drop result bytes.now) }
+{
+    let first = bytes[0];
+    for (i, byte) in bytes.iter().enumerate() {
+        if *byte != first {
+            return i;
+        }
+    }
+    bytes.len()
+}
+
+/// Prints data as longest runs, a space before each.
+#[tactic(auto, using(lines::proofs::Written::starts, lines::proofs::Written::writes_on, lines::proofs::Written::ends, crate::proofs::RunLemmas::words_cut))]
+pub fn write_data<W: Write>(writer: &mut W, bytes: &[u8]) -> io::Result<()>
+    ensures { OnOk result (Appends (W.contents writer.old) (W.contents writer.new) (data_words bytes.now)) }
+{
+    let mut rest = bytes;
+    while !rest.is_empty() {
+        let count = run_len(rest);
+        write_run(writer, count, rest[0])?;
+        rest = &rest[count..];
+    }
+    Ok(())
+}
