@@ -1,0 +1,64 @@
+-- What is due in a volume's lists: the first of a kind. The numbers in a list go up, so the first is the least.
+use Rattle.std.specs.Prelude.{not, ℕ, Bool, true, false, List, [], ◌∷◌, Option, Some, None, min, if◌then◌else◌}
+use Rattle.std.specs.List.{list_any}
+use Rattle.pending.specs.declared.copies.Stage.{Stage}
+use Rattle.pending.specs.declared.copies.Stage.TheVariants.{Waiting, Read, Written}
+use Rattle.pending.specs.declared.copies.ChunkCopy.{ChunkCopy}
+use Rattle.pending.specs.declared.copies.Mark.{Mark}
+use Rattle.pending.specs.declared.flights.Flight.{Flight}
+use Rattle.pending.specs.declared.flights.Route.{Route}
+use Rattle.pending.specs.declared.flights.Route.TheVariants.{Held, Origin, Store, Refused}
+use Rattle.pending.specs.Routes.{is_reading}
+
+-- the number of the first element that passes a test
+abbrev pub first_by : {X : Type 0} → (X → Bool) → (X → ℕ) → List X → Option ℕ
+first_by test number [] = None
+first_by test number (x ∷ xs) = if test x then Some (number x) else first_by test number xs
+
+-- the lesser of two numbers, if there are any
+abbrev pub least : Option ℕ → Option ℕ → Option ℕ
+least None b = b
+least (Some m) None = Some m
+least (Some m) (Some n) = Some (min m n)
+
+abbrev pub is_stage : Stage → Stage → Bool
+is_stage Waiting Waiting = true
+is_stage Waiting Read = false
+is_stage Waiting Written = false
+is_stage Read Waiting = false
+is_stage Read Read = true
+is_stage Read Written = false
+is_stage Written Waiting = false
+is_stage Written Read = false
+is_stage Written Written = true
+
+abbrev pub is_copy_at : Stage → ChunkCopy → Bool
+is_copy_at stage copy = is_stage stage copy.stage
+
+abbrev pub number_of_copy : ChunkCopy → ℕ
+number_of_copy copy = copy.number
+
+abbrev pub number_of_mark : Mark → ℕ
+number_of_mark mark = mark.number
+
+abbrev pub number_of_flight : Flight → ℕ
+number_of_flight f = f.number
+
+-- whether the first copy is written
+abbrev pub front_written : List ChunkCopy → Bool
+front_written [] = false
+front_written (copy ∷ copies) = is_stage Written copy.stage
+
+-- a request that goes somewhere
+abbrev pub is_routed : Route → Bool
+is_routed Held = false
+is_routed Origin = true
+is_routed (Store place) = true
+is_routed Refused = true
+
+abbrev pub is_issuable : Flight → Bool
+is_issuable f = is_routed f.route
+
+-- a mark whose chunk no request reads from the origin disk, for this snapshot and chunks of so many sectors
+abbrev pub is_publishable : ℕ → ℕ → List Flight → Mark → Bool
+is_publishable snap chunk flights mark = not (list_any (is_reading snap chunk mark.chunk) flights)

@@ -1,0 +1,4 @@
+pub mod Copies
+pub mod Kinds
+pub mod Routes
+pub mod Due

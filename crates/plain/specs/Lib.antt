@@ -1,0 +1,5 @@
+pub mod Replies
+pub mod Plain
+pub mod Serves
+pub mod Legal
+pub mod Runs

@@ -1,0 +1,51 @@
+// The single steps of a volume, and what comes of one.
+use crate::{Reply, ReqId, SnapId};
+
+/// The number of a copy in its volume, counted from 1.
+pub type CopyId = u64;
+
+/// One table decision or one device operation of a volume.
+#[derive(Clone, Copy, Debug, PartialEq, Eq)]
+pub enum Event {
+    /// Does the one read or write of a request's route, and replies.
+    Issue(ReqId),
+    /// Reads a copy's chunk from the origin disk.
+    CopyRead(CopyId),
+    /// Writes it to its chunk of the store.
+    CopyWrite(CopyId),
+    /// Zeroes the area after the one that the next pair fills.
+    ZeroNext(SnapId),
+    /// Writes the area with the first copies' pairs added.
+    WriteArea(SnapId),
+    /// From here on the snapshot has its own copy of the chunk.
+    Publish(CopyId),
+    /// Writes a spoiled snapshot's header with its valid word 0.
+    WriteInvalid(SnapId),
+    /// Takes the last run of pairs of the area for merging.
+    MergeGroup,
+    /// Reads the area before the one that is merged empty.
+    MergeAreaRead,
+    /// Reads a chunk of the group from the store.
+    MergeRead,
+    /// Writes it to the origin disk.
+    MergeWrite,
+    /// Flushes the origin, all chunks of the group being copied.
+    MergeFlush,
+    /// Writes the area with the group's slots cleared.
+    MergeCommit,
+    /// Ends the group.
+    MergeRelease,
+}
+
+/// What came of an event that was due.
+#[derive(Debug, Drop)]
+pub enum Outcome {
+    Done,
+    /// A device failed in the event.
+    Fault,
+    Reply(ReqId, Reply),
+}
+
+/// The event is not due, and nothing changed.
+#[derive(Clone, Copy, Debug, PartialEq, Eq)]
+pub struct NotDue;

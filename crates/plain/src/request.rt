@@ -1,0 +1,139 @@
+// What is asked of a volume, and what it replies.
+ghost use Rattle.std.specs.Prelude.{◌≡◌, ◌≢◌, IfOk, MatchBool, length};
+ghost use Rattle.plain.specs.Replies.{FitsReply};
+
+use sector::{Buf, Range};
+use std::alloc::{AllocError, Global};
+
+/// The number of a snapshot in its volume: of its attaching, counted from 1.
+pub type SnapId = u32;
+
+/// The number of a request in its volume, counted from 1.
+pub type ReqId = u64;
+
+/// What a request goes to.
+#[derive(Clone, Copy, Debug, PartialEq, Eq)]
+pub enum Dev {
+    Origin,
+    Snap(SnapId),
+}
+
+/// What is asked. A write brings the bytes of whole sectors, as many as its range.
+#[derive(Debug, Drop)]
+pub enum Op {
+    Read,
+    Write(Buf),
+}
+
+/// A read or a write of some sectors of the origin or of a snapshot, inside one piece of the volume.
+#[derive(Debug, Drop)]
+pub struct Request {
+    pub dev: Dev,
+    pub op: Op,
+    pub range: Range,
+}
+
+/// Why a request that was accepted is not done.
+#[derive(Clone, Copy, Debug, PartialEq, Eq)]
+pub enum Failure {
+    /// Its snapshot is spoiled.
+    Invalid,
+    /// A device failed at it.
+    Io,
+}
+
+/// The answer to a request that was accepted.
+#[derive(Debug, Drop)]
+pub enum Reply {
+    Data(Buf),
+    Written,
+    Refused(Failure),
+}
+
+impl Op {
+    /// Whether both ask the same.
+    pub fn is_same(&self, other: &Op) -> bool
+        ensures { MatchBool result (self.now ≡ other.now) (self.now ≢ other.now) }
+    {
+        match (self, other) {
+            (Op::Read, Op::Read) => true,
+            (Op::Write(bytes), Op::Write(others)) => bytes.is_same(others),
+            _ => false,
+        }
+    }
+
+    /// Another that asks the same.
+    pub fn copy(&self, alloc: Global) -> Result<Op, AllocError>
+        ensures { IfOk result (λ op. op ≡ self.now) }
+    {
+        match self {
+            Op::Read => Ok(Op::Read),
+            Op::Write(bytes) => Ok(Op::Write(bytes.copy(alloc)?)),
+        }
+    }
+}
+
+impl Reply {
+    /// Whether both answer the same.
+    pub fn is_same(&self, other: &Reply) -> bool
+        ensures { MatchBool result (self.now ≡ other.now) (self.now ≢ other.now) }
+    {
+        match (self, other) {
+            (Reply::Data(bytes), Reply::Data(others)) => bytes.is_same(others),
+            (Reply::Written, Reply::Written) => true,
+            (Reply::Refused(failure), Reply::Refused(other)) => *failure == *other,
+            _ => false,
+        }
+    }
+
+    /// The same reply. The bytes of a read go into a buffer that is there and has as many.
+    pub fn copy_into(&self, mut room: Buf) -> Reply
+        requires { FitsReply (length room) self.now }
+        ensures { result ≡ self.now }
+    {
+        match self {
+            Reply::Data(bytes) => {
+                room.copy_from(bytes);
+                Reply::Data(room)
+            }
+            Reply::Written => Reply::Written,
+            Reply::Refused(failure) => Reply::Refused(*failure),
+        }
+    }
+}
+
+#[cfg(test)]
+mod tests {
+    use super::*;
+    use std::test::Fail;
+
+    #[test]
+    fn copies_are_the_same_and_others_are_not(rt: HostRuntime) -> Result<(), Fail> {
+        let ones = Op::Write(Buf::from_slice(rt.alloc(), &[1; 512])?);
+        let zeros = Op::Write(Buf::zeroed(rt.alloc(), 512)?);
+        assert!(rt;
+            ones.is_same(&ones.copy(rt.alloc())?) && Op::Read.is_same(&Op::Read.copy(rt.alloc())?)
+        );
+        assert!(rt; !ones.is_same(&zeros) && !ones.is_same(&Op::Read));
+        Ok(())
+    }
+
+    #[test]
+    fn a_reply_is_copied_into_a_buffer_that_is_there(rt: HostRuntime) -> Result<(), Fail> {
+        let data = Reply::Data(Buf::from_slice(rt.alloc(), &[1; 512])?);
+        let room = Buf::zeroed(rt.alloc(), 512)?;
+        assert!(rt; room.len() == 512);
+        assert!(rt; data.is_same(&copied(&data, room)));
+        assert!(rt; !data.is_same(&Reply::Written));
+        assert!(rt; !Reply::Refused(Failure::Io).is_same(&Reply::Refused(Failure::Invalid)));
+        Ok(())
+    }
+
+    // The same reply, where the buffer is as long.
+    fn copied(reply: &Reply, room: Buf) -> Reply {
+        match reply {
+            Reply::Data(bytes) if bytes.len() != room.len() => Reply::Written,
+            _ => reply.copy_into(room),
+        }
+    }
+}

@@ -1,0 +1,12 @@
+pub mod Settled
+pub mod Attaching
+pub mod State
+pub mod Devices
+pub mod Places
+pub mod Disks
+pub mod Volumes
+pub mod Sectors
+pub mod Status
+pub mod Steps
+pub mod Output
+pub mod Exit

@@ -1,0 +1,76 @@
+// Readers and writers that fail in mid-stream.
+
+use runner::{RunError, exit_status, run};
+use std::io;
+use std::io::{ErrorKind, Read};
+use std::test::Fail;
+
+/// Gives so many bytes, one at a call, and fails then.
+#[derive(Drop)]
+struct FailingReader<'a> {
+    text: &'a [u8],
+    left: usize,
+}
+
+impl Read for FailingReader<'_> {
+    fn read(&mut self, buf: &mut [u8]) -> io::Result<usize> {
+        if self.left == 0 || self.text.is_empty() || buf.is_empty() {
+            return Err(io::Error::from(ErrorKind::UnexpectedEof));
+        }
+        buf[0] = self.text[0];
+        self.text = &self.text[1..];
+        self.left -= 1;
+        Ok(1)
+    }
+}
+
+#[test]
+fn ends_where_the_reader_fails_and_not_as_at_the_end(rt: HostRuntime) -> Result<(), Fail> {
+    let text = b"disk d 8\nsave d 0 1";
+    for left in 0..20usize {
+        let mut reader = FailingReader {
+            text: text.as_slice(),
+            left,
+        };
+        let mut out = Vec::new(rt.alloc());
+        let ran = run(rt.alloc(), &mut reader, &mut out, 1);
+        assert!(rt;
+            matches!(&ran, Err(RunError::Read(_))),
+            "after {left} bytes"
+        );
+        assert_eq!(rt; exit_status(&ran), 2);
+        let want = if left < 9 { b"".as_slice() } else { b"ok\n" };
+        assert_eq!(rt; out.as_slice(), want, "after {left} bytes");
+    }
+    Ok(())
+}
+
+#[test]
+fn ends_where_the_writer_is_full(rt: HostRuntime) -> Result<(), Fail> {
+    let text = b"disk d 8\nsave d 0 1\n";
+    let want = b"ok\nok 512*00\n";
+    for room in 0..13usize {
+        let mut reader = text.as_slice();
+        let mut out = [0u8; 13];
+        let ran = {
+            let mut writer = &mut out[..room];
+            run(rt.alloc(), &mut reader, &mut writer, 1)
+        };
+        assert!(rt; matches!(&ran, Err(RunError::Write(_))), "in {room} bytes");
+        assert_eq!(rt; exit_status(&ran), 2);
+        assert_eq!(rt; out[..room], want[..room], "in {room} bytes");
+    }
+    Ok(())
+}
+
+#[test]
+fn counts_refusals_in_the_summary(rt: HostRuntime) -> Result<(), Fail> {
+    for (text, refused) in [("disk d 8\n", false), ("disk d 8\ndisk d 8\n# err\n", true)] {
+        let mut reader = text.as_bytes();
+        let mut out = Vec::new(rt.alloc());
+        let summary = run(rt.alloc(), &mut reader, &mut out, 4)?;
+        assert_eq!(rt; summary.refused, refused);
+        assert_eq!(rt; summary.no_memory, 0);
+    }
+    Ok(())
+}

@@ -1,0 +1,11 @@
+pub mod Areas
+pub mod Commits
+pub mod Distinct
+pub mod Given
+pub mod Judged
+pub mod Loads
+pub mod Merges
+pub mod Opened
+pub mod Parts
+pub mod Pending
+pub mod Writes

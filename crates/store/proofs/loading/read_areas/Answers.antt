@@ -1,0 +1,47 @@
+use Rattle.std.proofs.Common.{◌<◌, ◌≤◌, ◌+◌, ◌*◌, ◌∙◌, arith, ap}
+use Rattle.model.specs.Places.{area_place, chunk_at}
+use Rattle.store.proofs.Loads.{prefix_more, pairs-loaded, prefix_lacks, area_far}
+use Rattle.store.proofs.loading.read_areas.Goals as goal
+
+pub returns-then-size-chunk-clause-damaged : goal.returns-then-size-chunk-clause-damaged
+returns-then-size-chunk-clause-damaged g c = λ _.
+    let a = c.args.area.now in
+    let is = c.sectors-size.ensures in
+    let past : g.B.Block.size c.args.device.now < a.chunk * (area_place a.chunk c.loop-current.current + 1) = let h = c.if-size-chunk.true in omega arith in
+    prefix_lacks (g.B.Block.size c.args.device.now) a.chunk c.loop-current.current (g.B.Block.contents c.args.device.now) c.loop-current.pairs.items a.some c.loop-current.invariant.prefix past
+
+pub returns-clause-damaged : goal.returns-clause-damaged
+returns-clause-damaged g c = λ _.
+    let a = c.args.area.now in
+    let is = c.sectors-size.ensures in
+    let past : g.B.Block.size c.args.device.now ≤ c.loop-current.current = let h = c.loop-current-test.false in omega arith in
+    prefix_lacks (g.B.Block.size c.args.device.now) a.chunk c.loop-current.current (g.B.Block.contents c.args.device.now) c.loop-current.pairs.items a.some c.loop-current.invariant.prefix (area_far (g.B.Block.size c.args.device.now) a.chunk c.loop-current.current a.some past)
+
+pub returns-then-branch-chunk-clause-read : goal.returns-then-branch-chunk-clause-read
+returns-then-branch-chunk-clause-read g c =
+    let a = c.args.area.now in
+    let i = c.loop-current.invariant in
+    let current = c.loop-current.current in
+    let bytes = g.B.Block.contents c.args.device.now in
+    let loaded = rw (c.in-Ok.ensures.chunk, i.chunk) at c.in_ok-take_slots.ensures.loaded in
+    let at = c.in-Ok.ensures.data ∙ ap (λ n. chunk_at n (g.B.Block.contents c.loop-current.device) (area_place a.chunk current)) i.chunk ∙ ap (λ b. chunk_at a.chunk b (area_place a.chunk current)) i.contents in
+    let inside : a.chunk * (area_place a.chunk current + 1) ≤ g.B.Block.size c.args.device.now = let h = c.if-size-chunk.false in let is = c.sectors-size.ensures in omega arith in
+    pairs-loaded (g.B.Block.size c.args.device.now) a.chunk current c.in_ok-take_slots.field-0 bytes c.read_area.new.area.bytes.items c.loop-current.pairs.items c.take_slots.new.pairs.items a.some i.prefix loaded at c.if-branch-chunk.true inside
+
+pub loop-current-preserved : goal.loop-current-preserved
+loop-current-preserved g c =
+    let a = c.args.area.now in
+    let i = c.loop-current.invariant in
+    let current = c.loop-current.current in
+    let bytes = g.B.Block.contents c.args.device.now in
+    let loaded = rw (c.in-Ok.ensures.chunk, i.chunk) at c.in_ok-take_slots.ensures.loaded in
+    let at = c.in-Ok.ensures.data ∙ ap (λ n. chunk_at n (g.B.Block.contents c.loop-current.device) (area_place a.chunk current)) i.chunk ∙ ap (λ b. chunk_at a.chunk b (area_place a.chunk current)) i.contents in
+    record {
+      contents = c.in-Ok.ensures.contents ∙ i.contents;
+      durable = c.in-Ok.ensures.durable ∙ i.durable;
+      size = c.in-Ok.ensures.size ∙ i.size;
+      loud = c.in-Ok.ensures.loud ∙ i.loud;
+      faults = c.in-Ok.ensures.faults ∙ i.faults;
+      chunk = c.in-Ok.ensures.chunk ∙ i.chunk;
+      prefix = prefix_more a.chunk current c.in_ok-take_slots.field-0 bytes c.read_area.new.area.bytes.items c.loop-current.pairs.items c.take_slots.new.pairs.items i.prefix loaded at c.if-branch-chunk.false;
+    }

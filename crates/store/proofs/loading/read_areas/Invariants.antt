@@ -1,0 +1,15 @@
+use Rattle.std.proofs.Common.{◌≡◌}
+use Rattle.device.specs.Layers.{is_loud}
+use Rattle.store.specs.Loaded.{IsPrefix}
+use Rattle.store.proofs.loading.read_areas.Given as goal
+
+abbrev pub invariant-loop-current : goal.invariant-loop-current
+invariant-loop-current g l = record {
+  contents : g.B.Block.contents l.device ≡ g.B.Block.contents l.fn.device;
+  durable : g.B.Block.durable l.device ≡ g.B.Block.durable l.fn.device;
+  size : g.B.Block.size l.device ≡ g.B.Block.size l.fn.device;
+  loud : is_loud (g.B.Block.layers l.device) ≡ is_loud (g.B.Block.layers l.fn.device);
+  faults : g.B.Block.fault_count l.device ≡ g.B.Block.fault_count l.fn.device;
+  chunk : l.area.chunk ≡ l.fn.area.chunk;
+  prefix : IsPrefix l.fn.area.chunk (g.B.Block.contents l.fn.device) l.current l.pairs.items;
+}

@@ -1,0 +1,140 @@
+// Pairs are committed: they are written into the current area, after the next one is zeroed where they fill it.
+ghost use Rattle.std.specs.Prelude.{◌≡◌, ◌⊎◌, ℕ, ◌+◌, ◌*◌, ◌<◌, ◌≤◌, ◌↔◌, ◌++◌, List, length, take, drop, replicate, is_ok, OnOk, OnErr, IsTrue, true, false};
+ghost use Rattle.sector.specs.Bytes.{with_part, with_sectors};
+ghost use Rattle.device.specs.declared.operation.Operation.TheVariants.{Writes};
+ghost use Rattle.device.specs.Layers.{is_loud};
+ghost use Rattle.model.specs.Places.{area_place, ChangesOnly};
+ghost use Rattle.model.specs.NextPlace.{LacksArea};
+ghost use Rattle.store.specs.declared.state.Left.TheVariants.{Nothing};
+ghost use Rattle.exception_arena.specs.Pending.{pairs};
+ghost use Rattle.store.specs.Held.{committed, pending, reserved};
+ghost use Rattle.store.specs.Slots.{IsPut, pairs_bytes, slot_start};
+ghost use Rattle.store.specs.Stored.{after_commit};
+ghost use Rattle.store.specs.Operations.{IsOneOperation};
+
+use crate::Store;
+use crate::chunks::write_whole;
+use device::{Block, Io};
+use exception_arena::{Exceptions, finish_first};
+use metadata_area::Area;
+use std::mem::swap;
+
+impl<B: Block> Store<B> {
+    /// Whether the pair that is committed next fills the current area, so that the next area has to be zeroed first,
+    /// and it is not yet.
+    pub fn needs_next_area(&self) -> bool
+        ensures { IsTrue result ↔ ((self.now.state.filled + 1 ≡ 32 * self.now.state.chunk) × (self.now.state.zeroed ≡ false)) }
+    {
+        self.state.filled + 1 == 32 * self.state.chunk && !self.state.zeroed
+    }
+
+    /// Whether the area after the current one does not lie wholly inside the store.
+    pub fn lacks_next_area(&self) -> bool
+        ensures { IsTrue result ↔ LacksArea self.now.state.chunk self.now.state.size (self.now.state.current + 1) }
+    {
+        self.state.size
+            < self.state.chunk as u64
+                * ((self.state.current + 1) * (32 * self.state.chunk as u64 + 1) + 2)
+    }
+
+    /// Zeroes the area after the current one.
+    pub fn zero_next(&mut self) -> Result<(), Io>
+        requires ready { self.old.state.left ≡ Nothing }
+        requires part { self.old.state.filled < 32 * self.old.state.chunk }
+        requires room { self.old.state.chunk * (area_place self.old.state.chunk (self.old.state.current + 1) + 1) ≤ self.old.state.size }
+
+        ensures operation { IsOneOperation (Writes (self.old.state.chunk * area_place self.old.state.chunk (self.old.state.current + 1)) self.old.state.chunk) (is_ok result) (B.layers self.old.device) (B.layers self.new.device) (B.fault_count self.old.device) (B.fault_count self.new.device) (B.done_count self.old.device) (B.done_count self.new.device) }
+        ensures written { OnOk result (IsTrue (is_loud (B.layers self.old.device)) → B.contents self.new.device ≡ with_sectors (B.contents self.old.device) (self.old.state.chunk * area_place self.old.state.chunk (self.old.state.current + 1)) (replicate (512 * self.old.state.chunk) 0)) }
+        ensures same { OnErr result (B.contents self.new.device ≡ B.contents self.old.device) }
+        ensures only { ChangesOnly self.old.state.chunk (area_place self.old.state.chunk (self.old.state.current + 1)) (B.contents self.old.device) (B.contents self.new.device) }
+        ensures durable { B.durable self.new.device ≡ B.durable self.old.device }
+
+        ensures exceptions { self.new.exceptions ≡ self.old.exceptions }
+        ensures places { self.new.places ≡ self.old.places }
+        ensures zeroed { OnOk result (self.new.state ≡ record self.old.state { zeroed = true }) }
+        ensures kept { OnErr result (self.new.state ≡ self.old.state) }
+    {
+        let place = (self.state.current + 1) * (32 * self.state.chunk as u64 + 1) + 1;
+        self.spare.clear_from(0);
+        match write_whole(
+            &mut self.device,
+            self.state.chunk,
+            place,
+            self.spare.encode(),
+        ) {
+            Ok(()) => {
+                self.state.zeroed = true;
+                Ok(())
+            }
+            Err(io) => Err(io),
+        }
+    }
+
+    /// Commits the pairs of the copies that began first, so many of them: they are written into the current area, from its
+    /// first empty slot on. Where they fill it the next area, which is zeroed, becomes the current one.
+    pub fn write_area(&mut self, count: u32) -> Result<(), Io>
+        requires ready { self.old.state.left ≡ Nothing }
+        requires pending { count ≤ length (pending self.old.exceptions) }
+        requires fits { self.old.state.filled + count ≤ 32 * self.old.state.chunk }
+        requires next { self.old.state.filled + count ≡ 32 * self.old.state.chunk → self.old.state.zeroed ≡ true }
+
+        ensures operation { IsOneOperation (Writes (self.old.state.chunk * area_place self.old.state.chunk self.old.state.current) self.old.state.chunk) (is_ok result) (B.layers self.old.device) (B.layers self.new.device) (B.fault_count self.old.device) (B.fault_count self.new.device) (B.done_count self.old.device) (B.done_count self.new.device) }
+        ensures written { OnOk result (IsTrue (is_loud (B.layers self.old.device)) → B.contents self.new.device ≡ with_part (B.contents self.old.device) (slot_start self.old.state.chunk self.old.state.current self.old.state.filled) (pairs_bytes (pairs (take count (pending self.old.exceptions))))) }
+        ensures same { OnErr result (B.contents self.new.device ≡ B.contents self.old.device) }
+        ensures only { ChangesOnly self.old.state.chunk (area_place self.old.state.chunk self.old.state.current) (B.contents self.old.device) (B.contents self.new.device) }
+        ensures loud { is_loud (B.layers self.new.device) ≡ is_loud (B.layers self.old.device) }
+        ensures durable { B.durable self.new.device ≡ B.durable self.old.device }
+
+        ensures committed { OnOk result (committed self.new.exceptions ≡ committed self.old.exceptions ++ pairs (take count (pending self.old.exceptions))) }
+        ensures pending { OnOk result (pending self.new.exceptions ≡ drop count (pending self.old.exceptions)) }
+        ensures reserved { reserved self.new.exceptions ≡ reserved self.old.exceptions }
+        ensures places { self.new.places ≡ self.old.places }
+        ensures state { OnOk result (self.new.state ≡ after_commit self.old.state count) }
+        ensures kept { OnErr result ((self.new.state ≡ self.old.state) × (self.new.exceptions ≡ self.old.exceptions)) }
+    {
+        let place = self.state.current * (32 * self.state.chunk as u64 + 1) + 1;
+        copy_area(&mut self.spare, &self.area);
+        put_first(&mut self.spare, &self.exceptions, self.state.filled, count);
+        match write_whole(
+            &mut self.device,
+            self.state.chunk,
+            place,
+            self.spare.encode(),
+        ) {
+            Ok(()) => {
+                finish_first(&mut self.exceptions, count as usize);
+                swap(&mut self.area, &mut self.spare);
+                self.state.filled += count;
+                if self.state.filled == 32 * self.state.chunk {
+                    self.state.current += 1;
+                    self.state.filled = 0;
+                    self.state.zeroed = false;
+                    self.area.clear_from(0);
+                }
+                Ok(())
+            }
+            Err(io) => Err(io),
+        }
+    }
+}
+
+/// Takes over the bytes of an area that is as long.
+pub fn copy_area(area: &mut Area, from: &Area)
+    requires { area.old.chunk ≡ from.now.chunk }
+    ensures chunk { area.new.chunk ≡ area.old.chunk }
+    ensures bytes { area.new.bytes.items ≡ from.now.bytes.items }
+{
+    area.bytes.copy_from_slice(from.bytes.as_slice());
+}
+
+/// Puts the pairs of the copies that began first into an area, so many of them, from a slot on.
+fn put_first<E: Exceptions>(area: &mut Area, exceptions: &E, slot: u32, count: u32)
+    requires some { count ≤ length (E.pending exceptions.now) }
+    requires room { slot + count ≤ 32 * area.old.chunk }
+    ensures chunk { area.new.chunk ≡ area.old.chunk }
+    ensures put { IsPut area.old.bytes.items slot (pairs (take count (E.pending exceptions.now))) area.new.bytes.items }
+{
+    for i in 0..count {
+        area.put(slot + i, exceptions.pending_at(i as usize).pair);
+    }
+}

@@ -1,0 +1,35 @@
+// What a store knows of itself, besides its pairs and the bytes of its current area.
+
+/// What is left of a load's writes.
+#[derive(Clone, Copy, Debug, PartialEq, Eq)]
+pub enum Left {
+    /// The store is fresh: area 0 is to be zeroed, and then the header is to be written.
+    FirstArea,
+    /// Area 0 of a fresh store is zeroed, and its header is to be written.
+    HeaderChunk,
+    /// The current area has bytes other than 0 after its first empty slot, and is to be written with that tail zero.
+    Tail,
+    /// Nothing.
+    Nothing,
+}
+
+/// What a store knows of itself, besides its pairs and the bytes of its current area.
+#[derive(Clone, Copy, Debug, PartialEq, Eq)]
+pub struct State {
+    /// The sectors of a chunk.
+    pub chunk: u32,
+    /// The sectors of the origin.
+    pub origin: u64,
+    /// The sectors of the store.
+    pub size: u64,
+    /// The number of the current area, which is in memory.
+    pub current: u64,
+    /// How many of its slots are in use; the others are empty.
+    pub filled: u32,
+    /// Whether the area after the current one is zeroed.
+    pub zeroed: bool,
+    /// What is left of the load's writes.
+    pub left: Left,
+    /// Whether copies may start. None starts after a spoil, nor after a merge's commit.
+    pub copying: bool,
+}

@@ -1,0 +1,121 @@
+// A store: its device, its pairs, the area that the next pair goes to, and the next place.
+ghost use Rattle.std.specs.Prelude.{◌≡◌, ℕ, ◌+◌, ◌*◌, ◌<◌, ◌≤◌, List, length, slice_index_or, is_ok, if◌then◌else◌, MatchBool, IsTrue, true, false};
+ghost use Rattle.device.specs.Layers.{fate, is_passed, is_loud};
+ghost use Rattle.device.specs.declared.operation.Operation.TheVariants.{Flushes};
+ghost use Rattle.model.specs.NextPlace.{IsFull};
+ghost use Rattle.exception_arena.specs.declared.begun.Begun.{Begun};
+ghost use Rattle.store.specs.Operations.{IsOneOperation};
+ghost use Rattle.store.specs.Held.{committed, pending, pairs_pending, reserved};
+ghost use Rattle.store.specs.Stored.{IsFront, IsStored, AreGiven};
+
+use crate::State;
+use chunk_alloc::{Alloc, Usage};
+use device::{Block, Io};
+use exception_arena::{Begun, Exceptions, PlainExceptions};
+use metadata_area::Area;
+
+/// A store that was opened.
+#[derive(Drop)]
+pub struct Store<B: Block> {
+    pub device: B,
+    /// The pairs, committed and under way.
+    pub exceptions: PlainExceptions,
+    /// The current area.
+    pub area: Area,
+    /// A chunk of room, in which the next text of a chunk is put together.
+    pub spare: Area,
+    /// The places that are left.
+    pub places: Alloc,
+    pub state: State,
+    pub ghost area_chunk: { area.chunk ≡ state.chunk },
+    pub ghost spare_chunk: { spare.chunk ≡ state.chunk },
+    pub ghost places_chunk: { places.chunk ≡ state.chunk },
+    pub ghost places_size: { places.sectors ≡ state.size },
+    pub ghost size: { state.size ≡ B.size device },
+    pub ghost front: { IsFront (committed exceptions) state area.bytes.items },
+    pub ghost given: { AreGiven state.chunk state.origin state.size places.next state.copying (committed exceptions) (pairs_pending exceptions) },
+    pub ghost stored: { IsTrue (is_loud (B.layers device)) → IsStored (B.contents device) (committed exceptions) state area.bytes.items },
+}
+
+impl<B: Block> Store<B> {
+    /// The sectors of a chunk.
+    pub fn chunk(&self) -> u32
+        ensures { result ≡ self.now.state.chunk }
+    {
+        self.state.chunk
+    }
+
+    /// How many pairs are committed.
+    pub fn len(&self) -> usize
+        ensures { result ≡ length (committed self.now.exceptions) }
+    {
+        self.exceptions.len()
+    }
+
+    /// How many copies are under way.
+    pub fn pending_len(&self) -> usize
+        ensures { result ≡ length (pending self.now.exceptions) }
+    {
+        self.exceptions.pending_len()
+    }
+
+    /// A copy that is under way, counted from 0 in the order in which they began.
+    pub fn pending_at(&self, index: usize) -> Begun
+        requires { index < length (pending self.now.exceptions) }
+        ensures { (d : Begun) → result ≡ slice_index_or (pending self.now.exceptions) index d }
+    {
+        self.exceptions.pending_at(index)
+    }
+
+    /// Whether the next place is not wholly inside the store.
+    pub fn is_full(&self) -> bool
+        ensures { MatchBool result (IsFull self.now.state.chunk self.now.state.size self.now.places.next) (self.now.state.chunk * (self.now.places.next + 1) ≤ self.now.state.size) }
+    {
+        self.places.is_full()
+    }
+
+    /// The numbers of a status line: the front of the store up to the next place, its size, and its header with the areas
+    /// up to the current one, all in sectors.
+    pub fn usage(&self) -> Usage
+        ensures allocated { result.allocated ≡ self.now.places.next * self.now.state.chunk }
+        ensures total { result.total ≡ self.now.state.size }
+        ensures metadata { result.metadata ≡ (self.now.state.current + 2) * self.now.state.chunk }
+    {
+        self.places.usage(self.state.current)
+    }
+
+    /// The device.
+    pub fn device(&self) -> &B
+        ensures { result.now ≡ self.now.device }
+    {
+        &self.device
+    }
+
+    /// Makes all that was written last through a stop and a loss of the cache.
+    pub fn flush(&mut self) -> Result<(), Io>
+        ensures operation { IsOneOperation Flushes (is_ok result) (B.layers self.old.device) (B.layers self.new.device) (B.fault_count self.old.device) (B.fault_count self.new.device) (B.done_count self.old.device) (B.done_count self.new.device) }
+        ensures same { B.contents self.new.device ≡ B.contents self.old.device }
+        ensures durable { B.durable self.new.device ≡ (if is_passed (fate (B.layers self.old.device) Flushes) then B.contents self.old.device else B.durable self.old.device) }
+        ensures loud { is_loud (B.layers self.new.device) ≡ is_loud (B.layers self.old.device) }
+        ensures exceptions { self.new.exceptions ≡ self.old.exceptions }
+        ensures places { self.new.places ≡ self.old.places }
+        ensures state { self.new.state ≡ self.old.state }
+    {
+        self.device.flush()
+    }
+
+    /// Gives the device back, as it is.
+    pub fn into_device(self) -> B
+        ensures { result ≡ self.device }
+    {
+        let Store {
+            device,
+            exceptions: _,
+            area: _,
+            spare: _,
+            places: _,
+            state: _,
+        } = self;
+        device
+    }
+}

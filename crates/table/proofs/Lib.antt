@@ -1,0 +1,4 @@
+pub mod Short
+pub mod Added
+pub mod Counted
+pub mod Again

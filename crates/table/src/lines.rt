@@ -1,0 +1,57 @@
+// What a table line says.
+use words::Name;
+
+/// A line of a device's table. It begins at sector 0, as each device here has one line.
+#[derive(Debug, Drop)]
+pub struct Line {
+    /// The sectors of the device.
+    pub sectors: u32,
+    pub target: Target,
+}
+
+/// What a device does, and over which devices.
+#[derive(Debug, Drop)]
+pub enum Target {
+    /// `snapshot-origin`: the device that snapshots are taken of.
+    Origin {
+        device: Name,
+    },
+    /// `snapshot`: a snapshot of the origin over `device`, its exceptions in `store`, `chunk` sectors a chunk.
+    Snapshot {
+        device: Name,
+        store: Name,
+        chunk: u32,
+    },
+    /// `snapshot-merge`: the same store while it is merged into the origin over `device`.
+    Merge {
+        device: Name,
+        store: Name,
+        chunk: u32,
+    },
+    /// `flakey`: `device` from sector `offset` on, reliable for `up` seconds and unreliable for `down`, in turn.
+    Flakey {
+        device: Name,
+        offset: u32,
+        up: u32,
+        down: u32,
+        features: Features,
+    },
+    /// `dust`: `device` with bad blocks of `block` bytes.
+    Dust {
+        device: Name,
+        block: u32,
+    },
+    /// `error`: every operation fails.
+    Error,
+}
+
+/// What an unreliable flakey device does. With no feature it fails all.
+#[derive(Clone, Copy, Debug, PartialEq, Eq)]
+pub struct Features {
+    /// Fails reads.
+    pub error_reads: bool,
+    /// Fails writes.
+    pub error_writes: bool,
+    /// Answers success to writes, and drops them.
+    pub drop_writes: bool,
+}

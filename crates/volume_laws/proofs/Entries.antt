@@ -1,0 +1,92 @@
+-- Snapshots by their numbers, as the plain machine sees them.
+use Rattle.std.proofs.Common.{◌≡◌, ◌≢◌, ℕ, zero, suc, ◌<◌, List, [], ◌∷◌, Some, length, get_or, set, map, refl, sym, ◌∙◌, ap, subst, arith, eq-eqb, ne_eqb}
+use Rattle.std.specs.List.{remove}
+use Rattle.std.specs.Prelude.{AllPairs}
+use Rattle.std.proofs.lemmas.List.{length-map, get_or-map}
+use Rattle.plain.specs.declared.request.Dev.{Dev}
+use Rattle.plain.specs.declared.request.Dev.TheVariants.{Origin as AtOrigin, Snap}
+use Rattle.plain.specs.declared.request.Op.{Op}
+use Rattle.plain.specs.declared.request.Op.TheVariants.{Read, Write}
+use Rattle.plain.specs.declared.request.Reply.{Reply}
+use Rattle.plain.specs.declared.request.Reply.TheVariants.{Refused}
+use Rattle.plain.specs.declared.request.Failure.TheVariants.{Invalid as IsInvalid, Io}
+use Rattle.plain.specs.declared.request.Request.{Request}
+use Rattle.sector.specs.declared.range.Range.{Range}
+use Rattle.plain.specs.Plain.{Plain, Entry, Saved, saved_under, with_saved, without_saved}
+use Rattle.plain.specs.Serves.{Serves, SameArrays, IsSpoilt}
+use Rattle.pending.specs.Kinds.{kind_at}
+use Rattle.pending.specs.declared.flights.Kind.TheVariants.{OriginRead, OriginWrite, SnapRead, SnapWrite}
+use Rattle.volume_laws.specs.Books.{SnapBooks, number_of}
+use Rattle.volume_laws.specs.Whole.{entry_of}
+use Rattle.volume_laws.proofs.Lists.{AllPairs-tail}
+
+-- the first has another number than the later ones
+first_differs : (v s : SnapBooks) (snaps : List SnapBooks) (j : ℕ) → AllPairs (λ m n. m ≢ n) (map number_of (v ∷ snaps)) → j < length snaps → s ≡ get_or snaps j s → v.number ≢ s.number
+first_differs v s snaps j all within is e =
+    all 0 (suc j) 0 (omega arith) (omega (arith, within, length-map snaps number_of))
+    (e ∙ sym (get_or-map number_of snaps j s 0 within ∙ sym (ap number_of is)))
+
+-- the state under a snapshot's number
+pub saved_at : (o : List ℕ) (snaps : List SnapBooks) (j : ℕ) (s : SnapBooks) → AllPairs (λ m n. m ≢ n) (map number_of snaps) → j < length snaps → s ≡ get_or snaps j s → saved_under s.number (map (entry_of o) snaps) ≡ Some (entry_of o s).saved
+saved_at o [] j s all within is = absurd (omega (arith, within))
+saved_at o (v ∷ snaps) zero s all within is = rw (eq-eqb v.number s.number (ap number_of (sym is))) (ap (λ (x : SnapBooks). Some (entry_of o x).saved) (sym is))
+saved_at o (v ∷ snaps) (suc j) s all within is =
+    rw (ne_eqb v.number s.number (first_differs v s snaps j all (omega (arith, within)) is))
+    (saved_at o snaps j s (AllPairs-tail (λ m n. m ≢ n) v.number (map number_of snaps) all) (omega (arith, within)) is)
+
+abbrev pub as_entry : ℕ → Saved → Entry
+as_entry number saved = record { number = number; saved = saved }
+
+pub with_saved_at : (o : List ℕ) (snaps : List SnapBooks) (j : ℕ) (s : SnapBooks) (saved : Saved) → AllPairs (λ m n. m ≢ n) (map number_of snaps) → j < length snaps → s ≡ get_or snaps j s
+    → with_saved s.number saved (map (entry_of o) snaps) ≡ set (map (entry_of o) snaps) j (as_entry s.number saved)
+with_saved_at o [] j s saved all within is = absurd (omega (arith, within))
+with_saved_at o (v ∷ snaps) zero s saved all within is = rw (eq-eqb v.number s.number (ap number_of (sym is))) refl
+with_saved_at o (v ∷ snaps) (suc j) s saved all within is =
+    rw (ne_eqb v.number s.number (first_differs v s snaps j all (omega (arith, within)) is))
+    (ap (λ es. entry_of o v ∷ es) (with_saved_at o snaps j s saved (AllPairs-tail (λ m n. m ≢ n) v.number (map number_of snaps) all) (omega (arith, within)) is))
+
+pub without_saved_at : (o : List ℕ) (snaps : List SnapBooks) (j : ℕ) (s : SnapBooks) → AllPairs (λ m n. m ≢ n) (map number_of snaps) → j < length snaps → s ≡ get_or snaps j s
+    → map (entry_of o) (remove snaps j) ≡ without_saved s.number (map (entry_of o) snaps)
+without_saved_at o [] j s all within is = absurd (omega (arith, within))
+without_saved_at o (v ∷ snaps) zero s all within is = rw (eq-eqb v.number s.number (ap number_of (sym is))) refl
+without_saved_at o (v ∷ snaps) (suc j) s all within is =
+    rw (ne_eqb v.number s.number (first_differs v s snaps j all (omega (arith, within)) is))
+    (ap (λ es. entry_of o v ∷ es) (without_saved_at o snaps j s (AllPairs-tail (λ m n. m ≢ n) v.number (map number_of snaps) all) (omega (arith, within)) is))
+
+-- what a kind says of the device and the operation
+pub origin_read_is : (dev : Dev) (op : Op) → kind_at dev op ≡ OriginRead → (dev ≡ AtOrigin) × (op ≡ Read)
+origin_read_is AtOrigin Read e = (refl, refl)
+origin_read_is AtOrigin (Write b) e = cc
+origin_read_is (Snap n) Read e = cc
+origin_read_is (Snap n) (Write b) e = cc
+
+pub origin_write_is : (dev : Dev) (op : Op) → kind_at dev op ≡ OriginWrite → dev ≡ AtOrigin
+origin_write_is AtOrigin Read e = refl
+origin_write_is AtOrigin (Write b) e = refl
+origin_write_is (Snap n) Read e = cc
+origin_write_is (Snap n) (Write b) e = cc
+
+pub snap_read_is : (dev : Dev) (op : Op) (n : ℕ) → kind_at dev op ≡ SnapRead n → (dev ≡ Snap n) × (op ≡ Read)
+snap_read_is AtOrigin Read n e = cc
+snap_read_is AtOrigin (Write b) n e = cc
+snap_read_is (Snap m) Read n e = let same : m ≡ n = cc in (ap Snap same, refl)
+snap_read_is (Snap m) (Write b) n e = cc
+
+pub snap_write_is : (dev : Dev) (op : Op) (n : ℕ) → kind_at dev op ≡ SnapWrite n → dev ≡ Snap n
+snap_write_is AtOrigin Read n e = cc
+snap_write_is AtOrigin (Write b) n e = cc
+snap_write_is (Snap m) Read n e = cc
+snap_write_is (Snap m) (Write b) n e = let same : m ≡ n = cc in ap Snap same
+
+-- a request that is served as another with its device and operation
+pub serves_as : (old new : Plain) (reply : Reply) (request : Request) (dev : Dev) (op : Op) → request.dev ≡ dev → request.op ≡ op → Serves old dev op request.range reply new → Serves old request.dev request.op request.range reply new
+serves_as old new reply request dev op dev_is op_is h =
+    subst (λ x. Serves old request.dev x request.range reply new) (sym op_is) (subst (λ x. Serves old x op request.range reply new) (sym dev_is) h)
+
+pub io_served : (old new : Plain) (dev : Dev) (op : Op) (range : Range) → SameArrays old new → Serves old dev op range (Refused Io) new
+io_served old new dev Read range h = h
+io_served old new dev (Write b) range h = h
+
+pub invalid_served : (old new : Plain) (dev : Dev) (op : Op) (range : Range) → SameArrays old new → IsSpoilt old dev → Serves old dev op range (Refused IsInvalid) new
+invalid_served old new dev Read range h spoilt = (h, spoilt)
+invalid_served old new dev (Write b) range h spoilt = (h, spoilt)

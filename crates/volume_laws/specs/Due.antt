@@ -1,0 +1,100 @@
+-- Which event is due first, and a whole number that every event lowers. The order is this project's own: spoiled
+-- snapshots' marks first, then what frees held writes, then the copies' own steps, and requests last; in each kind the
+-- least number.
+use Rattle.std.specs.Prelude.{◌==◌, ◌&&◌, not, ℕ, ◌+◌, Bool, false, List, [], ◌∷◌, length, Option, Some, None, if◌then◌else◌, sum_by}
+use Rattle.std.specs.List.{list_any}
+use Rattle.plain.specs.declared.event.Event.{Event}
+use Rattle.plain.specs.declared.event.Event.TheVariants.{Issue, CopyRead, CopyWrite, ZeroNext, WriteArea, Publish, WriteInvalid, MergeGroup, MergeAreaRead, MergeRead, MergeWrite, MergeFlush, MergeCommit, MergeRelease}
+use Rattle.pending.specs.declared.copies.Stage.{Stage}
+use Rattle.pending.specs.declared.copies.Stage.TheVariants.{Waiting, Read, Written}
+use Rattle.pending.specs.declared.copies.ChunkCopy.{ChunkCopy}
+use Rattle.pending.specs.declared.flights.Flight.{Flight}
+use Rattle.pending.specs.Due.{first_by, least, is_copy_at, number_of_copy, number_of_mark, number_of_flight, front_written, is_publishable, is_issuable}
+use Rattle.volume_laws.specs.Books.{SnapBooks}
+
+-- A snapshot. needs: the pair that is committed next fills its area, and the next area is not zeroed yet. zeroed: the area
+-- after the current one is zeroed.
+pub record DueSnap : Type 0 where
+  pub books : SnapBooks
+  pub needs : Bool
+  pub zeroed : Bool
+
+abbrev pub books_of : DueSnap → SnapBooks
+books_of s = s.books
+
+abbrev pub snap_number : DueSnap → ℕ
+snap_number s = s.books.number
+
+abbrev pub is_untried : DueSnap → Bool
+is_untried s = s.books.untried
+
+-- the first copy is written, and its area can be written; or the next area has to be zeroed first
+abbrev pub can_commit : DueSnap → Bool
+can_commit s = front_written s.books.copies && not s.needs
+
+abbrev pub can_zero : DueSnap → Bool
+can_zero s = front_written s.books.copies && s.needs
+
+abbrev pub copy_of : Stage → DueSnap → Option ℕ
+copy_of stage s = first_by (is_copy_at stage) number_of_copy s.books.copies
+
+abbrev pub publishable_of : List Flight → DueSnap → Option ℕ
+publishable_of rs s = first_by (is_publishable s.books.number s.books.chunk rs) number_of_mark s.books.marks
+
+-- the least of what each snapshot has
+abbrev pub least_of : (DueSnap → Option ℕ) → List DueSnap → Option ℕ
+least_of f [] = None
+least_of f (s ∷ snaps) = least (f s) (least_of f snaps)
+
+-- the event of a number, if there is one, or another
+abbrev pub event_or : Option ℕ → (ℕ → Event) → Option Event → Option Event
+event_or None event rest = rest
+event_or (Some n) event rest = Some (event n)
+
+abbrev pub due_of : List DueSnap → List Flight → Option Event
+due_of snaps rs =
+    event_or (first_by is_untried snap_number snaps) WriteInvalid
+    (event_or (least_of (publishable_of rs) snaps) Publish
+    (event_or (first_by can_commit snap_number snaps) WriteArea
+    (event_or (first_by can_zero snap_number snaps) ZeroNext
+    (event_or (least_of (copy_of Read) snaps) CopyWrite
+    (event_or (least_of (copy_of Waiting) snaps) CopyRead
+    (event_or (first_by is_issuable number_of_flight rs) Issue None))))))
+
+-- the first request with a number goes somewhere
+abbrev pub is_issued : ℕ → List Flight → Bool
+is_issued number [] = false
+is_issued number (f ∷ fs) = if f.number == number then is_issuable f else is_issued number fs
+
+-- whether an event is due
+abbrev pub is_due : List DueSnap → List Flight → Event → Bool
+is_due snaps rs (WriteInvalid n) = list_any (λ s. (s.books.number == n) && s.books.untried) snaps
+is_due snaps rs (Publish n) = list_any (λ s. list_any (λ m. (m.number == n) && is_publishable s.books.number s.books.chunk rs m) s.books.marks) snaps
+is_due snaps rs (WriteArea n) = list_any (λ s. (s.books.number == n) && can_commit s) snaps
+is_due snaps rs (ZeroNext n) = list_any (λ s. (s.books.number == n) && can_zero s) snaps
+is_due snaps rs (CopyWrite n) = list_any (λ s. list_any (λ c. (c.number == n) && is_copy_at Read c) s.books.copies) snaps
+is_due snaps rs (CopyRead n) = list_any (λ s. list_any (λ c. (c.number == n) && is_copy_at Waiting c) s.books.copies) snaps
+is_due snaps rs (Issue n) = is_issued n rs
+is_due snaps rs MergeGroup = false
+is_due snaps rs MergeAreaRead = false
+is_due snaps rs MergeRead = false
+is_due snaps rs MergeWrite = false
+is_due snaps rs MergeFlush = false
+is_due snaps rs MergeCommit = false
+is_due snaps rs MergeRelease = false
+
+-- how many events a copy still needs: its own, and a zeroed area, a commit and a publication
+abbrev pub steps_at : Stage → ℕ
+steps_at Waiting = 6
+steps_at Read = 5
+steps_at Written = 4
+
+abbrev pub steps_of : ChunkCopy → ℕ
+steps_of c = steps_at c.stage
+
+abbrev pub left_in : DueSnap → ℕ
+left_in s = (if s.books.untried then 1 else 0) + sum_by steps_of s.books.copies + length s.books.marks + (if s.books.live && not s.zeroed then 1 else 0)
+
+-- a whole number that every event of a volume lowers
+abbrev pub left_of : List DueSnap → List Flight → ℕ
+left_of snaps rs = sum_by left_in snaps + length rs

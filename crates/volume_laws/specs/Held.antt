@@ -1,0 +1,81 @@
+-- What is true of a snapshot that is not being merged, over the origin disk's bytes and the requests in flight.
+use Rattle.std.specs.Prelude.{◌≡◌, ◌≢◌, ℕ, ◌+◌, ◌*◌, ◌/◌, ◌<◌, ◌≤◌, Bool, true, false, List, [], Some, length, map, AllPairs, slice_index}
+use Rattle.std.specs.List.{All}
+use Rattle.sector.specs.Bytes.{sectors_at}
+use Rattle.sector.specs.declared.pair.Pair.{Pair}
+use Rattle.model.specs.Pairs.{pairs_of, IsApart, IsInside}
+use Rattle.model.specs.Picture.{place_of, picture_at, IsCopied}
+use Rattle.plain.specs.declared.request.Op.TheVariants.{Write}
+use Rattle.pending.specs.Copies.{count_of, pair_of}
+use Rattle.pending.specs.Kinds.{kind_of, room_of}
+use Rattle.pending.specs.declared.copies.ChunkCopy.{ChunkCopy}
+use Rattle.pending.specs.declared.copies.Mark.{Mark}
+use Rattle.pending.specs.declared.copies.Stage.TheVariants.{Read, Written}
+use Rattle.pending.specs.declared.flights.Flight.{Flight}
+use Rattle.pending.specs.declared.flights.Kind.TheVariants.{OriginWrite, SnapRead, SnapWrite}
+use Rattle.pending.specs.declared.flights.Route.TheVariants.{Origin, Store, Refused}
+use Rattle.volume_laws.specs.Books.{SnapBooks, given}
+use Rattle.volume_laws.specs.Published.{chunk_of, IsPiece, IsPublished, IsUnpublished}
+
+-- A store's pairs by themselves, for a store of `size` sectors; `all` has the committed ones and what else must stay apart
+-- from them. Nothing here is said of the store's bytes but how many they are.
+pub record StoreHolds (chunk sectors size : ℕ) (store : List ℕ) (all : List Pair) : Type 0 where
+  pub some : 0 < chunk
+  pub allowed : chunk ≤ 1024
+  pub whole : length store ≡ 512 * size
+  pub inside : All (IsInside chunk sectors size) all
+  pub apart : AllPairs IsApart all
+
+-- what a copy has in its buffer, and then on the store
+pub record CopyHolds (loud : Bool) (chunk sectors : ℕ) (origin store : List ℕ) (p : ChunkCopy) : Type 0 where
+  pub room : length p.buffer.items ≡ 512 * count_of chunk sectors p.pair.old
+  pub read : p.stage ≡ Read → p.buffer.items ≡ sectors_at origin (chunk * p.pair.old) (count_of chunk sectors p.pair.old)
+  pub written : loud ≡ true → p.stage ≡ Written → IsCopied chunk origin store p.pair
+
+-- the chunk of a committed copy that is not published: the origin's bytes are the picture's
+pub record MarkHolds (chunk : ℕ) (origin store : List ℕ) (pairs : List Pair) (m : Mark) : Type 0 where
+  pub same : (i : ℕ) → i < length origin → i / (512 * chunk) ≡ m.chunk → picture_at chunk origin store pairs i ≡ slice_index origin i
+
+-- Where a request goes, as to one live snapshot: an origin write that goes to the origin disk needs that snapshot's copy.
+pub record RouteHolds (number chunk : ℕ) (pairs : List Pair) (marks : List Mark) (r : Flight) : Type 0 where
+  pub piece : IsPiece chunk r.request.range
+  pub origin_write : kind_of r.request ≡ OriginWrite → r.route ≡ Origin → IsPublished pairs marks (chunk_of chunk r)
+  pub read : kind_of r.request ≡ SnapRead number → r.route ≡ Origin → IsUnpublished pairs marks (chunk_of chunk r)
+  pub read_stored : (place : ℕ) → kind_of r.request ≡ SnapRead number → r.route ≡ Store place → place_of pairs (chunk_of chunk r) ≡ Some place
+  pub write : kind_of r.request ≡ SnapWrite number → r.route ≢ Origin
+  pub write_stored : (place : ℕ) → kind_of r.request ≡ SnapWrite number → r.route ≡ Store place → (place_of pairs (chunk_of chunk r) ≡ Some place) × IsPublished pairs marks (chunk_of chunk r)
+  pub read_alive : kind_of r.request ≡ SnapRead number → r.route ≢ Refused
+  pub write_alive : kind_of r.request ≡ SnapWrite number → r.route ≢ Refused
+
+-- A live snapshot. What is said of the store's bytes is said where its stack is loud; the rest always.
+pub record LiveHolds (origin : List ℕ) (rs : List Flight) (v : SnapBooks) : Type 0 where
+  pub text : StoreHolds v.chunk v.sectors v.size v.store (given v)
+  pub stored : v.loud ≡ true → pairs_of v.chunk v.store ≡ v.pairs
+  pub fits : length origin ≡ 512 * v.sectors
+  pub tried : v.untried ≡ false
+  pub agree : v.begun ≡ map pair_of v.copies
+  pub copies : All (CopyHolds v.loud v.chunk v.sectors origin v.store) v.copies
+  pub unpublished : v.loud ≡ true → All (MarkHolds v.chunk origin v.store v.pairs) v.marks
+  pub routes : All (RouteHolds v.number v.chunk v.pairs v.marks) rs
+
+-- where a request of a spoiled snapshot goes
+pub record RefusedHolds (number : ℕ) (r : Flight) : Type 0 where
+  pub read : kind_of r.request ≡ SnapRead number → r.route ≡ Refused
+  pub write : kind_of r.request ≡ SnapWrite number → r.route ≡ Refused
+
+-- a spoiled snapshot: no copies, and its requests are refused
+pub record SpoiltHolds (rs : List Flight) (v : SnapBooks) : Type 0 where
+  pub copies : v.copies ≡ []
+  pub unpublished : v.marks ≡ []
+  pub routes : All (RefusedHolds v.number) rs
+
+pub record SnapHolds (origin : List ℕ) (rs : List Flight) (v : SnapBooks) : Type 0 where
+  pub alive : v.live ≡ true → LiveHolds origin rs v
+  pub spoilt : v.live ≡ false → SpoiltHolds rs v
+
+-- of each request, whatever became of the snapshots, for an origin of so many sectors
+pub record RequestHolds (sectors : ℕ) (r : Flight) : Type 0 where
+  pub some : 0 < r.request.range.count
+  pub inside : r.request.range.first + r.request.range.count ≤ sectors
+  pub room : length r.room.items ≡ room_of r.request
+  pub bytes : (bytes : List ℕ) → r.request.op ≡ Write bytes → length bytes ≡ 512 * r.request.range.count

@@ -1,0 +1,11 @@
+pub mod Books
+pub mod Published
+pub mod Held
+pub mod Merging
+pub mod Whole
+pub mod Steps
+pub mod Again
+pub mod Outcomes
+pub mod Due
+pub mod Waits
+pub mod Shape

@@ -1,0 +1,43 @@
+-- When a snapshot has a chunk of its own: from the publication on, its reads go to the store, and origin writes need not
+-- wait for it. This project's own; the kernel's admin-guide page on snapshots has one step for all of it.
+use Rattle.std.specs.Prelude.{◌≡◌, ◌≢◌, ◌==◌, ◌⊎◌, ◌&&◌, ◌||◌, not, ℕ, ◌+◌, ◌*◌, ◌/◌, ◌≤◌, Bool, true, List, None, Any}
+use Rattle.std.specs.List.{All, list_any, list_all}
+use Rattle.std.specs.Option.{is_some}
+use Rattle.sector.specs.declared.pair.Pair.{Pair}
+use Rattle.sector.specs.declared.range.Range.{Range}
+use Rattle.model.specs.Picture.{place_of}
+use Rattle.pending.specs.declared.copies.Mark.{Mark}
+use Rattle.pending.specs.declared.flights.Flight.{Flight}
+use Rattle.volume_laws.specs.Books.{SnapBooks}
+
+-- the chunk of a request, in chunks of so many sectors
+abbrev pub chunk_of : ℕ → Flight → ℕ
+chunk_of chunk r = r.request.range.first / chunk
+
+-- a range lies inside one chunk
+pub record IsPiece (chunk : ℕ) (range : Range) : Type 0 where
+  pub within : range.first + range.count ≤ chunk * (range.first / chunk) + chunk
+
+-- the chunk is published
+pub record IsPublished (pairs : List Pair) (marks : List Mark) (c : ℕ) : Type 0 where
+  pub placed : place_of pairs c ≢ None
+  pub unmarked : All (λ m. m.chunk ≢ c) marks
+
+-- it is not
+abbrev pub IsUnpublished : List Pair → List Mark → ℕ → Type 0
+IsUnpublished pairs marks c = (place_of pairs c ≡ None) ⊎ Any (λ m. m.chunk ≡ c) marks
+
+-- the test
+abbrev pub is_published : List Pair → List Mark → ℕ → Bool
+is_published pairs marks c = is_some (place_of pairs c) && not (list_any (λ m. m.chunk == c) marks)
+
+-- the chunk of the origin's sector `first` is published in a snapshot, if that is live
+abbrev pub IsSaved : ℕ → SnapBooks → Type 0
+IsSaved first v = v.live ≡ true → IsPublished v.pairs v.marks (first / v.chunk)
+
+abbrev pub is_saved : ℕ → SnapBooks → Bool
+is_saved first v = not v.live || is_published v.pairs v.marks (first / v.chunk)
+
+-- An origin write may go to the origin disk: each live snapshot has published the chunk, and no invalid mark is untried.
+abbrev pub is_clear : List SnapBooks → ℕ → Bool
+is_clear snaps first = list_all (is_saved first) snaps && not (list_any (λ v. v.untried) snaps)
