@@ -1,9 +1,9 @@
 -- Whether a line of a run was refused, where memory runs out for no line.
-use Rattle.std.proofs.Common.{◌≡◌, ℕ, true, false, ◌+◌, ◌-◌, ◌^◌, Bool, List, ◌∷◌, min, Option, Some, None, refl, sym, ap, ◌∙◌, arith, inl, inr}
+use Rattle.std.proofs.Common.{◌≡◌, ℕ, true, false, ◌+◌, ◌-◌, ◌^◌, Bool, List, [], ◌∷◌, ◌++◌, min, Option, Some, None, refl, sym, ap, ◌∙◌, arith, inl, inr}
 use Rattle.std.specs.Prelude.{IfSome, ◌||◌}
 use Rattle.lines.specs.Lines.{lines_of, IsKept, ReadsLine}
 use Rattle.runner.specs.State.{Table}
-use Rattle.runner.specs.Output.{Outcome, Standing, outcome_of, any_refused, is_refused, empty, Prints, followed}
+use Rattle.runner.specs.Output.{Outcome, Standing, outcome_of, any_refused, is_refused, empty, Prints, followed, counted}
 use Rattle.runner.proofs.RunLemmas.{outcome_kept}
 
 -- what the reader has left says whether a line is yet to be refused

@@ -1,14 +1,15 @@
 -- A run, line by line, in which memory runs out for no line.
-use Rattle.std.proofs.Common.{◌≡◌, ℕ, true, false, ◌+◌, ◌-◌, ◌^◌, List, ◌∷◌, ◌++◌, min, Option, Some, None, sym, ap, ◌∙◌, arith, inl, inr}
+use Rattle.std.proofs.Common.{◌≡◌, ℕ, true, false, ◌+◌, ◌-◌, ◌^◌, List, [], ◌∷◌, ◌++◌, length, min, Option, Some, None, refl, sym, ap, ◌∙◌, arith, inl, inr}
 use Rattle.std.specs.Prelude.{IfSome}
 use Rattle.std.specs.Io.KnownBytes.{Appends}
 use Rattle.lines.proofs.Written.{WritesOn}
 use Rattle.lines.proofs.Written as written
 use Rattle.lines.specs.Lines.{lines_of, IsKept, ReadsLine}
+use Rattle.command.specs.Line.{said_of}
 use Rattle.command.proofs.Kept.{said_kept}
 use Rattle.runner.specs.State.{Table}
 use Rattle.runner.specs.Steps.{answer_of, obeyed}
-use Rattle.runner.specs.Output.{Outcome, Standing, outcome, outcome_of, outputs, output_of, empty, Prints, followed}
+use Rattle.runner.specs.Output.{Outcome, Standing, outcome, outcome_of, outputs, output_of, empty, Prints, followed, counted}
 use Rattle.words.specs.Given.{◌>>=◌}
 
 -- what the reader has left says what is yet to be written

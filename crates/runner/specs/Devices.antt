@@ -1,4 +1,5 @@
 -- The devices as contracts see them.
+use Rattle.std.specs.Prelude.{ℕ}
 use Rattle.runner.specs.State.{Table}
 use Rattle.runner.specs.declared.devices.Devices.{Devices}
 

@@ -7,7 +7,7 @@ use Rattle.words.specs.Given.{◌>>=◌}
 use Rattle.command.specs.Words.{sectors_of}
 use Rattle.reply.specs.declared.Reply.{Reply}
 use Rattle.reply.specs.declared.Reply.TheVariants.{Done, Data}
-use Rattle.runner.specs.Settled.{Settled, Snap}
+use Rattle.settled.specs.Settled.{Settled, Snap}
 use Rattle.runner.specs.declared.place.Role.{Role}
 use Rattle.runner.specs.declared.place.Role.TheVariants.{Origin, Under, Snapshot, Store}
 use Rattle.runner.specs.declared.place.Place.{Place}

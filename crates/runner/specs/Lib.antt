@@ -1,5 +1,3 @@
-pub mod Settled
-pub mod Attaching
 pub mod State
 pub mod Devices
 pub mod Places

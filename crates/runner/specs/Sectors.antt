@@ -6,8 +6,10 @@ use Rattle.words.specs.Given.{◌>>=◌}
 use Rattle.command.specs.Words.{sectors_of}
 use Rattle.reply.specs.declared.Reply.{Reply}
 use Rattle.reply.specs.declared.Reply.TheVariants.{Done, Data}
-use Rattle.runner.specs.Settled.{Settled, written}
-use Rattle.runner.specs.Attaching.{shown}
+use Rattle.settled.specs.Settled.{Settled, written}
+use Rattle.plain.specs.Plain.{Saved, Live, Invalid}
+use Rattle.sector.specs.Bytes.{sectors_at}
+use Rattle.sector.specs.declared.refusal.Refusal.TheVariants as refusals
 use Rattle.runner.specs.declared.place.Role.{Role}
 use Rattle.runner.specs.declared.place.Role.TheVariants.{Origin, Under, Snapshot, Store}
 use Rattle.runner.specs.declared.place.Place.{Place}
@@ -20,7 +22,12 @@ use Rattle.runner.specs.Disks.{fits, cut, snap_at, whole}
 abbrev pub sectors_in : Volume → ℕ
 sectors_in volume = length volume.state.array / 512
 
--- sectors of what a snapshot shows
+-- sectors of what a snapshot shows; Invalid for one that is spoiled
+abbrev pub shown : Saved → ℕ → ℕ → Result (List ℕ) Refusal
+shown (Live array) first count = Ok (sectors_at array first count)
+shown Invalid first count = Err refusals.Invalid
+
+-- the same for the snapshot at a place
 unfoldable pub shown_at : ℕ → Settled → ℕ → ℕ → Result (List ℕ) Refusal
 shown_at k state first count = snap_at k state >>= λ snap. shown snap.saved first count
 

@@ -1,7 +1,7 @@
 -- What the command program holds: disks that nothing uses, and volumes, each of which owns the disks that it stands on.
 -- The shape is this project's own.
 use Rattle.std.specs.Prelude.{ℕ, List}
-use Rattle.runner.specs.Settled.{Settled}
+use Rattle.settled.specs.Settled.{Settled}
 use Rattle.runner.specs.declared.names.Names.{Names}
 
 -- a disk that nothing uses, and its bytes

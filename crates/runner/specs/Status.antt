@@ -6,9 +6,9 @@ use Rattle.sector.specs.declared.refusal.Refusal.TheVariants.{BadTable}
 use Rattle.words.specs.Given.{◌>>=◌}
 use Rattle.reply.specs.declared.Reply.{Reply}
 use Rattle.reply.specs.declared.Reply.TheVariants.{Said}
-use Rattle.runner.specs.Settled.{Settled}
-use Rattle.runner.specs.declared.volume.Usage.{Usage}
-use Rattle.runner.specs.Attaching.{Used, used_by}
+use Rattle.settled.specs.Settled.{Settled, Snap}
+use Rattle.settled.specs.declared.usage.Usage.{Usage}
+use Rattle.settled.specs.Attaching.{Used, used_by}
 use Rattle.runner.specs.declared.place.Role.{Role}
 use Rattle.runner.specs.declared.place.Role.TheVariants.{Origin, Under, Snapshot, Store}
 use Rattle.runner.specs.declared.place.Place.{Place}

@@ -8,8 +8,8 @@ use Rattle.command.specs.declared.table_line.TableLine.{TableLine}
 use Rattle.command.specs.declared.table_line.TableLine.TheVariants as lines
 use Rattle.reply.specs.declared.Reply.{Reply}
 use Rattle.reply.specs.declared.Reply.TheVariants.{Done}
-use Rattle.runner.specs.Settled.{Settled}
-use Rattle.runner.specs.Attaching.{attached}
+use Rattle.settled.specs.Settled.{Settled}
+use Rattle.settled.specs.Attaching.{attached}
 use Rattle.runner.specs.declared.names.Names.{Names}
 use Rattle.runner.specs.declared.place.Role.{Role}
 use Rattle.runner.specs.declared.place.Role.TheVariants.{Origin, Under, Snapshot, Store}
@@ -17,8 +17,8 @@ use Rattle.runner.specs.declared.place.Place.{Place}
 use Rattle.runner.specs.declared.place.Place.TheVariants.{Free, In}
 use Rattle.runner.specs.State.{Disk, Volume, Table}
 use Rattle.runner.specs.Places.{place_of, found, free_at, volume_at}
-use Rattle.runner.specs.Disks.{device_count, store_at}
-use Rattle.runner.specs.Sectors.{sectors_in}
+use Rattle.runner.specs.Disks.{device_count, with_disk, store_at}
+use Rattle.runner.specs.Sectors.{sectors_in, with_volume}
 
 -- a device of a volume below a new one: an origin and a snapshot can't stand there, and a disk is in use
 abbrev pub taken : Role → Refusal

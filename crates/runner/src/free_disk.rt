@@ -29,7 +29,6 @@ impl Model for FreeDisk {
 }
 
 impl FreeDisk {
-    /// A disk under a name. It takes no memory.
     pub fn new(name: Name, device: MemDisk) -> FreeDisk
         ensures { result ≡ record { name = name; bytes = disk_contents device } }
     {
@@ -45,14 +44,12 @@ impl FreeDisk {
         (name, device)
     }
 
-    /// Whether this is its name.
     pub fn is_named(&self, name: &Name) -> bool
         ensures { result ≡ bytes_eq self.now.name name.now }
     {
         self.name.is_same(name)
     }
 
-    /// How many sectors it has.
     pub fn sectors(&self) -> u64
         ensures value { result ≡ length self.now.bytes / 512 }
         ensures whole { length self.now.bytes ≡ 512 * result }

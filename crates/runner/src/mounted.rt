@@ -18,9 +18,9 @@ use crate::names::Names;
 use crate::place::Role;
 use crate::sizes::range_in;
 use crate::status::{origin_line, snapshot_line};
-use crate::volume::{Usage, Volume};
 use device::{Block, MemDisk};
 use sector::{Buf, Range, Refusal, SECTOR_BYTES};
+use settled::{Usage, Volume};
 use std::alloc::Global;
 use std::marker::Model;
 use words::{Name, Text};
@@ -84,7 +84,7 @@ impl Mounted {
             origin,
             disk,
             snaps: Vec::new(alloc),
-            volume: Volume::new(device),
+            volume: Volume::new(alloc, device),
         }
     }
 
@@ -101,6 +101,7 @@ impl Mounted {
     #[tactic(auto, unfolding(crate::specs::Volumes::snapshot_on), using(crate::proofs::Lengths::attached_length))]
     pub fn attach(
         &mut self,
+        alloc: Global,
         name: Name,
         disk: FreeDisk,
         chunk: u32,
@@ -114,7 +115,7 @@ impl Mounted {
             return Err((Refusal::NoMemory, disk));
         }
         let (store, device) = disk.into_parts();
-        match self.volume.attach(device, chunk) {
+        match self.volume.attach(alloc, device, chunk) {
             Ok(()) => {
                 self.snaps.push_reserved(Names {
                     snapshot: name,
@@ -312,7 +313,7 @@ fn snapshot_status(alloc: Global, volume: &Volume, k: usize) -> Result<Text, Ref
 }
 
 /// Reads sectors of what a snapshot shows. `Invalid` where it is spoiled.
-#[tactic(auto, unfolding(crate::specs::Sectors::shown_at))]
+#[tactic(auto, using(crate::proofs::Snaps::shown_here))]
 fn read_snap(volume: &mut Volume, k: usize, range: Range, out: &mut [u8]) -> Result<(), Refusal>
     requires place { k < length volume.old.snaps }
     requires some { 0 < range.count }
@@ -333,7 +334,7 @@ fn zeros(alloc: Global, count: u32) -> Result<Vec<u8>, Refusal>
 }
 
 /// The numbers of a snapshot; `None` of one that is spoiled.
-#[tactic(auto, unfolding(crate::specs::Status::used_at))]
+#[tactic(auto, using(crate::proofs::Snaps::used_here))]
 fn usage(volume: &Volume, k: usize) -> Option<Usage>
     requires { k < length volume.now.snaps }
     ensures { used_at k volume.now ≡ Ok result }

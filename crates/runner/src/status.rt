@@ -9,10 +9,10 @@ ghost use Rattle.runner.specs.Steps.{Steps};
 use crate::devices::Devices;
 use crate::find::find_device;
 use crate::place::Place;
-use crate::volume::Usage;
 use itoa::Buffer;
 use reply::Reply;
 use sector::Refusal;
+use settled::Usage;
 use std::alloc::{AllocError, Global};
 use words::{Name, Text};
 

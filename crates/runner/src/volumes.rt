@@ -55,8 +55,9 @@ fn make_origin(
     same_size(sectors, devices.disks[i].sectors())?;
     devices.volumes.reserve(1).map_err(|_| Refusal::NoMemory)?;
     let disk = devices.disks.remove(i);
-    let volume = Mounted::new(alloc, name, disk);
-    devices.volumes.push_reserved(volume);
+    devices
+        .volumes
+        .push_reserved(Mounted::new(alloc, name, disk));
     Ok(Reply::Done)
 }
 
@@ -72,6 +73,7 @@ fn put_back(disks: &mut Vec<FreeDisk>, i: usize, disk: FreeDisk)
 /// A snapshot of a volume takes over a disk that nothing uses as its store.
 #[tactic(auto, unfolding(crate::specs::Volumes::snapshot_free))]
 fn make_snapshot(
+    alloc: Global,
     devices: &mut Devices,
     name: Name,
     sectors: u32,
@@ -85,7 +87,7 @@ fn make_snapshot(
 {
     same_size(sectors, devices.volumes[v].sectors())?;
     let disk = devices.disks.remove(i);
-    match devices.volumes[v].attach(name, disk, chunk) {
+    match devices.volumes[v].attach(alloc, name, disk, chunk) {
         Ok(()) => Ok(Reply::Done),
         Err((refusal, disk)) => {
             put_back(&mut devices.disks, i, disk);
@@ -128,7 +130,7 @@ fn made_by(
         } => {
             let v = volume_over(devices, &device)?;
             match find_device(devices, &store)? {
-                Place::Free(i) => make_snapshot(devices, name, sectors, chunk, v, i),
+                Place::Free(i) => make_snapshot(alloc, devices, name, sectors, chunk, v, i),
                 Place::In(_, role) => Err(taken(role)),
             }
         }

@@ -13,6 +13,542 @@ fn printed(alloc: std::alloc::Global, text: &str) -> Result<(Vec<u8>, u8), Fail>
 }
 
 #[test]
+fn shows_a_fresh_store_and_its_snapshot(rt: HostRuntime) -> Result<(), Fail> {
+    let text = "\
+        disk base 128\n\
+        disk cow 64\n\
+        create vol 0 128 snapshot-origin base\n\
+        write vol 0 65536*11\n\
+        create snap 0 128 snapshot base cow P 1\n\
+        status snap\n\
+        status vol\n\
+        save cow 0 1\n\
+        save cow 1 1\n\
+        ";
+    let want = "\
+        ok\n\
+        ok\n\
+        ok\n\
+        ok\n\
+        ok\n\
+        ok 0 128 snapshot 2/64 2\n\
+        ok 0 128 snapshot-origin\n\
+        ok 1*53 1*6e 1*41 1*70 1*01 3*00 1*01 3*00 1*01 499*00\n\
+        ok 512*00\n\
+        ";
+    let (out, status) = printed(rt.alloc(), text)?;
+    assert_eq!(rt; out.as_slice(), want.as_bytes());
+    assert_eq!(rt; status, 0);
+    Ok(())
+}
+
+#[test]
+fn saves_a_chunk_before_the_origin_is_written(rt: HostRuntime) -> Result<(), Fail> {
+    let text = "\
+        disk base 128\n\
+        disk cow 64\n\
+        create vol 0 128 snapshot-origin base\n\
+        write vol 0 65536*11\n\
+        create snap 0 128 snapshot base cow P 1\n\
+        write vol 5 512*aa\n\
+        read vol 5 1\n\
+        read snap 5 1\n\
+        status snap\n\
+        save cow 1 1\n\
+        save cow 2 1\n\
+        ";
+    let want = "\
+        ok\n\
+        ok\n\
+        ok\n\
+        ok\n\
+        ok\n\
+        ok\n\
+        ok 512*aa\n\
+        ok 512*11\n\
+        ok 0 128 snapshot 3/64 2\n\
+        ok 1*05 7*00 1*02 503*00\n\
+        ok 512*11\n\
+        ";
+    let (out, status) = printed(rt.alloc(), text)?;
+    assert_eq!(rt; out.as_slice(), want.as_bytes());
+    assert_eq!(rt; status, 0);
+    Ok(())
+}
+
+#[test]
+fn saves_a_chunk_once(rt: HostRuntime) -> Result<(), Fail> {
+    let text = "\
+        disk base 128\n\
+        disk cow 64\n\
+        create vol 0 128 snapshot-origin base\n\
+        write vol 0 65536*11\n\
+        create snap 0 128 snapshot base cow P 1\n\
+        write vol 5 512*aa\n\
+        read vol 5 1\n\
+        read snap 5 1\n\
+        status snap\n\
+        save cow 1 1\n\
+        save cow 2 1\n\
+        write vol 5 512*bb\n\
+        status snap\n\
+        read snap 5 1\n\
+        ";
+    let want = "\
+        ok\n\
+        ok\n\
+        ok\n\
+        ok\n\
+        ok\n\
+        ok\n\
+        ok 512*aa\n\
+        ok 512*11\n\
+        ok 0 128 snapshot 3/64 2\n\
+        ok 1*05 7*00 1*02 503*00\n\
+        ok 512*11\n\
+        ok\n\
+        ok 0 128 snapshot 3/64 2\n\
+        ok 512*11\n\
+        ";
+    let (out, status) = printed(rt.alloc(), text)?;
+    assert_eq!(rt; out.as_slice(), want.as_bytes());
+    assert_eq!(rt; status, 0);
+    Ok(())
+}
+
+#[test]
+fn marks_the_store_that_lacks_its_next_area(rt: HostRuntime) -> Result<(), Fail> {
+    let text = "\
+        disk base 128\n\
+        disk cow 34\n\
+        create vol 0 128 snapshot-origin base\n\
+        write vol 0 65536*11\n\
+        create snap 0 128 snapshot base cow P 1\n\
+        write vol 0 15872*aa\n\
+        status snap\n\
+        write vol 31 512*aa\n\
+        status snap\n\
+        ";
+    let want = "\
+        ok\n\
+        ok\n\
+        ok\n\
+        ok\n\
+        ok\n\
+        ok\n\
+        ok 0 128 snapshot 33/34 2\n\
+        ok\n\
+        ok 0 128 snapshot Invalid\n\
+        ";
+    let (out, status) = printed(rt.alloc(), text)?;
+    assert_eq!(rt; out.as_slice(), want.as_bytes());
+    assert_eq!(rt; status, 0);
+    Ok(())
+}
+
+#[test]
+fn goes_on_in_a_second_area(rt: HostRuntime) -> Result<(), Fail> {
+    let text = "\
+        disk base 128\n\
+        disk cow 64\n\
+        create vol 0 128 snapshot-origin base\n\
+        write vol 0 65536*11\n\
+        create snap 0 128 snapshot base cow P 1\n\
+        write vol 0 16384*aa\n\
+        status snap\n\
+        save cow 34 1\n\
+        write vol 32 512*aa\n\
+        status snap\n\
+        save cow 34 1\n\
+        ";
+    let want = "\
+        ok\n\
+        ok\n\
+        ok\n\
+        ok\n\
+        ok\n\
+        ok\n\
+        ok 0 128 snapshot 35/64 3\n\
+        ok 512*00\n\
+        ok\n\
+        ok 0 128 snapshot 36/64 3\n\
+        ok 1*20 7*00 1*23 503*00\n\
+        ";
+    let (out, status) = printed(rt.alloc(), text)?;
+    assert_eq!(rt; out.as_slice(), want.as_bytes());
+    assert_eq!(rt; status, 0);
+    Ok(())
+}
+
+#[test]
+fn marks_the_store_that_is_full_past_its_first_area(rt: HostRuntime) -> Result<(), Fail> {
+    let text = "\
+        disk base 128\n\
+        disk cow 35\n\
+        create vol 0 128 snapshot-origin base\n\
+        write vol 0 65536*11\n\
+        create snap 0 128 snapshot base cow P 1\n\
+        write vol 0 16384*aa\n\
+        status snap\n\
+        write vol 32 512*bb\n\
+        status snap\n\
+        read snap 0 1\n\
+        read vol 32 1\n\
+        save cow 0 1\n\
+        ";
+    let want = "\
+        ok\n\
+        ok\n\
+        ok\n\
+        ok\n\
+        ok\n\
+        ok\n\
+        ok 0 128 snapshot 35/35 3\n\
+        ok\n\
+        ok 0 128 snapshot Invalid\n\
+        err 6 Invalid\n\
+        ok 512*bb\n\
+        ok 1*53 1*6e 1*41 1*70 4*00 1*01 3*00 1*01 499*00\n\
+        ";
+    let (out, status) = printed(rt.alloc(), text)?;
+    assert_eq!(rt; out.as_slice(), want.as_bytes());
+    assert_eq!(rt; status, 1);
+    Ok(())
+}
+
+#[test]
+fn saves_a_short_last_chunk_short(rt: HostRuntime) -> Result<(), Fail> {
+    let text = "\
+        disk base 130\n\
+        disk cow 64\n\
+        create vol 0 130 snapshot-origin base\n\
+        write vol 0 66560*11\n\
+        create snap 0 130 snapshot base cow P 4\n\
+        write vol 129 512*aa\n\
+        status snap\n\
+        save cow 4 1\n\
+        save cow 8 4\n\
+        read snap 128 2\n\
+        read vol 128 2\n\
+        read snap 130 1\n\
+        ";
+    let want = "\
+        ok\n\
+        ok\n\
+        ok\n\
+        ok\n\
+        ok\n\
+        ok\n\
+        ok 0 130 snapshot 12/64 8\n\
+        ok 1*20 7*00 1*02 503*00\n\
+        ok 1024*11 1024*00\n\
+        ok 1024*11\n\
+        ok 512*11 512*aa\n\
+        err 2 OutOfRange\n\
+        ";
+    let (out, status) = printed(rt.alloc(), text)?;
+    assert_eq!(rt; out.as_slice(), want.as_bytes());
+    assert_eq!(rt; status, 1);
+    Ok(())
+}
+
+#[test]
+fn shows_the_same_after_it_is_attached_again(rt: HostRuntime) -> Result<(), Fail> {
+    let text = "\
+        disk base 128\n\
+        disk cow 64\n\
+        create vol 0 128 snapshot-origin base\n\
+        write vol 0 65536*11\n\
+        create snap 0 128 snapshot base cow P 1\n\
+        write vol 5 512*aa\n\
+        remove snap\n\
+        create snap 0 128 snapshot base cow P 1\n\
+        status snap\n\
+        read snap 5 1\n\
+        write vol 6 512*aa\n\
+        save cow 1 1\n\
+        ";
+    let want = "\
+        ok\n\
+        ok\n\
+        ok\n\
+        ok\n\
+        ok\n\
+        ok\n\
+        ok\n\
+        ok\n\
+        ok 0 128 snapshot 3/64 2\n\
+        ok 512*11\n\
+        ok\n\
+        ok 1*05 7*00 1*02 7*00 1*06 7*00 1*03 487*00\n\
+        ";
+    let (out, status) = printed(rt.alloc(), text)?;
+    assert_eq!(rt; out.as_slice(), want.as_bytes());
+    assert_eq!(rt; status, 0);
+    Ok(())
+}
+
+#[test]
+fn goes_on_behind_a_full_area_that_is_attached_again(rt: HostRuntime) -> Result<(), Fail> {
+    let text = "\
+        disk base 128\n\
+        disk cow 64\n\
+        create vol 0 128 snapshot-origin base\n\
+        write vol 0 65536*11\n\
+        create snap 0 128 snapshot base cow P 1\n\
+        write vol 0 16384*aa\n\
+        status snap\n\
+        remove snap\n\
+        create snap 0 128 snapshot base cow P 1\n\
+        status snap\n\
+        ";
+    let want = "\
+        ok\n\
+        ok\n\
+        ok\n\
+        ok\n\
+        ok\n\
+        ok\n\
+        ok 0 128 snapshot 35/64 3\n\
+        ok\n\
+        ok\n\
+        ok 0 128 snapshot 35/64 3\n\
+        ";
+    let (out, status) = printed(rt.alloc(), text)?;
+    assert_eq!(rt; out.as_slice(), want.as_bytes());
+    assert_eq!(rt; status, 0);
+    Ok(())
+}
+
+#[test]
+fn clears_the_pairs_behind_the_end(rt: HostRuntime) -> Result<(), Fail> {
+    let text = "\
+        disk base 128\n\
+        disk cow 64\n\
+        create vol 0 128 snapshot-origin base\n\
+        write vol 0 65536*11\n\
+        load cow 0 1*53 1*6e 1*41 1*70 1*01 3*00 1*01 3*00 1*01 499*00\n\
+        load cow 1 1*05 7*00 1*02 23*00 1*09 7*00 1*03 471*00\n\
+        load cow 2 512*77\n\
+        create snap 0 128 snapshot base cow P 1\n\
+        save cow 1 1\n\
+        read snap 5 1\n\
+        read snap 9 1\n\
+        status snap\n\
+        ";
+    let want = "\
+        ok\n\
+        ok\n\
+        ok\n\
+        ok\n\
+        ok\n\
+        ok\n\
+        ok\n\
+        ok\n\
+        ok 1*05 7*00 1*02 503*00\n\
+        ok 512*77\n\
+        ok 512*11\n\
+        ok 0 128 snapshot 3/64 2\n\
+        ";
+    let (out, status) = printed(rt.alloc(), text)?;
+    assert_eq!(rt; out.as_slice(), want.as_bytes());
+    assert_eq!(rt; status, 0);
+    Ok(())
+}
+
+#[test]
+fn takes_no_other_version(rt: HostRuntime) -> Result<(), Fail> {
+    let text = "\
+        disk base 128\n\
+        disk cow 64\n\
+        create vol 0 128 snapshot-origin base\n\
+        write vol 0 65536*11\n\
+        load cow 0 1*53 1*6e 1*41 1*70 1*01 3*00 1*02 3*00 1*01 499*00\n\
+        create snap 0 128 snapshot base cow P 1\n\
+        save cow 0 1\n\
+        save cow 1 63\n\
+        ";
+    let want = "\
+        ok\n\
+        ok\n\
+        ok\n\
+        ok\n\
+        ok\n\
+        err 13 BadVersion\n\
+        ok 1*53 1*6e 1*41 1*70 1*01 3*00 1*02 3*00 1*01 499*00\n\
+        ok 32256*00\n\
+        ";
+    let (out, status) = printed(rt.alloc(), text)?;
+    assert_eq!(rt; out.as_slice(), want.as_bytes());
+    assert_eq!(rt; status, 1);
+    Ok(())
+}
+
+#[test]
+fn takes_no_other_magic_number(rt: HostRuntime) -> Result<(), Fail> {
+    let text = "\
+        disk base 128\n\
+        disk cow 64\n\
+        create vol 0 128 snapshot-origin base\n\
+        write vol 0 65536*11\n\
+        load cow 0 1*53 1*6e 1*41 1*71 1*01 3*00 1*01 3*00 1*01 499*00\n\
+        create snap 0 128 snapshot base cow P 1\n\
+        save cow 0 1\n\
+        save cow 1 63\n\
+        ";
+    let want = "\
+        ok\n\
+        ok\n\
+        ok\n\
+        ok\n\
+        ok\n\
+        err 12 BadHeader\n\
+        ok 1*53 1*6e 1*41 1*71 1*01 3*00 1*01 3*00 1*01 499*00\n\
+        ok 32256*00\n\
+        ";
+    let (out, status) = printed(rt.alloc(), text)?;
+    assert_eq!(rt; out.as_slice(), want.as_bytes());
+    assert_eq!(rt; status, 1);
+    Ok(())
+}
+
+#[test]
+fn takes_no_chunk_of_three_sectors(rt: HostRuntime) -> Result<(), Fail> {
+    let text = "\
+        disk base 128\n\
+        disk cow 64\n\
+        create vol 0 128 snapshot-origin base\n\
+        write vol 0 65536*11\n\
+        load cow 0 1*53 1*6e 1*41 1*70 1*01 3*00 1*01 3*00 1*03 499*00\n\
+        create snap 0 128 snapshot base cow P 1\n\
+        save cow 0 1\n\
+        save cow 1 63\n\
+        ";
+    let want = "\
+        ok\n\
+        ok\n\
+        ok\n\
+        ok\n\
+        ok\n\
+        err 11 BadChunk\n\
+        ok 1*53 1*6e 1*41 1*70 1*01 3*00 1*01 3*00 1*03 499*00\n\
+        ok 32256*00\n\
+        ";
+    let (out, status) = printed(rt.alloc(), text)?;
+    assert_eq!(rt; out.as_slice(), want.as_bytes());
+    assert_eq!(rt; status, 1);
+    Ok(())
+}
+
+#[test]
+fn takes_no_pair_past_the_end_of_the_store(rt: HostRuntime) -> Result<(), Fail> {
+    let text = "\
+        disk base 128\n\
+        disk cow 64\n\
+        create vol 0 128 snapshot-origin base\n\
+        write vol 0 65536*11\n\
+        load cow 0 1*53 1*6e 1*41 1*70 1*01 3*00 1*01 3*00 1*01 499*00\n\
+        load cow 1 1*05 7*00 1*22 503*00\n\
+        create snap 0 128 snapshot base cow P 1\n\
+        save cow 0 1\n\
+        save cow 1 1\n\
+        save cow 2 62\n\
+        ";
+    let want = "\
+        ok\n\
+        ok\n\
+        ok\n\
+        ok\n\
+        ok\n\
+        ok\n\
+        err 14 Damaged\n\
+        ok 1*53 1*6e 1*41 1*70 1*01 3*00 1*01 3*00 1*01 499*00\n\
+        ok 1*05 7*00 1*22 503*00\n\
+        ok 31744*00\n\
+        ";
+    let (out, status) = printed(rt.alloc(), text)?;
+    assert_eq!(rt; out.as_slice(), want.as_bytes());
+    assert_eq!(rt; status, 1);
+    Ok(())
+}
+
+#[test]
+fn takes_no_store_that_is_marked(rt: HostRuntime) -> Result<(), Fail> {
+    let text = "\
+        disk base 128\n\
+        disk cow 64\n\
+        create vol 0 128 snapshot-origin base\n\
+        write vol 0 65536*11\n\
+        load cow 0 1*53 1*6e 1*41 1*70 4*00 1*01 3*00 1*01 499*00\n\
+        create snap 0 128 snapshot base cow P 1\n\
+        save cow 0 1\n\
+        save cow 1 63\n\
+        ";
+    let want = "\
+        ok\n\
+        ok\n\
+        ok\n\
+        ok\n\
+        ok\n\
+        err 6 Invalid\n\
+        ok 1*53 1*6e 1*41 1*70 4*00 1*01 3*00 1*01 499*00\n\
+        ok 32256*00\n\
+        ";
+    let (out, status) = printed(rt.alloc(), text)?;
+    assert_eq!(rt; out.as_slice(), want.as_bytes());
+    assert_eq!(rt; status, 1);
+    Ok(())
+}
+
+#[test]
+fn takes_a_header_of_zeros_for_a_fresh_store(rt: HostRuntime) -> Result<(), Fail> {
+    let text = "\
+        disk base 128\n\
+        disk cow 64\n\
+        create vol 0 128 snapshot-origin base\n\
+        write vol 0 65536*11\n\
+        load cow 0 4*00 508*ff\n\
+        create snap 0 128 snapshot base cow P 1\n\
+        save cow 0 1\n\
+        ";
+    let want = "\
+        ok\n\
+        ok\n\
+        ok\n\
+        ok\n\
+        ok\n\
+        ok\n\
+        ok 1*53 1*6e 1*41 1*70 1*01 3*00 1*01 3*00 1*01 499*00\n\
+        ";
+    let (out, status) = printed(rt.alloc(), text)?;
+    assert_eq!(rt; out.as_slice(), want.as_bytes());
+    assert_eq!(rt; status, 0);
+    Ok(())
+}
+
+#[test]
+fn takes_no_store_of_one_sector(rt: HostRuntime) -> Result<(), Fail> {
+    let text = "\
+        disk base 128\n\
+        disk cow 1\n\
+        create vol 0 128 snapshot-origin base\n\
+        write vol 0 65536*11\n\
+        create snap 0 128 snapshot base cow P 1\n\
+        ";
+    let want = "\
+        ok\n\
+        ok\n\
+        ok\n\
+        ok\n\
+        err 15 StoreTooSmall\n\
+        ";
+    let (out, status) = printed(rt.alloc(), text)?;
+    assert_eq!(rt; out.as_slice(), want.as_bytes());
+    assert_eq!(rt; status, 1);
+    Ok(())
+}
+
+#[test]
 fn prints_nothing_for_nothing(rt: HostRuntime) -> Result<(), Fail> {
     let text = "";
     let want = "";
@@ -52,117 +588,5 @@ fn goes_on_after_a_line_that_is_no_command(rt: HostRuntime) -> Result<(), Fail> 
     let (out, status) = printed(rt.alloc(), text)?;
     assert_eq!(rt; out.as_slice(), want.as_bytes());
     assert_eq!(rt; status, 1);
-    Ok(())
-}
-
-#[test]
-fn refuses_in_the_stated_order(rt: HostRuntime) -> Result<(), Fail> {
-    let text = "\
-        disk base 4\n\
-        disk base 4\n\
-        disk d 0\n\
-        disk d 16777217\n\
-        frob\n\
-        disk Base 4\n\
-        save nosuch 0 0\n\
-        save nosuch 0 1\n\
-        save base 3 2\n\
-        read base 0 1\n\
-        status base\n\
-        create vol 0 5 snapshot-origin base\n\
-        create vol 0 4 snapshot-origin nosuch\n\
-        create base 0 4 snapshot-origin base\n\
-        create vol 0 4 snapshot-origin base\n\
-        create v 0 4 snapshot-origin base\n\
-        create v 0 4 snapshot-origin vol\n\
-        save vol 0 1\n\
-        load base 3 1024*aa\n\
-        load base 3 512*aa\n\
-        load vol 9 512*aa\n\
-        write vol 4 512*aa\n\
-        write vol 0 511*aa\n\
-        create s 0 4 snapshot base nosuch P 1\n\
-        create s 0 4 snapshot vol base P 1\n\
-        create s 0 4 snapshot base vol P 1\n\
-        create s 0 4 snapshot base base P 1\n\
-        create s 0 4 snapshot base base P 3\n\
-        remove base\n\
-        remove vol\n\
-        remove vol\n\
-        remove base\n\
-        disk base 1\n\
-        ";
-    let want = "\
-        ok\n\
-        err 3 Busy\n\
-        err 2 OutOfRange\n\
-        err 2 OutOfRange\n\
-        err 10 BadTable\n\
-        err 10 BadTable\n\
-        err 2 OutOfRange\n\
-        err 1 NoSuchDevice\n\
-        err 2 OutOfRange\n\
-        err 10 BadTable\n\
-        err 10 BadTable\n\
-        err 10 BadTable\n\
-        err 1 NoSuchDevice\n\
-        err 3 Busy\n\
-        ok\n\
-        err 3 Busy\n\
-        err 10 BadTable\n\
-        err 10 BadTable\n\
-        err 2 OutOfRange\n\
-        err 3 Busy\n\
-        err 10 BadTable\n\
-        err 2 OutOfRange\n\
-        err 10 BadTable\n\
-        err 1 NoSuchDevice\n\
-        err 1 NoSuchDevice\n\
-        err 10 BadTable\n\
-        err 3 Busy\n\
-        err 11 BadChunk\n\
-        err 3 Busy\n\
-        ok\n\
-        err 1 NoSuchDevice\n\
-        ok\n\
-        ok\n\
-        ";
-    let (out, status) = printed(rt.alloc(), text)?;
-    assert_eq!(rt; out.as_slice(), want.as_bytes());
-    assert_eq!(rt; status, 1);
-    Ok(())
-}
-
-#[test]
-fn shows_an_origin_and_the_raw_bytes_of_its_disk(rt: HostRuntime) -> Result<(), Fail> {
-    let text = "\
-        # an origin over a disk\n\
-        disk base 4\n\
-        load base 1 512*11\n\
-        create vol 0 4 snapshot-origin base\n\
-        status vol\n\
-        read vol 0 3\n\
-        write vol 2 256*aa 256*0f\n\
-        read vol 1 2\n\
-        \n\
-        save base 2 2\n\
-        remove vol\n\
-        save base 2 1\n\
-        ";
-    let want = "\
-        ok\n\
-        ok\n\
-        ok\n\
-        ok 0 4 snapshot-origin\n\
-        ok 512*00 512*11 512*00\n\
-        ok\n\
-        ok 512*11 256*aa 256*0f\n\
-        ok 256*aa 256*0f 512*00\n\
-        ok\n\
-        ok 256*aa 256*0f\n\
-        ";
-    let (out, status) = printed(rt.alloc(), text)?;
-    assert_eq!(rt; out.as_slice(), want.as_bytes());
-    assert_eq!(rt; status, 0);
     Ok(())
 }

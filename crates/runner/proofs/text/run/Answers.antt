@@ -1,4 +1,4 @@
-use Rattle.std.proofs.Common.{rules, false}
+use Rattle.std.proofs.Common.{rules, true, false}
 use Rattle.lines.specs.Lines.{ReadsLine}
 use Rattle.runner.proofs.RunLemmas.{ends}
 use Rattle.runner.proofs.RefusedLemmas.{ends_refused}
