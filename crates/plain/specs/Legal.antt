@@ -1,5 +1,9 @@
 -- The legal steps of the plain machine.
-use Rattle.std.specs.Prelude.{◌≡◌, ℕ, List, [], ◌∷◌, ◌++◌, Some, None}
+use Rattle.std.specs.Prelude.{◌≡◌, ◌⊎◌, ℕ, List, [], ◌∷◌, ◌++◌, Some, None}
+use Rattle.sector.specs.declared.refusal.Refusal.{Refusal}
+use Rattle.sector.specs.declared.refusal.Refusal.TheVariants.{Invalid}
+use Rattle.plain.specs.declared.request.Dev.TheVariants.{Snap}
+use Rattle.plain.specs.declared.request.Op.TheVariants.{Write}
 use Rattle.plain.specs.declared.request.Request.{Request}
 use Rattle.plain.specs.declared.request.Reply.{Reply}
 use Rattle.plain.specs.declared.event.Event.{Event}
@@ -35,6 +39,12 @@ pub record IsSubmitted (which : List ℕ) (old : Plain) (number : ℕ) (request 
     saved = (spoiled which old).saved;
     requests = old.requests ++ record { number = number; request = request } ∷ [];
   } in next)
+
+-- A refused request changes nothing, but for a write of a snapshot whose store is found full: that one is spoiled, and the
+-- write is refused with Invalid.
+abbrev pub IsDeclined : Request → Refusal → Plain → Plain → Type 0
+IsDeclined request refusal old new =
+    (new ≡ old) ⊎ ((number : ℕ) × (bytes : List ℕ) × (request.dev ≡ Snap number) × (request.op ≡ Write bytes) × (refusal ≡ Invalid) × Spoils (number ∷ []) old new)
 
 -- A snapshot is taken: of the origin as it is over a fresh store, or of what a written store makes of it.
 pub record IsTaken (old : Plain) (number : ℕ) (array : List ℕ) (new : Plain) : Type 0 where

@@ -4,7 +4,8 @@ use Rattle.plain.specs.declared.request.Request.{Request}
 use Rattle.plain.specs.declared.event.Event.{Event}
 use Rattle.plain.specs.declared.event.Outcome.{Outcome}
 use Rattle.plain.specs.Plain.{Plain}
-use Rattle.plain.specs.Legal.{Spoils, IsLegalStep, IsSubmitted}
+use Rattle.sector.specs.declared.refusal.Refusal.{Refusal}
+use Rattle.plain.specs.Legal.{IsLegalStep, IsSubmitted, IsDeclined}
 
 -- these calls, each by its steps
 abbrev pub IsRun : {C : Type 0} → (C → Plain → Plain → Type 0) → List C → Plain → Plain → Type 0
@@ -15,6 +16,6 @@ IsRun step (call ∷ calls) old new = (mid : Plain) × step call old mid × IsRu
 abbrev pub MayStep : Event → Plain → Plain → Type 0
 MayStep event old new = ((outcome : Outcome) × IsLegalStep old event outcome new) ⊎ (new ≡ old)
 
--- a request that was accepted, or one that was refused, which spoils no snapshot but one whose store was found full
+-- a request that was accepted, or one that was refused
 abbrev pub MaySubmit : Request → Plain → Plain → Type 0
-MaySubmit request old new = ((number : ℕ) × (which : List ℕ) × IsSubmitted which old number request new) ⊎ ((which : List ℕ) × Spoils which old new)
+MaySubmit request old new = ((number : ℕ) × (which : List ℕ) × IsSubmitted which old number request new) ⊎ ((refusal : Refusal) × IsDeclined request refusal old new)

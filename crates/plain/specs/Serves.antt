@@ -42,14 +42,18 @@ abbrev pub IsSpoilt : Plain → Dev → Type 0
 IsSpoilt plain Origin = ⊥
 IsSpoilt plain (Snap number) = saved_under number plain.saved ≡ Some Spoilt
 
+-- a device that shows an array
+abbrev pub IsShowing : Plain → Dev → Type 0
+IsShowing plain dev = (array : List ℕ) × Shows plain dev array
+
 -- A read answers the array's sectors. A write puts its bytes into that one array. Invalid is answered for a spoiled
--- snapshot alone, and then, as with Io, no array changes.
+-- snapshot alone, Io for a device that shows an array alone, and then no array changes.
 abbrev pub Serves : Plain → Dev → Op → Range → Reply → Plain → Type 0
 Serves old dev Read range (Data bytes) new =
     SameArrays old new × ((array : List ℕ) × Shows old dev array × (bytes ≡ sectors_at array range.first range.count))
 Serves old dev (Write bytes) range Written new =
     (array : List ℕ) × Shows old dev array × Assigns dev old new (with_sectors array range.first bytes)
-Serves old dev op range (Refused Io) new = SameArrays old new
+Serves old dev op range (Refused Io) new = SameArrays old new × IsShowing old dev
 Serves old dev op range (Refused Invalid) new = SameArrays old new × IsSpoilt old dev
 Serves old dev Read range Written new = ⊥
 Serves old dev (Write bytes) range (Data read) new = ⊥

@@ -13,7 +13,7 @@ use Rattle.plain.specs.declared.request.Failure.TheVariants.{Invalid as IsInvali
 use Rattle.plain.specs.declared.request.Request.{Request}
 use Rattle.sector.specs.declared.range.Range.{Range}
 use Rattle.plain.specs.Plain.{Plain, Entry, Saved, saved_under, with_saved, without_saved}
-use Rattle.plain.specs.Serves.{Serves, SameArrays, IsSpoilt}
+use Rattle.plain.specs.Serves.{Serves, SameArrays, IsShowing, IsSpoilt}
 use Rattle.pending.specs.Kinds.{kind_at}
 use Rattle.pending.specs.declared.flights.Kind.TheVariants.{OriginRead, OriginWrite, SnapRead, SnapWrite}
 use Rattle.volume_laws.specs.Books.{SnapBooks, number_of}
@@ -83,9 +83,9 @@ pub serves_as : (old new : Plain) (reply : Reply) (request : Request) (dev : Dev
 serves_as old new reply request dev op dev_is op_is h =
     subst (λ x. Serves old request.dev x request.range reply new) (sym op_is) (subst (λ x. Serves old x op request.range reply new) (sym dev_is) h)
 
-pub io_served : (old new : Plain) (dev : Dev) (op : Op) (range : Range) → SameArrays old new → Serves old dev op range (Refused Io) new
-io_served old new dev Read range h = h
-io_served old new dev (Write b) range h = h
+pub io_served : (old new : Plain) (dev : Dev) (op : Op) (range : Range) → SameArrays old new → IsShowing old dev → Serves old dev op range (Refused Io) new
+io_served old new dev Read range h showing = (h, showing)
+io_served old new dev (Write b) range h showing = (h, showing)
 
 pub invalid_served : (old new : Plain) (dev : Dev) (op : Op) (range : Range) → SameArrays old new → IsSpoilt old dev → Serves old dev op range (Refused IsInvalid) new
 invalid_served old new dev Read range h spoilt = (h, spoilt)

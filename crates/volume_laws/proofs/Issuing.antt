@@ -4,17 +4,18 @@ use Rattle.std.specs.List.{remove}
 use Rattle.std.proofs.lemmas.Bool.{cases_Bool}
 use Rattle.sector.specs.Bytes.{sectors_at}
 use Rattle.model.specs.Picture.{picture}
+use Rattle.plain.specs.declared.request.Dev.{Dev}
 use Rattle.plain.specs.declared.request.Dev.TheVariants.{Origin as AtOrigin, Snap}
 use Rattle.plain.specs.declared.request.Op.TheVariants.{Read}
 use Rattle.plain.specs.declared.request.Reply.{Reply}
 use Rattle.plain.specs.declared.request.Reply.TheVariants.{Data, Refused as IsRefused}
 use Rattle.plain.specs.declared.request.Failure.TheVariants.{Invalid as IsInvalid, Io}
 use Rattle.plain.specs.Plain.{Live, Invalid, saved_under}
-use Rattle.plain.specs.Serves.{Serves, SameArrays}
+use Rattle.plain.specs.Serves.{Serves, SameArrays, IsShowing}
 use Rattle.plain.specs.Legal.{IsAnswered}
 use Rattle.pending.specs.Kinds.{kind_of}
 use Rattle.pending.specs.declared.flights.Flight.{Flight}
-use Rattle.pending.specs.declared.flights.Kind.TheVariants.{OriginRead, SnapRead, SnapWrite}
+use Rattle.pending.specs.declared.flights.Kind.TheVariants.{OriginRead, OriginWrite, SnapRead, SnapWrite}
 use Rattle.pending.specs.declared.flights.Route.TheVariants.{Origin, Store, Refused}
 use Rattle.volume_laws.specs.Books.{SnapBooks, Books}
 use Rattle.volume_laws.specs.Held.{SnapHolds, RouteHolds, RefusedHolds, RequestHolds}
@@ -24,7 +25,7 @@ use Rattle.volume_laws.specs.Outcomes.{IsReply}
 use Rattle.volume_laws.proofs.Lists.{All-remove}
 use Rattle.volume_laws.proofs.Same.{same_volume}
 use Rattle.volume_laws.proofs.Requests.{asked, gone, found_holds, origin_out, snap_out}
-use Rattle.volume_laws.proofs.Entries.{saved_at, origin_read_is, snap_read_is, snap_write_is, serves_as, io_served, invalid_served}
+use Rattle.volume_laws.proofs.Entries.{saved_at, origin_read_is, origin_write_is, snap_read_is, snap_write_is, serves_as, io_served, invalid_served}
 use Rattle.volume_laws.proofs.SnapRequests.{disk_read, place_read}
 use Rattle.volume_laws.proofs.WholeOne.{snap_holds, snap_loud, shown}
 
@@ -56,9 +57,20 @@ module _ (number k : ℕ) (r : Flight) (v w : Books) (h : Holds v) (e : OnlyTake
   answered : (reply : Reply) → Serves (plain_of v) r.request.dev r.request.op r.request.range reply (plain_of w) → IsAnswered (plain_of v) number reply (plain_of w)
   answered reply served = record { request = r.request; asked = asked number k r v w e.out; gone = gone number k r v w e.out; served = served }
 
-  -- a device failed
-  pub io_event : IsReply number (IsRefused Io) v w
-  io_event = record { holds = left_holds; step = λ _. answered (IsRefused Io) (io_served (plain_of v) (plain_of w) r.request.dev r.request.op r.request.range same_arrays) }
+  -- a device failed at a request of a device that shows an array
+  io_at : (dev : Dev) → r.request.dev ≡ dev → IsShowing (plain_of v) dev → IsReply number (IsRefused Io) v w
+  io_at dev is showing = record {
+    holds = left_holds;
+    step = λ _. answered (IsRefused Io) (serves_as (plain_of v) (plain_of w) (IsRefused Io) r.request dev r.request.op is refl
+        (io_served (plain_of v) (plain_of w) dev r.request.op r.request.range same_arrays showing));
+  }
+
+  -- at a read or a write of the origin
+  pub io_read_event : kind_of r.request ≡ OriginRead → IsReply number (IsRefused Io) v w
+  io_read_event kind = io_at AtOrigin (origin_read_is r.request.dev r.request.op kind).0 ((plain_of v).origin, refl)
+
+  pub io_write_event : kind_of r.request ≡ OriginWrite → IsReply number (IsRefused Io) v w
+  io_write_event kind = io_at AtOrigin (origin_write_is r.request.dev r.request.op kind) ((plain_of v).origin, refl)
 
   -- an origin read, without a merge
   pub read_disk_event : (bytes : List ℕ) → v.merge ≡ None → kind_of r.request ≡ OriginRead → bytes ≡ sectors_at v.origin r.request.range.first r.request.range.count → IsReply number (Data bytes) v w
@@ -99,6 +111,17 @@ module _ (number k : ℕ) (r : Flight) (v w : Books) (h : Holds v) (e : OnlyTake
     -- one that reads is live, where its route is not the refusal
     pub reading_live : kind_of r.request ≡ SnapRead s.number → r.route ≢ Refused → s.live ≡ true
     reading_live kind ne = elim (cases_Bool s.live) [ inl live ↦ live | inr dead ↦ absurd (ne ((refused_at dead).read kind)) ]
+
+    -- one that writes is live, where its route is not the refusal
+    pub writing_live : kind_of r.request ≡ SnapWrite s.number → r.route ≢ Refused → s.live ≡ true
+    writing_live kind ne = elim (cases_Bool s.live) [ inl live ↦ live | inr dead ↦ absurd (ne ((refused_at dead).write kind)) ]
+
+    -- a device failed at a read or a write of the snapshot
+    pub io_snap_read_event : kind_of r.request ≡ SnapRead s.number → r.route ≢ Refused → IsReply number (IsRefused Io) v w
+    io_snap_read_event kind ne = io_at (Snap s.number) (snap_read_is r.request.dev r.request.op s.number kind).0 (picture s.chunk v.origin s.store, shows_live (reading_live kind ne))
+
+    pub io_snap_write_event : kind_of r.request ≡ SnapWrite s.number → r.route ≢ Refused → IsReply number (IsRefused Io) v w
+    io_snap_write_event kind ne = io_at (Snap s.number) (snap_write_is r.request.dev r.request.op s.number kind) (picture s.chunk v.origin s.store, shows_live (writing_live kind ne))
 
     read_served : (bytes : List ℕ) → s.live ≡ true → kind_of r.request ≡ SnapRead s.number → bytes ≡ sectors_at (picture s.chunk v.origin s.store) r.request.range.first r.request.range.count
         → Serves (plain_of v) r.request.dev r.request.op r.request.range (Data bytes) (plain_of w)

@@ -22,7 +22,7 @@ use Rattle.pending.specs.Due.{is_copy_at, number_of_copy, number_of_mark, front_
 use Rattle.volume_laws.specs.Books.{SnapBooks, Books}
 use Rattle.volume_laws.specs.Published.{chunk_of, is_published, is_saved}
 use Rattle.volume_laws.specs.Due.{DueSnap, books_of, due_of}
-use Rattle.volume_laws.specs.Waits.{IsSaving, WaitsFor, WaitsHolds, Waits, is_grouped}
+use Rattle.volume_laws.specs.Waits.{IsSaving, WaitsFor, WaitsHolds, Waits, is_grouped, IsDone, IsQuiet}
 use Rattle.volume_laws.proofs.Due.{IsIdle, nothing_due, first_none}
 
 -- a copy is at some stage
@@ -64,12 +64,6 @@ no_marks rs snap chunk (m ∷ ms) idle e =
     let (k, f, within, is, reads) = Any-from_list_any (is_reading snap chunk m.chunk) rs (not_false (list_any (is_reading snap chunk m.chunk) rs) blocked) in
     let goes : is_issuable f ≡ true = reading_routed snap (kind_of f.request) f.route (and_second (nat_eq (chunk_of chunk f) m.chunk) (reads_origin_of snap (kind_of f.request) f.route) reads) in
     absurd (false≢true (sym (idle k f within) ∙ ap is_issuable is ∙ goes))
-
--- a snapshot with nothing left
-pub record IsDone (s : SnapBooks) : Type 0 where
-  pub tried : s.untried ≡ false
-  pub copies : s.copies ≡ []
-  pub marks : s.marks ≡ []
 
 pub all_done : (snaps : List DueSnap) (rs : List Flight) → IsIdle snaps rs → All (λ s. IsDone (books_of s)) snaps
 all_done snaps rs e k d lt =
@@ -160,11 +154,6 @@ none_left : (v : Books) (rs : List Flight) → All (λ f. is_issuable f ≡ fals
 none_left v [] idle waits done none = refl
 none_left v (f ∷ fs) idle waits done none =
     absurd (no_wait v f done (All-head (WaitsHolds v.merge v.snaps) f fs waits) none (unrouted f.route (All-head (λ x. is_issuable x ≡ false) f fs idle)))
-
--- no request, no copy, no mark
-pub record IsQuiet (v : Books) : Type 0 where
-  pub requests : v.requests ≡ []
-  pub snaps : All IsDone v.snaps
 
 pub quiet : (v : Books) (snaps : List DueSnap) → Waits v → v.merge ≡ None → map books_of snaps ≡ v.snaps → due_of snaps v.requests ≡ None → IsQuiet v
 quiet v snaps h none shown e =

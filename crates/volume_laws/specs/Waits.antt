@@ -1,5 +1,5 @@
--- Why a request waits: what makes sure that a volume where no event is due is quiet.
-use Rattle.std.specs.Prelude.{◌≡◌, ◌≢◌, ◌⊎◌, ℕ, Bool, true, false, List, Option, Some, None, Any, AllPairs}
+-- Why a request waits, and when a volume is quiet: a volume where no event is due is.
+use Rattle.std.specs.Prelude.{◌≡◌, ◌≢◌, ◌⊎◌, ℕ, Bool, true, false, List, [], Option, Some, None, Any, AllPairs}
 use Rattle.std.specs.List.{All}
 use Rattle.model.specs.Picture.{place_of}
 use Rattle.pending.specs.Kinds.{kind_of}
@@ -46,3 +46,14 @@ pub record WaitsHolds (merge : Option MergeBooks) (snaps : List SnapBooks) (f : 
 pub record Waits (v : Books) : Type 0 where
   pub numbers : AllPairs (λ (f g : Flight). f.number ≢ g.number) v.requests
   pub held : All (WaitsHolds v.merge v.snaps) v.requests
+
+-- a snapshot with nothing left: no copy is under way or waits to be published, and its mark is not wanted or was tried
+pub record IsDone (s : SnapBooks) : Type 0 where
+  pub tried : s.untried ≡ false
+  pub copies : s.copies ≡ []
+  pub marks : s.marks ≡ []
+
+-- no request in flight, and nothing left of any snapshot
+pub record IsQuiet (v : Books) : Type 0 where
+  pub requests : v.requests ≡ []
+  pub snaps : All IsDone v.snaps
