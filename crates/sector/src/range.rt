@@ -45,6 +45,7 @@ impl Range {
 #[cfg(test)]
 mod tests {
     use super::*;
+    use std::test::Fail;
 
     #[test]
     fn ends_at_the_size_at_most(rt: HostRuntime) {
@@ -58,5 +59,12 @@ mod tests {
             let range = Range::new(first, count, size);
             assert_eq!(rt; range.is_ok(), inside, "{count} from {first} of {size}");
         }
+    }
+
+    #[test]
+    fn moves_on_by_so_many_sectors(rt: HostRuntime) -> Result<(), Fail> {
+        let moved = Range::new(3, 2, 8)?.shifted(5);
+        assert_eq!(rt; (moved.first, moved.count), (8, 2));
+        Ok(())
     }
 }

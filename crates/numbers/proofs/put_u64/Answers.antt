@@ -1,4 +1,4 @@
-use Rattle.std.proofs.Common.{rules, arith, ◌≡◌, ◌⊎◌, inl, inr, ◌+◌, ◌<◌, ◌≤◌, length, take, drop, length-take, length-drop}
+use Rattle.std.proofs.Common.{arith, ◌≡◌, inl, inr, length}
 use Rattle.std.proofs.lemmas.List.{places}
 use Rattle.byteorder.specs.Endian.{little_bytes}
 use Rattle.byteorder.specs.Numbers.{length-bytes_low_first}
