@@ -1,0 +1,123 @@
+-- A snapshot's copies, and what it keeps true where they change.
+use Rattle.std.proofs.Common.{◌≡◌, ℕ, suc, ◌+◌, ◌*◌, ◌<◌, Bool, true, false, List, [], ◌∷◌, ◌++◌, length, get_or, set, drop, map, arith, refl, ap, ◌∙◌, sym, subst}
+use Rattle.std.specs.Prelude.{◌==◌, None}
+use Rattle.std.specs.List.{All, list_any}
+use Rattle.std.proofs.lemmas.Bool.{true≢false, cond-true, cond-false}
+use Rattle.std.proofs.lemmas.List.{get_or-map, length-map, drop-map, map_push}
+use Rattle.std.proofs.lemmas.List.Elements.{All-set, All-drop, All-push}
+use Rattle.std.proofs.Math.Seq.{map-set_same}
+use Rattle.sector.specs.declared.pair.Pair.{Pair}
+use Rattle.model.specs.Pairs.{IsInside}
+use Rattle.model.specs.Picture.{place_of}
+use Rattle.pending.specs.Copies.{count_of, pair_of}
+use Rattle.pending.specs.declared.copies.ChunkCopy.{ChunkCopy}
+use Rattle.pending.specs.declared.copies.Mark.{Mark}
+use Rattle.store.specs.declared.state.State.{State}
+use Rattle.store.specs.Stored.{after_commit}
+use Rattle.volume_laws.proofs.Lists.{All-back, All-from_list_any}
+use Rattle.snapshot.specs.Held.{IsBuffered, IsSnapshot}
+
+-- the buffer of a copy
+pub buffered : (chunk origin : ℕ) (copies : List ChunkCopy) (k : ℕ) (p : ChunkCopy) → All (IsBuffered chunk origin) copies → k < length copies → p ≡ get_or copies k p → length p.buffer.items ≡ 512 * count_of chunk origin p.pair.old
+buffered chunk origin copies k p all lt is =
+    let h : IsBuffered chunk origin p = subst (IsBuffered chunk origin) (sym is) (all k p lt) in h.room
+
+-- the pair of a copy
+pub copy_inside : (chunk origin size : ℕ) (pairs begun : List Pair) (copies : List ChunkCopy) (k : ℕ) (p : ChunkCopy) → All (IsInside chunk origin size) (pairs ++ begun) → begun ≡ map pair_of copies → k < length copies → p ≡ get_or copies k p → IsInside chunk origin size p.pair
+copy_inside chunk origin size pairs begun copies k p all agree lt is =
+    let here : All (IsInside chunk origin size) (map pair_of copies) = subst (All (IsInside chunk origin size)) agree (All-back (IsInside chunk origin size) pairs begun all) in
+    let at : get_or (map pair_of copies) k p.pair ≡ p.pair = get_or-map pair_of copies k p p.pair lt ∙ ap pair_of (sym is) in
+    subst (IsInside chunk origin size) at (here k p.pair (rw length-map lt))
+
+-- copy k goes on, with its pair
+pub copy_set : (live untried stale : Bool) (s : State) (begun : List Pair) (copies : List ChunkCopy) (marks : List Mark) (k : ℕ) (p q : ChunkCopy) → IsSnapshot live untried stale s begun copies marks → k < length copies → p ≡ get_or copies k p → q.pair ≡ p.pair → length q.buffer.items ≡ length p.buffer.items
+    → IsSnapshot live untried stale s begun (set copies k q) marks
+copy_set live untried stale s begun copies marks k p q h lt is same len = record {
+  allowed = h.allowed;
+  ready = h.ready;
+  copying = h.copying;
+  tried = h.tried;
+  sound = h.sound;
+  failed = h.failed;
+  agree = h.agree ∙ sym (map-set_same pair_of copies k q p (same ∙ ap pair_of is));
+  buffers = All-set (IsBuffered s.chunk s.origin) copies k q
+      (record { room = len ∙ buffered s.chunk s.origin copies k p h.buffers lt is ∙ ap (λ (x : Pair). 512 * count_of s.chunk s.origin x.old) (sym same) }) h.buffers;
+  idle = λ dead. let none : length copies ≡ 0 = ap length (h.idle dead) in absurd (omega arith);
+  unmarked = h.unmarked;
+}
+
+-- a store's state that changes nothing of what a snapshot keeps
+pub record IsLike (s t : State) : Type 0 where
+  pub chunk : t.chunk ≡ s.chunk
+  pub origin : t.origin ≡ s.origin
+  pub size : t.size ≡ s.size
+  pub left : t.left ≡ s.left
+  pub copying : t.copying ≡ s.copying
+
+pub like_same : (s t : State) → t ≡ s → IsLike s t
+like_same s t is = record { chunk = ap (λ x. x.chunk) is; origin = ap (λ x. x.origin) is; size = ap (λ x. x.size) is; left = ap (λ x. x.left) is; copying = ap (λ x. x.copying) is }
+
+pub like_zeroed : (s t : State) → t ≡ record s { zeroed = true } → IsLike s t
+like_zeroed s t is = record { chunk = ap (λ x. x.chunk) is; origin = ap (λ x. x.origin) is; size = ap (λ x. x.size) is; left = ap (λ x. x.left) is; copying = ap (λ x. x.copying) is }
+
+like_committed : (s : State) (count : ℕ) (b : Bool) → s.filled + count == 32 * s.chunk ≡ b → IsLike s (after_commit s count)
+like_committed s count true is = subst (IsLike s) (sym (cond-true _ _ _ is)) (record { chunk = refl; origin = refl; size = refl; left = refl; copying = refl })
+like_committed s count false is = subst (IsLike s) (sym (cond-false _ _ _ is)) (record { chunk = refl; origin = refl; size = refl; left = refl; copying = refl })
+
+pub like_commit : (s t : State) (count : ℕ) → t ≡ after_commit s count → IsLike s t
+like_commit s t count is = subst (IsLike s) (sym is) (like_committed s count (s.filled + count == 32 * s.chunk) refl)
+
+-- the store's state changes, and the copies stay
+pub state_kept : (live untried stale : Bool) (s t : State) (begun begun' : List Pair) (copies : List ChunkCopy) (marks : List Mark) → IsSnapshot live untried stale s begun copies marks → IsLike s t → begun' ≡ begun → IsSnapshot live untried stale t begun' copies marks
+state_kept live untried stale s t begun begun' copies marks h like is = record {
+  allowed = rw like.chunk h.allowed;
+  ready = λ alive. like.left ∙ h.ready alive;
+  copying = λ alive. like.copying ∙ h.copying alive;
+  tried = h.tried;
+  sound = h.sound;
+  failed = h.failed;
+  agree = is ∙ h.agree;
+  buffers = rw (like.chunk, like.origin) h.buffers;
+  idle = h.idle;
+  unmarked = h.unmarked;
+}
+
+-- the first copies are committed
+pub copies_drop : (live untried stale : Bool) (s t : State) (begun begun' : List Pair) (copies : List ChunkCopy) (marks marks' : List Mark) (n : ℕ) → live ≡ true → IsSnapshot live untried stale s begun copies marks → IsLike s t → begun' ≡ drop n begun → IsSnapshot live untried stale t begun' (drop n copies) marks'
+copies_drop live untried stale s t begun begun' copies marks marks' n alive h like is = record {
+  allowed = rw like.chunk h.allowed;
+  ready = λ alive. like.left ∙ h.ready alive;
+  copying = λ alive. like.copying ∙ h.copying alive;
+  tried = h.tried;
+  sound = h.sound;
+  failed = h.failed;
+  agree = is ∙ ap (drop n) h.agree ∙ drop-map pair_of n copies;
+  buffers = rw (like.chunk, like.origin) (All-drop (IsBuffered s.chunk s.origin) n copies h.buffers);
+  idle = λ dead. absurd (true≢false (sym alive ∙ dead));
+  unmarked = λ dead. absurd (true≢false (sym alive ∙ dead));
+}
+
+-- a copy is started
+pub copies_push : (live untried stale : Bool) (s : State) (begun begun' : List Pair) (copies : List ChunkCopy) (marks : List Mark) (p : ChunkCopy) → live ≡ true → IsSnapshot live untried stale s begun copies marks → begun' ≡ begun ++ p.pair ∷ [] → length p.buffer.items ≡ 512 * count_of s.chunk s.origin p.pair.old
+    → IsSnapshot live untried stale s begun' (copies ++ p ∷ []) marks
+copies_push live untried stale s begun begun' copies marks p alive h is room = record {
+  allowed = h.allowed;
+  ready = h.ready;
+  copying = h.copying;
+  tried = h.tried;
+  sound = h.sound;
+  failed = h.failed;
+  agree = is ∙ ap (λ x. x ++ p.pair ∷ []) h.agree ∙ sym (map_push pair_of copies p);
+  buffers = All-push (IsBuffered s.chunk s.origin) copies p h.buffers (record { room = room });
+  idle = λ dead. absurd (true≢false (sym alive ∙ dead));
+  unmarked = λ dead. absurd (true≢false (sym alive ∙ dead));
+}
+
+-- a chunk without a copy is no begun pair's
+none_begun : (ps : List ChunkCopy) (c : ℕ) → All (λ p. (p.pair.old == c) ≡ false) ps → place_of (map pair_of ps) c ≡ None
+none_begun [] c all = refl
+none_begun (p ∷ ps) c all = cond-false _ _ _ (all 0 p (omega arith)) ∙ none_begun ps c (λ k d lt. all (suc k) d (omega arith))
+
+pub not_begun : (begun : List Pair) (copies : List ChunkCopy) (c : ℕ) → begun ≡ map pair_of copies → list_any (λ p. p.pair.old == c) copies ≡ false → place_of begun c ≡ None
+not_begun begun copies c agree none =
+    ap (λ x. place_of x c) agree ∙ none_begun copies c (All-from_list_any (λ (p : ChunkCopy). p.pair.old == c) copies none)

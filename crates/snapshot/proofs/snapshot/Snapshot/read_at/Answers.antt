@@ -1,0 +1,12 @@
+use Rattle.std.proofs.Common.{ap, ◌∙◌}
+use Rattle.model.specs.Picture.{place_of}
+use Rattle.store.specs.Held.{committed, pairs_pending}
+use Rattle.snapshot.proofs.Stores.{placed_inside}
+use Rattle.snapshot.proofs.snapshot.Snapshot.read_at.Goals as goal
+
+pub read_chunk-requires-clause-inside : goal.read_chunk-requires-clause-inside
+read_chunk-requires-clause-inside g c =
+    let s = c.self.inside.store in
+    let (old, is) = c.requires.placed in
+    let (o, h) = placed_inside s.state.chunk s.state.origin s.state.size (committed s.exceptions) (pairs_pending s.exceptions) old c.args.place s.given.inside (ap (λ v. place_of v.pairs old) c.self.view_is ∙ is) in
+    h.new

@@ -1,0 +1,26 @@
+use Rattle.std.proofs.Common.{ap, ◌∙◌}
+use Rattle.model.specs.Picture.{place_of}
+use Rattle.store.specs.Held.{committed, pairs_pending}
+use Rattle.snapshot.proofs.Stores.{placed_inside}
+use Rattle.snapshot.proofs.snapshot.Snapshot.write_at.Goals as goal
+
+pub write_chunk-requires-clause-low : goal.write_chunk-requires-clause-low
+write_chunk-requires-clause-low g c =
+    let s = c.self.inside.store in
+    let (old, is) = c.requires.placed in
+    let (o, h) = placed_inside s.state.chunk s.state.origin s.state.size (committed s.exceptions) (pairs_pending s.exceptions) old c.args.place s.given.inside (ap (λ v. place_of v.pairs old) c.self.view_is ∙ is) in
+    h.low
+
+pub write_chunk-requires-clause-free : goal.write_chunk-requires-clause-free
+write_chunk-requires-clause-free g c =
+    let s = c.self.inside.store in
+    let (old, is) = c.requires.placed in
+    let (o, h) = placed_inside s.state.chunk s.state.origin s.state.size (committed s.exceptions) (pairs_pending s.exceptions) old c.args.place s.given.inside (ap (λ v. place_of v.pairs old) c.self.view_is ∙ is) in
+    h.free
+
+pub write_chunk-requires-clause-inside : goal.write_chunk-requires-clause-inside
+write_chunk-requires-clause-inside g c =
+    let s = c.self.inside.store in
+    let (old, is) = c.requires.placed in
+    let (o, h) = placed_inside s.state.chunk s.state.origin s.state.size (committed s.exceptions) (pairs_pending s.exceptions) old c.args.place s.given.inside (ap (λ v. place_of v.pairs old) c.self.view_is ∙ is) in
+    h.new

@@ -1,0 +1,34 @@
+-- What a snapshot keeps true of itself.
+use Rattle.std.specs.Prelude.{◌≡◌, ℕ, ◌+◌, ◌*◌, ◌≤◌, Bool, true, false, List, [], length, map}
+use Rattle.std.specs.List.{All}
+use Rattle.sector.specs.declared.pair.Pair.{Pair}
+use Rattle.chunk.specs.Sizes.{is_chunk}
+use Rattle.pending.specs.Copies.{count_of, pair_of}
+use Rattle.pending.specs.declared.copies.ChunkCopy.{ChunkCopy}
+use Rattle.pending.specs.declared.copies.Mark.{Mark}
+use Rattle.store.specs.declared.state.Left.TheVariants.{Nothing}
+use Rattle.store.specs.declared.state.State.{State}
+
+-- a copy's buffer is as long as its chunk
+pub record IsBuffered (chunk origin : ℕ) (p : ChunkCopy) : Type 0 where
+  pub room : length p.buffer.items ≡ 512 * count_of chunk origin p.pair.old
+
+-- Its flags, its store's state, the pairs that the store began, its copies and its marks. A live one's store takes copies;
+-- a spoiled one has none, and a mark fails only where it was tried.
+pub record IsSnapshot (live untried stale : Bool) (s : State) (begun : List Pair) (copies : List ChunkCopy) (marks : List Mark) : Type 0 where
+  pub allowed : is_chunk s.chunk ≡ true
+  pub ready : live ≡ true → s.left ≡ Nothing
+  pub copying : live ≡ true → s.copying ≡ true
+  pub tried : live ≡ true → untried ≡ false
+  pub sound : live ≡ true → stale ≡ false
+  pub failed : stale ≡ true → untried ≡ false
+  pub agree : begun ≡ map pair_of copies
+  pub buffers : All (IsBuffered s.chunk s.origin) copies
+  pub idle : live ≡ false → copies ≡ []
+  pub unmarked : live ≡ false → marks ≡ []
+
+-- Its room: the store has reserved as many pairs, and no list grows where a copy starts or is committed.
+pub record HasRoom (room reserved copies marks copies_capacity marks_capacity : ℕ) : Type 0 where
+  pub for_pairs : room ≤ reserved
+  pub for_copies : copies + room ≤ copies_capacity
+  pub for_marks : marks + copies + room ≤ marks_capacity

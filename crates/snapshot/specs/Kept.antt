@@ -1,0 +1,51 @@
+-- What callers see of one snapshot, and what that is as plain records. This project's own.
+use Rattle.std.specs.Prelude.{◌==◌, ◌&&◌, not, ℕ, ◌+◌, ◌*◌, Bool, List}
+use Rattle.sector.specs.declared.pair.Pair.{Pair}
+use Rattle.device.specs.Layers.{Layer, is_loud}
+use Rattle.pending.specs.declared.copies.ChunkCopy.{ChunkCopy}
+use Rattle.pending.specs.declared.copies.Mark.{Mark}
+use Rattle.store.specs.declared.state.State.{State}
+use Rattle.volume_laws.specs.Books.{SnapBooks}
+use Rattle.volume_laws.specs.Due.{DueSnap}
+
+-- A snapshot, with the device of its store. untried: it is spoiled, and its store's header was not yet marked invalid;
+-- stale: that mark failed. next: the store's next place. begun: the pairs that the store began and did not commit.
+-- room: how many copies may start without more memory.
+pub record Kept (B : Type 0) : Type 0 where
+  pub number : ℕ
+  pub live : Bool
+  pub untried : Bool
+  pub stale : Bool
+  pub device : B
+  pub state : State
+  pub next : ℕ
+  pub pairs : List Pair
+  pub begun : List Pair
+  pub copies : List ChunkCopy
+  pub marks : List Mark
+  pub room : ℕ
+
+-- its books, over what a device's bytes and layers are
+abbrev pub books_of : {B : Type 0} → (B → List ℕ) → (B → List Layer) → Kept B → SnapBooks
+books_of contents layers s = record {
+  number = s.number;
+  live = s.live;
+  untried = s.untried;
+  loud = is_loud (layers s.device);
+  chunk = s.state.chunk;
+  sectors = s.state.origin;
+  size = s.state.size;
+  store = contents s.device;
+  pairs = s.pairs;
+  begun = s.begun;
+  copies = s.copies;
+  marks = s.marks;
+}
+
+-- whether the pair that is committed next fills the current area, and the next area is not zeroed yet
+abbrev pub needs_area : State → Bool
+needs_area s = (s.filled + 1 == 32 * s.chunk) && not s.zeroed
+
+-- what says which of its events are due
+abbrev pub due_of_kept : {B : Type 0} → (B → List ℕ) → (B → List Layer) → Kept B → DueSnap
+due_of_kept contents layers s = record { books = books_of contents layers s; needs = needs_area s.state; zeroed = s.state.zeroed }

@@ -1,0 +1,97 @@
+// The first copies are committed, after the next area is zeroed where they fill the current one, and are published.
+ghost use Rattle.std.specs.Prelude.{◌≡◌, ℕ, ◌+◌, ◌*◌, ◌<◌, ◌≤◌, ◌++◌, length, take, drop, map, replicate, slice_index_or, vec_capacity, is_ok, OnOk, OnErr, IsTrue, true};
+ghost use Rattle.std.specs.List.{All, remove};
+ghost use Rattle.sector.specs.Bytes.{with_part, with_sectors};
+ghost use Rattle.device.specs.declared.operation.Operation.TheVariants.{Writes};
+ghost use Rattle.device.specs.Layers.{is_loud};
+ghost use Rattle.model.specs.Places.{area_place};
+ghost use Rattle.pending.specs.declared.copies.Mark.{Mark};
+ghost use Rattle.pending.specs.declared.copies.Stage.TheVariants.{Written};
+ghost use Rattle.store.specs.Operations.{IsOneOperation};
+ghost use Rattle.store.specs.Slots.{pairs_bytes, slot_start};
+ghost use Rattle.store.specs.Stored.{after_commit};
+ghost use Rattle.volume_laws.specs.Steps.{ZeroesArea, Commits, Unmarks, mark_of};
+ghost use Rattle.snapshot.specs.Kept.{books_of};
+
+use crate::Snapshot;
+use device::{Block, Io};
+use pending::{ChunkCopy, Mark};
+
+impl<B: Block> Snapshot<B> {
+    /// Zeroes the area after the current one. At `Io` nothing changed but the device's counts and layers.
+    pub fn zero_next(&mut self) -> Result<(), Io>
+        requires live { self.old.live ≡ true }
+        requires inside { self.old.state.chunk * (area_place self.old.state.chunk (self.old.state.current + 1) + 1) ≤ self.old.state.size }
+
+        ensures operation { IsOneOperation (Writes (self.old.state.chunk * area_place self.old.state.chunk (self.old.state.current + 1)) self.old.state.chunk) (is_ok result) (B.layers self.old.device) (B.layers self.new.device) (B.fault_count self.old.device) (B.fault_count self.new.device) (B.done_count self.old.device) (B.done_count self.new.device) }
+        ensures loud { is_loud (B.layers self.new.device) ≡ is_loud (B.layers self.old.device) }
+        ensures written { OnOk result (IsTrue (is_loud (B.layers self.old.device)) → B.contents self.new.device ≡ with_sectors (B.contents self.old.device) (self.old.state.chunk * area_place self.old.state.chunk (self.old.state.current + 1)) (replicate (512 * self.old.state.chunk) 0)) }
+        ensures same { OnErr result (B.contents self.new.device ≡ B.contents self.old.device) }
+        ensures durable { B.durable self.new.device ≡ B.durable self.old.device }
+
+        ensures fields { OnOk result (self.new ≡ record self.old { device = self.new.device; state = record self.old.state { zeroed = true } }) }
+        ensures zeroes { OnOk result (ZeroesArea (self.old.state.current + 1) (books_of B.contents B.layers self.old) (books_of B.contents B.layers self.new)) }
+        ensures kept { OnErr result (self.new ≡ record self.old { device = self.new.device }) }
+    {
+        match self.store.zero_next() {
+            Ok(()) => Ok(()),
+            Err(io) => Err(io),
+        }
+    }
+
+    /// Commits the copies that started first, so many of them, all of them written: their pairs are written into the
+    /// current area. Each bears a mark from then on, until it is published. At `Io` nothing changed but the device's
+    /// counts and layers.
+    pub fn write_area(&mut self, count: u32) -> Result<(), Io>
+        requires live { self.old.live ≡ true }
+        requires few { count ≤ length self.old.copies }
+        requires ready { All (λ p. p.stage ≡ Written) (take count self.old.copies) }
+        requires fits { 1 < count → self.old.state.filled + count ≤ 32 * self.old.state.chunk }
+        requires next { self.old.state.filled + count ≡ 32 * self.old.state.chunk → self.old.state.zeroed ≡ true }
+
+        ensures operation { IsOneOperation (Writes (self.old.state.chunk * area_place self.old.state.chunk self.old.state.current) self.old.state.chunk) (is_ok result) (B.layers self.old.device) (B.layers self.new.device) (B.fault_count self.old.device) (B.fault_count self.new.device) (B.done_count self.old.device) (B.done_count self.new.device) }
+        ensures loud { is_loud (B.layers self.new.device) ≡ is_loud (B.layers self.old.device) }
+        ensures written { OnOk result (IsTrue (is_loud (B.layers self.old.device)) → B.contents self.new.device ≡ with_part (B.contents self.old.device) (slot_start self.old.state.chunk self.old.state.current self.old.state.filled) (pairs_bytes (take count self.old.begun))) }
+        ensures same { OnErr result (B.contents self.new.device ≡ B.contents self.old.device) }
+        ensures durable { B.durable self.new.device ≡ B.durable self.old.device }
+
+        ensures fields { OnOk result (self.new ≡ record self.old { device = self.new.device; state = after_commit self.old.state count; pairs = self.old.pairs ++ take count self.old.begun; begun = drop count self.old.begun; copies = drop count self.old.copies; marks = self.old.marks ++ map mark_of (take count self.old.copies) }) }
+        ensures commits { OnOk result (Commits count self.old.state.current (books_of B.contents B.layers self.old) (books_of B.contents B.layers self.new)) }
+        ensures kept { OnErr result (self.new ≡ record self.old { device = self.new.device }) }
+    {
+        match self.store.write_area(count) {
+            Ok(()) => {
+                mark_first(&mut self.copies, &mut self.marks, count);
+                Ok(())
+            }
+            Err(io) => Err(io),
+        }
+    }
+
+    /// Publishes a committed copy, counted from 0 among those that bear a mark: its mark is taken away.
+    pub fn publish(&mut self, index: usize)
+        requires within { index < length self.old.marks }
+        ensures fields { self.new ≡ record self.old { marks = remove self.old.marks index } }
+        ensures publishes { (m : Mark) → m ≡ slice_index_or self.old.marks index m → Unmarks index m (books_of B.contents B.layers self.old) (books_of B.contents B.layers self.new) }
+    {
+        self.marks.remove(index);
+    }
+}
+
+/// Takes the first copies away, so many of them, and marks them, in their order.
+fn mark_first(copies: &mut Vec<ChunkCopy>, marks: &mut Vec<Mark>, count: u32)
+    requires few { count ≤ length copies.old.items }
+    requires room { length marks.old.items + count ≤ vec_capacity marks.old }
+    ensures copies { copies.new.items ≡ drop count copies.old.items }
+    ensures marks { marks.new.items ≡ marks.old.items ++ map mark_of (take count copies.old.items) }
+    ensures copies_capacity { vec_capacity copies.new ≡ vec_capacity copies.old }
+    ensures marks_capacity { vec_capacity marks.new ≡ vec_capacity marks.old }
+{
+    for _i in 0..count {
+        let copy = copies.remove(0);
+        marks.push_reserved(Mark {
+            number: copy.number,
+            chunk: copy.pair.old,
+        });
+    }
+}

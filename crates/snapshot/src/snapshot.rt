@@ -1,0 +1,169 @@
+// A snapshot, and what callers ask of it.
+ghost use Rattle.std.specs.Prelude.{◌≡◌, ℕ, ◌+◌, ◌*◌, ◌<◌, ◌≤◌, MatchBool};
+ghost use Rattle.model.specs.NextPlace.{IsFull, LacksArea};
+ghost use Rattle.model.specs.Places.{area_place};
+ghost use Rattle.model.specs.Picture.{place_of as place_in};
+ghost use Rattle.volume_laws.specs.Published.{is_published as is_published_in};
+ghost use Rattle.snapshot.specs.Kept.{needs_area};
+
+use chunk_alloc::Usage;
+use device::Block;
+use pending::{ChunkCopy, Mark, is_marked};
+use plain::SnapId;
+use sector::Chunk;
+use std::marker::Model;
+use store::Store;
+
+/// One snapshot of a volume. Contracts see its number, its flags, the device of its store with the store's state, its
+/// pairs, its copies, its marks, and for how many copies it has room.
+#[derive(Drop)]
+pub struct Snapshot<B: Block> {
+    pub(crate) number: SnapId,
+    pub(crate) live: bool,
+    /// It is spoiled, and its store's header was not yet marked invalid.
+    pub(crate) untried: bool,
+    /// That mark failed.
+    pub(crate) stale: bool,
+    pub(crate) store: Store<B>,
+    pub(crate) copies: Vec<ChunkCopy>,
+    pub(crate) marks: Vec<Mark>,
+    pub(crate) room: usize,
+}
+
+impl<B: Block> Model for Snapshot<B> {
+    ghost use Rattle.snapshot.specs.Kept.{Kept};
+
+    ghost Value = { Kept B };
+
+    ghost use Rattle.std.specs.Prelude.{length, vec_capacity};
+    ghost use Rattle.store.specs.Held.{committed, pairs_pending, reserved};
+    ghost use Rattle.snapshot.specs.Held.{IsSnapshot, HasRoom};
+
+    ghost view = { λ s. record { number = s.number; live = s.live; untried = s.untried; stale = s.stale; device = s.store.device; state = s.store.state; next = s.store.places.next; pairs = committed s.store.exceptions; begun = pairs_pending s.store.exceptions; copies = s.copies.items; marks = s.marks.items; room = s.room } };
+
+    ghost invariant = { λ s. IsSnapshot s.live s.untried s.stale s.store.state (pairs_pending s.store.exceptions) s.copies.items s.marks.items × HasRoom s.room (reserved s.store.exceptions) (length s.copies.items) (length s.marks.items) (vec_capacity s.copies) (vec_capacity s.marks) };
+}
+
+impl<B: Block> Snapshot<B> {
+    /// Its number in the volume.
+    pub fn number(&self) -> SnapId
+        ensures { result ≡ self.now.number }
+    {
+        self.number
+    }
+
+    /// Whether it is live: it was not spoiled.
+    pub fn is_live(&self) -> bool
+        ensures { result ≡ self.now.live }
+    {
+        self.live
+    }
+
+    /// Whether it is spoiled, and its store's header was not yet marked invalid.
+    pub fn is_untried(&self) -> bool
+        ensures { result ≡ self.now.untried }
+    {
+        self.untried
+    }
+
+    /// Whether the mark of its store's header failed.
+    pub fn is_stale(&self) -> bool
+        ensures { result ≡ self.now.stale }
+    {
+        self.stale
+    }
+
+    /// The sectors of a chunk.
+    pub fn chunk(&self) -> u32
+        ensures { result ≡ self.now.state.chunk }
+    {
+        self.store.chunk()
+    }
+
+    /// The sectors of the origin.
+    pub fn sectors(&self) -> u64
+        ensures { result ≡ self.now.state.origin }
+    {
+        self.store.state.origin
+    }
+
+    /// The device of its store.
+    pub fn device(&self) -> &B
+        ensures { result.now ≡ self.now.device }
+    {
+        self.store.device()
+    }
+
+    /// The copies that are not committed, in the order in which they started.
+    pub fn copies(&self) -> &[ChunkCopy]
+        ensures { result.now ≡ self.now.copies }
+    {
+        self.copies.as_slice()
+    }
+
+    /// The copies that are committed and not published, in the order of their commits.
+    pub fn marks(&self) -> &[Mark]
+        ensures { result.now ≡ self.now.marks }
+    {
+        self.marks.as_slice()
+    }
+
+    /// The numbers of a status line, in sectors.
+    pub fn usage(&self) -> Usage
+        ensures allocated { result.allocated ≡ self.now.next * self.now.state.chunk }
+        ensures total { result.total ≡ self.now.state.size }
+        ensures metadata { result.metadata ≡ (self.now.state.current + 2) * self.now.state.chunk }
+    {
+        self.store.usage()
+    }
+
+    /// Whether the pair that is committed next fills the current area, so that the next area has to be zeroed first, and
+    /// it is not yet.
+    pub fn needs_next_area(&self) -> bool
+        ensures { result ≡ needs_area self.now.state }
+    {
+        self.store.state.filled + 1 == 32 * self.store.state.chunk && !self.store.state.zeroed
+    }
+
+    /// Whether the area after the current one is zeroed.
+    pub fn is_zeroed(&self) -> bool
+        ensures { result ≡ self.now.state.zeroed }
+    {
+        self.store.state.zeroed
+    }
+
+    /// Whether the area after the current one does not lie wholly inside the store.
+    pub fn lacks_next_area(&self) -> bool
+        ensures { MatchBool result (LacksArea self.now.state.chunk self.now.state.size (self.now.state.current + 1)) (self.now.state.chunk * (area_place self.now.state.chunk (self.now.state.current + 1) + 1) ≤ self.now.state.size) }
+    {
+        self.store.lacks_next_area()
+    }
+
+    /// Whether the next place is not wholly inside the store.
+    pub fn is_full(&self) -> bool
+        ensures { MatchBool result (IsFull self.now.state.chunk self.now.state.size self.now.next) (self.now.state.chunk * (self.now.next + 1) ≤ self.now.state.size) }
+    {
+        self.store.is_full()
+    }
+
+    /// Whether one copy more may start without more memory.
+    pub fn has_room(&self) -> bool
+        ensures { MatchBool result (0 < self.now.room) (self.now.room ≡ 0) }
+    {
+        0 < self.room
+    }
+
+    /// The chunk of the store with the committed copy of a chunk of the origin.
+    pub fn place_of(&self, chunk: Chunk) -> Option<Chunk>
+        ensures { result ≡ place_in self.now.pairs chunk }
+    {
+        self.store.get(chunk)
+    }
+
+    /// Whether a chunk of the origin is published: its copy is committed, and bears no mark.
+    pub fn is_published(&self, chunk: Chunk) -> bool
+        ensures { result ≡ is_published_in self.now.pairs self.now.marks chunk }
+    {
+        self.store.get(chunk).is_some() && !is_marked(self.marks.as_slice(), chunk)
+    }
+}

@@ -1,0 +1,54 @@
+// A snapshot is spoiled, and its store's header is marked invalid.
+ghost use Rattle.std.specs.Prelude.{◌≡◌, ℕ, ◌*◌, [], not, is_ok, OnOk, OnErr, IsTrue, true, false};
+ghost use Rattle.sector.specs.Bytes.{with_sectors};
+ghost use Rattle.device.specs.declared.operation.Operation.TheVariants.{Writes};
+ghost use Rattle.device.specs.Layers.{is_loud};
+ghost use Rattle.model.specs.Places.{ChangesOnly};
+ghost use Rattle.cow_header.specs.HeaderText.{header_bytes};
+ghost use Rattle.store.specs.Operations.{IsOneOperation};
+ghost use Rattle.volume_laws.specs.Steps.{SpoilsSnap, TriesMark};
+ghost use Rattle.snapshot.specs.Kept.{books_of};
+
+use crate::Snapshot;
+use device::{Block, Io};
+
+impl<B: Block> Snapshot<B> {
+    /// Spoils a live snapshot: it shows nothing from then on, and has no copies and no marks. Its store's header is to be
+    /// marked invalid.
+    pub fn spoil(&mut self)
+        requires live { self.old.live ≡ true }
+        ensures fields { self.new ≡ record self.old { live = false; untried = true; state = record self.old.state { copying = false }; begun = []; copies = []; marks = [] } }
+        ensures spoils { SpoilsSnap (books_of B.contents B.layers self.old) (books_of B.contents B.layers self.new) }
+    {
+        self.live = false;
+        self.untried = true;
+        self.store.drop_copies();
+        self.copies.clear();
+        self.marks.clear();
+    }
+
+    /// Marks the header of a spoiled snapshot's store invalid. It is tried once: at `Io` the store is stale, and nothing
+    /// of it changed but the device's counts and layers.
+    pub fn write_invalid(&mut self) -> Result<(), Io>
+        requires untried { self.old.untried ≡ true }
+
+        ensures operation { IsOneOperation (Writes 0 self.old.state.chunk) (is_ok result) (B.layers self.old.device) (B.layers self.new.device) (B.fault_count self.old.device) (B.fault_count self.new.device) (B.done_count self.old.device) (B.done_count self.new.device) }
+        ensures loud { is_loud (B.layers self.new.device) ≡ is_loud (B.layers self.old.device) }
+        ensures written { OnOk result (IsTrue (is_loud (B.layers self.old.device)) → B.contents self.new.device ≡ with_sectors (B.contents self.old.device) 0 (header_bytes (512 * self.old.state.chunk) false self.old.state.chunk)) }
+        ensures same { OnErr result (B.contents self.new.device ≡ B.contents self.old.device) }
+        ensures only { ChangesOnly self.old.state.chunk 0 (B.contents self.old.device) (B.contents self.new.device) }
+        ensures durable { B.durable self.new.device ≡ B.durable self.old.device }
+
+        ensures fields { self.new ≡ record self.old { device = self.new.device; untried = false; stale = not (is_ok result) } }
+        ensures tries { TriesMark (books_of B.contents B.layers self.old) (books_of B.contents B.layers self.new) }
+    {
+        self.untried = false;
+        match self.store.write_invalid() {
+            Ok(()) => Ok(()),
+            Err(io) => {
+                self.stale = true;
+                Err(io)
+            }
+        }
+    }
+}

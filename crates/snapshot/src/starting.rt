@@ -1,0 +1,114 @@
+// A snapshot begins over its store, and ends; room is made for a copy, and a copy is started.
+ghost use Rattle.std.specs.Prelude.{◌≡◌, ◌==◌, ℕ, ◌+◌, ◌-◌, ◌*◌, ◌<◌, ◌≤◌, List, [], ◌∷◌, ◌++◌, length, max, OnOk, OnErr, IfErr, MatchBool, None, true, false};
+ghost use Rattle.std.specs.List.{list_any};
+ghost use Rattle.sector.specs.declared.refusal.Refusal.TheVariants.{NoMemory};
+ghost use Rattle.chunk.specs.Sizes.{is_chunk};
+ghost use Rattle.model.specs.NextPlace.{IsFull};
+ghost use Rattle.model.specs.Picture.{place_of as place_in};
+ghost use Rattle.pending.specs.Copies.{count_of};
+ghost use Rattle.store.specs.declared.state.Left.TheVariants.{Nothing};
+ghost use Rattle.store.specs.Held.{committed, pending as pending_of};
+ghost use Rattle.volume_laws.specs.Steps.{IsNewSnap};
+ghost use Rattle.snapshot.specs.Kept.{books_of};
+ghost use Rattle.snapshot.specs.Calls.{StartsAt, started};
+
+use crate::Snapshot;
+use device::Block;
+use pending::{ChunkCopy, Stage};
+use plain::{CopyId, SnapId};
+use sector::{Chunk, Refusal};
+use std::alloc::Global;
+use store::Store;
+
+impl<B: Block> Snapshot<B> {
+    /// A live snapshot over a store that was opened, and which the load's writes have left ready. It takes no memory.
+    pub fn over(alloc: Global, number: SnapId, store: Store<B>) -> Snapshot<B>
+        requires allowed { is_chunk store.state.chunk ≡ true }
+        requires ready { store.state.left ≡ Nothing }
+        requires copying { store.state.copying ≡ true }
+        requires idle { length (pending_of store.exceptions) ≡ 0 }
+        ensures fields { result ≡ record { number = number; live = true; untried = false; stale = false; device = store.device; state = store.state; next = store.places.next; pairs = committed store.exceptions; begun = []; copies = []; marks = []; room = 0 } }
+        ensures new { (origin : List ℕ) → length origin ≡ 512 * store.state.origin → IsNewSnap origin (books_of B.contents B.layers result) }
+    {
+        Snapshot {
+            number,
+            live: true,
+            untried: false,
+            stale: false,
+            store,
+            copies: Vec::new(alloc),
+            marks: Vec::new(alloc),
+            room: 0,
+        }
+    }
+
+    /// Gives the device of the store back, as it is.
+    pub fn into_device(self) -> B
+        ensures { result ≡ self.device }
+    {
+        let Snapshot {
+            number: _,
+            live: _,
+            untried: _,
+            stale: _,
+            store,
+            copies: _,
+            marks: _,
+            room: _,
+        } = self;
+        store.into_device()
+    }
+
+    /// Makes room for one more copy, where there is none; `NoMemory` where that is refused, and then nothing changed.
+    pub fn reserve(&mut self) -> Result<(), Refusal>
+        ensures ok { OnOk result (self.new ≡ record self.old { room = max self.old.room 1 }) }
+        ensures err { OnErr result (self.new ≡ self.old) }
+        ensures refusal { IfErr result (λ e. e ≡ NoMemory) }
+    {
+        if 0 < self.room {
+            return Ok(());
+        }
+        let Ok(()) = self.copies.reserve(1) else {
+            return Err(Refusal::NoMemory);
+        };
+        let Some(count) = self.copies.len().checked_add(1) else {
+            return Err(Refusal::NoMemory);
+        };
+        let Ok(()) = self.marks.reserve(count) else {
+            return Err(Refusal::NoMemory);
+        };
+        match self.store.reserve(1) {
+            Ok(()) => {
+                self.room = 1;
+                Ok(())
+            }
+            Err(refusal) => Err(refusal),
+        }
+    }
+
+    /// Starts the copy of a chunk of the origin that has none, and tells whether it could: it takes the store's next
+    /// place, and the buffer, which is as long as the chunk. Where that place is not wholly inside the store, nothing
+    /// changed.
+    pub fn start(&mut self, number: CopyId, chunk: Chunk, buffer: Vec<u8>) -> bool
+        requires live { self.old.live ≡ true }
+        requires room { 0 < self.old.room }
+        requires begins { self.old.state.chunk * chunk < self.old.state.origin }
+        requires absent { place_in self.old.pairs chunk ≡ None }
+        requires idle { list_any (λ p. p.pair.old == chunk) self.old.copies ≡ false }
+        requires buffer { length buffer.items ≡ 512 * count_of self.old.state.chunk self.old.state.origin chunk }
+        ensures place { MatchBool result (self.old.state.chunk * (self.old.next + 1) ≤ self.old.state.size) (IsFull self.old.state.chunk self.old.state.size self.old.next) }
+        ensures started { MatchBool result (StartsAt B.contents B.layers (started number chunk self.old.next buffer) self.old self.new) (self.new ≡ self.old) }
+    {
+        let Some(begun) = self.store.start(chunk) else {
+            return false;
+        };
+        self.room -= 1;
+        self.copies.push_reserved(ChunkCopy {
+            number,
+            pair: begun.pair,
+            stage: Stage::Waiting,
+            buffer,
+        });
+        true
+    }
+}
