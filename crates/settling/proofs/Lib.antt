@@ -1,0 +1,11 @@
+pub mod Lists
+pub mod Goes
+pub mod Around
+pub mod Stages
+pub mod Ends
+pub mod Saves
+pub mod Resting
+pub mod Clears
+pub mod Primed
+pub mod OriginWrites
+pub mod WritesSettle

@@ -1,0 +1,98 @@
+-- A write of the origin, submitted to a volume at rest, settles to the big step.
+use Rattle.std.proofs.Common.{◌≡◌, ℕ, zero, suc, ◌+◌, ◌*◌, ◌/◌, ◌<◌, ◌≤◌, Bool, true, false, List, [], ◌∷◌, ◌++◌, length, map, Option, Some, None, arith, refl, ap, ◌∙◌, sym, subst, inl, inr}
+use Rattle.std.specs.Prelude.{◌||◌, not, sum_by, if◌then◌else◌}
+use Rattle.std.specs.List.{All}
+use Rattle.std.proofs.lemmas.Bool.{cases_Bool, cond-true, cond-false}
+use Rattle.std.proofs.lemmas.List.Elements.{All-nil, All-cons, All-head, All-tail}
+use Rattle.sector.specs.Bytes.{with_sectors}
+use Rattle.sector.specs.declared.range.Range.{Range}
+use Rattle.sector.proofs.Sectors.{length-with_sectors}
+use Rattle.device.specs.declared.operation.Operation.TheVariants.{Writes}
+use Rattle.chunk.specs.Pieces.{Span, span_of}
+use Rattle.plain.specs.declared.request.Request.{Request}
+use Rattle.plain.specs.declared.request.Dev.TheVariants.{Origin as ToOrigin}
+use Rattle.plain.specs.declared.request.Op.TheVariants.{Write}
+use Rattle.plain.specs.declared.request.Reply.{Reply}
+use Rattle.settling.specs.Devices.{Device, answers, met, written_by}
+use Rattle.settling.specs.Snaps.{Snap, Volume}
+use Rattle.settling.specs.Saving.{Saving, is_full, has_chunk, save}
+use Rattle.settling.specs.Pieces.{Answered, save_all, write_origin}
+use Rattle.settling.specs.Held.{Held, Going, Moving}
+use Rattle.settling.specs.Due.{due}
+use Rattle.settling.specs.Stepping.{write_reply}
+use Rattle.settling.specs.Submitting.{started_all, submitted}
+use Rattle.settling.specs.Rest.{IsResting, IsAtRest}
+use Rattle.settling.specs.Settles.{settle, SettlesTo}
+use Rattle.settling.proofs.Lists.{Each, each_weaker}
+use Rattle.settling.proofs.Goes.{Goes, goes_on, settled_there}
+use Rattle.settling.proofs.Around.{at, IsIdle, due_request}
+use Rattle.settling.proofs.Saves.{saves_nothing, saves_full, saves_copy}
+use Rattle.settling.proofs.Primed.{primed, resting_idle}
+use Rattle.settling.proofs.OriginWrites.{snap_of, going, route_for, writing, tries_all, Finals, copies_all, issues}
+
+pub each_from : (P : Held → Type 0) (xs : List Held) → All P xs → Each P xs
+each_from P [] all = tt
+each_from P (x ∷ xs) all = (All-head P x xs all, each_from P xs (All-tail P x xs all))
+
+pub all_from : (P : Held → Type 0) (xs : List Held) → Each P xs → All P xs
+all_from P [] each = All-nil P
+all_from P (x ∷ xs) each = All-cons P x xs each.0 (all_from P xs each.1)
+
+-- a copy's read changes no byte of the origin
+pub save_bytes : (c : ℕ) (origin : Device) (s : Snap) → (save c origin s).origin.bytes ≡ origin.bytes
+save_bytes c origin s = elim (cases_Bool (not s.live || has_chunk c s)) [
+  | inl none ↦ ap (λ (x : Saving). x.origin.bytes) (saves_nothing c origin s none)
+  | inr some ↦ elim (cases_Bool (is_full s)) [
+    | inl full ↦ ap (λ (x : Saving). x.origin.bytes) (saves_full c origin s some full)
+    | inr room ↦ ap (λ (x : Saving). x.origin.bytes) (saves_copy c origin s some room)
+  ]
+]
+
+save_all_bytes : (first : ℕ) (origin : Device) (snaps : List Snap) → (save_all first origin snaps).origin.bytes ≡ origin.bytes
+save_all_bytes first origin [] = refl
+save_all_bytes first origin (s ∷ snaps) = save_all_bytes first (save (first / s.chunk) origin s).origin snaps ∙ save_bytes (first / s.chunk) origin s
+
+-- a write of a device keeps its size
+pub written_length : (device : Device) (first count : ℕ) (bytes : List ℕ) → length bytes ≡ 512 * count → 512 * (first + count) ≤ length device.bytes → length (written_by device (Writes first count) (with_sectors device.bytes first bytes)).bytes ≡ length device.bytes
+written_length device first count bytes len fits = elim (cases_Bool (answers device (Writes first count))) [
+  | inl ok ↦ ap length (cond-true _ _ _ ok) ∙ length-with_sectors device.bytes first bytes (omega arith)
+  | inr failed ↦ ap length (cond-false _ _ _ failed)
+]
+
+-- the request
+abbrev pub write_request : Range → List ℕ → Request
+write_request range bytes = record { dev = ToOrigin; op = Write bytes; range = range }
+
+pub origin_write_settles : (sectors number : ℕ) (range : Range) (bytes : List ℕ) (v : Moving) → IsAtRest sectors v → 0 < range.count → range.first + range.count ≤ sectors → length bytes ≡ 512 * range.count →
+  SettlesTo sectors (submitted number (write_request range bytes) v) (write_origin (span_of range) bytes (record { origin = v.origin; snaps = map (λ (h : Held). h.snap) v.snaps }))
+origin_write_settles sectors number range bytes v rest some fits len =
+    let snaps : List Held = started_all range.first v.started v.snaps in
+    let k : ℕ = v.started + sum_by (λ (h : Held). length h.copies) snaps in
+    let resting : Each (IsResting sectors) v.snaps = each_from (IsResting sectors) v.snaps rest.snaps in
+    let whole = rest.whole in
+    let begun : submitted number (write_request range bytes) v ≡ writing sectors number range bytes v.replied k v.origin snaps = ap (λ (rs : List Going). at v.origin snaps (rs ++ going sectors number range bytes v.replied k (route_for sectors number range bytes v.replied k snaps) ∷ []) v.replied k) rest.requests in
+    let saved : Finals sectors number range bytes v.replied k v.origin [] v.snaps v.started = copies_all sectors number range bytes v.replied k v.snaps v.origin [] v.started whole (omega arith) tt resting in
+    let all : Volume = save_all range.first v.origin (map snap_of v.snaps) in
+    let idle : Each IsIdle saved.finals = each_weaker (IsResting sectors) IsIdle saved.finals (resting_idle sectors) saved.rest in
+    let same : length all.origin.bytes ≡ length v.origin.bytes = ap length (save_all_bytes range.first v.origin (map snap_of v.snaps)) in
+    let after : Device = written_by all.origin (Writes range.first range.count) (with_sectors all.origin.bytes range.first bytes) in
+    let last : Moving = at after saved.finals [] (Some (write_reply all.origin range.first range.count)) k in
+    let goes : Goes (writing sectors number range bytes v.replied k v.origin snaps) last =
+    goes_on _ _ _ (tries_all sectors number range bytes v.replied k v.origin [] v.snaps v.started tt (each_weaker (IsResting sectors) (λ (d : Held). d.untried ≡ false) v.snaps (λ d r. r.tried) resting))
+    (goes_on _ _ _ saved.goes (issues sectors number range bytes v.replied k all.origin saved.finals idle saved.saved)) in
+    let quiet : due last ≡ None = due_request after saved.finals [] (Some (write_reply all.origin range.first range.count)) k idle None refl in
+    let there = settled_there (writing sectors number range bytes v.replied k v.origin snaps) last goes quiet in
+    record {
+      fuel = there.0;
+      last = last;
+      ends = λ more. ap (settle (there.0 + more)) begun ∙ there.1 more;
+      quiet = quiet;
+      rest = record {
+        whole = written_length all.origin range.first range.count bytes len (omega arith) ∙ same ∙ whole;
+        snaps = all_from (IsResting sectors) saved.finals saved.rest;
+        requests = refl;
+      };
+      origin = refl;
+      snaps = saved.same;
+      reply = refl;
+    }

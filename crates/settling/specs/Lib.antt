@@ -1,0 +1,12 @@
+pub mod Devices
+pub mod Snaps
+pub mod Saving
+pub mod Pieces
+pub mod Commands
+pub mod Held
+pub mod Due
+pub mod Again
+pub mod Stepping
+pub mod Submitting
+pub mod Rest
+pub mod Settles
