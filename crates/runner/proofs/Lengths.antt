@@ -1,5 +1,5 @@
 -- How many snapshots a volume has after a call, and disks that go back to their place.
-use Rattle.std.proofs.Common.{◌≡◌, ℕ, ◌+◌, ◌<◌, List, [], ◌∷◌, ◌++◌, length, get_or, refl, sym, ap, ◌∙◌, ◌-◌, zero, suc, take, drop, arith, length-append, length-take, drop-cons, take-append-drop}
+use Rattle.std.proofs.Common.{◌≡◌, ℕ, ◌+◌, ◌<◌, List, [], ◌∷◌, ◌++◌, length, get_or, refl, sym, ap, ◌∙◌, ◌-◌, suc, take, drop, arith, length-append, length-take, drop-cons, take-append-drop}
 use Rattle.std.specs.Prelude.{Result, Ok, Err}
 use Rattle.std.specs.List.{remove, insert}
 use Rattle.std.proofs.lemmas.List.Edits.{length-remove, insert-append_right}

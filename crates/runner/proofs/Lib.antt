@@ -1,6 +1,9 @@
 pub mod Lengths
 pub mod Kept
+pub mod CountLemmas
+pub mod DeskLemmas
 pub mod RunLemmas
-pub mod RefusedLemmas
-pub mod AnyLemmas
 pub mod Snaps
+pub mod Sums
+pub mod Unused
+pub mod Named

@@ -1,54 +1,120 @@
--- A run, line by line, in which memory runs out for no line.
-use Rattle.std.proofs.Common.{◌≡◌, ℕ, true, false, ◌+◌, ◌-◌, ◌^◌, List, [], ◌∷◌, ◌++◌, length, min, Option, Some, None, refl, sym, ap, ◌∙◌, arith, inl, inr}
+-- A run, line by line.
+use Rattle.std.proofs.Common.{◌≡◌, ℕ, true, false, List, [], ◌∷◌, ◌++◌, Option, Some, None, refl, sym, ap, ◌∙◌, arith, inl, inr, subst, append_assoc}
 use Rattle.std.specs.Prelude.{IfSome}
+use Rattle.std.specs.List.{count_by}
 use Rattle.std.specs.Io.KnownBytes.{Appends}
-use Rattle.lines.proofs.Written.{WritesOn}
-use Rattle.lines.proofs.Written as written
+use Rattle.std.proofs.lemmas.List.{append-nil}
+use Rattle.std.proofs.lemmas.Grind.{flat_map-append}
+use Rattle.words.specs.Given.{◌>>=◌}
+use Rattle.lines.proofs.Written.{appends_more}
 use Rattle.lines.specs.Lines.{lines_of, IsKept, ReadsLine}
-use Rattle.command.specs.Line.{said_of}
 use Rattle.command.proofs.Kept.{said_kept}
+use Rattle.reply.specs.declared.Reply.{Reply}
+use Rattle.reply.specs.Texts.{text_of}
+use Rattle.runner.specs.declared.summary.Summary.{Summary}
 use Rattle.runner.specs.State.{Table}
 use Rattle.runner.specs.Steps.{answer_of, obeyed}
-use Rattle.runner.specs.Output.{Outcome, Standing, outcome, outcome_of, outputs, output_of, empty, Prints, followed, counted}
-use Rattle.words.specs.Given.{◌>>=◌}
+use Rattle.runner.specs.Counts.{summary_of, refuses_with}
+use Rattle.runner.specs.Output.{Outcome, Standing, outcome, outcome_of, replies_from, replies_of, output_of, printed, empty, MayBe, MayAnswer, counted, followed}
+use Rattle.runner.proofs.CountLemmas.{all_counted, count_append, none_counted}
 
--- what the reader has left says what is yet to be written
-abbrev pub Follows : Option (List ℕ) → Option (List ℕ) → Option (List ℕ) → Option (List ℕ) → Table → Type 0
-Follows None left before now table = Unit {0}
-Follows (Some text) None before now table = ⊥
-Follows (Some text) (Some left) before now table = WritesOn before now (outputs table (lines_of left)) (outputs empty (lines_of text))
+-- whatever the lines that are left may answer, all lines may answer these replies and that
+abbrev pub LeadsOn : Option (List ℕ) → Option (List ℕ) → Table → List Reply → Type 0
+LeadsOn None left table replies = Unit {0}
+LeadsOn (Some text) None table replies = ⊥
+LeadsOn (Some text) (Some left) table replies =
+    (rest : List Reply) → MayAnswer table (lines_of left) rest → MayAnswer empty (lines_of text) (replies ++ rest)
 
-pub starts : (text before : Option (List ℕ)) → Follows text text before before empty
-starts None before = tt
-starts (Some text) before = written.starts before (outputs empty (lines_of text))
+-- these replies were printed and counted, and the lines that are left go on from there
+abbrev pub Follows : Option (List ℕ) → Option (List ℕ) → Option (List ℕ) → Option (List ℕ) → Standing → Type 0
+Follows text left before now standing = (replies : List Reply)
+    × Appends before now (printed replies) × (standing.summary ≡ summary_of replies) × LeadsOn text left standing.table replies
+
+nothing_written : (before : Option (List ℕ)) → Appends before before []
+nothing_written None = tt
+nothing_written (Some xs) = sym (append-nil xs)
+
+leads : (text : Option (List ℕ)) (table : Table) → table ≡ empty → LeadsOn text text table []
+leads None table at = tt
+leads (Some text) table at = λ rest may. let P : Table → Type 0 = λ t. MayAnswer t (lines_of text) rest in subst P at may
+
+pub starts : (text before : Option (List ℕ)) (standing : Standing) → standing ≡ record { table = empty; summary = summary_of [] } → Follows text text before before standing
+starts text before standing is = ([], nothing_written before, ap (λ (s : Standing). s.summary) is, leads text standing.table (ap (λ (s : Standing). s.table) is))
 
 -- a line that is too long and what is kept of it have one outcome
-pub outcome_kept : (line kept : List ℕ) (table : Table) → IsKept 65536 line kept → outcome_of kept table ≡ outcome_of line table
+outcome_kept : (line kept : List ℕ) (table : Table) → IsKept 65536 line kept → outcome_of kept table ≡ outcome_of line table
 unfolding outcome_of answer_of
 outcome_kept line kept table is = ap (λ said. outcome table (said >>= obeyed table)) (said_kept 65536 line kept is.0 is.1)
 
--- what the lines print, where the first is kept, and new is left by it
-one_more : (left left' kept : List ℕ) (old new : Standing) (line : List ℕ) → lines_of left ≡ line ∷ lines_of left' → IsKept 65536 line kept → new ≡ followed old (outcome_of kept old.table) → outputs old.table (lines_of left) ≡ (outcome_of kept old.table).text ++ outputs new.table (lines_of left')
-one_more left left' kept old new line cut is now =
-    ap (outputs old.table) cut
-    ∙ ap (λ (o : Outcome). o.text ++ outputs o.table (lines_of left')) (sym (outcome_kept line kept old.table is))
-    ∙ ap (λ (s : Standing). (outcome_of kept old.table).text ++ outputs s.table (lines_of left')) (sym now)
+may_be_kept : (line kept : List ℕ) (table : Table) (done : Outcome) → IsKept 65536 line kept → MayBe kept table done → MayBe line table done
+may_be_kept line kept table done is (inl e) = inl (e ∙ outcome_kept line kept table is)
+may_be_kept line kept table done is (inr e) = inr e
 
-pub goes_on : (text left left' before now now' : Option (List ℕ)) (kept : List ℕ) (old new : Standing) → (old.no_memory ≡ 0 → Follows text left before now old.table) → ReadsLine 65536 left left' true kept → Prints kept old new now now' → new.no_memory ≡ 0 → Follows text left' before now' new.table
-goes_on None left left' before now now' kept old new follows read prints none = tt
-goes_on (Some text) left left' before now now' kept old new follows read (inr refused) none =
-    let more : new.no_memory ≡ min (old.no_memory + 1) (2 ^ 64 - 1) = ap (λ (s : Standing). s.no_memory) refused.1 in absurd (omega arith)
-goes_on (Some text) None left' before now now' kept old new follows read (inl done) none =
-    absurd (follows (sym (ap (λ (s : Standing). s.no_memory) done.1) ∙ none))
-goes_on (Some text) (Some left) None before now now' kept old new follows read (inl done) none = absurd read
-goes_on (Some text) (Some left) (Some left') before now now' kept old new follows read (inl done) none =
-    written.writes_on before now now' _ _ _ _ (follows (sym (ap (λ (s : Standing). s.no_memory) done.1) ∙ none))
-    (one_more left left' kept old new read.0 read.1 read.2 done.1) done.0
+-- one line more
+leads_on : (text left left' : Option (List ℕ)) (kept : List ℕ) (table : Table) (done : Outcome) (replies : List Reply) → LeadsOn text left table replies → ReadsLine 65536 left left' true kept → MayBe kept table done → LeadsOn text left' done.table (replies ++ done.replies)
+leads_on None left left' kept table done replies on read may = tt
+leads_on (Some text) None left' kept table done replies on read may = absurd on
+leads_on (Some text) (Some left) None kept table done replies on read may = absurd read
+leads_on (Some text) (Some left) (Some left') kept table done replies on read may = λ rest follows.
+    let P : List (List ℕ) → Type 0 = λ lines. MayAnswer table lines (done.replies ++ rest) in
+    let Q : List Reply → Type 0 = λ rs. MayAnswer empty (lines_of text) rs in
+    let here : MayAnswer table (lines_of left) (done.replies ++ rest) =
+    subst P (sym read.1) (done, rest, may_be_kept read.0 kept table done read.2 may, refl, follows) in
+    subst Q (sym (append_assoc replies done.replies rest)) (on (done.replies ++ rest) here)
 
-pub ends : (text left left' before now : Option (List ℕ)) (kept : List ℕ) (old : Standing) → (old.no_memory ≡ 0 → Follows text left before now old.table) → ReadsLine 65536 left left' false kept → old.no_memory ≡ 0 → IfSome text (λ xs. Appends before now (output_of xs))
-unfolding output_of
-ends None left left' before now kept old follows read none = tt
-ends (Some text) None left' before now kept old follows read none = absurd (follows none)
-ends (Some text) (Some left) None before now kept old follows read none = absurd read
-ends (Some text) (Some left) (Some left') before now kept old follows read none =
-    written.ends before now _ _ (follows none) (ap (outputs old.table) read)
+pub goes_on : (text left left' before now now' : Option (List ℕ)) (kept : List ℕ) (old new : Standing) (done : Outcome) → Follows text left before now old → ReadsLine 65536 left left' true kept → MayBe kept old.table done → new ≡ followed old done → Appends now now' (printed done.replies) → Follows text left' before now' new
+goes_on text left left' before now now' kept old new done (replies, was, counts, on) read may is more =
+    let W : List ℕ → Type 0 = λ bytes. Appends before now' bytes in
+    let L : Table → Type 0 = λ table. LeadsOn text left' table (replies ++ done.replies) in (
+      replies ++ done.replies,
+      subst W (sym (flat_map-append text_of replies done.replies)) (appends_more before now now' (printed replies) (printed done.replies) was more),
+      ap (λ (s : Standing). s.summary) is ∙ ap (counted done.replies) counts ∙ all_counted replies done.replies,
+      subst L (sym (ap (λ (s : Standing). s.table) is)) (leads_on text left left' kept old.table done replies on read may),
+    )
+
+none_left : (table : Table) (lines : List (List ℕ)) → lines ≡ [] → MayAnswer table lines []
+none_left table lines e = let P : List (List ℕ) → Type 0 = λ ls. MayAnswer table ls [] in subst P (sym e) refl
+
+all_led : (text left left' : Option (List ℕ)) (kept : List ℕ) (table : Table) (replies : List Reply) → LeadsOn text left table replies → ReadsLine 65536 left left' false kept → IfSome text (λ xs. MayAnswer empty (lines_of xs) replies)
+all_led None left left' kept table replies on read = tt
+all_led (Some text) None left' kept table replies on read = absurd on
+all_led (Some text) (Some left) None kept table replies on read = absurd read
+all_led (Some text) (Some left) (Some left') kept table replies on read =
+    let Q : List Reply → Type 0 = λ rs. MayAnswer empty (lines_of text) rs in
+    subst Q (append-nil replies) (on [] (none_left table (lines_of left) read))
+
+-- what was printed and counted, and that the lines may answer it
+abbrev pub Ended : Option (List ℕ) → Option (List ℕ) → Option (List ℕ) → Summary → Type 0
+Ended text before now summary = (replies : List Reply)
+    × Appends before now (printed replies) × (summary ≡ summary_of replies) × IfSome text (λ xs. MayAnswer empty (lines_of xs) replies)
+
+pub ends : (text left left' before now : Option (List ℕ)) (kept : List ℕ) (standing : Standing) (summary : Summary) → Follows text left before now standing → ReadsLine 65536 left left' false kept → summary ≡ standing.summary → Ended text before now summary
+ends text left left' before now kept standing summary (replies, was, counts, on) read is =
+    (replies, was, is ∙ counts, all_led text left left' kept standing.table replies on read)
+
+-- where no reply is that memory ran out, each line has its outcome
+exactly : (table : Table) (lines : List (List ℕ)) (replies : List Reply) → MayAnswer table lines replies → count_by (refuses_with 5) replies ≡ 0 → replies ≡ replies_from table lines
+exactly table [] replies may none = may
+exactly table (line ∷ lines) replies (done, rest, inl is, cut, more) none =
+    let split = ap (count_by (refuses_with 5)) cut ∙ count_append (refuses_with 5) done.replies rest in
+    let later = exactly done.table lines rest more (omega (arith, split, none)) in
+    cut ∙ ap (λ rs. done.replies ++ rs) later ∙ ap (λ (d : Outcome). d.replies ++ replies_from d.table lines) is
+exactly table (line ∷ lines) replies (done, rest, inr is, cut, more) none =
+    let split = ap (count_by (refuses_with 5)) cut ∙ count_append (refuses_with 5) done.replies rest in
+    let one : count_by (refuses_with 5) done.replies ≡ 1 = ap (λ (d : Outcome). count_by (refuses_with 5) d.replies) is in
+    absurd (omega (arith, split, none, one))
+
+pub ends_exact : (text before now : Option (List ℕ)) (summary : Summary) → Ended text before now summary → summary.no_memory ≡ 0 → IfSome text (λ xs. Appends before now (output_of xs))
+unfolding output_of replies_of
+ends_exact None before now summary ended none = tt
+ends_exact (Some text) before now summary (replies, was, counts, may) none =
+    let zero = none_counted replies (sym (ap (λ (s : Summary). s.no_memory) counts) ∙ none) in
+    let W : List Reply → Type 0 = λ rs. Appends before now (printed rs) in
+    subst W (exactly empty (lines_of text) replies may zero) was
+
+pub ends_counted : (text before now : Option (List ℕ)) (summary : Summary) → Ended text before now summary → summary.no_memory ≡ 0 → IfSome text (λ xs. summary ≡ summary_of (replies_of xs))
+unfolding replies_of
+ends_counted None before now summary ended none = tt
+ends_counted (Some text) before now summary (replies, was, counts, may) none =
+    let zero = none_counted replies (sym (ap (λ (s : Summary). s.no_memory) counts) ∙ none) in
+    counts ∙ ap summary_of (exactly empty (lines_of text) replies may zero)

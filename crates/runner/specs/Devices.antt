@@ -1,5 +1,4 @@
 -- The devices as contracts see them.
-use Rattle.std.specs.Prelude.{ℕ}
 use Rattle.runner.specs.State.{Table}
 use Rattle.runner.specs.declared.devices.Devices.{Devices}
 

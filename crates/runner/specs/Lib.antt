@@ -6,5 +6,7 @@ pub mod Volumes
 pub mod Sectors
 pub mod Status
 pub mod Steps
+pub mod Counts
 pub mod Output
+pub mod Naming
 pub mod Exit

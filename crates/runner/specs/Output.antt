@@ -1,80 +1,76 @@
 -- What is printed for a text of command lines.
-use Rattle.std.specs.Prelude.{◌≡◌, ℕ, ◌+◌, ◌-◌, ◌^◌, min, Bool, true, false, ◌||◌, List, [], ◌∷◌, ◌++◌, Option, Some, None, Result, Ok, Err, ◌⊎◌}
-use Rattle.std.specs.Io.KnownBytes.{Appends}
+use Rattle.std.specs.Prelude.{◌≡◌, ℕ, List, [], ◌∷◌, ◌++◌, Option, Some, None, Result, Ok, Err, ◌⊎◌}
+use Rattle.std.specs.List.{flat_map}
 use Rattle.sector.specs.declared.refusal.Refusal.{Refusal}
 use Rattle.sector.specs.declared.refusal.Refusal.TheVariants.{NoMemory}
 use Rattle.lines.specs.Lines.{lines_of}
 use Rattle.reply.specs.declared.Reply.{Reply}
 use Rattle.reply.specs.declared.Reply.TheVariants.{Refused}
 use Rattle.reply.specs.Texts.{text_of}
+use Rattle.runner.specs.declared.summary.Summary.{Summary}
 use Rattle.runner.specs.State.{Table}
 use Rattle.runner.specs.Steps.{answer_of}
+use Rattle.runner.specs.Counts.{with_reply}
 
--- what a line prints, the devices after it, and whether it was refused
+-- what a line answers, each reply a printed line, and the devices after it
 pub record Outcome : Type 0 where
-  pub text : List ℕ
+  pub replies : List Reply
   pub table : Table
-  pub refused : Bool
 
--- a line that answers nothing prints nothing
-abbrev pub answer_text : Option Reply → List ℕ
-answer_text None = []
-answer_text (Some reply) = text_of reply
+-- a line that says nothing answers nothing
+abbrev pub answered : Option Reply → List Reply
+answered None = []
+answered (Some reply) = reply ∷ []
 
--- a refusal is printed, and changes nothing
+-- a refusal is answered, and changes nothing
 abbrev pub outcome : Table → Result (Option Reply × Table) Refusal → Outcome
-outcome table (Ok done) = record { text = answer_text done.0; table = done.1; refused = false }
-outcome table (Err refusal) = record { text = text_of (Refused refusal); table = table; refused = true }
+outcome table (Ok done) = record { replies = answered done.0; table = done.1 }
+outcome table (Err refusal) = record { replies = Refused refusal ∷ []; table = table }
 
 unfoldable pub outcome_of : List ℕ → Table → Outcome
 outcome_of line table = outcome table (answer_of line table)
 
--- what the lines print, one after the other
-abbrev pub outputs : Table → List (List ℕ) → List ℕ
-outputs table [] = []
-outputs table (line ∷ lines) = (outcome_of line table).text ++ outputs (outcome_of line table).table lines
+-- what the lines answer, one after the other
+abbrev pub replies_from : Table → List (List ℕ) → List Reply
+replies_from table [] = []
+replies_from table (line ∷ lines) = (outcome_of line table).replies ++ replies_from (outcome_of line table).table lines
 
 -- no devices
 abbrev pub empty : Table
 empty = record { disks = []; volumes = [] }
 
+-- what is answered for a text
+unfoldable pub replies_of : List ℕ → List Reply
+replies_of text = replies_from empty (lines_of text)
+
+-- the printed lines of replies
+abbrev pub printed : List Reply → List ℕ
+printed replies = flat_map text_of replies
+
 -- what is printed for a text
 unfoldable pub output_of : List ℕ → List ℕ
-output_of text = outputs empty (lines_of text)
+output_of text = printed (replies_of text)
 
--- The lines may print this text: each its outcome, or, where memory ran out for it, that alone, and then it changed
--- nothing.
-abbrev pub MayPrint : Table → List (List ℕ) → List ℕ → Type 0
-MayPrint table [] text = text ≡ []
-MayPrint table (line ∷ lines) text = (rest : List ℕ) × (
-    ((text ≡ (outcome_of line table).text ++ rest) × MayPrint (outcome_of line table).table lines rest)
-    ⊎ ((text ≡ text_of (Refused NoMemory) ++ rest) × MayPrint table lines rest))
+-- A line has its outcome, or, where memory ran out for it, it answers that alone and changes nothing.
+abbrev pub MayBe : List ℕ → Table → Outcome → Type 0
+MayBe line table done = (done ≡ outcome_of line table) ⊎ (done ≡ outcome table (Err NoMemory))
 
--- whether a line is refused, one of these
-abbrev pub any_refused : Table → List (List ℕ) → Bool
-any_refused table [] = false
-any_refused table (line ∷ lines) = (outcome_of line table).refused || any_refused (outcome_of line table).table lines
+-- The lines may answer this, each what it may.
+abbrev pub MayAnswer : Table → List (List ℕ) → List Reply → Type 0
+MayAnswer table [] replies = replies ≡ []
+MayAnswer table (line ∷ lines) replies = (done : Outcome) × (rest : List Reply)
+    × MayBe line table done × (replies ≡ done.replies ++ rest) × MayAnswer done.table lines rest
 
--- whether a line of a text is refused
-unfoldable pub is_refused : List ℕ → Bool
-is_refused text = any_refused empty (lines_of text)
-
--- the devices, how many lines answered that memory ran out, and whether a line was refused
+-- the devices, and what was printed so far, counted
 pub record Standing : Type 0 where
   pub table : Table
-  pub no_memory : ℕ
-  pub refused : Bool
+  pub summary : Summary
 
--- after a line that had its outcome
+-- more replies are counted, one after the other
+abbrev pub counted : List Reply → Summary → Summary
+counted [] summary = summary
+counted (reply ∷ replies) summary = counted replies (with_reply reply summary)
+
+-- after a line
 abbrev pub followed : Standing → Outcome → Standing
-followed standing outcome = record { table = outcome.table; no_memory = standing.no_memory; refused = standing.refused || outcome.refused }
-
--- after one more line that memory ran out for
-abbrev pub counted : Standing → Standing
-counted standing = record { table = standing.table; no_memory = min (standing.no_memory + 1) (2 ^ 64 - 1); refused = true }
-
--- The line printed its outcome and left it, or memory ran out, and then it says so and nothing else changed.
-abbrev pub Prints : List ℕ → Standing → Standing → Option (List ℕ) → Option (List ℕ) → Type 0
-Prints line old new before after =
-    (Appends before after (outcome_of line old.table).text × (new ≡ followed old (outcome_of line old.table)))
-    ⊎ (Appends before after (text_of (Refused NoMemory)) × (new ≡ counted old))
+followed standing done = record { table = done.table; summary = counted done.replies standing.summary }

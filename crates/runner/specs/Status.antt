@@ -6,7 +6,7 @@ use Rattle.sector.specs.declared.refusal.Refusal.TheVariants.{BadTable}
 use Rattle.words.specs.Given.{◌>>=◌}
 use Rattle.reply.specs.declared.Reply.{Reply}
 use Rattle.reply.specs.declared.Reply.TheVariants.{Said}
-use Rattle.settled.specs.Settled.{Settled, Snap}
+use Rattle.settled.specs.Settled.{Settled}
 use Rattle.settled.specs.declared.usage.Usage.{Usage}
 use Rattle.settled.specs.Attaching.{Used, used_by}
 use Rattle.runner.specs.declared.place.Role.{Role}

@@ -17,8 +17,8 @@ use Rattle.runner.specs.declared.place.Place.{Place}
 use Rattle.runner.specs.declared.place.Place.TheVariants.{Free, In}
 use Rattle.runner.specs.State.{Disk, Volume, Table}
 use Rattle.runner.specs.Places.{place_of, found, free_at, volume_at}
-use Rattle.runner.specs.Disks.{device_count, with_disk, store_at}
-use Rattle.runner.specs.Sectors.{sectors_in, with_volume}
+use Rattle.runner.specs.Disks.{device_count, store_at}
+use Rattle.runner.specs.Sectors.{sectors_in}
 
 -- a device of a volume below a new one: an origin and a snapshot can't stand there, and a disk is in use
 abbrev pub taken : Role → Refusal

@@ -1,24 +1,27 @@
 // Lines in, lines out.
-ghost use Rattle.std.specs.Prelude.{◌≡◌, ◌≤◌, ◌⊎◌, OnOk, false, []};
+ghost use Rattle.std.specs.Prelude.{◌≡◌, [], MatchResult, IfErr, OnOk};
 ghost use Rattle.std.specs.Io.KnownBytes.{Appends};
-ghost use Rattle.runner.specs.Output.{Prints, empty, followed, counted, outcome_of};
+ghost use Rattle.runner.specs.Counts.{summary_of};
+ghost use Rattle.runner.specs.Exit.{IsMemory, IsWriters};
+ghost use Rattle.runner.specs.Devices.{table_of};
+ghost use Rattle.runner.specs.Naming.{AreNamed};
+ghost use Rattle.runner.specs.Output.{Outcome, MayBe, answered, empty, followed, printed};
 
 use crate::devices::Devices;
+use crate::error::RunError;
 use crate::step::answer;
+use crate::summary::Summary;
 use reply::Reply;
-use sector::Refusal;
 use std::alloc::Global;
-use std::io;
 use std::io::Write;
 use std::marker::Model;
 
-/// The devices that the lines so far made, how many lines answered that memory ran out, and whether a line was refused.
+/// The devices that the lines so far made, and a count of the lines that were printed.
 #[derive(Drop)]
 pub struct Desk {
     alloc: Global,
     devices: Devices,
-    no_memory: u64,
-    refused: bool,
+    summary: Summary,
     workers: u32,
 }
 
@@ -28,61 +31,62 @@ impl Model for Desk {
 
     ghost Value = { Standing };
 
-    ghost view = { λ d. record { table = table_of d.devices; no_memory = d.no_memory; refused = d.refused } };
+    ghost view = { λ d. record { table = table_of d.devices; summary = d.summary } };
+
+    ghost use Rattle.runner.specs.Naming.{AreNamed};
+
+    ghost invariant = { λ d. AreNamed (table_of d.devices) };
+}
+
+/// Does what a line says, and gives what it prints: its answer, or its refusal.
+fn outcome(alloc: Global, devices: &mut Devices, line: &[u8]) -> Option<Reply>
+    ensures { MayBe line.now (table_of devices.old) (record { replies = answered result; table = table_of devices.new }) }
+{
+    match answer(alloc, devices, line) {
+        Ok(reply) => reply,
+        Err(refusal) => Some(Reply::Refused(refusal)),
+    }
 }
 
 impl Desk {
-    /// No devices. `workers` is the number of copy workers, 1 to 4; it has no effect on what is printed. It takes no
-    /// memory.
-    pub fn new(alloc: Global, workers: u32) -> Desk
-        ensures { result ≡ record { table = empty; no_memory = 0; refused = false } }
+    /// No devices, and room for all that there may be. `workers` is the number of copy workers, 1 to 4; it has no effect
+    /// on what is printed. The one error is `RunError::Memory`.
+    #[tactic(auto, using(crate::proofs::Named::none_named))]
+    pub fn new(alloc: Global, workers: u32) -> Result<Desk, RunError>
+        ensures { MatchResult result (λ desk. desk ≡ record { table = empty; summary = summary_of [] }) IsMemory }
     {
-        let devices = Devices {
-            disks: Vec::new(alloc),
-            volumes: Vec::new(alloc),
-        };
-        Desk {
+        Ok(Desk {
             alloc,
-            devices,
-            no_memory: 0,
-            refused: false,
+            devices: Devices::new(alloc).map_err(|_| RunError::Memory)?,
+            summary: Summary::of_nothing(),
             workers,
-        }
+        })
     }
 
-    /// How many lines answered that memory ran out.
-    pub fn no_memory(&self) -> u64
-        ensures { result ≡ self.now.no_memory }
+    /// What was printed so far, counted; a line whose printing failed counts too.
+    pub fn summary(&self) -> Summary
+        ensures { result ≡ self.now.summary }
     {
-        self.no_memory
+        self.summary
     }
 
-    /// Whether a line was refused, and so a line that begins with `err` was printed.
-    pub fn refused(&self) -> bool
-        ensures { result ≡ self.now.refused }
+    /// Does what a line says, the line given without its end, and prints the answer. Where the allocator refuses any
+    /// memory, the line prints that and changes no device. The one error is `RunError::Write`, the writer's own; then
+    /// the line was done all the same, and part of its answer may be printed.
+    pub fn line<W: Write>(&mut self, line: &[u8], writer: &mut W) -> Result<(), RunError>
+        ensures done { (done : Outcome) × MayBe line.now self.old.table done × (self.new ≡ followed self.old done)
+            × OnOk result (Appends (W.contents writer.old) (W.contents writer.new) (printed done.replies)) }
+        ensures error { IfErr result IsWriters }
+        ensures named { AreNamed self.new.table }
     {
-        self.refused
-    }
-
-    /// Does what a line says, the line given without its end, and prints the answer. The one error is the writer's own;
-    /// then the line was done all the same, and part of its answer may be printed.
-    #[tactic(auto, unfolding(crate::specs::Output::outcome_of))]
-    pub fn line<W: Write>(&mut self, line: &[u8], writer: &mut W) -> io::Result<()>
-        ensures { OnOk result (Prints line.now self.old self.new (W.contents writer.old) (W.contents writer.new)) }
-    {
-        let reply = match answer(self.alloc, &mut self.devices, line) {
-            Ok(None) => return Ok(()),
-            Ok(Some(reply)) => reply,
-            Err(Refusal::NoMemory) => {
-                self.no_memory = self.no_memory.saturating_add(1);
-                self.refused = true;
-                Reply::Refused(Refusal::NoMemory)
-            }
-            Err(refusal) => {
-                self.refused = true;
-                Reply::Refused(refusal)
-            }
+        let reply = match outcome(self.alloc, &mut self.devices, line) {
+            None => return Ok(()),
+            Some(reply) => reply,
         };
-        reply.write_to(writer)
+        self.summary = self.summary.with(&reply);
+        match reply.write_to(writer) {
+            Ok(()) => Ok(()),
+            Err(error) => Err(RunError::Write(error)),
+        }
     }
 }

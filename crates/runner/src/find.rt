@@ -5,15 +5,12 @@ ghost use Rattle.runner.specs.Devices.{table_of};
 ghost use Rattle.runner.specs.Places.{place_of, found, role_of, place_among, IsPlaceAmong, IsPlaceIn};
 ghost use Rattle.runner.specs.Disks.{device_count, devices_in};
 
-use crate::devices::Devices;
+use crate::devices::{Devices, MOST_DEVICES};
 use crate::free_disk::FreeDisk;
 use crate::mounted::Mounted;
 use crate::place::Place;
 use sector::Refusal;
 use words::Name;
-
-/// The most devices that there may be.
-const MOST_DEVICES: usize = 64;
 
 fn free_of(disks: &[FreeDisk], name: &Name) -> Option<usize>
     ensures place { result ≡ position (λ d. bytes_eq d.name name.now) disks.now }

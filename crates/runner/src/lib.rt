@@ -13,6 +13,7 @@
 mod desk;
 mod devices;
 mod disks;
+mod error;
 mod find;
 mod free_disk;
 mod mounted;
@@ -22,8 +23,11 @@ mod sectors;
 mod sizes;
 mod status;
 mod step;
+mod summary;
 mod text;
 mod volumes;
 
 pub use desk::Desk;
-pub use text::{RunError, Summary, exit_status, run};
+pub use error::{RunError, exit_status};
+pub use summary::Summary;
+pub use text::run;

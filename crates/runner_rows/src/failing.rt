@@ -64,13 +64,17 @@ fn ends_where_the_writer_is_full(rt: HostRuntime) -> Result<(), Fail> {
 }
 
 #[test]
-fn counts_refusals_in_the_summary(rt: HostRuntime) -> Result<(), Fail> {
-    for (text, refused) in [("disk d 8\n", false), ("disk d 8\ndisk d 8\n# err\n", true)] {
+fn counts_what_was_printed(rt: HostRuntime) -> Result<(), Fail> {
+    for (text, lines, refused) in [
+        ("", 0, 0),
+        ("disk d 8\n", 1, 0),
+        ("disk d 8\n\ndisk d 8\n# err\nstatus e\nsave d 0 1", 4, 2),
+    ] {
         let mut reader = text.as_bytes();
         let mut out = Vec::new(rt.alloc());
         let summary = run(rt.alloc(), &mut reader, &mut out, 4)?;
-        assert_eq!(rt; summary.refused, refused);
-        assert_eq!(rt; summary.no_memory, 0);
+        assert_eq!(rt; (summary.lines, summary.refused), (lines, refused));
+        assert_eq!(rt; (summary.no_memory, summary.journal_full), (0, 0));
     }
     Ok(())
 }

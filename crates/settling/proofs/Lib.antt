@@ -9,3 +9,12 @@ pub mod Clears
 pub mod Primed
 pub mod OriginWrites
 pub mod WritesSettle
+pub mod Found
+pub mod Issued
+pub mod Served
+pub mod ReadsSettle
+pub mod PlaceRests
+pub mod SnapWritesSettle
+pub mod Faultless
+pub mod Requests
+pub mod Tied

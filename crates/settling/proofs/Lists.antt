@@ -1,6 +1,8 @@
 -- The first element of a list that passes a test, where those before it do not.
 use Rattle.std.proofs.Common.{◌≡◌, ℕ, Bool, true, false, List, [], ◌∷◌, ◌++◌, Option, Some, None, refl, ap, ◌∙◌, sym}
+use Rattle.std.specs.List.{All}
 use Rattle.std.proofs.lemmas.Bool.{cond-true, cond-false}
+use Rattle.std.proofs.lemmas.List.Elements.{All-nil, All-cons, All-head, All-tail}
 use Rattle.pending.specs.Due.{first_by, least}
 use Rattle.settling.specs.Held.{Held}
 use Rattle.settling.specs.Due.{least_in}
@@ -18,6 +20,14 @@ each_weaker P Q (x ∷ xs) f all = (f x all.0, each_weaker P Q xs f all.1)
 pub each_more : {X : Type 0} (P : X → Type 0) (xs : List X) (y : X) → Each P xs → P y → Each P (xs ++ y ∷ [])
 each_more P [] y all one = (one, tt)
 each_more P (x ∷ xs) y all one = (all.0, each_more P xs y all.1 one)
+
+pub each_from : {X : Type 0} (P : X → Type 0) (xs : List X) → All P xs → Each P xs
+each_from P [] all = tt
+each_from P (x ∷ xs) all = (All-head P x xs all, each_from P xs (All-tail P x xs all))
+
+pub all_from : {X : Type 0} (P : X → Type 0) (xs : List X) → Each P xs → All P xs
+all_from P [] each = All-nil P
+all_from P (x ∷ xs) each = All-cons P x xs each.0 (all_from P xs each.1)
 
 module _ {X : Type 0} (test : X → Bool) where
   abbrev pub Fails : X → Type 0

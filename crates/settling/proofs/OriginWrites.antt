@@ -132,7 +132,7 @@ module _ (sectors number : ℕ) (range : Range) (bytes : List ℕ) (a : Option R
         saved = (saved, more.saved);
       }
 
-  or_false : (x y : Bool) → (not x || y) ≡ false → (x ≡ true) × (y ≡ false)
+  pub or_false : (x y : Bool) → (not x || y) ≡ false → (x ≡ true) × (y ≡ false)
   or_false true y e = (refl, e)
   or_false false y e = absurd (true≢false e)
 
@@ -141,18 +141,18 @@ module _ (sectors number : ℕ) (range : Range) (bytes : List ℕ) (a : Option R
   or_and false true e = refl
   or_and false false e = e
 
-  is_none : (o : Option ℕ) → is_some o ≡ false → o ≡ None
+  pub is_none : (o : Option ℕ) → is_some o ≡ false → o ≡ None
   is_none None e = refl
   is_none (Some n) e = absurd (true≢false e)
 
   -- what the store's bytes say is what is in memory
-  needs_same : (c : ℕ) (h : Held) → IsResting sectors h → needs_none c h ≡ (not h.snap.live || has_chunk c h.snap)
+  pub needs_same : (c : ℕ) (h : Held) → IsResting sectors h → needs_none c h ≡ (not h.snap.live || has_chunk c h.snap)
   needs_same c h rest = elim (cases_Bool h.snap.live) [
     | inl on ↦ ap (λ ps. not h.snap.live || is_some (place_of ps c)) (sym (rest.live on).pairs)
     | inr out ↦ rw out refl
   ]
 
-  next_same : (h : Held) → IsKept sectors h → h.next ≡ next_place h.snap
+  pub next_same : (h : Held) → IsKept sectors h → h.next ≡ next_place h.snap
   next_same h kept = kept.next ∙ ap (next_of h.snap.chunk) (sym kept.pairs)
 
   saved_already : (h : Held) → IsResting sectors h → needs_none (range.first / h.snap.chunk) h ≡ true → is_saved range.first h ≡ true
@@ -162,12 +162,12 @@ module _ (sectors number : ℕ) (range : Range) (bytes : List ℕ) (a : Option R
   size_is n m e = omega arith
 
   -- the bytes that a copy writes
-  copy_bytes : (origin : Device) (s : Snap) (c n : ℕ) → length origin.bytes ≡ 512 * sectors → with_sectors s.store.bytes (s.chunk * n) (sectors_at origin.bytes (s.chunk * c) (count_of s.chunk (sectors_of origin) c)) ≡ copied s.chunk origin.bytes s.store.bytes c n
+  pub copy_bytes : (origin : Device) (s : Snap) (c n : ℕ) → length origin.bytes ≡ 512 * sectors → with_sectors s.store.bytes (s.chunk * n) (sectors_at origin.bytes (s.chunk * c) (count_of s.chunk (sectors_of origin) c)) ≡ copied s.chunk origin.bytes s.store.bytes c n
   copy_bytes origin s c n whole =
       ap (with_sectors s.store.bytes (s.chunk * n)) (sym (chunk_front s.chunk sectors c (count_of s.chunk (sectors_of origin) c) origin.bytes whole (ap (λ x. count_of s.chunk x c) (size_is (length origin.bytes) sectors whole))))
 
   -- a copy that was started
-  as_holding : (c n : ℕ) (h : Held) → IsResting sectors h → IsKept sectors h → with_copy n c h ≡ holding h.snap h.pairs (stepped h.snap.chunk (next_place h.snap + 1)) false (copying n (record { old = c; new = next_place h.snap }) Waiting [] ∷ []) []
+  pub as_holding : (c n : ℕ) (h : Held) → IsResting sectors h → IsKept sectors h → with_copy n c h ≡ holding h.snap h.pairs (stepped h.snap.chunk (next_place h.snap + 1)) false (copying n (record { old = c; new = next_place h.snap }) Waiting [] ∷ []) []
   as_holding c n h rest kept =
       let mk : Bool → ℕ → Bool → List Copying → List Mark → Held = λ (u : Bool) (x : ℕ) (z : Bool) (cs : List Copying) (ms : List Mark). record {
         snap = h.snap;

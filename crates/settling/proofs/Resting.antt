@@ -14,7 +14,7 @@ use Rattle.settled.specs.Saves.{Saving as Stored, greatest, next_of, pairs_after
 use Rattle.settled.specs.Order.{IsInOrder}
 use Rattle.settled.proofs.Saved.{AfterSaving, IsSavedTo}
 use Rattle.settled.proofs.Laws.{saving_law}
-use Rattle.settling.specs.Devices.{Device, answers}
+use Rattle.settling.specs.Devices.{Device, answers, written_by}
 use Rattle.settling.specs.Snaps.{Snap}
 use Rattle.settling.specs.Saving.{spoilt, write_then, write_pair, lacks_area, commit, copy, next_place, is_full, has_chunk}
 use Rattle.settling.specs.Held.{Held}
@@ -22,28 +22,31 @@ use Rattle.settling.specs.Rest.{IsKept, IsResting}
 use Rattle.settling.proofs.Around.{IsIdle}
 use Rattle.settling.proofs.Saves.{chunk_read, stored_of, save_live}
 
--- chunks stay as large
-write_chunk : (s : Snap) (n count : ℕ) (bytes : List ℕ) (next : Snap → Snap) → ((t : Snap) → (next t).chunk ≡ t.chunk) → (write_then s n count bytes next).chunk ≡ s.chunk
-write_chunk s n count bytes next same = elim (cases_Bool (answers s.store (Writes (s.chunk * n) count))) [
-  | inl ok ↦ ap (λ (t : Snap). t.chunk) (cond-true _ _ _ ok) ∙ same _
-  | inr failed ↦ ap (λ (t : Snap). t.chunk) (cond-false _ _ _ failed)
-]
+-- what neither a write nor a spoil changes: the number, and the sectors of a chunk
+module _ (f : Snap → ℕ) (stores : (t : Snap) (device : Device) → f (record t { store = device }) ≡ f t) (spoils : (t : Snap) → f (spoilt t) ≡ f t) where
+  write_keeps : (s : Snap) (n count : ℕ) (bytes : List ℕ) (next : Snap → Snap) → ((t : Snap) → f (next t) ≡ f t) → f (write_then s n count bytes next) ≡ f s
+  write_keeps s n count bytes next same =
+      let op : Operation = Writes (s.chunk * n) count in
+      elim (cases_Bool (answers s.store op)) [
+        | inl ok ↦ ap f (cond-true _ _ _ ok) ∙ same _ ∙ stores s (written_by s.store op bytes)
+        | inr failed ↦ ap f (cond-false _ _ _ failed) ∙ spoils _ ∙ stores s (written_by s.store op bytes)
+      ]
 
-pair_chunk : (k : ℕ) (q : Pair) (s : Snap) → (write_pair k q s).chunk ≡ s.chunk
-pair_chunk k q s = write_chunk s (area_place s.chunk (k / (32 * s.chunk))) s.chunk (paired s.chunk s.store.bytes k q) (λ t. t) (λ t. refl)
+  pair_keeps : (k : ℕ) (q : Pair) (s : Snap) → f (write_pair k q s) ≡ f s
+  pair_keeps k q s = write_keeps s (area_place s.chunk (k / (32 * s.chunk))) s.chunk (paired s.chunk s.store.bytes k q) (λ t. t) (λ t. refl)
 
-commit_chunk : (k : ℕ) (q : Pair) (s : Snap) → (commit k q s).chunk ≡ s.chunk
-commit_chunk k q s = elim (cases_Bool (((k + 1) % (32 * s.chunk)) == 0)) [
-  | inr part ↦ ap (λ (t : Snap). t.chunk) (cond-false _ _ _ part) ∙ pair_chunk k q s
-  | inl full ↦ elim (cases_Bool (lacks_area ((k + 1) / (32 * s.chunk)) s)) [
-    | inl lacks ↦ ap (λ (t : Snap). t.chunk) (cond-true _ _ _ full ∙ cond-true _ _ _ lacks)
-    | inr room ↦ ap (λ (t : Snap). t.chunk) (cond-true _ _ _ full ∙ cond-false _ _ _ room)
-        ∙ write_chunk s (area_place s.chunk ((k + 1) / (32 * s.chunk))) s.chunk (zeroed s.chunk s.store.bytes ((k + 1) / (32 * s.chunk))) (write_pair k q) (pair_chunk k q)
+  commit_keeps : (k : ℕ) (q : Pair) (s : Snap) → f (commit k q s) ≡ f s
+  commit_keeps k q s = elim (cases_Bool (((k + 1) % (32 * s.chunk)) == 0)) [
+    | inr part ↦ ap f (cond-false _ _ _ part) ∙ pair_keeps k q s
+    | inl full ↦ elim (cases_Bool (lacks_area ((k + 1) / (32 * s.chunk)) s)) [
+      | inl lacks ↦ ap f (cond-true _ _ _ full ∙ cond-true _ _ _ lacks) ∙ spoils s
+      | inr room ↦ ap f (cond-true _ _ _ full ∙ cond-false _ _ _ room)
+          ∙ write_keeps s (area_place s.chunk ((k + 1) / (32 * s.chunk))) s.chunk (zeroed s.chunk s.store.bytes ((k + 1) / (32 * s.chunk))) (write_pair k q) (pair_keeps k q)
+    ]
   ]
-]
 
-copy_chunk : (disk : List ℕ) (q : Pair) (s : Snap) → (copy disk q s).chunk ≡ s.chunk
-copy_chunk disk q s = write_chunk s q.new (count_of s.chunk (length disk / 512) q.old) (copied s.chunk disk s.store.bytes q.old q.new) (commit (length (pairs_of s.chunk s.store.bytes)) q) (commit_chunk (length (pairs_of s.chunk s.store.bytes)) q)
+  copy_keeps : (disk : List ℕ) (q : Pair) (s : Snap) → f (copy disk q s) ≡ f s
+  copy_keeps disk q s = write_keeps s q.new (count_of s.chunk (length disk / 512) q.old) (copied s.chunk disk s.store.bytes q.old q.new) (commit (length (pairs_of s.chunk s.store.bytes)) q) (commit_keeps (length (pairs_of s.chunk s.store.bytes)) q)
 
 -- the next place after one more pair
 greatest_more : (ps : List Pair) (q : Pair) → greatest (ps ++ q ∷ []) ≡ max (greatest ps) q.new
@@ -71,11 +74,17 @@ module _ (sectors c : ℕ) (origin : Device) (h held : Held) where
   abbrev pub saved_snap : Snap
   saved_snap = if answers origin (chunk_read c origin h.snap) then copy origin.bytes next_pair h.snap else spoilt h.snap
 
-  pub saved_chunk : saved_snap.chunk ≡ h.snap.chunk
-  saved_chunk = elim (cases_Bool (answers origin (chunk_read c origin h.snap))) [
-    | inl ok ↦ ap (λ (t : Snap). t.chunk) (cond-true _ _ _ ok) ∙ copy_chunk origin.bytes next_pair h.snap
-    | inr failed ↦ ap (λ (t : Snap). t.chunk) (cond-false _ _ _ failed)
+  saved_keeps : (f : Snap → ℕ) → ((t : Snap) (device : Device) → f (record t { store = device }) ≡ f t) → ((t : Snap) → f (spoilt t) ≡ f t) → f saved_snap ≡ f h.snap
+  saved_keeps f stores spoils = elim (cases_Bool (answers origin (chunk_read c origin h.snap))) [
+    | inl ok ↦ ap f (cond-true _ _ _ ok) ∙ copy_keeps f stores spoils origin.bytes next_pair h.snap
+    | inr failed ↦ ap f (cond-false _ _ _ failed) ∙ spoils h.snap
   ]
+
+  pub saved_chunk : saved_snap.chunk ≡ h.snap.chunk
+  saved_chunk = saved_keeps (λ (t : Snap). t.chunk) (λ t d. refl) (λ t. refl)
+
+  pub saved_number : saved_snap.number ≡ h.snap.number
+  saved_number = saved_keeps (λ (t : Snap). t.number) (λ t d. refl) (λ t. refl)
 
   pub rests_live : length origin.bytes ≡ 512 * sectors → IsKept sectors h → h.snap.live ≡ true → h.snap.chunk * c < sectors → has_chunk c h.snap ≡ false → is_full h.snap ≡ false → held.snap ≡ saved_snap → held.pairs ≡ h.pairs ++ next_pair ∷ [] → held.next ≡ stepped h.snap.chunk (next_place h.snap + 1) → held.zeroed ≡ false → held.snap.live ≡ true → IsKept sectors held
   rests_live whole kept on inside lacks room is pairs next unzeroed live =

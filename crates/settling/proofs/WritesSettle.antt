@@ -23,20 +23,13 @@ use Rattle.settling.specs.Stepping.{write_reply}
 use Rattle.settling.specs.Submitting.{started_all, submitted}
 use Rattle.settling.specs.Rest.{IsResting, IsAtRest}
 use Rattle.settling.specs.Settles.{settle, SettlesTo}
-use Rattle.settling.proofs.Lists.{Each, each_weaker}
-use Rattle.settling.proofs.Goes.{Goes, goes_on, settled_there}
-use Rattle.settling.proofs.Around.{at, IsIdle, due_request}
+use Rattle.settling.proofs.Lists.{Each, each_weaker, each_from}
+use Rattle.settling.proofs.Goes.{goes_on}
+use Rattle.settling.proofs.Around.{at, IsIdle}
+use Rattle.settling.proofs.Issued.{settles_there}
 use Rattle.settling.proofs.Saves.{saves_nothing, saves_full, saves_copy}
 use Rattle.settling.proofs.Primed.{primed, resting_idle}
 use Rattle.settling.proofs.OriginWrites.{snap_of, going, route_for, writing, tries_all, Finals, copies_all, issues}
-
-pub each_from : (P : Held → Type 0) (xs : List Held) → All P xs → Each P xs
-each_from P [] all = tt
-each_from P (x ∷ xs) all = (All-head P x xs all, each_from P xs (All-tail P x xs all))
-
-pub all_from : (P : Held → Type 0) (xs : List Held) → Each P xs → All P xs
-all_from P [] each = All-nil P
-all_from P (x ∷ xs) each = All-cons P x xs each.0 (all_from P xs each.1)
 
 -- a copy's read changes no byte of the origin
 pub save_bytes : (c : ℕ) (origin : Device) (s : Snap) → (save c origin s).origin.bytes ≡ origin.bytes
@@ -68,31 +61,20 @@ pub origin_write_settles : (sectors number : ℕ) (range : Range) (bytes : List 
 origin_write_settles sectors number range bytes v rest some fits len =
     let snaps : List Held = started_all range.first v.started v.snaps in
     let k : ℕ = v.started + sum_by (λ (h : Held). length h.copies) snaps in
+    let start : Moving = writing sectors number range bytes v.replied k v.origin snaps in
+    let going_as : List Going → Moving = λ (rs : List Going). at v.origin snaps (rs ++ going sectors number range bytes v.replied k (route_for sectors number range bytes v.replied k snaps) ∷ []) v.replied k in
     let resting : Each (IsResting sectors) v.snaps = each_from (IsResting sectors) v.snaps rest.snaps in
     let whole = rest.whole in
-    let begun : submitted number (write_request range bytes) v ≡ writing sectors number range bytes v.replied k v.origin snaps = ap (λ (rs : List Going). at v.origin snaps (rs ++ going sectors number range bytes v.replied k (route_for sectors number range bytes v.replied k snaps) ∷ []) v.replied k) rest.requests in
-    let saved : Finals sectors number range bytes v.replied k v.origin [] v.snaps v.started = copies_all sectors number range bytes v.replied k v.snaps v.origin [] v.started whole (omega arith) tt resting in
+    let inside : range.first < sectors = omega arith in
+    let saved : Finals sectors number range bytes v.replied k v.origin [] v.snaps v.started = copies_all sectors number range bytes v.replied k v.snaps v.origin [] v.started whole inside tt resting in
     let all : Volume = save_all range.first v.origin (map snap_of v.snaps) in
     let idle : Each IsIdle saved.finals = each_weaker (IsResting sectors) IsIdle saved.finals (resting_idle sectors) saved.rest in
     let same : length all.origin.bytes ≡ length v.origin.bytes = ap length (save_all_bytes range.first v.origin (map snap_of v.snaps)) in
+    let room : 512 * (range.first + range.count) ≤ length all.origin.bytes = omega arith in
     let after : Device = written_by all.origin (Writes range.first range.count) (with_sectors all.origin.bytes range.first bytes) in
-    let last : Moving = at after saved.finals [] (Some (write_reply all.origin range.first range.count)) k in
-    let goes : Goes (writing sectors number range bytes v.replied k v.origin snaps) last =
-    goes_on _ _ _ (tries_all sectors number range bytes v.replied k v.origin [] v.snaps v.started tt (each_weaker (IsResting sectors) (λ (d : Held). d.untried ≡ false) v.snaps (λ d r. r.tried) resting))
-    (goes_on _ _ _ saved.goes (issues sectors number range bytes v.replied k all.origin saved.finals idle saved.saved)) in
-    let quiet : due last ≡ None = due_request after saved.finals [] (Some (write_reply all.origin range.first range.count)) k idle None refl in
-    let there = settled_there (writing sectors number range bytes v.replied k v.origin snaps) last goes quiet in
-    record {
-      fuel = there.0;
-      last = last;
-      ends = λ more. ap (settle (there.0 + more)) begun ∙ there.1 more;
-      quiet = quiet;
-      rest = record {
-        whole = written_length all.origin range.first range.count bytes len (omega arith) ∙ same ∙ whole;
-        snaps = all_from (IsResting sectors) saved.finals saved.rest;
-        requests = refl;
-      };
-      origin = refl;
-      snaps = saved.same;
-      reply = refl;
-    }
+    let reply : Reply = write_reply all.origin range.first range.count in
+    let made : List Snap → Answered = λ (ss : List Snap). record { volume = record { origin = after; snaps = ss }; reply = reply } in
+    settles_there sectors (submitted number (write_request range bytes) v) start after saved.finals reply k _ (ap going_as rest.requests)
+    (goes_on start _ _ (tries_all sectors number range bytes v.replied k v.origin [] v.snaps v.started tt (each_weaker (IsResting sectors) (λ (d : Held). d.untried ≡ false) v.snaps (λ d r. r.tried) resting))
+    (goes_on _ _ _ saved.goes (issues sectors number range bytes v.replied k all.origin saved.finals idle saved.saved)))
+    (written_length all.origin range.first range.count bytes len room ∙ same ∙ whole) saved.rest (ap made (sym saved.same))

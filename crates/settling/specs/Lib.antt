@@ -3,6 +3,7 @@ pub mod Snaps
 pub mod Saving
 pub mod Pieces
 pub mod Commands
+pub mod Bare
 pub mod Held
 pub mod Due
 pub mod Again
@@ -10,3 +11,5 @@ pub mod Stepping
 pub mod Submitting
 pub mod Rest
 pub mod Settles
+pub mod Requests
+pub mod Seen

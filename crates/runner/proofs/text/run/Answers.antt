@@ -1,21 +1,31 @@
-use Rattle.std.proofs.Common.{rules, true, false}
+use Rattle.std.proofs.Common.{◌≡◌, rules, true, false}
 use Rattle.lines.specs.Lines.{ReadsLine}
-use Rattle.runner.proofs.RunLemmas.{ends}
-use Rattle.runner.proofs.RefusedLemmas.{ends_refused}
-use Rattle.runner.proofs.AnyLemmas.{ends_any}
+use Rattle.runner.proofs.RunLemmas.{goes_on, ends, ends_exact, ends_counted}
 use Rattle.runner.proofs.text.run.Goals as goal
+
+pub loop-preserved : goal.loop-preserved
+loop-preserved g c =
+    let d = c.in_ok-line-2.ensures.done in
+    let over : ReadsLine 65536 (g.R.Read.remaining c.loop.reader) (g.R.Read.remaining c.read_line.new.reader) true c.deref.result.now = search rules in
+    record {
+      room = search rules;
+      follows = goes_on _ _ _ _ _ _ c.deref.result.now c.loop.desk c.line.new.self d.0 c.loop.invariant.follows over d.1 d.2 d.3;
+    }
 
 pub returns-then-not-branch-clause-exact : goal.returns-then-not-branch-clause-exact
 returns-then-not-branch-clause-exact g c = λ none.
     let over : ReadsLine 65536 (g.R.Read.remaining c.loop.reader) (g.R.Read.remaining c.read_line.new.reader) false c.read_line.new.line.items = search rules in
-    ends _ _ _ _ _ c.read_line.new.line.items c.loop.desk c.loop.invariant.follows over (search rules)
+    let same : c.summary.result ≡ c.loop.desk.summary = search rules in
+    ends_exact _ _ _ c.summary.result (ends _ _ _ _ _ c.read_line.new.line.items c.loop.desk c.summary.result c.loop.invariant.follows over same) none
 
-pub returns-then-not-branch-clause-refused : goal.returns-then-not-branch-clause-refused
-returns-then-not-branch-clause-refused g c = λ none.
+pub returns-then-not-branch-clause-counts : goal.returns-then-not-branch-clause-counts
+returns-then-not-branch-clause-counts g c = λ none.
     let over : ReadsLine 65536 (g.R.Read.remaining c.loop.reader) (g.R.Read.remaining c.read_line.new.reader) false c.read_line.new.line.items = search rules in
-    rw c.refused.ensures (ends_refused _ _ _ c.read_line.new.line.items c.loop.desk c.loop.invariant.refused over (search rules))
+    let same : c.summary.result ≡ c.loop.desk.summary = search rules in
+    ends_counted _ (g.W.Write.contents c.args.writer.now) (g.W.Write.contents c.loop.writer) c.summary.result (ends _ _ _ _ _ c.read_line.new.line.items c.loop.desk c.summary.result c.loop.invariant.follows over same) none
 
 pub returns-then-not-branch-clause-any : goal.returns-then-not-branch-clause-any
 returns-then-not-branch-clause-any g c =
     let over : ReadsLine 65536 (g.R.Read.remaining c.loop.reader) (g.R.Read.remaining c.read_line.new.reader) false c.read_line.new.line.items = search rules in
-    ends_any _ _ _ _ _ c.read_line.new.line.items c.loop.desk.table c.loop.invariant.any over
+    let same : c.summary.result ≡ c.loop.desk.summary = search rules in
+    ends _ _ _ _ _ c.read_line.new.line.items c.loop.desk c.summary.result c.loop.invariant.follows over same

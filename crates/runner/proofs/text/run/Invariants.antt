@@ -1,13 +1,9 @@
-use Rattle.std.proofs.Common.{◌≡◌, ◌<◌, vec_capacity}
+use Rattle.std.proofs.Common.{◌<◌, vec_capacity}
 use Rattle.runner.proofs.RunLemmas.{Follows}
-use Rattle.runner.proofs.RefusedLemmas.{IsFound}
-use Rattle.runner.proofs.AnyLemmas.{MayFollow}
 use Rattle.runner.proofs.text.run.Given as goal
 
 abbrev pub invariant-loop : goal.invariant-loop
 invariant-loop g l = record {
   room : 65536 < vec_capacity l.line;
-  follows : l.desk.no_memory ≡ 0 → Follows (g.R.Read.remaining l.fn.reader) (g.R.Read.remaining l.reader) (g.W.Write.contents l.fn.writer) (g.W.Write.contents l.writer) l.desk.table;
-  refused : l.desk.no_memory ≡ 0 → IsFound (g.R.Read.remaining l.fn.reader) (g.R.Read.remaining l.reader) l.desk;
-  any : MayFollow (g.R.Read.remaining l.fn.reader) (g.R.Read.remaining l.reader) (g.W.Write.contents l.fn.writer) (g.W.Write.contents l.writer) l.desk.table;
+  follows : Follows (g.R.Read.remaining l.fn.reader) (g.R.Read.remaining l.reader) (g.W.Write.contents l.fn.writer) (g.W.Write.contents l.writer) l.desk;
 }

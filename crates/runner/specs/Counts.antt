@@ -1,0 +1,47 @@
+-- How many lines were printed, and of which kind. That each number stops at 2^64 - 1 is this project's own.
+use Rattle.std.specs.Prelude.{◌==◌, ℕ, ◌+◌, ◌-◌, ◌^◌, min, Bool, true, false, List, length, if◌then◌else◌}
+use Rattle.std.specs.List.{count_by}
+use Rattle.sector.specs.Refusal.{number_of}
+use Rattle.reply.specs.declared.Reply.{Reply}
+use Rattle.reply.specs.declared.Reply.TheVariants.{Done, Data, Said, Refused}
+use Rattle.runner.specs.declared.summary.Summary.{Summary}
+
+-- a reply whose line begins with `err`
+abbrev pub is_refused : Reply → Bool
+is_refused Done = false
+is_refused (Data bytes) = false
+is_refused (Said text) = false
+is_refused (Refused refusal) = true
+
+-- a reply that is the refusal of a number
+abbrev pub refuses_with : ℕ → Reply → Bool
+refuses_with number Done = false
+refuses_with number (Data bytes) = false
+refuses_with number (Said text) = false
+refuses_with number (Refused refusal) = number_of refusal == number
+
+-- a number that stops
+abbrev pub capped : ℕ → ℕ
+capped n = min n (2 ^ 64 - 1)
+
+-- one more, where it counts
+abbrev pub more : Bool → ℕ → ℕ
+more counts n = if counts then capped (n + 1) else n
+
+-- how many replies were printed, each a line, and how many of each kind; NoMemory is number 5, JournalFull 20
+unfoldable pub summary_of : List Reply → Summary
+summary_of replies = record {
+  lines = capped (length replies);
+  refused = capped (count_by is_refused replies);
+  no_memory = capped (count_by (refuses_with 5) replies);
+  journal_full = capped (count_by (refuses_with 20) replies);
+}
+
+-- one reply more
+abbrev pub with_reply : Reply → Summary → Summary
+with_reply reply s = record {
+  lines = more true s.lines;
+  refused = more (is_refused reply) s.refused;
+  no_memory = more (refuses_with 5 reply) s.no_memory;
+  journal_full = more (refuses_with 20 reply) s.journal_full;
+}

@@ -1,0 +1,80 @@
+// How many lines were printed, and of which kind.
+ghost use Rattle.std.specs.Prelude.{◌≡◌, []};
+ghost use Rattle.runner.specs.Counts.{more, is_refused, refuses_with, summary_of, with_reply};
+
+use reply::Reply;
+use sector::Refusal;
+
+/// How many lines were printed. Each number stops at 2^64 - 1.
+#[derive(Clone, Copy, Debug, PartialEq, Eq)]
+pub struct Summary {
+    /// All lines.
+    pub lines: u64,
+    /// Those that begin with `err`.
+    pub refused: u64,
+    /// Those that answer that memory ran out: `err 5 NoMemory`.
+    pub no_memory: u64,
+    /// Those that answer that the journal is full: `err 20 JournalFull`.
+    pub journal_full: u64,
+}
+
+/// One more, where it counts.
+fn more(counts: bool, number: u64) -> u64
+    ensures { result ≡ more counts number }
+{
+    if counts {
+        number.saturating_add(1)
+    } else {
+        number
+    }
+}
+
+/// Whether a reply is a refusal.
+fn is_refused(reply: &Reply) -> bool
+    ensures { result ≡ is_refused reply.now }
+{
+    matches!(reply, Reply::Refused(_))
+}
+
+/// Whether a reply is the refusal of this number.
+fn refuses_with(number: u8, reply: &Reply) -> bool
+    ensures { result ≡ refuses_with number reply.now }
+{
+    match reply {
+        Reply::Refused(refusal) => refusal.number() == number,
+        _ => false,
+    }
+}
+
+impl Summary {
+    /// Nothing was printed yet.
+    #[tactic(auto, unfolding(crate::specs::Counts::summary_of))]
+    pub fn of_nothing() -> Summary
+        ensures { result ≡ summary_of [] }
+    {
+        Summary {
+            lines: 0,
+            refused: 0,
+            no_memory: 0,
+            journal_full: 0,
+        }
+    }
+
+    /// One more line, that of a reply.
+    pub fn with(self, reply: &Reply) -> Summary
+        ensures { result ≡ with_reply reply.now self }
+    {
+        Summary {
+            lines: more(true, self.lines),
+            refused: more(is_refused(reply), self.refused),
+            no_memory: more(
+                refuses_with(Refusal::NoMemory.number(), reply),
+                self.no_memory,
+            ),
+            journal_full: more(
+                refuses_with(Refusal::JournalFull.number(), reply),
+                self.journal_full,
+            ),
+        }
+    }
+}

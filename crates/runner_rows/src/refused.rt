@@ -1,0 +1,118 @@
+// Memory that is refused. `rt try --test --fail-alloc 1..` makes each growth fail in turn, one in a run: the line says so,
+// no device changed, and the same line does its work when it is said again.
+
+use runner::{Desk, RunError, run};
+use std::alloc::Global;
+use std::process::Abort;
+use std::test::Fail;
+
+/// What shows all that the devices hold.
+const QUERIES: [&str; 6] = [
+    "save base 0 128",
+    "save cow 0 64",
+    "read vol 0 128",
+    "read snap 0 128",
+    "status vol",
+    "status snap",
+];
+
+/// Lines, and what each answers: a snapshot, a first write of its origin, and the devices taken away again.
+const LINES: [(&str, &str); 16] = [
+    ("disk base 128", "ok\n"),
+    ("disk cow 64", "ok\n"),
+    ("create vol 0 128 snapshot-origin base", "ok\n"),
+    ("write vol 0 65536*11", "ok\n"),
+    ("create snap 0 128 snapshot base cow P 1", "ok\n"),
+    ("write vol 5 512*aa", "ok\n"),
+    ("read vol 5 1", "ok 512*aa\n"),
+    ("read snap 5 1", "ok 512*11\n"),
+    ("status snap", "ok 0 128 snapshot 3/64 2\n"),
+    ("save cow 1 1", "ok 1*05 7*00 1*02 503*00\n"),
+    ("save cow 2 1", "ok 512*11\n"),
+    ("remove snap", "ok\n"),
+    ("load cow 63 512*77", "ok\n"),
+    ("create snap 0 128 snapshot base cow P 1", "ok\n"),
+    ("remove snap", "ok\n"),
+    ("remove vol", "ok\n"),
+];
+
+/// A desk; the second try meets no refusal where the first did.
+fn new_desk(alloc: Global) -> Result<Desk, RunError> {
+    match Desk::new(alloc, 1) {
+        Err(RunError::Memory) => Desk::new(alloc, 1),
+        made => made,
+    }
+}
+
+/// The answers to all queries.
+fn asked(desk: &mut Desk) -> Result<[u8; 4096], RunError> {
+    let mut text = [0u8; 4096];
+    let mut writer = &mut text[..];
+    for query in QUERIES {
+        desk.line(query.as_bytes(), &mut writer)?;
+    }
+    Ok(text)
+}
+
+/// What the devices hold, asked again where memory was refused for that.
+fn held(desk: &mut Desk) -> Result<[u8; 4096], RunError> {
+    let refused = desk.summary().no_memory;
+    let text = asked(desk)?;
+    if desk.summary().no_memory == refused {
+        Ok(text)
+    } else {
+        asked(desk)
+    }
+}
+
+/// What a line prints, and zeros behind it.
+fn printed(desk: &mut Desk, line: &str) -> Result<[u8; 64], RunError> {
+    let mut text = [0u8; 64];
+    let mut writer = &mut text[..];
+    desk.line(line.as_bytes(), &mut writer)?;
+    Ok(text)
+}
+
+/// A text, and zeros behind it.
+fn padded(rt: &impl Abort, text: &str) -> [u8; 64] {
+    let mut bytes = [0u8; 64];
+    assert!(rt; text.len() <= 64);
+    bytes[..text.len()].copy_from_slice(text.as_bytes());
+    bytes
+}
+
+#[test]
+fn says_so_and_changes_no_device(rt: HostRuntime) -> Result<(), Fail> {
+    let mut desk = new_desk(rt.alloc())?;
+    for (line, want) in LINES {
+        let before = held(&mut desk)?;
+        let refused = desk.summary().no_memory;
+        let mut text = printed(&mut desk, line)?;
+        if desk.summary().no_memory != refused {
+            assert_eq!(rt; text, padded(&rt, "err 5 NoMemory\n"), "{line}");
+            assert!(rt; held(&mut desk)? == before, "{line}");
+            text = printed(&mut desk, line)?;
+        }
+        assert_eq!(rt; text, padded(&rt, want), "{line}");
+    }
+    Ok(())
+}
+
+#[test]
+fn ends_a_run_before_its_first_line_or_says_so(rt: HostRuntime) -> Result<(), Fail> {
+    let mut reader = b"disk d 8\nsave d 0 1\n".as_slice();
+    let mut text = [0u8; 64];
+    let mut writer = &mut text[..];
+    match run(rt.alloc(), &mut reader, &mut writer, 1) {
+        Err(RunError::Memory) => assert_eq!(rt; text, [0u8; 64]),
+        Err(_) => assert!(rt; false, "another end"),
+        Ok(summary) if summary.no_memory == 0 => {
+            assert_eq!(rt; text, padded(&rt, "ok\nok 512*00\n"));
+        }
+        Ok(summary) => {
+            assert_eq!(rt; (summary.lines, summary.no_memory), (2, 1));
+            assert!(rt; summary.refused >= 1);
+        }
+    }
+    Ok(())
+}

@@ -1,0 +1,54 @@
+-- Each request that is submitted to a volume at rest settles to its big step; and a volume settles to one thing alone.
+use Rattle.std.proofs.Common.{◌≡◌, ℕ, zero, suc, ◌+◌, ◌*◌, ◌<◌, ◌≤◌, List, length, map, Option, Some, None, arith, refl, ap, ◌∙◌, sym}
+use Rattle.std.specs.List.{All}
+use Rattle.sector.specs.declared.range.Range.{Range}
+use Rattle.chunk.specs.Pieces.{span_of}
+use Rattle.plain.specs.declared.event.Event.{Event}
+use Rattle.plain.specs.declared.request.Request.{Request}
+use Rattle.plain.specs.declared.request.Dev.{Dev}
+use Rattle.plain.specs.declared.request.Dev.TheVariants.{Origin, Snap}
+use Rattle.plain.specs.declared.request.Op.{Op}
+use Rattle.plain.specs.declared.request.Op.TheVariants.{Read, Write}
+use Rattle.settling.specs.Pieces.{Answered}
+use Rattle.settling.specs.Held.{Held, Moving}
+use Rattle.settling.specs.Due.{due}
+use Rattle.settling.specs.Stepping.{for_some, stepped}
+use Rattle.settling.specs.Submitting.{submitted}
+use Rattle.settling.specs.Rest.{IsAtRest}
+use Rattle.settling.specs.Settles.{settle, SettlesTo}
+use Rattle.settling.specs.Requests.{volume_of, answered_by, answer_of, FitsRange, IsInChunk, IsFit}
+use Rattle.settling.proofs.WritesSettle.{origin_write_settles}
+use Rattle.settling.proofs.ReadsSettle.{origin_read_settles, snap_read_settles}
+use Rattle.settling.proofs.SnapWritesSettle.{snap_write_settles}
+
+settles_by : (sectors number : ℕ) (dev : Dev) (op : Op) (range : Range) (v : Moving) → IsAtRest sectors v → 0 < range.count → range.first + range.count ≤ sectors → FitsRange op range.count → All (IsInChunk range) v.snaps →
+  SettlesTo sectors (submitted number (record { dev = dev; op = op; range = range }) v) (answered_by dev op (span_of range) (volume_of v))
+settles_by sectors number Origin Read range v rest some inside bytes chunks = origin_read_settles sectors number range v rest
+settles_by sectors number Origin (Write data_written) range v rest some inside bytes chunks = origin_write_settles sectors number range data_written v rest some inside bytes
+settles_by sectors number (Snap n) Read range v rest some inside bytes chunks = snap_read_settles sectors number n range v rest
+settles_by sectors number (Snap n) (Write data_written) range v rest some inside bytes chunks = snap_write_settles sectors number n range data_written v rest (omega arith) bytes chunks
+
+-- the law of settling
+pub request_settles : (sectors number : ℕ) (request : Request) (v : Moving) → IsAtRest sectors v → IsFit sectors v.snaps request → SettlesTo sectors (submitted number request v) (answer_of request (volume_of v))
+request_settles sectors number request v rest fit = settles_by sectors number request.dev request.op request.range v rest fit.some fit.inside fit.bytes fit.chunks
+
+-- where nothing is due, no event changes anything
+stays : (m : ℕ) (v : Moving) → due v ≡ None → settle m v ≡ v
+stays zero v quiet = refl
+stays (suc m) v quiet = ap (λ o. for_some o (λ e. settle m (stepped e v)) v) quiet
+
+more_by : (n m : ℕ) (v : Moving) (o : Option Event) → due v ≡ o → ((w : Moving) → settle (n + m) w ≡ settle m (settle n w)) → for_some (due v) (λ e. settle (n + m) (stepped e v)) v ≡ settle m (for_some (due v) (λ e. settle n (stepped e v)) v)
+more_by n m v None is more = ap (λ o. for_some o (λ e. settle (n + m) (stepped e v)) v) is ∙ sym (stays m v is) ∙ ap (λ o. settle m (for_some o (λ e. settle n (stepped e v)) v)) (sym is)
+more_by n m v (Some event) is more = ap (λ o. for_some o (λ e. settle (n + m) (stepped e v)) v) is ∙ more (stepped event v) ∙ ap (λ o. settle m (for_some o (λ e. settle n (stepped e v)) v)) (sym is)
+
+settle_more : (n m : ℕ) (v : Moving) → settle (n + m) v ≡ settle m (settle n v)
+settle_more zero m v = ap (λ k. settle k v) (omega arith)
+settle_more (suc n) m v =
+    let turn : suc n + m ≡ suc (n + m) = omega arith in
+    ap (λ k. settle k v) turn ∙ more_by n m v (due v) refl (settle_more n m)
+
+-- what it settles to, in however many events
+pub settles_one : (sectors fuel : ℕ) (u w : Moving) (answer : Answered) (to : SettlesTo sectors u answer) → settle fuel u ≡ w → due w ≡ None → w ≡ to.last
+settles_one sectors fuel u w answer to is quiet =
+    let turn : fuel + to.fuel ≡ to.fuel + fuel = omega arith in
+    sym (stays to.fuel w quiet) ∙ ap (settle to.fuel) (sym is) ∙ sym (settle_more fuel to.fuel u) ∙ ap (λ k. settle k u) turn ∙ to.ends fuel

@@ -1,0 +1,49 @@
+-- A request to one snapshot: what is left of the volume is what the big step leaves of that snapshot.
+use Rattle.std.proofs.Common.{◌≡◌, ◌⊎◌, inl, inr, ℕ, ◌*◌, Bool, true, false, List, [], ◌∷◌, ◌++◌, length, map, Option, Some, None, refl, ap, ◌∙◌, sym, subst}
+use Rattle.std.specs.Prelude.{◌==◌}
+use Rattle.plain.specs.declared.request.Reply.{Reply}
+use Rattle.settling.specs.Devices.{Device}
+use Rattle.settling.specs.Snaps.{Snap, Volume}
+use Rattle.settling.specs.Pieces.{Answered, Served, in_snap}
+use Rattle.settling.specs.Held.{Held, Moving}
+use Rattle.settling.specs.Rest.{IsResting}
+use Rattle.settling.specs.Settles.{SettlesTo}
+use Rattle.settling.proofs.Lists.{Each}
+use Rattle.settling.proofs.Goes.{Goes}
+use Rattle.settling.proofs.Around.{at}
+use Rattle.settling.proofs.Found.{served_here}
+use Rattle.settling.proofs.Issued.{settles_there}
+
+abbrev pub snap_of : Held → Snap
+snap_of h = h.snap
+
+pub map_split : (done rest : List Held) (h : Held) → map snap_of (done ++ h ∷ rest) ≡ map snap_of done ++ h.snap ∷ map snap_of rest
+map_split [] rest h = refl
+map_split (d ∷ done) rest h = ap (λ ss. d.snap ∷ ss) (map_split done rest h)
+
+module _ (P : Held → Type 0) where
+  pub each_first : (done rest : List Held) (h : Held) → Each P (done ++ h ∷ rest) → Each P done
+  each_first [] rest h all = tt
+  each_first (d ∷ done) rest h all = (all.0, each_first done rest h all.1)
+
+  pub each_here : (done rest : List Held) (h : Held) → Each P (done ++ h ∷ rest) → P h
+  each_here [] rest h all = all.0
+  each_here (d ∷ done) rest h all = each_here done rest h all.1
+
+  pub each_last : (done rest : List Held) (h : Held) → Each P (done ++ h ∷ rest) → Each P rest
+  each_last [] rest h all = all.1
+  each_last (d ∷ done) rest h all = each_last done rest h all.1
+
+  pub each_joined : (done rest : List Held) (h : Held) → Each P done → P h → Each P rest → Each P (done ++ h ∷ rest)
+  each_joined [] rest h before here later = (here, later)
+  each_joined (d ∷ done) rest h before here later = (before.0, each_joined done rest h before.1 here later)
+
+pub served_settles : (sectors number : ℕ) (serve : Device → Snap → Served) (origin origin' : Device) (done rest : List Held) (h h' : Held) (reply : Reply) (k : ℕ) (u v : Moving) →
+  Each (λ (d : Held). (d.snap.number == number) ≡ false) done → (h.snap.number == number) ≡ true → Each (IsResting sectors) (done ++ h ∷ rest) → IsResting sectors h' → length origin'.bytes ≡ 512 * sectors →
+  serve origin h.snap ≡ record { origin = origin'; snap = h'.snap; reply = reply } → u ≡ v → Goes v (at origin' (done ++ h' ∷ rest) [] (Some reply) k) → SettlesTo sectors u (in_snap number serve origin (map snap_of (done ++ h ∷ rest)))
+served_settles sectors number serve origin origin' done rest h h' reply k u v before pass all resting whole is begun goes =
+    let made : Served → Answered = λ (a : Served). record { volume = record { origin = a.origin; snaps = map snap_of done ++ a.snap ∷ map snap_of rest }; reply = a.reply } in
+    let put : List Snap → Answered = λ (ss : List Snap). record { volume = record { origin = origin'; snaps = ss }; reply = reply } in
+    settles_there sectors u v origin' (done ++ h' ∷ rest) reply k (in_snap number serve origin (map snap_of (done ++ h ∷ rest))) begun goes whole
+    (each_joined (IsResting sectors) done rest h' (each_first (IsResting sectors) done rest h all) resting (each_last (IsResting sectors) done rest h all))
+    (served_here number serve origin done rest h before pass ∙ ap made is ∙ ap put (sym (map_split done rest h')))
