@@ -1,5 +1,5 @@
 -- A header that was written is read as its source.
-use Rattle.std.proofs.Common.{◌≡◌, ℕ, ◌+◌, ◌-◌, ◌^◌, ◌<◌, ◌≤◌, List, [], ◌++◌, replicate, Bool, true, false, if◌then◌else◌, ◌&&◌, nat_le, Ok, Err, refl, ap, ◌∙◌, sym, arith, append_assoc, length-append}
+use Rattle.std.proofs.Common.{◌≡◌, ℕ, ◌-◌, ◌^◌, ◌<◌, List, [], ◌++◌, replicate, Bool, true, false, if◌then◌else◌, ◌&&◌, nat_le, Ok, Err, refl, ap, ◌∙◌, sym, arith, append_assoc, length-append}
 use Rattle.std.proofs.lemmas.Bool.{leb-true, cases_Bool, true≢false}
 use Rattle.std.proofs.Common.{inl, inr}
 use Rattle.std.specs.Int.{is_power_of_two}

@@ -6,6 +6,9 @@
 //! could not begin).
 #![tactic(auto)]
 
+ghost use Rattle.std.specs.Prelude.{◌≡◌, ◌≤◌, IfOk, IfSome};
+ghost use Rattle.dmrig.specs.Ended.{ended};
+
 use clap::{Arg, ArgAction, Command};
 use runner::{RunError, Summary, exit_status, run};
 use std::alloc::Global;
@@ -15,7 +18,10 @@ use std::{fs, io};
 
 /// What the words of the command line say: the file's name, if there is one, and the number of copy workers. `None`
 /// where the words are wrong.
-fn asked<'a>(alloc: Global, words: &'a [String]) -> Option<(Option<&'a str>, u32)> {
+fn asked<'a>(alloc: Global, words: &'a [String]) -> Option<(Option<&'a str>, u32)>
+    ensures some { IfSome result (λ asked. 1 ≤ asked.1) }
+    ensures few { IfSome result (λ asked. asked.1 ≤ 4) }
+{
     let file = Arg::new(alloc, "FILE").action(ArgAction::Set);
     let workers = Arg::new(alloc, "WORKERS").action(ArgAction::Set);
     let command = Command::new(alloc, "dmrig")
@@ -52,7 +58,9 @@ fn finished(
     rt: &(impl Print + Eprint),
     name: &str,
     ran: io::Result<Result<Summary, RunError>>,
-) -> io::Result<u8> {
+) -> io::Result<u8>
+    ensures { IfOk result (λ status. status ≡ ended ran) }
+{
     let Ok(ran) = ran else {
         eprintln!(rt; "dmrig: cannot write")?;
         return Ok(2);

@@ -1,11 +1,8 @@
 -- Places of areas.
-use Rattle.std.proofs.Common.{◌≡◌, ◌≢◌, ◌⊎◌, inl, inr, ℕ, zero, suc, ◌+◌, ◌*◌, ◌-◌, ◌/◌, ◌%◌, ◌<◌, ◌≤◌, List, length, get_or, arith, rules, refl, ap, ◌∙◌, sym, Bool, true, false}
-use Rattle.std.proofs.lemmas.Bool.{cases_lt, cases_order, eqb-true, eqb-false, eq-eqb, ne_eqb}
+use Rattle.std.proofs.Common.{◌≡◌, ◌≢◌, ◌⊎◌, inl, inr, ℕ, ◌+◌, ◌*◌, ◌/◌, ◌%◌, ◌<◌, ◌≤◌, arith, ap, ◌∙◌, true, false}
+use Rattle.std.proofs.lemmas.Bool.{cases_lt, eqb-true, eq-eqb, ne_eqb}
 use Rattle.std.proofs.lemmas.Nat.{div-mul-add, mod-mul-add}
-use Rattle.sector.specs.Bytes.{sectors_at, with_sectors}
-use Rattle.sector.proofs.Sectors.{sectors_apart}
-use Rattle.model.specs.Places.{chunk_at, area_place, is_area_place, slot}
-use Rattle.model.specs.Slots.{pair_in}
+use Rattle.model.specs.Places.{area_place, is_area_place}
 
 -- a chunk below another ends before it
 pub chunk_below : (chunk m n : ℕ) → m < n → chunk * m + chunk ≤ chunk * n

@@ -1,8 +1,8 @@
 -- Pairs of slots.
-use Rattle.std.proofs.Common.{◌≡◌, ◌≢◌, ◌⊎◌, inl, inr, ℕ, zero, suc, ◌+◌, ◌*◌, ◌-◌, ◌/◌, ◌%◌, ◌<◌, ◌≤◌, List, [], ◌∷◌, ◌++◌, length, take, get_or, arith, rules, refl, ap, ◌∙◌, sym, Bool, true, false, length-append}
-use Rattle.std.proofs.lemmas.Bool.{cases_lt, cases_order, eqb-true, eqb-false, eq-eqb, ne_eqb, cond-true, cond-false, cases_eq}
-use Rattle.std.proofs.lemmas.List.{places, get_or_append_left, get_or-append-add, get_or-take, length-take-le}
-use Rattle.model.specs.Pairs.{listed, pairs_of, IsListed}
+use Rattle.std.proofs.Common.{◌≡◌, ◌≢◌, inl, inr, ℕ, zero, suc, ◌+◌, ◌-◌, ◌<◌, ◌≤◌, List, [], ◌∷◌, ◌++◌, length, take, get_or, arith, refl, ap, ◌∙◌, sym, length-append}
+use Rattle.std.proofs.lemmas.Bool.{cases_lt, eq-eqb, ne_eqb, cond-true, cond-false, cases_eq}
+use Rattle.std.proofs.lemmas.List.{get_or_append_left, get_or-append-add, get_or-take, length-take-le}
+use Rattle.model.specs.Pairs.{listed, IsListed}
 use Rattle.sector.specs.declared.pair.Pair.{Pair}
 
 -- the list, from what each slot holds

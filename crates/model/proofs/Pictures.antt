@@ -1,19 +1,18 @@
 -- Pictures.
-use Rattle.std.proofs.Common.{◌≡◌, ◌≢◌, ◌⊎◌, inl, inr, ℕ, zero, suc, ◌+◌, ◌*◌, ◌-◌, ◌/◌, ◌%◌, ◌<◌, ◌≤◌, List, [], ◌∷◌, ◌++◌, length, take, drop, get_or, arith, rules, refl, ap, ◌∙◌, sym, subst, Bool, true, false, length-append, length-take, length-drop, min, map, cond}
-use Rattle.std.proofs.lemmas.Bool.{cases_lt, cases_order, eqb-true, eqb-false, eq-eqb, ne_eqb, cases_eq, true≢false, cond-true, cond-false}
+use Rattle.std.proofs.Common.{◌≡◌, ◌≢◌, ◌⊎◌, inl, inr, ℕ, suc, ◌+◌, ◌*◌, ◌-◌, ◌/◌, ◌%◌, ◌<◌, ◌≤◌, List, [], ◌∷◌, ◌++◌, length, get_or, arith, refl, ap, ◌∙◌, sym, cond}
+use Rattle.std.proofs.lemmas.Bool.{cases_lt, cases_order, eq-eqb, ne_eqb, cases_eq, cond-true, cond-false}
 use lib.Dec.{eqb}
 use Rattle.std.proofs.lemmas.List.FromFn.{length-range_with_len, get_or-range_with_len}
-use Rattle.std.proofs.lemmas.Nat.{div-mul-add, mod-mul-add, mul-le, mod_below, div_below, div-add-mod'}
-use Rattle.std.proofs.lemmas.List.{places, get_or_past, length-map, get_or-map, ext_get_or}
+use Rattle.std.proofs.lemmas.Nat.{div-mul-add, mod-mul-add, mod_below, div-add-mod'}
+use Rattle.std.proofs.lemmas.List.{length-map, get_or-map, ext_get_or}
 use Rattle.std.specs.Prelude.{Option, Some, None, AllPairs}
 use Rattle.std.specs.List.{range_with_len}
 use Rattle.sector.specs.Bytes.{sectors_at, with_sectors}
 use Rattle.sector.proofs.Sectors.{byte_read, byte_inside, byte_outside, length-with_sectors}
 use Rattle.sector.specs.declared.pair.Pair.{Pair}
-use Rattle.model.specs.Places.{chunk_at, area_place, is_area_place, slot, ChangesOnly}
-use Rattle.model.specs.Pairs.{listed, pairs_of, IsListed, IsApart}
+use Rattle.model.specs.Pairs.{pairs_of, IsApart}
 use Rattle.model.specs.Picture.{place_of, byte_of, picture_at, picture}
-use Rattle.model.proofs.AreaPlaces.{chunks_apart, area_of, number_in, place_is, place_from, places_apart}
+use Rattle.model.proofs.AreaPlaces.{chunks_apart}
 
 -- the first pair that names a chunk
 pub place_found : (ps : List Pair) (c n : ℕ) → place_of ps c ≡ Some n → (k : ℕ) × (k < length ps) × ((d : Pair) → ((get_or ps k d).old ≡ c) × ((get_or ps k d).new ≡ n))

@@ -1,16 +1,15 @@
 -- Slots of a store's bytes.
-use Rattle.std.proofs.Common.{◌≡◌, ◌≢◌, ◌⊎◌, inl, inr, ℕ, zero, suc, ◌+◌, ◌*◌, ◌-◌, ◌/◌, ◌%◌, ◌<◌, ◌≤◌, List, [], ◌∷◌, ◌++◌, length, take, drop, get_or, arith, rules, refl, ap, ◌∙◌, sym, subst, Bool, true, false, length-append, length-take, length-drop, min}
-use Rattle.std.proofs.lemmas.Bool.{cases_lt, cases_order, eqb-true, eqb-false, eq-eqb, ne_eqb, cases_eq, true≢false}
-use Rattle.std.proofs.lemmas.Nat.{div-mul-add, mod-mul-add, mul-le, mod_below, div_below, div-add-mod'}
-use Rattle.std.proofs.lemmas.List.{places, get_or_past}
-use Rattle.sector.specs.Bytes.{sectors_at, with_sectors}
+use Rattle.std.proofs.Common.{◌≡◌, ◌≢◌, ◌⊎◌, inl, inr, ℕ, zero, suc, ◌+◌, ◌*◌, ◌/◌, ◌%◌, ◌<◌, ◌≤◌, List, ◌++◌, length, take, get_or, arith, refl, ap, ◌∙◌, sym, subst, false, length-take, length-drop}
+use Rattle.std.proofs.lemmas.Bool.{cases_lt, cases_eq, true≢false}
+use Rattle.std.proofs.lemmas.Nat.{mod_below, div_below, div-add-mod'}
+use Rattle.std.proofs.lemmas.List.{get_or_past}
 use Rattle.sector.proofs.Sectors.{sectors_apart}
 use Rattle.sector.specs.Number.{number_at}
 use Rattle.model.specs.Slots.{pair_in}
 use Rattle.sector.specs.declared.pair.Pair.{Pair}
 use Rattle.model.specs.Places.{chunk_at, area_place, is_area_place, slot, ChangesOnly}
-use Rattle.model.specs.Pairs.{listed, pairs_of, IsListed}
-use Rattle.model.proofs.AreaPlaces.{chunks_apart, area_of, number_in, place_is, place_from, places_apart}
+use Rattle.model.specs.Pairs.{pairs_of, IsListed}
+use Rattle.model.proofs.AreaPlaces.{chunks_apart, area_of, number_in, place_is, places_apart}
 use Rattle.model.proofs.Pairs.{listed-from, IsListed-from, listed-more, listed-less, listed-kept}
 
 -- a slot of an area

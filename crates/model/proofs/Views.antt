@@ -1,12 +1,12 @@
 -- What commits and merges do to a picture.
-use Rattle.std.proofs.Common.{◌≡◌, ◌≢◌, ◌⊎◌, inl, inr, ℕ, zero, suc, ◌+◌, ◌*◌, ◌-◌, ◌/◌, ◌%◌, ◌<◌, ◌≤◌, List, [], ◌∷◌, ◌++◌, length, take, drop, get_or, arith, rules, refl, ap, ◌∙◌, sym, subst, Bool, true, false, append_assoc, append-nil, length-append}
-use Rattle.std.proofs.lemmas.Bool.{cases_eq, cases_lt, cond-true, cond-false, eq-eqb, ne_eqb, true≢false}
+use Rattle.std.proofs.Common.{◌≡◌, ◌≢◌, ℕ, suc, ◌+◌, ◌*◌, ◌/◌, ◌%◌, ◌<◌, List, [], ◌∷◌, ◌++◌, length, take, get_or, arith, refl, ap, ◌∙◌, sym, append_assoc, append-nil}
+use Rattle.std.proofs.lemmas.Bool.{cond-false, ne_eqb, true≢false}
 use Rattle.std.proofs.lemmas.Nat.{mod_below}
-use Rattle.std.specs.Prelude.{Option, Some, None, AllPairs}
+use Rattle.std.specs.Prelude.{Option, Some, None}
 use Rattle.sector.proofs.Sectors.{byte_read}
 use Rattle.sector.specs.declared.pair.Pair.{Pair}
-use Rattle.model.specs.Places.{chunk_at, area_place, is_area_place, ChangesOnly}
-use Rattle.model.specs.Pairs.{pairs_of, IsApart, IsInside}
+use Rattle.model.specs.Places.{area_place, is_area_place, ChangesOnly}
+use Rattle.model.specs.Pairs.{pairs_of, IsInside}
 use Rattle.model.specs.Picture.{place_of, byte_of, picture_at, picture, IsCopied}
 use Rattle.model.proofs.AreaPlaces.{place_is}
 use Rattle.model.proofs.Pictures.{place_found, picture-push, same_picture}

@@ -1,6 +1,6 @@
 -- A run, line by line.
 use Rattle.std.proofs.Common.{◌≡◌, ℕ, true, false, List, [], ◌∷◌, ◌++◌, Option, Some, None, refl, sym, ap, ◌∙◌, arith, inl, inr, subst, append_assoc}
-use Rattle.std.specs.Prelude.{IfSome}
+use Rattle.std.specs.Prelude.{IfSome, IfErr, Result, Ok, Err}
 use Rattle.std.specs.List.{count_by}
 use Rattle.std.specs.Io.KnownBytes.{Appends}
 use Rattle.std.proofs.lemmas.List.{append-nil}
@@ -11,7 +11,9 @@ use Rattle.lines.specs.Lines.{lines_of, IsKept, ReadsLine}
 use Rattle.command.proofs.Kept.{said_kept}
 use Rattle.reply.specs.declared.Reply.{Reply}
 use Rattle.reply.specs.Texts.{text_of}
+use Rattle.runner.specs.declared.error.RunError.{RunError}
 use Rattle.runner.specs.declared.summary.Summary.{Summary}
+use Rattle.runner.specs.Exit.{IsWriters}
 use Rattle.runner.specs.State.{Table}
 use Rattle.runner.specs.Steps.{answer_of, obeyed}
 use Rattle.runner.specs.Counts.{summary_of, refuses_with}
@@ -118,3 +120,34 @@ ends_counted None before now summary ended none = tt
 ends_counted (Some text) before now summary (replies, was, counts, may) none =
     let zero = none_counted replies (sym (ap (λ (s : Summary). s.no_memory) counts) ∙ none) in
     counts ∙ ap summary_of (exactly empty (lines_of text) replies may zero)
+
+-- each line having its outcome is one thing that the lines may answer
+has_outcomes : (table : Table) (lines : List (List ℕ)) → MayAnswer table lines (replies_from table lines)
+has_outcomes table [] = refl
+has_outcomes table (line ∷ lines) =
+    (outcome_of line table, replies_from (outcome_of line table).table lines, inl refl, refl, has_outcomes (outcome_of line table).table lines)
+
+begins : (text left : Option (List ℕ)) (table : Table) (replies : List Reply) → LeadsOn text left table replies → IfSome text (λ xs. (rest : List Reply) × MayAnswer empty (lines_of xs) (replies ++ rest))
+begins None left table replies on = tt
+begins (Some text) None table replies on = absurd on
+begins (Some text) (Some left) table replies on = (replies_from table (lines_of left), on (replies_from table (lines_of left)) (has_outcomes table (lines_of left)))
+
+-- whole replies were printed, the first of what the lines may answer
+abbrev pub Early : Option (List ℕ) → Option (List ℕ) → Option (List ℕ) → Type 0
+Early text before now = (replies : List Reply)
+    × Appends before now (printed replies) × IfSome text (λ xs. (rest : List Reply) × MayAnswer empty (lines_of xs) (replies ++ rest))
+
+-- what a run printed before it ended early
+pub ends_early : (text left before now : Option (List ℕ)) (standing : Standing) → Follows text left before now standing → Early text before now
+ends_early text left before now standing (replies, was, counts, on) = (replies, was, begins text left standing.table replies on)
+
+-- nothing, where it could not begin
+pub never_began : (text before : Option (List ℕ)) → Early text before before
+never_began text before =
+    let none : Standing = record { table = empty; summary = summary_of [] } in
+    ends_early text text before before none (starts text before none refl)
+
+-- that is so at each error but the writer's
+pub at_error : {A : Type 0} (result : Result A RunError) (P : Type 0) → P → IfErr result (λ e. (IsWriters e → ⊥) → P)
+at_error (Ok x) P p = tt
+at_error (Err e) P p = λ other. p

@@ -1,9 +1,10 @@
 // A whole text of lines.
-ghost use Rattle.std.specs.Prelude.{◌≡◌, List, IfOk, IfSome};
+ghost use Rattle.std.specs.Prelude.{◌≡◌, ◌++◌, List, IfOk, IfErr, IfSome};
 ghost use Rattle.std.specs.Io.KnownBytes.{Appends};
 ghost use Rattle.lines.specs.Lines.{lines_of};
 ghost use Rattle.reply.specs.declared.Reply.{Reply};
 ghost use Rattle.runner.specs.Counts.{summary_of};
+ghost use Rattle.runner.specs.Exit.{IsWriters};
 ghost use Rattle.runner.specs.Output.{output_of, replies_of, printed, MayAnswer, empty};
 
 use crate::desk::Desk;
@@ -34,6 +35,10 @@ pub fn run<R: Read, W: Write>(
     ensures any { IfOk result (λ summary. (replies : List Reply)
         × Appends (W.contents writer.old) (W.contents writer.new) (printed replies) × (summary ≡ summary_of replies)
         × IfSome (R.remaining reader.old) (λ text. MayAnswer empty (lines_of text) replies)) }
+    // A run that ended early, and not for its writer, printed whole replies too: the first of what the lines may answer.
+    ensures early { IfErr result (λ e. (IsWriters e → ⊥) → (replies : List Reply)
+        × Appends (W.contents writer.old) (W.contents writer.new) (printed replies)
+        × IfSome (R.remaining reader.old) (λ text. (rest : List Reply) × MayAnswer empty (lines_of text) (replies ++ rest))) }
 {
     let mut line = Vec::with_capacity(alloc, LINE_LIMIT + 1).map_err(|_| RunError::Memory)?;
     let mut desk = Desk::new(alloc, workers)?;

@@ -1,7 +1,6 @@
 -- Sectors of bytes after a write of sectors.
-use Rattle.std.proofs.Common.{◌≡◌, ◌≢◌, ◌⊎◌, inl, inr, ℕ, ◌+◌, ◌*◌, ◌-◌, ◌<◌, ◌≤◌, List, ◌++◌, length, take, drop, get_or, arith, rules, refl, ap, ◌∙◌, sym, min, length-take, length-drop}
+use Rattle.std.proofs.Common.{◌≡◌, ◌⊎◌, inl, inr, ℕ, ◌+◌, ◌*◌, ◌-◌, ◌<◌, ◌≤◌, List, ◌++◌, length, take, drop, get_or, arith, rules, ap, ◌∙◌, sym, min, length-take, length-drop}
 use Rattle.std.proofs.lemmas.List.{places, same_lists, take_at, ext_get_or}
-use Rattle.std.proofs.lemmas.Grind.{common_steps}
 use Rattle.sector.specs.Bytes.{sectors_at, with_sectors, sector_at}
 use Rattle.std.proofs.lemmas.Bool.{cases_lt}
 

@@ -1,5 +1,5 @@
 -- The array of a device: its bytes in order, 512 for each sector. All contents in contracts are such lists.
-use Rattle.std.specs.Prelude.{◌≡◌, ℕ, ◌+◌, ◌*◌, ◌%◌, ◌^◌, List, ◌++◌, length, take, drop}
+use Rattle.std.specs.Prelude.{ℕ, ◌+◌, ◌*◌, ◌%◌, ◌^◌, List, ◌++◌, length, take, drop}
 
 -- the bytes of `count` sectors from `first` on
 abbrev pub sectors_at : List ℕ → ℕ → ℕ → List ℕ

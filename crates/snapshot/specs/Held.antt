@@ -1,4 +1,4 @@
--- What a snapshot keeps true of itself.
+-- What a snapshot keeps true of itself. This project's own.
 use Rattle.std.specs.Prelude.{◌≡◌, ℕ, ◌+◌, ◌*◌, ◌≤◌, Bool, true, false, List, [], length, map}
 use Rattle.std.specs.List.{All}
 use Rattle.sector.specs.declared.pair.Pair.{Pair}

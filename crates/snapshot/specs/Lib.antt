@@ -1,3 +1,5 @@
 pub mod Calls
 pub mod Held
 pub mod Kept
+pub mod Opened
+pub mod Opening

@@ -60,7 +60,9 @@ impl<B: Block> Snapshot<B> {
             self.store.state.origin,
             copy.pair.old,
         );
-        match self.store.write_chunk(copy.pair.new, 0, count, copy.buffer.as_slice()) {
+        let place = copy.pair.new;
+        let bytes = copy.buffer.as_slice();
+        match self.store.write_chunk(place, 0, count, bytes) {
             Ok(()) => {
                 self.copies[index].stage = Stage::Written;
                 Ok(())

@@ -9,9 +9,14 @@
 
 mod committing;
 mod copying;
+mod opening;
 mod placing;
 mod snapshot;
 mod spoiling;
 mod starting;
 
+pub use opening::{StoreDev, open_snapshot};
 pub use snapshot::Snapshot;
+
+#[cfg(test)]
+mod tests;

@@ -15,13 +15,7 @@ use sector::Chunk;
 impl<B: Block> Snapshot<B> {
     /// Writes so many sectors at the place of a committed copy, from one of its sectors on. At `Io` nothing changed but
     /// the device's counts and layers.
-    pub fn write_at(
-        &mut self,
-        place: Chunk,
-        first: u32,
-        count: u32,
-        bytes: &[u8],
-    ) -> Result<(), Io>
+    pub fn write_at(&mut self, place: Chunk, first: u32, count: u32, bytes: &[u8]) -> Result<(), Io>
         requires placed { (c : ℕ) × (place_in self.old.pairs c ≡ Some place) }
         requires some { 0 < count }
         requires part { first + count ≤ self.old.state.chunk }

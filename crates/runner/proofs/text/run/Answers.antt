@@ -1,6 +1,6 @@
 use Rattle.std.proofs.Common.{◌≡◌, rules, true, false}
 use Rattle.lines.specs.Lines.{ReadsLine}
-use Rattle.runner.proofs.RunLemmas.{goes_on, ends, ends_exact, ends_counted}
+use Rattle.runner.proofs.RunLemmas.{goes_on, ends, ends_exact, ends_counted, Early, ends_early, never_began, at_error}
 use Rattle.runner.proofs.text.run.Goals as goal
 
 pub loop-preserved : goal.loop-preserved
@@ -29,3 +29,22 @@ returns-then-not-branch-clause-any g c =
     let over : ReadsLine 65536 (g.R.Read.remaining c.loop.reader) (g.R.Read.remaining c.read_line.new.reader) false c.read_line.new.line.items = search rules in
     let same : c.summary.result ≡ c.loop.desk.summary = search rules in
     ends _ _ _ _ _ c.read_line.new.line.items c.loop.desk c.summary.result c.loop.invariant.follows over same
+
+pub returns-in_err-line-clause-early : goal.returns-in_err-line-clause-early
+returns-in_err-line-clause-early g c =
+    at_error c.from_residual.result (Early (g.R.Read.remaining c.args.reader.now) (g.W.Write.contents c.args.writer.now) (g.W.Write.contents c.args.writer.now))
+    (never_began (g.R.Read.remaining c.args.reader.now) (g.W.Write.contents c.args.writer.now))
+
+pub returns-in_err-desk-clause-early : goal.returns-in_err-desk-clause-early
+returns-in_err-desk-clause-early g c =
+    at_error c.from_residual-in_err-desk.result (Early (g.R.Read.remaining c.args.reader.now) (g.W.Write.contents c.args.writer.now) (g.W.Write.contents c.args.writer.now))
+    (never_began (g.R.Read.remaining c.args.reader.now) (g.W.Write.contents c.args.writer.now))
+
+pub returns-in_err-map_err-clause-early : goal.returns-in_err-map_err-clause-early
+returns-in_err-map_err-clause-early g c =
+    at_error c.from_residual-in_err-map_err.result (Early (g.R.Read.remaining c.args.reader.now) (g.W.Write.contents c.args.writer.now) (g.W.Write.contents c.loop.writer))
+    (ends_early (g.R.Read.remaining c.args.reader.now) (g.R.Read.remaining c.loop.reader) (g.W.Write.contents c.args.writer.now) (g.W.Write.contents c.loop.writer) c.loop.desk c.loop.invariant.follows)
+
+pub returns-clause-early : goal.returns-clause-early
+returns-clause-early g c = λ other.
+    ends_early (g.R.Read.remaining c.args.reader.now) (g.R.Read.remaining c.loop.reader) (g.W.Write.contents c.args.writer.now) (g.W.Write.contents c.loop.writer) c.loop.desk c.loop.invariant.follows

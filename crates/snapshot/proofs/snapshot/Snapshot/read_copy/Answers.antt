@@ -39,8 +39,9 @@ returns-clause-read g c =
     let within : c.args.index < length c.self.inside.copies.items = omega (arith, ap (λ v. length v.copies) c.self.view_is) in
     let size : g.B.Block.size c.args.origin.now ≡ s.state.origin = omega (arith, c.requires.sectors, ap (λ v. v.state.origin) c.self.view_is) in
     rw (← c.self.view_is) (
-      p, c.fill.new.copy,
+      p,
+      c.fill.new.copy,
       reads_at g.B.Block.contents g.B.Block.layers _ c.args.index p c.fill.new.copy _ _ refl within c.index_mut-copy.ensures.value
-      (record { number = r.number; pair = r.pair; stage = r.stage; buffer = r.buffer ∙ ap (λ n. sectors_at (g.B.Block.contents c.args.origin.now) (s.state.chunk * p.pair.old) (count_of s.state.chunk n p.pair.old)) size })
-      c.fill.ensures.room,
+          (record { number = r.number; pair = r.pair; stage = r.stage; buffer = r.buffer ∙ ap (λ n. sectors_at (g.B.Block.contents c.args.origin.now) (s.state.chunk * p.pair.old) (count_of s.state.chunk n p.pair.old)) size })
+          c.fill.ensures.room,
     )

@@ -25,7 +25,7 @@ invariant_of-self g c =
     let more : length c.mark_first.new.marks.items ≡ length marks + c.args.count = ap length c.mark_first.ensures.marks ∙ marked_count c.args.count marks copies few in
     let has = c.self.invariant.1 in (
       rw c.mark_first.ensures.copies
-      (copies_drop _ _ _ s.state t.state _ _ copies _ _ c.args.count alive c.self.invariant.0 (like_commit s.state t.state c.args.count e.state) (pairs_dropped c.args.count (pending s.exceptions) (pending t.exceptions) e.pending)),
+          (copies_drop _ _ _ s.state t.state _ _ copies _ _ c.args.count alive c.self.invariant.0 (like_commit s.state t.state c.args.count e.state) (pairs_dropped c.args.count (pending s.exceptions) (pending t.exceptions) e.pending)),
       record {
         for_pairs = omega (arith, c.write_area.ensures.reserved, has.for_pairs);
         for_copies = omega (arith, len, few, has.for_copies, c.mark_first.ensures.copies_capacity);

@@ -52,8 +52,8 @@ invariant_of-self g c =
     let e = c.in-Ok.ensures in
     let within : c.args.index < length c.self.inside.copies.items = omega (arith, ap (λ v. length v.copies) c.self.view_is) in (
       state_kept _ _ _ s.state t.state _ _ _ _
-      (copy_set _ _ _ s.state _ c.self.inside.copies.items _ c.args.index p q c.self.invariant.0 within c.index_mut.ensures.value refl refl)
-      (like_same s.state t.state e.state) (ap pairs_pending e.exceptions),
+          (copy_set _ _ _ s.state _ c.self.inside.copies.items _ c.args.index p q c.self.invariant.0 within c.index_mut.ensures.value refl refl)
+          (like_same s.state t.state e.state) (ap pairs_pending e.exceptions),
       rw (ap reserved e.exceptions, length-set) c.self.invariant.1,
     )
 
@@ -68,10 +68,11 @@ returns-in-Ok-clause-wrote g c =
     let same : c.index_mut.result.now ≡ p = c.index_mut.ensures.value ∙ get_or_default c.self.inside.copies.items c.args.index _ p within ∙ sym c.index-copy.ensures in
     let at : s.state.chunk * p.pair.new + 0 ≡ s.state.chunk * p.pair.new = omega arith in
     rw (← c.self.view_is) (
-      p, q,
+      p,
+      q,
       writes_at g.B.Block.contents g.B.Block.layers c.args.index p q _ _ t.device (rw (e.state, e.places, e.exceptions) refl) within c.index-copy.ensures
-      (ap (λ x. x.stage) c.index-copy.ensures ∙ ap (λ v. (get_or v.copies c.args.index p).stage) c.self.view_is ∙ c.requires.read p)
-      (record { number = ap (λ x. x.number) same; pair = ap (λ x. x.pair) same; stage = refl; buffer = ap (λ x. x.buffer.items) same })
-      e.loud e.only
-      (λ l. e.written l ∙ ap (λ n. with_sectors (g.B.Block.contents s.device) n c.as_slice.result.now) at ∙ ap (λ b. with_sectors (g.B.Block.contents s.device) (s.state.chunk * p.pair.new) b) c.as_slice.ensures.value),
+          (ap (λ x. x.stage) c.index-copy.ensures ∙ ap (λ v. (get_or v.copies c.args.index p).stage) c.self.view_is ∙ c.requires.read p)
+          (record { number = ap (λ x. x.number) same; pair = ap (λ x. x.pair) same; stage = refl; buffer = ap (λ x. x.buffer.items) same })
+          e.loud e.only
+          (λ l. e.written l ∙ ap (λ n. with_sectors (g.B.Block.contents s.device) n c.as_slice-bytes.result.now) at ∙ ap (λ b. with_sectors (g.B.Block.contents s.device) (s.state.chunk * p.pair.new) b) c.as_slice-bytes.ensures.value),
     )

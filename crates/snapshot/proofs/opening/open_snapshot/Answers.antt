@@ -1,0 +1,51 @@
+-- What the load gives, the snapshot has.
+use Rattle.std.proofs.Common.{◌≡◌, ◌*◌, ◌++◌, ℕ, List, [], map, true, ◌∙◌, ap, sym, subst}
+use Rattle.std.proofs.lemmas.List.{append-nil}
+use Rattle.sector.specs.declared.pair.Pair.{Pair}
+use Rattle.model.specs.NextPlace.{IsNextPlace}
+use Rattle.exception_arena.specs.Pending.{pairs}
+use Rattle.device.specs.Layers.{is_loud}
+use Rattle.model.specs.Pairs.{pairs_of}
+use Rattle.model.specs.Picture.{picture}
+use Rattle.store.specs.declared.state.State.{State}
+use Rattle.store.specs.Held.{committed, pending, pairs_pending}
+use Rattle.store.specs.Stored.{new_of}
+use Rattle.store.specs.Loading.{is_begun}
+use Rattle.snapshot.specs.Kept.{Kept}
+use Rattle.snapshot.specs.Opening.{ChangesFront, IsOpenedAs, prepared}
+use Rattle.snapshot.proofs.Openings.{shows, opened_origin, opened_copying, opened_is}
+use Rattle.snapshot.proofs.opening.open_snapshot.Goals as goal
+
+pub returns-in-Ok-prepare_all-clause-opened : goal.returns-in-Ok-prepare_all-clause-opened
+returns-in-Ok-prepare_all-clause-opened g c =
+    let e = c.in-Ok-prepare_all.ensures in
+    let given = c.prepare_all.new.store.given in
+    opened_is g.B.Block.contents g.B.Block.layers c.args.number c.args.chunk c.args.sectors (g.B.Block.size c.args.store.device) c.args.store.device c.prepare_all.new.store.device c.in-Ok.store.state c.prepare_all.new.store.state
+    c.prepare_all.new.store.places.next (committed c.prepare_all.new.store.exceptions) c.over.result c.over.ensures.fields e.state
+    (subst (λ (ps : List Pair). IsOpenedAs c.args.chunk c.args.sectors (g.B.Block.size c.args.store.device) (g.B.Block.contents c.args.store.device) c.in-Ok.store.state ps) (sym (ap committed e.exceptions)) c.in-Ok.ensures.opened)
+    (subst (λ (ps : List Pair). IsNextPlace c.prepare_all.new.store.state.chunk (map new_of ps) c.prepare_all.new.store.places.next)
+        (ap (λ qs. committed c.prepare_all.new.store.exceptions ++ pairs qs) (ap pending e.exceptions ∙ c.in-Ok.ensures.pending) ∙ append-nil (committed c.prepare_all.new.store.exceptions))
+        (given.least (ap (λ (t : State). t.copying) e.state ∙ opened_copying c.args.chunk c.args.sectors (g.B.Block.size c.args.store.device) (g.B.Block.contents c.args.store.device) c.in-Ok.store.state (committed c.in-Ok.store.exceptions) c.in-Ok.ensures.opened)))
+    (λ loud. e.written (c.in-Ok.ensures.loud ∙ loud) ∙ ap (prepared c.in-Ok.store.state.left c.in-Ok.store.state) c.in-Ok.ensures.contents)
+
+pub returns-in-Ok-prepare_all-clause-new : goal.returns-in-Ok-prepare_all-clause-new
+returns-in-Ok-prepare_all-clause-new g c = λ origin len.
+    c.over.ensures.new origin (len ∙ ap (λ n. 512 * n) (sym (ap (λ (t : State). t.origin) c.in-Ok-prepare_all.ensures.state
+    ∙ opened_origin c.args.chunk c.args.sectors (g.B.Block.size c.args.store.device) (g.B.Block.contents c.args.store.device) c.in-Ok.store.state (committed c.in-Ok.store.exceptions) c.in-Ok.ensures.opened)))
+
+pub returns-in-Ok-prepare_all-clause-shown : goal.returns-in-Ok-prepare_all-clause-shown
+returns-in-Ok-prepare_all-clause-shown g c = λ loud origin.
+    let bytes = g.B.Block.contents c.args.store.device in
+    let loaded = c.in-Ok.store.state in
+    let ps = committed c.in-Ok.store.exceptions in
+    let after = c.prepare_all.new.store in
+    let bytes' = g.B.Block.contents c.prepare_all.new.store.device in
+    let e = c.in-Ok-prepare_all.ensures in
+    let chunk : c.prepare_all.new.store.state.chunk ≡ c.in-Ok.store.state.chunk = ap (λ (t : State). t.chunk) e.state in
+    let loud' : is_loud (g.B.Block.layers c.prepare_all.new.store.device) ≡ true = e.loud ∙ c.in-Ok.ensures.loud ∙ loud in
+    let stored = c.prepare_all.new.store.stored loud' in
+    let listed : pairs_of c.in-Ok.store.state.chunk bytes' ≡ committed c.in-Ok.store.exceptions =
+    ap (λ n. pairs_of n bytes') (sym chunk) ∙ stored.listed (ap (λ (t : State). is_begun t.left) e.state) ∙ ap committed e.exceptions in
+    let only = subst (λ (b : List ℕ). ChangesFront c.in-Ok.store.state.chunk c.in-Ok.store.state.current b bytes') c.in-Ok.ensures.contents e.only in
+    let is = shows c.args.chunk c.args.sectors (g.B.Block.size c.args.store.device) c.in-Ok.store.state.current bytes bytes' loaded ps c.in-Ok.store.front.some c.in-Ok.ensures.opened only listed origin in
+    ap (λ (s : Kept g.row.B.Denot). picture s.state.chunk origin (g.B.Block.contents s.device)) c.over.ensures.fields ∙ ap (λ n. picture n origin bytes') chunk ∙ is

@@ -1,0 +1,61 @@
+-- What opening a store for a snapshot answers, and what it leaves on the store. The order of the refusals, and that all
+-- snapshots of an origin have one chunk size, are this project's rules; the bytes are those of dm-snap-persistent.c.
+use Rattle.std.specs.Prelude.{◌≡◌, ◌≢◌, ◌⊎◌, ℕ, ◌+◌, ◌*◌, ◌<◌, ◌≤◌, List, [], length, Bool, true, false, Option, Result, Ok, Err, IfSome}
+use Rattle.sector.specs.Bytes.{sector_at}
+use Rattle.sector.specs.declared.pair.Pair.{Pair}
+use Rattle.sector.specs.declared.refusal.Refusal.{Refusal}
+use Rattle.sector.specs.declared.refusal.Refusal.TheVariants.{ChunkMismatch}
+use Rattle.model.specs.Places.{chunk_at, area_place, ChangesOnly}
+use Rattle.model.specs.Pairs.{pairs_of, AreWellFormed}
+use Rattle.model.specs.Picture.{picture}
+use Rattle.cow_header.specs.HeaderText.{found_in}
+use Rattle.cow_header.specs.declared.found.Found.{Found}
+use Rattle.cow_header.specs.declared.found.Found.TheVariants.{Fresh, Header}
+use Rattle.store.specs.declared.state.Left.{Left}
+use Rattle.store.specs.declared.state.Left.TheVariants.{FirstArea, HeaderChunk, Tail, Nothing}
+use Rattle.store.specs.declared.state.State.{State}
+use Rattle.store.specs.Loading.{with_left}
+use Rattle.store.specs.Opening.{IsRefused, IsOpenedFresh, IsOpenedWritten, chunk_found}
+
+-- chunks of so many sectors are those that the other snapshots have, if there are any
+abbrev pub IsWanted : Option ℕ → ℕ → Type 0
+IsWanted wanted chunk = IfSome wanted (λ other. other ≡ chunk)
+
+-- a store that could be opened, but whose chunks are not those of the other snapshots
+pub record IsMismatched (line : ℕ) (wanted : Option ℕ) (origin size : ℕ) (bytes : List ℕ) : Type 0 where
+  pub found : Found
+  pub is : found_in (sector_at bytes 0) ≡ Ok found
+  pub large : 2 * chunk_found line found ≤ size
+  pub formed : (chunk : ℕ) → found ≡ Header chunk → AreWellFormed chunk origin size (pairs_of chunk bytes)
+  pub other : IsWanted wanted (chunk_found line found) → ⊥
+
+-- why a store is refused: as its load says, and last by its chunk size
+abbrev pub IsOpenRefused : ℕ → Option ℕ → ℕ → ℕ → List ℕ → Refusal → Type 0
+IsOpenRefused line wanted origin size bytes refusal =
+    IsRefused line origin size bytes refusal ⊎ ((refusal ≡ ChunkMismatch) × IsMismatched line wanted origin size bytes)
+
+-- a store that was opened, before the writes of its load
+abbrev pub IsOpenedAs : ℕ → ℕ → ℕ → List ℕ → State → List Pair → Type 0
+IsOpenedAs line origin size bytes s pairs = IsOpenedFresh line origin size bytes s pairs ⊎ IsOpenedWritten origin size bytes s pairs
+
+-- the store's bytes once no write of its load is left
+abbrev pub prepared : Left → State → List ℕ → List ℕ
+prepared FirstArea s bytes = with_left HeaderChunk s (with_left FirstArea s bytes)
+prepared HeaderChunk s bytes = with_left HeaderChunk s bytes
+prepared Tail s bytes = with_left Tail s bytes
+prepared Nothing s bytes = bytes
+
+-- no chunk but the header and one area is written
+pub record ChangesFront (chunk a : ℕ) (old new : List ℕ) : Type 0 where
+  pub len : length new ≡ length old
+  pub rest : (n : ℕ) → n ≢ 0 → n ≢ area_place chunk a → chunk_at chunk new n ≡ chunk_at chunk old n
+
+-- what a snapshot shows that is taken over a store with these bytes: the origin over a fresh one, and over a written one
+-- the chunks that it has in place of the origin's
+abbrev pub shown_as : List ℕ → List ℕ → Result Found Refusal → List ℕ
+shown_as origin bytes (Ok Fresh) = origin
+shown_as origin bytes (Ok (Header chunk)) = picture chunk origin bytes
+shown_as origin bytes (Err refusal) = origin
+
+abbrev pub shown_array : List ℕ → List ℕ → List ℕ
+shown_array origin bytes = shown_as origin bytes (found_in (sector_at bytes 0))

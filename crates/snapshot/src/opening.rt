@@ -1,0 +1,137 @@
+// A snapshot is opened over a store: the store's load, with all of its writes.
+ghost use Rattle.std.specs.Prelude.{◌≡◌, ◌≢◌, ◌⊎◌, ℕ, ◌+◌, ◌*◌, ◌<◌, ◌≤◌, List, [], length, Option, OnOk, OnErr, IfOk, IfErr, IfSome, MatchResult, MatchBool, IsTrue, Ok, Err, true, false};
+ghost use Rattle.sector.specs.Bytes.{next_count};
+ghost use Rattle.sector.specs.declared.refusal.Refusal.TheVariants.{NoMemory, Io as IoRefusal};
+ghost use Rattle.chunk.specs.Sizes.{is_chunk};
+ghost use Rattle.device.specs.Layers.{is_loud};
+ghost use Rattle.model.specs.Places.{area_place, ChangesOnly};
+ghost use Rattle.store.specs.declared.state.Left.TheVariants.{FirstArea, Nothing};
+ghost use Rattle.store.specs.Held.{committed, pending, reserved};
+ghost use Rattle.store.specs.Loading.{with_left};
+ghost use Rattle.store.specs.Opening.{faults_after};
+ghost use Rattle.model.specs.Picture.{picture};
+ghost use Rattle.volume_laws.specs.Steps.{IsNewSnap};
+ghost use Rattle.snapshot.specs.Kept.{books_of};
+ghost use Rattle.snapshot.specs.Opening.{IsWanted, IsOpenRefused, IsOpenedAs, prepared, shown_array, ChangesFront};
+ghost use Rattle.snapshot.specs.Opened.{IsOpened, IsBack};
+
+use crate::Snapshot;
+use device::{Block, Io};
+use plain::SnapId;
+use sector::Refusal;
+use std::alloc::Global;
+use store::{Store, open};
+
+/// A device for a snapshot's store. It is stale where the mark that its store is invalid could not be written to it.
+#[derive(Drop)]
+pub struct StoreDev<B: Block> {
+    pub device: B,
+    pub stale: bool,
+}
+
+/// Whether chunks of so many sectors are those that the other snapshots have, if there are any.
+fn is_wanted(wanted: Option<u32>, chunk: u32) -> bool
+    ensures { MatchBool result (IsWanted wanted chunk) (IsWanted wanted chunk → ⊥) }
+{
+    match wanted {
+        None => true,
+        Some(other) => other == chunk,
+    }
+}
+
+/// Opens a store for an origin of so many sectors, and tests its chunk size. Nothing is written. The refusals are those of
+/// the store's load, and then `ChunkMismatch`.
+fn open_wanted<B: Block>(
+    alloc: Global,
+    device: B,
+    chunk: u32,
+    wanted: Option<u32>,
+    sectors: u64,
+) -> Result<Store<B>, (Refusal, B)>
+    requires { is_chunk chunk ≡ true }
+    ensures opened { IfOk result (λ store. IsOpenedAs chunk sectors (B.size device) (B.contents device) store.state (committed store.exceptions)) }
+    ensures wanted { IfOk result (λ store. IsWanted wanted store.state.chunk) }
+    ensures pending { IfOk result (λ store. pending store.exceptions ≡ []) }
+    ensures reserved { IfOk result (λ store. reserved store.exceptions ≡ 0) }
+    ensures refused { IfErr result (λ refused. IsOpenRefused chunk wanted sectors (B.size device) (B.contents device) refused.0) }
+    ensures contents { MatchResult result (λ store. B.contents store.device ≡ B.contents device) (λ refused. B.contents refused.1 ≡ B.contents device) }
+    ensures durable { MatchResult result (λ store. B.durable store.device ≡ B.durable device) (λ refused. B.durable refused.1 ≡ B.durable device) }
+    ensures size { MatchResult result (λ store. B.size store.device ≡ B.size device) (λ refused. B.size refused.1 ≡ B.size device) }
+    ensures loud { MatchResult result (λ store. is_loud (B.layers store.device) ≡ is_loud (B.layers device)) (λ refused. is_loud (B.layers refused.1) ≡ is_loud (B.layers device)) }
+    ensures faults { MatchResult result (λ store. B.fault_count store.device ≡ B.fault_count device) (λ refused. B.fault_count refused.1 ≡ faults_after refused.0 (B.fault_count device)) }
+{
+    let store = match open(alloc, device, chunk, sectors) {
+        Ok((store, _)) => store,
+        Err(refused) => return Err(refused),
+    };
+    if is_wanted(wanted, store.chunk()) {
+        Ok(store)
+    } else {
+        Err((Refusal::ChunkMismatch, store.into_device()))
+    }
+}
+
+/// Does the writes of a load that are left, two at most. At `Io` the store's bytes are as they were, or area 0 of a fresh
+/// store is zeroed.
+fn prepare_all<B: Block>(store: &mut Store<B>) -> Result<(), Io>
+    ensures state { OnOk result (store.new.state ≡ record store.old.state { left = Nothing }) }
+    ensures exceptions { store.new.exceptions ≡ store.old.exceptions }
+    ensures places { store.new.places ≡ store.old.places }
+    ensures written { OnOk result (IsTrue (is_loud (B.layers store.old.device)) → B.contents store.new.device ≡ prepared store.old.state.left store.old.state (B.contents store.old.device)) }
+    ensures stopped { OnErr result ((B.contents store.new.device ≡ B.contents store.old.device) ⊎ ((store.old.state.left ≡ FirstArea) × (IsTrue (is_loud (B.layers store.old.device)) → B.contents store.new.device ≡ with_left FirstArea store.old.state (B.contents store.old.device)) × ChangesOnly store.old.state.chunk (area_place store.old.state.chunk store.old.state.current) (B.contents store.old.device) (B.contents store.new.device))) }
+    ensures only { ChangesFront store.old.state.chunk store.old.state.current (B.contents store.old.device) (B.contents store.new.device) }
+    ensures durable { B.durable store.new.device ≡ B.durable store.old.device }
+    ensures loud { is_loud (B.layers store.new.device) ≡ is_loud (B.layers store.old.device) }
+    ensures faults { MatchResult result (λ _. B.fault_count store.new.device ≡ B.fault_count store.old.device) (λ _. B.fault_count store.new.device ≡ next_count (B.fault_count store.old.device)) }
+{
+    let more = match store.prepare() {
+        Ok(more) => more,
+        Err(io) => return Err(io),
+    };
+    if more {
+        match store.prepare() {
+            Ok(_) => {}
+            Err(io) => return Err(io),
+        }
+    }
+    Ok(())
+}
+
+/// Opens a snapshot over a store, for an origin of so many sectors: a fresh store gets chunks of so many sectors, a written
+/// one has its own. All writes of its load are done. Where other snapshots have chunks of another size it is refused with
+/// `ChunkMismatch`, after the refusals of the store's load and before anything is written. The store is given back with a
+/// refusal; after `Io` its area 0 may be zeroed, where it was fresh.
+pub fn open_snapshot<B: Block>(
+    alloc: Global,
+    number: SnapId,
+    store: StoreDev<B>,
+    chunk: u32,
+    wanted: Option<u32>,
+    sectors: u64,
+) -> Result<Snapshot<B>, (Refusal, StoreDev<B>)>
+    requires { is_chunk chunk ≡ true }
+    ensures opened { IfOk result (λ s. IsOpened B.contents B.layers number chunk sectors (B.size store.device) store.device s) }
+    ensures wanted { IfOk result (λ s. IsWanted wanted s.state.chunk) }
+    ensures new { IfOk result (λ s. (origin : List ℕ) → length origin ≡ 512 * sectors → IsNewSnap origin (books_of B.contents B.layers s)) }
+    ensures shown { IfOk result (λ s. is_loud (B.layers store.device) ≡ true → (origin : List ℕ) → picture s.state.chunk origin (B.contents s.device) ≡ shown_array origin (B.contents store.device)) }
+    ensures refused { IfErr result (λ e. IsOpenRefused chunk wanted sectors (B.size store.device) (B.contents store.device) e.0) }
+    ensures back { IfErr result (λ e. IsBack chunk e.0 (B.contents store.device) (B.contents e.1.device)) }
+    ensures stale { IfErr result (λ e. e.1.stale ≡ store.stale) }
+    ensures durable { MatchResult result (λ s. B.durable s.device ≡ B.durable store.device) (λ e. B.durable e.1.device ≡ B.durable store.device) }
+    ensures size { MatchResult result (λ s. B.size s.device ≡ B.size store.device) (λ e. B.size e.1.device ≡ B.size store.device) }
+    ensures loud { MatchResult result (λ s. is_loud (B.layers s.device) ≡ is_loud (B.layers store.device)) (λ e. is_loud (B.layers e.1.device) ≡ is_loud (B.layers store.device)) }
+    ensures faults { MatchResult result (λ s. B.fault_count s.device ≡ B.fault_count store.device) (λ e. B.fault_count e.1.device ≡ faults_after e.0 (B.fault_count store.device)) }
+{
+    let StoreDev { device, stale } = store;
+    let mut store = match open_wanted(alloc, device, chunk, wanted, sectors) {
+        Ok(store) => store,
+        Err((refusal, device)) => return Err((refusal, StoreDev { device, stale })),
+    };
+    match prepare_all(&mut store) {
+        Ok(()) => Ok(Snapshot::over(alloc, number, store)),
+        Err(Io) => {
+            let device = store.into_device();
+            Err((Refusal::Io, StoreDev { device, stale }))
+        }
+    }
+}
