@@ -1,6 +1,6 @@
 -- One snapshot's copy from any stage to its end: it is published, or the snapshot is spoiled and its mark is tried. What is
 -- left is what the big step says.
-use Rattle.std.proofs.Common.{◌≡◌, ◌≢◌, ◌⊎◌, inl, inr, ℕ, ◌+◌, ◌*◌, ◌/◌, ◌%◌, Bool, true, false, List, [], ◌∷◌, ◌++◌, length, map, Option, Some, None, refl, ap, ◌∙◌, sym, subst}
+use Rattle.std.proofs.Common.{◌≡◌, inl, inr, ℕ, ◌+◌, ◌*◌, ◌/◌, ◌%◌, Bool, true, false, List, [], ◌∷◌, ◌++◌, length, map, Option, Some, refl, ap, ◌∙◌, sym, subst}
 use Rattle.std.specs.Prelude.{◌==◌, ◌&&◌, not, if◌then◌else◌}
 use Rattle.std.specs.List.{list_any}
 use Rattle.std.proofs.lemmas.Bool.{cases_Bool, cond-true, cond-false, true≢false}
@@ -13,19 +13,18 @@ use Rattle.model.specs.Places.{area_place}
 use Rattle.model.specs.Pairs.{pairs_of}
 use Rattle.pending.specs.Copies.{count_of}
 use Rattle.pending.specs.declared.copies.Stage.TheVariants.{Waiting, Read, Written}
-use Rattle.pending.specs.declared.copies.Mark.{Mark}
 use Rattle.pending.specs.Due.{least}
-use Rattle.settled.specs.Saves.{marked, copied, paired, zeroed}
+use Rattle.settled.specs.Saves.{copied, paired, zeroed}
 use Rattle.settling.specs.Devices.{Device, sectors_of, answers, met, written_by}
 use Rattle.settling.specs.Snaps.{Snap}
-use Rattle.settling.specs.Saving.{lacks_area, spoilt, write_then, write_pair, commit, copy}
-use Rattle.settling.specs.Held.{Copying, Held, Going, Moving, with_store, spoiled}
+use Rattle.settling.specs.Saving.{lacks_area, spoilt, write_pair, commit, copy}
+use Rattle.settling.specs.Held.{Held, Going, Moving, with_store, spoiled}
 use Rattle.settling.specs.Due.{copy_at, is_reading, least_in}
 use Rattle.settling.specs.Again.{again, placed, refused}
 use Rattle.settling.proofs.Lists.{Each, each_weaker}
 use Rattle.settling.proofs.Goes.{Goes, goes_on}
 use Rattle.settling.proofs.Around.{at, IsIdle, IsLater}
-use Rattle.settling.proofs.Stages.{holding, copying, with_stage, store_after, read_op, bytes_read, write_op, zero_op, area_op, area_next, fills, mark_here, committed_here, idle_here, marks_here, reads_done, reads_failed, writes_done, writes_failed, zeros_lacking, zeros_done, zeros_failed, area_done, area_failed, publishes}
+use Rattle.settling.proofs.Stages.{holding, copying, marks_here, reads_done, reads_failed, writes_done, writes_failed, zeros_lacking, zeros_done, zeros_failed, area_done, area_failed, publishes}
 
 -- the requests in flight once a snapshot's copy came to its end
 abbrev pub requests_after : List Held → Held → List Going → List Going
@@ -86,7 +85,7 @@ module _ (done rest : List Held) (rs : List Going) (a : Option Reply) (k : ℕ) 
 
     -- a copy that is written, where its area can be
     ends_area : (origin : Device) (s : Snap) (z : Bool) (bytes : List ℕ) → s.live ≡ true → ((((length ps + 1) % (32 * s.chunk)) == 0) && not z) ≡ false → (z && not (((length ps + 1) % (32 * s.chunk)) == 0)) ≡ false →
-      Ends origin (at origin (done ++ holding s ps nx z (copying n q Written bytes ∷ []) [] ∷ rest) rs a k) (ps ++ q ∷ []) nx (write_pair (length ps) q s)
+        Ends origin (at origin (done ++ holding s ps nx z (copying n q Written bytes ∷ []) [] ∷ rest) rs a k) (ps ++ q ∷ []) nx (write_pair (length ps) q s)
     ends_area origin s z bytes live ready unzeroed =
         let op : Operation = Writes (s.chunk * area_place s.chunk (length ps / (32 * s.chunk))) s.chunk in
         let now : Snap = record s { store = written_by s.store op (paired s.chunk s.store.bytes (length ps) q) } in
@@ -122,7 +121,7 @@ module _ (done rest : List Held) (rs : List Going) (a : Option Reply) (k : ℕ) 
 
     -- a copy that is read
     ends_write : (origin : Device) (s : Snap) (bytes : List ℕ) → s.live ≡ true → pairs_of s.chunk s.store.bytes ≡ ps → with_sectors s.store.bytes (s.chunk * q.new) bytes ≡ copied s.chunk origin.bytes s.store.bytes q.old q.new →
-      Ends origin (at origin (done ++ holding s ps nx false (copying n q Read bytes ∷ []) [] ∷ rest) rs a k) (ps ++ q ∷ []) nx (copy origin.bytes q s)
+        Ends origin (at origin (done ++ holding s ps nx false (copying n q Read bytes ∷ []) [] ∷ rest) rs a k) (ps ++ q ∷ []) nx (copy origin.bytes q s)
     ends_write origin s bytes live has same =
         let op : Operation = Writes (s.chunk * q.new) (count_of s.chunk (sectors_of origin) q.old) in
         let v : Moving = at origin (done ++ holding s ps nx false (copying n q Read bytes ∷ []) [] ∷ rest) rs a k in
@@ -139,8 +138,8 @@ module _ (done rest : List Held) (rs : List Going) (a : Option Reply) (k : ℕ) 
 
     -- a copy that waits: it is read from the origin disk
     pub ends_read : (origin : Device) (s : Snap) → s.live ≡ true → pairs_of s.chunk s.store.bytes ≡ ps → with_sectors s.store.bytes (s.chunk * q.new) (sectors_at origin.bytes (s.chunk * q.old) (count_of s.chunk (sectors_of origin) q.old)) ≡ copied s.chunk origin.bytes s.store.bytes q.old q.new → least (Some n) (least_in (copy_at Waiting) rest) ≡ Some n →
-      (let op : Operation = Reads (s.chunk * q.old) (count_of s.chunk (sectors_of origin) q.old) in
-      Ends (met origin op) (at origin (done ++ holding s ps nx false (copying n q Waiting [] ∷ []) [] ∷ rest) rs a k) (ps ++ q ∷ []) nx (if answers origin op then copy origin.bytes q s else spoilt s))
+        (let op : Operation = Reads (s.chunk * q.old) (count_of s.chunk (sectors_of origin) q.old) in
+        Ends (met origin op) (at origin (done ++ holding s ps nx false (copying n q Waiting [] ∷ []) [] ∷ rest) rs a k) (ps ++ q ∷ []) nx (if answers origin op then copy origin.bytes q s else spoilt s))
     ends_read origin s live has same low =
         let op : Operation = Reads (s.chunk * q.old) (count_of s.chunk (sectors_of origin) q.old) in
         let v : Moving = at origin (done ++ holding s ps nx false (copying n q Waiting [] ∷ []) [] ∷ rest) rs a k in

@@ -1,5 +1,5 @@
 -- On devices without layers the machine is that of `settled`, and all writes are answered.
-use Rattle.std.proofs.Common.{◌≡◌, ℕ, ◌+◌, ◌*◌, ◌/◌, ◌%◌, Bool, true, false, List, [], ◌∷◌, ◌++◌, length, take, drop, map, min, refl, ap, ◌∙◌, sym, subst, inl, inr}
+use Rattle.std.proofs.Common.{◌≡◌, ℕ, ◌+◌, ◌*◌, ◌/◌, ◌%◌, Bool, true, false, List, [], ◌∷◌, length, take, drop, map, min, refl, ap, ◌∙◌, sym, subst, inl, inr}
 use Rattle.std.specs.Prelude.{◌==◌, if◌then◌else◌}
 use Rattle.std.proofs.lemmas.Bool.{cases_Bool, cond-true, cond-false}
 use Rattle.sector.specs.Bytes.{with_sectors}
@@ -10,12 +10,11 @@ use Rattle.plain.specs.declared.request.Reply.{Reply}
 use Rattle.plain.specs.declared.request.Reply.TheVariants.{Written}
 use Rattle.plain.specs.Plain.{Saved, Live, Invalid}
 use Rattle.model.specs.Pairs.{pairs_of}
-use Rattle.model.specs.Picture.{place_of}
-use Rattle.settled.specs.Saves.{Saving as Stored, copied, committed, saved, next_of}
+use Rattle.settled.specs.Saves.{Saving as Stored, copied, committed, saved}
 use Rattle.settled.specs.Settled.{Snap as Plainly, Settled, save_in, save_for, after_saving, write_piece as settled_piece, write_pieces as settled_pieces, piece_of as settled_piece_of, written as settled_written}
 use Rattle.settling.specs.Devices.{Device}
 use Rattle.settling.specs.Snaps.{Snap, Volume}
-use Rattle.settling.specs.Saving.{Saving, spoilt, write_pair, lacks_area, commit, copy, next_place, is_full, has_chunk, save}
+use Rattle.settling.specs.Saving.{Saving, lacks_area, commit, next_place, is_full, has_chunk, save}
 use Rattle.settling.specs.Pieces.{Answered, save_all, write_disk, write_origin}
 use Rattle.settling.specs.Commands.{go_on, write_pieces, piece_of, written}
 use Rattle.settling.specs.Bare.{is_live, bare, AreBare, IsBare}
@@ -71,7 +70,7 @@ module _ (number chunk : ℕ) where
 
 -- saving a chunk in one snapshot
 save_in_bare : (disk : List ℕ) (first number chunk : ℕ) (store : List ℕ) (shown : Saved) → (let was : Plainly = record { chunk = chunk; saved = shown; store = store } in
-  save (first / chunk) (plainly disk) (bare number was) ≡ record { origin = plainly disk; snap = bare number (save_for disk first chunk store shown) })
+    save (first / chunk) (plainly disk) (bare number was) ≡ record { origin = plainly disk; snap = bare number (save_for disk first chunk store shown) })
 save_in_bare disk first number chunk store (Live array) =
     let put : Snap → Saving = λ (t : Snap). record { origin = plainly disk; snap = t } in
     save_bare number chunk (first / chunk) disk store ∙ ap put (live_after number chunk array (saved chunk disk store (first / chunk)))

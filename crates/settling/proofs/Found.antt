@@ -1,12 +1,11 @@
 -- The first element that passes a test splits its list.
-use Rattle.std.proofs.Common.{◌≡◌, ◌⊎◌, inl, inr, ℕ, Bool, true, false, List, [], ◌∷◌, ◌++◌, map, Option, Some, None, refl, ap, ◌∙◌, sym}
-use Rattle.std.specs.Prelude.{◌==◌, if◌then◌else◌}
+use Rattle.std.proofs.Common.{◌≡◌, ◌⊎◌, inl, inr, ℕ, Bool, true, false, List, [], ◌∷◌, ◌++◌, map, None, refl, ap, ◌∙◌}
+use Rattle.std.specs.Prelude.{◌==◌}
 use Rattle.std.proofs.lemmas.Bool.{cases_Bool, cond-true, cond-false}
-use Rattle.plain.specs.declared.request.Reply.{Reply}
 use Rattle.plain.specs.declared.request.Reply.TheVariants.{Refused}
 use Rattle.plain.specs.declared.request.Failure.TheVariants.{Invalid}
 use Rattle.settling.specs.Devices.{Device}
-use Rattle.settling.specs.Snaps.{Snap, Volume}
+use Rattle.settling.specs.Snaps.{Snap}
 use Rattle.settling.specs.Pieces.{Answered, Served, in_snap}
 use Rattle.settling.specs.Held.{Held}
 use Rattle.settling.specs.Stepping.{first_that}
@@ -43,7 +42,7 @@ module _ (number : ℕ) (serve : Device → Snap → Served) (origin : Device) w
 
   -- the snapshot of a number is served
   pub served_here : (done rest : List Held) (h : Held) → Each (λ (d : Held). (d.snap.number == number) ≡ false) done → (h.snap.number == number) ≡ true →
-    in_snap number serve origin (map (λ (d : Held). d.snap) (done ++ h ∷ rest)) ≡ record { volume = record { origin = (serve origin h.snap).origin; snaps = map (λ (d : Held). d.snap) done ++ (serve origin h.snap).snap ∷ map (λ (d : Held). d.snap) rest }; reply = (serve origin h.snap).reply }
+      in_snap number serve origin (map (λ (d : Held). d.snap) (done ++ h ∷ rest)) ≡ record { volume = record { origin = (serve origin h.snap).origin; snaps = map (λ (d : Held). d.snap) done ++ (serve origin h.snap).snap ∷ map (λ (d : Held). d.snap) rest }; reply = (serve origin h.snap).reply }
   served_here [] rest h before pass = cond-true _ _ _ pass
   served_here (d ∷ done) rest h before pass = cond-false _ _ _ before.0 ∙ ap (with_snaps (d.snap ∷ [])) (served_here done rest h before.1 pass)
 

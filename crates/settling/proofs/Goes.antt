@@ -1,5 +1,5 @@
 -- Events by what is due: one after the other.
-use Rattle.std.proofs.Common.{◌≡◌, ℕ, zero, suc, ◌+◌, Option, Some, None, refl, ap, ◌∙◌, arith}
+use Rattle.std.proofs.Common.{◌≡◌, ℕ, zero, suc, ◌+◌, Some, None, refl, ap, ◌∙◌, arith}
 use Rattle.plain.specs.declared.event.Event.{Event}
 use Rattle.settling.specs.Held.{Moving}
 use Rattle.settling.specs.Due.{due}
@@ -17,8 +17,11 @@ pub goes_on : (u v w : Moving) → Goes u v → Goes v w → Goes u w
 goes_on u v w a b = (a.0 + b.0, λ m. ap (λ k. settle k u) (omega arith) ∙ a.1 (b.0 + m) ∙ b.1 m)
 
 pub goes_step : (v w : Moving) (event : Event) → due v ≡ Some event → stepped event v ≡ w → Goes v w
-goes_step v w event is step = (1, λ m. (let more : 1 + m ≡ suc m = omega arith in
-    ap (λ k. settle k v) more ∙ ap (λ o. for_some o (λ e. settle m (stepped e v)) v) is ∙ ap (settle m) step))
+goes_step v w event is step = (
+  1,
+  λ m. (let more : 1 + m ≡ suc m = omega arith in
+      ap (λ k. settle k v) more ∙ ap (λ o. for_some o (λ e. settle m (stepped e v)) v) is ∙ ap (settle m) step),
+)
 
 -- where nothing is due, it stays
 pub settled_there : (v w : Moving) → Goes v w → due w ≡ None → (n : ℕ) × ((m : ℕ) → settle (n + m) v ≡ w)

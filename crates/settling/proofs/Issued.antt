@@ -1,26 +1,21 @@
 -- A request that goes somewhere is issued, where nothing else is under way; and what a volume that is at rest settles to.
-use Rattle.std.proofs.Common.{◌≡◌, ℕ, ◌+◌, ◌*◌, Bool, true, false, List, [], ◌∷◌, ◌++◌, length, map, Option, Some, None, refl, ap, ◌∙◌, sym, subst, eq-eqb}
-use Rattle.std.specs.Prelude.{◌==◌, ◌&&◌}
-use Rattle.std.specs.List.{All}
+use Rattle.std.proofs.Common.{◌≡◌, ℕ, ◌+◌, ◌*◌, Bool, true, List, [], ◌∷◌, length, map, Option, Some, None, refl, ap, ◌∙◌, sym, eq-eqb}
+use Rattle.std.specs.Prelude.{◌==◌}
 use Rattle.std.proofs.lemmas.Bool.{cond-true}
 use Rattle.plain.specs.declared.event.Event.TheVariants.{Issue}
 use Rattle.plain.specs.declared.request.Reply.{Reply}
 use Rattle.pending.specs.Due.{is_routed}
 use Rattle.settling.specs.Devices.{Device}
-use Rattle.settling.specs.Snaps.{Snap, Volume}
 use Rattle.settling.specs.Pieces.{Answered}
 use Rattle.settling.specs.Held.{Held, Going, Moving}
 use Rattle.settling.specs.Due.{due}
 use Rattle.settling.specs.Stepping.{for_some, answer, issue}
-use Rattle.settling.specs.Rest.{IsResting, IsAtRest}
+use Rattle.settling.specs.Rest.{IsResting}
 use Rattle.settling.specs.Settles.{settle, SettlesTo}
-use Rattle.settling.proofs.Lists.{Each, each_weaker, all_from}
-use Rattle.settling.proofs.Goes.{Goes, goes_step, goes_on, goes_none, settled_there}
+use Rattle.settling.proofs.Lists.{same_number, Each, each_weaker, all_from}
+use Rattle.settling.proofs.Goes.{Goes, goes_step, settled_there}
 use Rattle.settling.proofs.Around.{at, IsIdle, due_request}
 use Rattle.settling.proofs.Primed.{resting_idle}
-
-same_number : (n : ℕ) (b : Bool) → ((n == n) && b) ≡ b
-same_number n b = rw (eq-eqb n n refl) refl
 
 abbrev pub mine_of : Going → Going → Bool
 mine_of r g = g.number == r.number
@@ -36,7 +31,7 @@ answered_here origin snaps r reply a k = ap (λ rs. at origin snaps rs (Some rep
 
 -- a volume goes on to one at rest
 pub settles_there : (sectors : ℕ) (u v : Moving) (origin : Device) (snaps : List Held) (reply : Reply) (k : ℕ) (answered : Answered) → u ≡ v → Goes v (at origin snaps [] (Some reply) k) → length origin.bytes ≡ 512 * sectors → Each (IsResting sectors) snaps →
-  answered ≡ record { volume = record { origin = origin; snaps = map (λ (h : Held). h.snap) snaps }; reply = reply } → SettlesTo sectors u answered
+    answered ≡ record { volume = record { origin = origin; snaps = map (λ (h : Held). h.snap) snaps }; reply = reply } → SettlesTo sectors u answered
 settles_there sectors u v origin snaps reply k answered begun goes whole rest is =
     let last : Moving = at origin snaps [] (Some reply) k in
     let idle : Each IsIdle snaps = each_weaker (IsResting sectors) IsIdle snaps (resting_idle sectors) rest in

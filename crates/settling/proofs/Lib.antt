@@ -18,3 +18,7 @@ pub mod SnapWritesSettle
 pub mod Faultless
 pub mod Requests
 pub mod Tied
+pub mod Chunks
+pub mod Running
+pub mod Shown
+pub mod Moments

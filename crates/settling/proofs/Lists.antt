@@ -1,5 +1,6 @@
 -- The first element of a list that passes a test, where those before it do not.
-use Rattle.std.proofs.Common.{◌≡◌, ℕ, Bool, true, false, List, [], ◌∷◌, ◌++◌, Option, Some, None, refl, ap, ◌∙◌, sym}
+use Rattle.std.proofs.Common.{◌≡◌, ℕ, Bool, true, false, List, [], ◌∷◌, ◌++◌, Option, Some, None, refl, ap, ◌∙◌, eq-eqb}
+use Rattle.std.specs.Prelude.{◌==◌, ◌&&◌}
 use Rattle.std.specs.List.{All}
 use Rattle.std.proofs.lemmas.Bool.{cond-true, cond-false}
 use Rattle.std.proofs.lemmas.List.Elements.{All-nil, All-cons, All-head, All-tail}
@@ -20,6 +21,10 @@ each_weaker P Q (x ∷ xs) f all = (f x all.0, each_weaker P Q xs f all.1)
 pub each_more : {X : Type 0} (P : X → Type 0) (xs : List X) (y : X) → Each P xs → P y → Each P (xs ++ y ∷ [])
 each_more P [] y all one = (one, tt)
 each_more P (x ∷ xs) y all one = (all.0, each_more P xs y all.1 one)
+
+-- a number is itself
+pub same_number : (n : ℕ) (b : Bool) → ((n == n) && b) ≡ b
+same_number n b = rw (eq-eqb n n refl) refl
 
 pub each_from : {X : Type 0} (P : X → Type 0) (xs : List X) → All P xs → Each P xs
 each_from P [] all = tt

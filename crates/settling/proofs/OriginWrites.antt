@@ -1,14 +1,12 @@
 -- An origin write, event by event: the marks of the stores that were full, the copies of one snapshot after the other, and
 -- then the write itself. It leaves what the big step says.
-use Rattle.std.proofs.Common.{◌≡◌, ◌⊎◌, inl, inr, ℕ, ◌+◌, ◌*◌, ◌/◌, ◌<◌, ◌≤◌, Bool, true, false, List, [], ◌∷◌, ◌++◌, length, map, Option, Some, None, arith, refl, ap, ◌∙◌, sym, subst, append_assoc, append-nil, eq-eqb}
-use Rattle.std.specs.Prelude.{◌==◌, ◌&&◌, ◌||◌, not, is_some, nat_lt, if◌then◌else◌}
-use Rattle.std.specs.List.{list_any}
+use Rattle.std.proofs.Common.{◌≡◌, inl, inr, ℕ, ◌+◌, ◌*◌, ◌/◌, ◌<◌, ◌≤◌, Bool, true, false, List, [], ◌∷◌, ◌++◌, length, map, Option, Some, None, arith, refl, ap, ◌∙◌, sym, subst, append_assoc, eq-eqb}
+use Rattle.std.specs.Prelude.{◌==◌, ◌&&◌, ◌||◌, not, is_some, nat_lt}
 use Rattle.std.proofs.lemmas.Bool.{cases_Bool, cond-true, cond-false, true≢false}
 use Rattle.sector.specs.Bytes.{sectors_at, with_sectors}
 use Rattle.sector.specs.declared.pair.Pair.{Pair}
 use Rattle.sector.specs.declared.range.Range.{Range}
 use Rattle.device.specs.declared.operation.Operation.TheVariants.{Writes}
-use Rattle.chunk.specs.Pieces.{Span, span_of}
 use Rattle.plain.specs.declared.event.Event.TheVariants.{Issue}
 use Rattle.plain.specs.declared.request.Request.{Request}
 use Rattle.plain.specs.declared.request.Dev.TheVariants.{Origin as ToOrigin}
@@ -16,7 +14,6 @@ use Rattle.plain.specs.declared.request.Op.TheVariants.{Write}
 use Rattle.plain.specs.declared.request.Reply.{Reply}
 use Rattle.model.specs.NextPlace.{stepped}
 use Rattle.model.specs.Picture.{place_of}
-use Rattle.model.specs.Pairs.{pairs_of}
 use Rattle.model.proofs.Pictures.{place-pushed}
 use Rattle.pending.specs.Copies.{count_of}
 use Rattle.pending.specs.Routes.{write_route_of}
@@ -24,29 +21,28 @@ use Rattle.pending.specs.declared.copies.Stage.TheVariants.{Waiting}
 use Rattle.pending.specs.declared.copies.Mark.{Mark}
 use Rattle.pending.specs.declared.flights.Route.{Route}
 use Rattle.pending.specs.declared.flights.Route.TheVariants.{Held as Waits, Origin}
-use Rattle.pending.specs.Due.{first_by, least}
 use Rattle.settled.specs.Saves.{copied, next_of}
 use Rattle.settled.proofs.Saved.{chunk_front}
 use Rattle.settled.proofs.Writes.{piece_low}
-use Rattle.settling.specs.Devices.{Device, sectors_of, answers, met, written_by}
+use Rattle.settling.specs.Devices.{Device, sectors_of, met, written_by}
 use Rattle.settling.specs.Snaps.{Snap, Volume}
 use Rattle.settling.specs.Saving.{Saving, spoilt, next_place, is_full, has_chunk, save}
 use Rattle.settling.specs.Pieces.{save_all}
 use Rattle.settling.specs.Held.{Copying, Held, Going, Moving, spoiled, is_untried}
-use Rattle.settling.specs.Due.{due, copy_at, is_reading, least_in, number_of_going, is_issuable}
-use Rattle.settling.specs.Again.{again, placed, refused, is_saved, is_clear}
-use Rattle.settling.specs.Stepping.{for_some, first_that, answer, stepped as event_done, issue, write_reply}
+use Rattle.settling.specs.Due.{copy_at, least_in}
+use Rattle.settling.specs.Again.{again, is_saved, is_clear}
+use Rattle.settling.specs.Stepping.{for_some, issue, write_reply}
 use Rattle.settling.specs.Submitting.{needs_none, is_filled, with_copy, started_all}
 use Rattle.settling.specs.Rest.{IsKept, IsResting}
-use Rattle.settling.proofs.Lists.{Each, each_weaker, each_more}
+use Rattle.settling.proofs.Lists.{same_number, Each, each_weaker, each_more}
 use Rattle.settling.proofs.Goes.{Goes, goes_none, goes_on, goes_step}
-use Rattle.settling.proofs.Around.{at, IsIdle, IsLater, due_request}
+use Rattle.settling.proofs.Around.{at, IsIdle, due_request}
 use Rattle.settling.proofs.Stages.{holding, copying, marks_here}
 use Rattle.settling.proofs.Ends.{Ends, IsUnread, requests_after, ends_read}
 use Rattle.settling.proofs.Saves.{saves_nothing, saves_full, saves_copy, chunk_read}
 use Rattle.settling.proofs.Resting.{rests_live, saved_chunk, saved_snap}
 use Rattle.settling.proofs.Clears.{and_last, unclear_unsaved, unclear_untried, clear_all}
-use Rattle.settling.proofs.Primed.{tried_of, primed, primed_none, primed_full, primed_copy, started_none, resting_idle, primed_later, primed_above, least_low}
+use Rattle.settling.proofs.Primed.{tried_of, primed, primed_none, primed_full, primed_copy, resting_idle, primed_later, primed_above, least_low}
 
 goes_between : (u u' v v' : Moving) → u ≡ u' → v' ≡ v → Goes u' v' → Goes u v
 goes_between u u' v v' a b goes = subst (λ (x : Moving). Goes x v) (sym a) (subst (Goes u') b goes)
@@ -119,7 +115,7 @@ module _ (sectors number : ℕ) (range : Range) (bytes : List ℕ) (a : Option R
 
   -- one snapshot, and then those after it
   finals_more : (origin : Device) (done snaps : List Held) (h y : Held) (m m' : ℕ) (x : Saving) → save (range.first / h.snap.chunk) origin h.snap ≡ x → y.snap ≡ x.snap → IsResting sectors y → is_saved range.first y ≡ true →
-    Goes (writing origin (done ++ primed range.first m (h ∷ snaps))) (writing x.origin (done ++ y ∷ primed range.first m' snaps)) → Finals x.origin (done ++ y ∷ []) snaps m' → Finals origin done (h ∷ snaps) m
+      Goes (writing origin (done ++ primed range.first m (h ∷ snaps))) (writing x.origin (done ++ y ∷ primed range.first m' snaps)) → Finals x.origin (done ++ y ∷ []) snaps m' → Finals origin done (h ∷ snaps) m
   finals_more origin done snaps h y m m' x is same rest saved goes more =
       let then_all : Saving → Volume = λ (z : Saving). record { origin = (save_all range.first z.origin (map snap_of snaps)).origin; snaps = z.snap ∷ (save_all range.first z.origin (map snap_of snaps)).snaps } in
       let all : save_all range.first origin (map snap_of (h ∷ snaps)) ≡ then_all x = ap then_all is in
@@ -257,12 +253,9 @@ module _ (sectors number : ℕ) (range : Range) (bytes : List ℕ) (a : Option R
             ])
       ]
 
-  same_number : (b : Bool) → ((number == number) && b) ≡ b
-  same_number b = rw (eq-eqb number number refl) refl
-
   -- the write itself, once each snapshot is idle and has the chunk
   pub issues : (origin : Device) (snaps : List Held) → Each IsIdle snaps → Each (λ d. is_saved range.first d ≡ true) snaps →
-    Goes (writing origin snaps) (at (written_by origin (Writes range.first range.count) (with_sectors origin.bytes range.first bytes)) snaps [] (Some (write_reply origin range.first range.count)) k)
+      Goes (writing origin snaps) (at (written_by origin (Writes range.first range.count) (with_sectors origin.bytes range.first bytes)) snaps [] (Some (write_reply origin range.first range.count)) k)
   issues origin snaps idle saved =
       let clear : is_clear snaps range.first ≡ true = clear_all range.first snaps saved (each_weaker IsIdle (λ d. is_untried d ≡ false) snaps (λ d i. i.tried) idle) in
       let v : Moving = at origin snaps (going Origin ∷ []) a k in
@@ -270,5 +263,5 @@ module _ (sectors number : ℕ) (range : Range) (bytes : List ℕ) (a : Option R
       let after : Device = written_by origin (Writes range.first range.count) (with_sectors origin.bytes range.first bytes) in
       goes_between _ _ _ _ (ap (λ b. at origin snaps (going (write_route_of false None b) ∷ []) a k) clear) refl
       (goes_step v _ (Issue number) (due_request origin snaps (going Origin ∷ []) a k idle (Some number) refl)
-      (ap (λ o. for_some o (λ (r : Going). issue r.route mine r v) v) (cond-true _ _ _ (same_number true))
+      (ap (λ o. for_some o (λ (r : Going). issue r.route mine r v) v) (cond-true _ _ _ (same_number number true))
       ∙ ap (λ rs. at after snaps rs (Some (write_reply origin range.first range.count)) k) (cond-true _ _ _ (eq-eqb number number refl))))

@@ -1,6 +1,6 @@
 -- A write at a copy's place, inside its chunk, leaves a snapshot at rest.
-use Rattle.std.proofs.Common.{◌≡◌, ◌≢◌, inl, inr, ℕ, ◌+◌, ◌*◌, ◌/◌, ◌%◌, ◌<◌, ◌≤◌, Bool, true, false, List, [], length, get_or, arith, refl, ap, ◌∙◌, sym, subst}
-use Rattle.std.specs.Prelude.{Some, None}
+use Rattle.std.proofs.Common.{◌≡◌, ◌≢◌, inl, inr, ℕ, ◌+◌, ◌*◌, ◌/◌, ◌%◌, ◌≤◌, true, false, List, length, get_or, arith, ap, ◌∙◌, sym, subst}
+use Rattle.std.specs.Prelude.{Some}
 use Rattle.std.proofs.lemmas.Bool.{cases_Bool, cond-true, cond-false, true≢false}
 use Rattle.std.proofs.lemmas.Nat.{div-add-mod'}
 use Rattle.sector.specs.Bytes.{with_part, with_sectors}
@@ -12,11 +12,11 @@ use Rattle.model.specs.Picture.{place_of}
 use Rattle.model.proofs.AreaPlaces.{place_is}
 use Rattle.model.proofs.Slots.{pairs-outside}
 use Rattle.model.proofs.Pictures.{place_found}
-use Rattle.settled.specs.Order.{AreEmptyFrom, IsInOrder}
+use Rattle.settled.specs.Order.{IsInOrder}
 use Rattle.settled.proofs.Parts.{part_only}
 use Rattle.settled.proofs.Commits.{tail_kept}
 use Rattle.settled.proofs.Laws.{chunk_fits}
-use Rattle.settling.specs.Devices.{Device, answers, written_by}
+use Rattle.settling.specs.Devices.{answers, written_by}
 use Rattle.settling.specs.Held.{Held, with_store}
 use Rattle.settling.specs.Rest.{IsKept, IsResting}
 
@@ -50,7 +50,7 @@ inside_chunk chunk first count piece =
     omega arith
 
 pub place_rests : (sectors n first count : ℕ) (bytes : List ℕ) (h : Held) → IsResting sectors h → h.snap.live ≡ true → place_of h.pairs (first / h.snap.chunk) ≡ Some n → first + count ≤ h.snap.chunk * (first / h.snap.chunk) + h.snap.chunk → length bytes ≡ 512 * count →
-  IsResting sectors (with_store h (written_by h.snap.store (Writes (h.snap.chunk * n + first % h.snap.chunk) count) (with_sectors h.snap.store.bytes (h.snap.chunk * n + first % h.snap.chunk) bytes)))
+    IsResting sectors (with_store h (written_by h.snap.store (Writes (h.snap.chunk * n + first % h.snap.chunk) count) (with_sectors h.snap.store.bytes (h.snap.chunk * n + first % h.snap.chunk) bytes)))
 place_rests sectors n first count bytes h rest on some piece len =
     let chunk : ℕ = h.snap.chunk in
     let store : List ℕ = h.snap.store.bytes in

@@ -1,13 +1,13 @@
 -- An origin write's copies, once the marks of the stores that were full are tried: each snapshot is idle, or has one copy
 -- that waits, and the copies' numbers go up.
-use Rattle.std.proofs.Common.{◌≡◌, ◌⊎◌, inl, inr, ℕ, ◌+◌, ◌/◌, ◌<◌, ◌≤◌, Bool, true, false, List, [], ◌∷◌, ◌++◌, Option, Some, None, min, arith, refl, ap, ◌∙◌, sym, subst}
-use Rattle.std.specs.Prelude.{◌||◌, not, is_some, if◌then◌else◌}
+use Rattle.std.proofs.Common.{◌≡◌, inl, inr, ℕ, ◌+◌, ◌/◌, ◌<◌, ◌≤◌, true, false, List, [], ◌∷◌, Option, Some, None, min, arith, refl, ap, ◌∙◌, sym, subst}
+use Rattle.std.specs.Prelude.{if◌then◌else◌}
 use Rattle.std.proofs.lemmas.Bool.{cases_Bool, cond-true, cond-false}
-use Rattle.pending.specs.declared.copies.Stage.TheVariants.{Waiting, Read}
-use Rattle.pending.specs.Due.{first_by, least}
+use Rattle.pending.specs.declared.copies.Stage.TheVariants.{Waiting}
+use Rattle.pending.specs.Due.{least}
 use Rattle.settling.specs.Saving.{spoilt}
-use Rattle.settling.specs.Held.{Copying, Held}
-use Rattle.settling.specs.Due.{copy_at, least_in, is_front_written, is_at, number_of_copying}
+use Rattle.settling.specs.Held.{Held}
+use Rattle.settling.specs.Due.{copy_at, least_in}
 use Rattle.settling.specs.Rest.{IsResting}
 use Rattle.settling.specs.Submitting.{needs_none, is_filled, with_copy, started_all}
 use Rattle.settling.proofs.Lists.{Each}

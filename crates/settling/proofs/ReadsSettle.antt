@@ -1,10 +1,10 @@
 -- A read of the origin or of a snapshot, submitted to a volume at rest, settles to the big step.
-use Rattle.std.proofs.Common.{◌≡◌, ◌⊎◌, inl, inr, ℕ, ◌+◌, ◌*◌, ◌/◌, ◌%◌, Bool, true, false, List, [], ◌∷◌, ◌++◌, length, map, Option, Some, None, refl, ap, ◌∙◌, sym, subst}
-use Rattle.std.specs.Prelude.{◌==◌, if◌then◌else◌}
+use Rattle.std.proofs.Common.{◌≡◌, inl, inr, ℕ, ◌+◌, ◌*◌, ◌/◌, ◌%◌, Bool, true, false, List, [], ◌∷◌, ◌++◌, length, map, Option, Some, None, refl, ap, ◌∙◌, sym, subst}
+use Rattle.std.specs.Prelude.{◌==◌}
 use Rattle.std.proofs.lemmas.Bool.{cases_Bool, cond-true, cond-false}
 use Rattle.sector.specs.declared.range.Range.{Range}
 use Rattle.device.specs.declared.operation.Operation.TheVariants.{Reads}
-use Rattle.chunk.specs.Pieces.{Span, span_of}
+use Rattle.chunk.specs.Pieces.{span_of}
 use Rattle.plain.specs.declared.request.Request.{Request}
 use Rattle.plain.specs.declared.request.Dev.TheVariants.{Origin as ToOrigin, Snap as ToSnap}
 use Rattle.plain.specs.declared.request.Op.TheVariants.{Read}
@@ -18,19 +18,18 @@ use Rattle.pending.specs.declared.flights.Route.{Route}
 use Rattle.pending.specs.declared.flights.Route.TheVariants.{Origin, Store}
 use Rattle.settled.proofs.Laws.{option_cases}
 use Rattle.settling.specs.Devices.{Device, met, read_reply}
-use Rattle.settling.specs.Snaps.{Snap, Volume}
-use Rattle.settling.specs.Pieces.{Answered, Served, read_origin, read_snap, read_place, in_snap}
+use Rattle.settling.specs.Pieces.{read_origin, read_snap, read_place, in_snap}
 use Rattle.settling.specs.Held.{Held, Going, Moving, with_store}
-use Rattle.settling.specs.Stepping.{for_some, first_that, answer, issue, on_store}
-use Rattle.settling.specs.Submitting.{submitted, accepted, declined, read_snap as submit_read}
-use Rattle.settling.specs.Rest.{IsKept, IsResting, IsAtRest}
+use Rattle.settling.specs.Stepping.{for_some, answer, on_store}
+use Rattle.settling.specs.Submitting.{submitted, declined, read_snap as submit_read}
+use Rattle.settling.specs.Rest.{IsResting, IsAtRest}
 use Rattle.settling.specs.Settles.{SettlesTo}
 use Rattle.settling.proofs.Lists.{Each, each_weaker, each_from, here_that}
-use Rattle.settling.proofs.Goes.{Goes, goes_none, goes_on}
+use Rattle.settling.proofs.Goes.{Goes, goes_none}
 use Rattle.settling.proofs.Around.{at, IsIdle}
 use Rattle.settling.proofs.Stages.{put_here}
 use Rattle.settling.proofs.Primed.{resting_idle}
-use Rattle.settling.proofs.Found.{IsSplit, split_at, none_that, served_nowhere}
+use Rattle.settling.proofs.Found.{split_at, none_that, served_nowhere}
 use Rattle.settling.proofs.Issued.{mine_of, issued, answered_here, settles_there}
 use Rattle.settling.proofs.Served.{snap_of, each_here, served_settles}
 

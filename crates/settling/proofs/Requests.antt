@@ -1,5 +1,5 @@
 -- Each request that is submitted to a volume at rest settles to its big step; and a volume settles to one thing alone.
-use Rattle.std.proofs.Common.{◌≡◌, ℕ, zero, suc, ◌+◌, ◌*◌, ◌<◌, ◌≤◌, List, length, map, Option, Some, None, arith, refl, ap, ◌∙◌, sym}
+use Rattle.std.proofs.Common.{◌≡◌, ℕ, zero, suc, ◌+◌, ◌<◌, ◌≤◌, Option, Some, None, arith, refl, ap, ◌∙◌, sym}
 use Rattle.std.specs.List.{All}
 use Rattle.sector.specs.declared.range.Range.{Range}
 use Rattle.chunk.specs.Pieces.{span_of}
@@ -10,7 +10,7 @@ use Rattle.plain.specs.declared.request.Dev.TheVariants.{Origin, Snap}
 use Rattle.plain.specs.declared.request.Op.{Op}
 use Rattle.plain.specs.declared.request.Op.TheVariants.{Read, Write}
 use Rattle.settling.specs.Pieces.{Answered}
-use Rattle.settling.specs.Held.{Held, Moving}
+use Rattle.settling.specs.Held.{Moving}
 use Rattle.settling.specs.Due.{due}
 use Rattle.settling.specs.Stepping.{for_some, stepped}
 use Rattle.settling.specs.Submitting.{submitted}
@@ -22,7 +22,7 @@ use Rattle.settling.proofs.ReadsSettle.{origin_read_settles, snap_read_settles}
 use Rattle.settling.proofs.SnapWritesSettle.{snap_write_settles}
 
 settles_by : (sectors number : ℕ) (dev : Dev) (op : Op) (range : Range) (v : Moving) → IsAtRest sectors v → 0 < range.count → range.first + range.count ≤ sectors → FitsRange op range.count → All (IsInChunk range) v.snaps →
-  SettlesTo sectors (submitted number (record { dev = dev; op = op; range = range }) v) (answered_by dev op (span_of range) (volume_of v))
+    SettlesTo sectors (submitted number (record { dev = dev; op = op; range = range }) v) (answered_by dev op (span_of range) (volume_of v))
 settles_by sectors number Origin Read range v rest some inside bytes chunks = origin_read_settles sectors number range v rest
 settles_by sectors number Origin (Write data_written) range v rest some inside bytes chunks = origin_write_settles sectors number range data_written v rest some inside bytes
 settles_by sectors number (Snap n) Read range v rest some inside bytes chunks = snap_read_settles sectors number n range v rest

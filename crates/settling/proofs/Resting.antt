@@ -1,25 +1,23 @@
 -- A snapshot whose copy came to its end is at rest again.
-use Rattle.std.proofs.Common.{◌≡◌, ◌⊎◌, inl, inr, ℕ, ◌+◌, ◌*◌, ◌/◌, ◌%◌, ◌<◌, ◌≤◌, Bool, true, false, List, [], ◌∷◌, ◌++◌, length, max, arith, refl, ap, ◌∙◌, sym, subst}
-use Rattle.std.specs.Prelude.{◌==◌, Some, None, is_some, if◌then◌else◌}
+use Rattle.std.proofs.Common.{◌≡◌, inl, inr, ℕ, ◌+◌, ◌*◌, ◌/◌, ◌%◌, ◌<◌, ◌≤◌, true, false, List, [], ◌∷◌, ◌++◌, length, map, max, arith, refl, ap, ◌∙◌, sym, subst}
+use Rattle.std.specs.Prelude.{◌==◌, if◌then◌else◌}
 use Rattle.std.proofs.lemmas.Bool.{cases_Bool, cond-true, cond-false}
 use Rattle.sector.specs.declared.pair.Pair.{Pair}
 use Rattle.device.specs.declared.operation.Operation.{Operation}
 use Rattle.device.specs.declared.operation.Operation.TheVariants.{Writes}
 use Rattle.model.specs.Places.{area_place, is_area_place}
 use Rattle.model.specs.Pairs.{pairs_of}
-use Rattle.model.specs.NextPlace.{stepped}
-use Rattle.model.specs.Picture.{place_of}
+use Rattle.model.specs.NextPlace.{IsNextPlace, stepped}
 use Rattle.pending.specs.Copies.{count_of}
-use Rattle.settled.specs.Saves.{Saving as Stored, greatest, next_of, pairs_after, copied, zeroed, paired, saved}
-use Rattle.settled.specs.Order.{IsInOrder}
+use Rattle.settled.specs.Saves.{Saving as Stored, greatest, next_of, copied, zeroed, paired, saved}
 use Rattle.settled.proofs.Saved.{AfterSaving, IsSavedTo}
+use Rattle.settled.proofs.Nexts.{next_of_is}
 use Rattle.settled.proofs.Laws.{saving_law}
 use Rattle.settling.specs.Devices.{Device, answers, written_by}
 use Rattle.settling.specs.Snaps.{Snap}
 use Rattle.settling.specs.Saving.{spoilt, write_then, write_pair, lacks_area, commit, copy, next_place, is_full, has_chunk}
 use Rattle.settling.specs.Held.{Held}
-use Rattle.settling.specs.Rest.{IsKept, IsResting}
-use Rattle.settling.proofs.Around.{IsIdle}
+use Rattle.settling.specs.Rest.{IsKept}
 use Rattle.settling.proofs.Saves.{chunk_read, stored_of, save_live}
 
 -- what neither a write nor a spoil changes: the number, and the sectors of a chunk
@@ -45,7 +43,7 @@ module _ (f : Snap → ℕ) (stores : (t : Snap) (device : Device) → f (record
     ]
   ]
 
-  copy_keeps : (disk : List ℕ) (q : Pair) (s : Snap) → f (copy disk q s) ≡ f s
+  pub copy_keeps : (disk : List ℕ) (q : Pair) (s : Snap) → f (copy disk q s) ≡ f s
   copy_keeps disk q s = write_keeps s q.new (count_of s.chunk (length disk / 512) q.old) (copied s.chunk disk s.store.bytes q.old q.new) (commit (length (pairs_of s.chunk s.store.bytes)) q) (commit_keeps (length (pairs_of s.chunk s.store.bytes)) q)
 
 -- the next place after one more pair
@@ -65,6 +63,14 @@ next_more chunk ps q is =
     let more = greatest_more ps q in
     let same : greatest (ps ++ q ∷ []) ≡ q.new = omega arith in
     ap (λ g. stepped chunk (g + 1)) same
+
+-- the next place of a store that was loaded
+pub next_place_is : (chunk n : ℕ) (ps : List Pair) → 0 < chunk → IsNextPlace chunk (map (λ p. p.new) ps) n → n ≡ next_of chunk ps
+next_place_is chunk n ps pos is =
+    let other = next_of_is chunk ps pos in
+    let below : n ≤ next_of chunk ps = is.least (next_of chunk ps) other.low other.free other.past in
+    let above : next_of chunk ps ≤ n = other.least n is.low is.free is.past in
+    omega arith
 
 module _ (sectors c : ℕ) (origin : Device) (h held : Held) where
   abbrev pub next_pair : Pair

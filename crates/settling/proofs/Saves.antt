@@ -1,6 +1,6 @@
 -- Saving a chunk on devices that may fail, case by case; where the snapshot stays live, it is saved as `settled` has it.
-use Rattle.std.proofs.Common.{◌≡◌, ◌⊎◌, inl, inr, ℕ, ◌+◌, ◌*◌, ◌/◌, ◌%◌, Bool, true, false, List, [], ◌∷◌, length, refl, ap, ◌∙◌, sym}
-use Rattle.std.specs.Prelude.{◌==◌, ◌||◌, not, is_some, if◌then◌else◌, nat_lt}
+use Rattle.std.proofs.Common.{◌≡◌, inl, inr, ℕ, ◌+◌, ◌*◌, ◌/◌, ◌%◌, Bool, true, false, List, length, ap, ◌∙◌, sym}
+use Rattle.std.specs.Prelude.{◌==◌, ◌||◌, not, if◌then◌else◌}
 use Rattle.std.proofs.lemmas.Bool.{cases_Bool, cond-true, cond-false, true≢false}
 use Rattle.sector.specs.declared.pair.Pair.{Pair}
 use Rattle.device.specs.declared.operation.Operation.{Operation}
@@ -8,12 +8,11 @@ use Rattle.device.specs.declared.operation.Operation.TheVariants.{Reads, Writes}
 use Rattle.device.specs.Layers.{layers_after}
 use Rattle.model.specs.Places.{area_place}
 use Rattle.model.specs.Pairs.{pairs_of}
-use Rattle.model.specs.Picture.{place_of}
 use Rattle.pending.specs.Copies.{count_of}
-use Rattle.settled.specs.Saves.{Saving as Stored, marked, copied, zeroed, paired, committed, saved, spoilt as marked_store, next_of}
+use Rattle.settled.specs.Saves.{Saving as Stored, copied, zeroed, paired, committed, saved}
 use Rattle.settling.specs.Devices.{Device, sectors_of, answers, met, written_by}
 use Rattle.settling.specs.Snaps.{Snap}
-use Rattle.settling.specs.Saving.{Saving, spoilt, write_then, write_pair, lacks_area, commit, copy, next_place, is_full, has_chunk, save}
+use Rattle.settling.specs.Saving.{spoilt, write_then, write_pair, lacks_area, commit, copy, next_place, is_full, has_chunk, save}
 
 pub saves_nothing : (c : ℕ) (origin : Device) (s : Snap) → (not s.live || has_chunk c s) ≡ true → save c origin s ≡ record { origin = origin; snap = s }
 unfolding save
@@ -80,7 +79,7 @@ copy_live disk q s on live =
 
 -- a live snapshot that lacks the chunk, and has room for it
 pub save_live : (c : ℕ) (origin : Device) (s : Snap) → s.live ≡ true → has_chunk c s ≡ false → is_full s ≡ false →
-  (if answers origin (chunk_read c origin s) then copy origin.bytes (record { old = c; new = next_place s }) s else spoilt s).live ≡ true → stored_of (if answers origin (chunk_read c origin s) then copy origin.bytes (record { old = c; new = next_place s }) s else spoilt s) ≡ saved s.chunk origin.bytes s.store.bytes c
+    (if answers origin (chunk_read c origin s) then copy origin.bytes (record { old = c; new = next_place s }) s else spoilt s).live ≡ true → stored_of (if answers origin (chunk_read c origin s) then copy origin.bytes (record { old = c; new = next_place s }) s else spoilt s) ≡ saved s.chunk origin.bytes s.store.bytes c
 unfolding saved
 save_live c origin s on lacks room live =
     let q : Pair = record { old = c; new = next_place s } in

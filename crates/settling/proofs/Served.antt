@@ -1,9 +1,9 @@
 -- A request to one snapshot: what is left of the volume is what the big step leaves of that snapshot.
-use Rattle.std.proofs.Common.{◌≡◌, ◌⊎◌, inl, inr, ℕ, ◌*◌, Bool, true, false, List, [], ◌∷◌, ◌++◌, length, map, Option, Some, None, refl, ap, ◌∙◌, sym, subst}
+use Rattle.std.proofs.Common.{◌≡◌, ℕ, ◌*◌, true, false, List, [], ◌∷◌, ◌++◌, length, map, Some, refl, ap, ◌∙◌, sym}
 use Rattle.std.specs.Prelude.{◌==◌}
 use Rattle.plain.specs.declared.request.Reply.{Reply}
 use Rattle.settling.specs.Devices.{Device}
-use Rattle.settling.specs.Snaps.{Snap, Volume}
+use Rattle.settling.specs.Snaps.{Snap}
 use Rattle.settling.specs.Pieces.{Answered, Served, in_snap}
 use Rattle.settling.specs.Held.{Held, Moving}
 use Rattle.settling.specs.Rest.{IsResting}
@@ -39,8 +39,8 @@ module _ (P : Held → Type 0) where
   each_joined (d ∷ done) rest h before here later = (before.0, each_joined done rest h before.1 here later)
 
 pub served_settles : (sectors number : ℕ) (serve : Device → Snap → Served) (origin origin' : Device) (done rest : List Held) (h h' : Held) (reply : Reply) (k : ℕ) (u v : Moving) →
-  Each (λ (d : Held). (d.snap.number == number) ≡ false) done → (h.snap.number == number) ≡ true → Each (IsResting sectors) (done ++ h ∷ rest) → IsResting sectors h' → length origin'.bytes ≡ 512 * sectors →
-  serve origin h.snap ≡ record { origin = origin'; snap = h'.snap; reply = reply } → u ≡ v → Goes v (at origin' (done ++ h' ∷ rest) [] (Some reply) k) → SettlesTo sectors u (in_snap number serve origin (map snap_of (done ++ h ∷ rest)))
+    Each (λ (d : Held). (d.snap.number == number) ≡ false) done → (h.snap.number == number) ≡ true → Each (IsResting sectors) (done ++ h ∷ rest) → IsResting sectors h' → length origin'.bytes ≡ 512 * sectors →
+    serve origin h.snap ≡ record { origin = origin'; snap = h'.snap; reply = reply } → u ≡ v → Goes v (at origin' (done ++ h' ∷ rest) [] (Some reply) k) → SettlesTo sectors u (in_snap number serve origin (map snap_of (done ++ h ∷ rest)))
 served_settles sectors number serve origin origin' done rest h h' reply k u v before pass all resting whole is begun goes =
     let made : Served → Answered = λ (a : Served). record { volume = record { origin = a.origin; snaps = map snap_of done ++ a.snap ∷ map snap_of rest }; reply = a.reply } in
     let put : List Snap → Answered = λ (ss : List Snap). record { volume = record { origin = origin'; snaps = ss }; reply = reply } in

@@ -1,13 +1,13 @@
 -- A write of a snapshot, submitted to a volume at rest, settles to the big step.
-use Rattle.std.proofs.Common.{◌≡◌, ◌⊎◌, inl, inr, ℕ, ◌+◌, ◌*◌, ◌/◌, ◌%◌, ◌<◌, ◌≤◌, Bool, true, false, List, [], ◌∷◌, ◌++◌, length, map, Option, Some, None, arith, refl, ap, ◌∙◌, sym, subst, eq-eqb, eqb-true}
-use Rattle.std.specs.Prelude.{◌==◌, ◌&&◌, ◌||◌, not, is_some, nat_lt, if◌then◌else◌}
-use Rattle.std.specs.List.{All, list_any}
+use Rattle.std.proofs.Common.{◌≡◌, inl, inr, ℕ, ◌+◌, ◌*◌, ◌/◌, ◌%◌, ◌<◌, ◌≤◌, Bool, true, false, List, [], ◌∷◌, ◌++◌, length, map, Option, Some, None, arith, refl, ap, ◌∙◌, sym, subst, eq-eqb, eqb-true}
+use Rattle.std.specs.Prelude.{◌==◌, ◌||◌, not, is_some, nat_lt, if◌then◌else◌}
+use Rattle.std.specs.List.{All}
 use Rattle.std.proofs.lemmas.Bool.{cases_Bool, cond-true, cond-false, true≢false}
 use Rattle.sector.specs.Bytes.{with_sectors}
 use Rattle.sector.specs.declared.pair.Pair.{Pair}
 use Rattle.sector.specs.declared.range.Range.{Range}
 use Rattle.device.specs.declared.operation.Operation.TheVariants.{Writes}
-use Rattle.chunk.specs.Pieces.{Span, span_of}
+use Rattle.chunk.specs.Pieces.{span_of}
 use Rattle.plain.specs.declared.request.Request.{Request}
 use Rattle.plain.specs.declared.request.Dev.TheVariants.{Snap as ToSnap}
 use Rattle.plain.specs.declared.request.Op.TheVariants.{Write}
@@ -15,11 +15,10 @@ use Rattle.plain.specs.declared.request.Reply.{Reply}
 use Rattle.plain.specs.declared.request.Reply.TheVariants.{Refused as Declined}
 use Rattle.plain.specs.declared.request.Failure.TheVariants.{Invalid}
 use Rattle.model.specs.NextPlace.{stepped}
-use Rattle.model.specs.Pairs.{pairs_of}
 use Rattle.model.specs.Picture.{place_of}
 use Rattle.model.proofs.Pictures.{place-pushed}
 use Rattle.pending.specs.Due.{least}
-use Rattle.pending.specs.Routes.{placed_route_of, refused_route_of}
+use Rattle.pending.specs.Routes.{placed_route_of}
 use Rattle.pending.specs.declared.copies.Stage.TheVariants.{Waiting}
 use Rattle.pending.specs.declared.copies.Mark.{Mark}
 use Rattle.pending.specs.declared.flights.Kind.TheVariants.{SnapWrite}
@@ -31,24 +30,24 @@ use Rattle.volume_laws.specs.Again.{published_place}
 use Rattle.settling.specs.Devices.{Device, met, written_by}
 use Rattle.settling.specs.Snaps.{Snap}
 use Rattle.settling.specs.Saving.{Saving, spoilt, next_place, is_full, has_chunk, save}
-use Rattle.settling.specs.Pieces.{Answered, Served, write_snap, write_saved, write_place, in_snap}
-use Rattle.settling.specs.Held.{Copying, Held, Going, Moving, with_store, spoiled}
+use Rattle.settling.specs.Pieces.{Served, write_snap, write_saved, write_place, in_snap}
+use Rattle.settling.specs.Held.{Held, Going, Moving, with_store, spoiled}
 use Rattle.settling.specs.Due.{copy_at, least_in}
-use Rattle.settling.specs.Again.{again, placed, refused}
-use Rattle.settling.specs.Stepping.{for_some, first_that, answer, issue, on_store, put, write_reply}
+use Rattle.settling.specs.Again.{again}
+use Rattle.settling.specs.Stepping.{for_some, answer, on_store, write_reply}
 use Rattle.settling.specs.Submitting.{submitted, accepted, declined, is_filled, with_copy, write_placed, write_snap as submit_write}
 use Rattle.settling.specs.Rest.{IsKept, IsResting, IsAtRest}
 use Rattle.settling.specs.Settles.{SettlesTo}
 use Rattle.settling.proofs.Lists.{Each, each_weaker, each_from, here_that, none_least}
 use Rattle.settling.proofs.Goes.{Goes, goes_none, goes_on}
 use Rattle.settling.proofs.Around.{at, IsIdle, IsLater, idle_later}
-use Rattle.settling.proofs.Stages.{holding, copying, put_here, marks_here}
+use Rattle.settling.proofs.Stages.{put_here, marks_here}
 use Rattle.settling.proofs.Ends.{Ends, IsUnread, requests_after, ends_read}
 use Rattle.settling.proofs.Saves.{saves_nothing, saves_full, saves_copy, chunk_read}
 use Rattle.settling.proofs.Resting.{rests_live, saved_snap, saved_chunk, saved_number}
 use Rattle.settling.proofs.Clears.{and_last}
 use Rattle.settling.proofs.Primed.{tried_of, resting_idle}
-use Rattle.settling.proofs.OriginWrites.{next_same, copy_bytes, as_holding, is_none}
+use Rattle.settling.proofs.OriginWrites.{next_same, copy_bytes, as_holding}
 use Rattle.settling.proofs.Found.{split_at, none_that, served_nowhere}
 use Rattle.settling.proofs.Issued.{mine_of, issued, answered_here, settles_there}
 use Rattle.settling.proofs.Served.{snap_of, each_first, each_here, each_last, each_joined, served_settles}
@@ -77,7 +76,7 @@ module _ (sectors number n : ℕ) (range : Range) (bytes : List ℕ) where
 
   -- a write that is routed to its chunk's place
   place_goes : (origin : Device) (done rest : List Held) (h : Held) (place : ℕ) (a : Option Reply) (k : ℕ) → Each IsIdle (done ++ h ∷ rest) → Each (λ d. is_this d ≡ false) done → is_this h ≡ true →
-    Goes (at origin (done ++ h ∷ rest) (routed (Store place) ∷ []) a k) (at origin (done ++ after_place h place ∷ rest) [] (Some (place_reply h place)) k)
+      Goes (at origin (done ++ h ∷ rest) (routed (Store place) ∷ []) a k) (at origin (done ++ after_place h place ∷ rest) [] (Some (place_reply h place)) k)
   place_goes origin done rest h place a k idle before pass =
       let r : Going = routed (Store place) in
       let v : Moving = at origin (done ++ h ∷ rest) (r ∷ []) a k in
@@ -303,7 +302,7 @@ module _ (sectors number n : ℕ) (range : Range) (bytes : List ℕ) where
 
 -- the range lies inside one chunk of each snapshot
 pub snap_write_settles : (sectors number n : ℕ) (range : Range) (bytes : List ℕ) (v : Moving) → IsAtRest sectors v → range.first < sectors → length bytes ≡ 512 * range.count → All (λ (h : Held). range.first + range.count ≤ h.snap.chunk * (range.first / h.snap.chunk) + h.snap.chunk) v.snaps →
-  SettlesTo sectors (submitted number (snap_write_request n range bytes) v) (in_snap n (write_snap (span_of range) bytes) v.origin (map snap_of v.snaps))
+    SettlesTo sectors (submitted number (snap_write_request n range bytes) v) (in_snap n (write_snap (span_of range) bytes) v.origin (map snap_of v.snaps))
 snap_write_settles sectors number n range bytes v rest inside len pieces =
     subst (λ (rs : List Going). SettlesTo sectors (submitted number (snap_write_request n range bytes) (at v.origin v.snaps rs v.replied v.started)) (in_snap n (write_snap (span_of range) bytes) v.origin (map snap_of v.snaps))) (sym rest.requests)
     (write_all sectors number n range bytes v.origin v.replied v.started rest.whole inside len v.snaps (each_from (IsResting sectors) v.snaps rest.snaps)

@@ -1,7 +1,7 @@
 -- One snapshot's copy, event by event: each event is due where the snapshots before it are idle and those after it wait, and
 -- what it does.
-use Rattle.std.proofs.Common.{◌≡◌, ℕ, ◌+◌, ◌*◌, ◌/◌, ◌%◌, Bool, true, false, List, [], ◌∷◌, ◌++◌, length, map, Option, Some, None, refl, ap, ◌∙◌, sym, eq-eqb}
-use Rattle.std.specs.Prelude.{◌==◌, ◌&&◌, not, if◌then◌else◌}
+use Rattle.std.proofs.Common.{◌≡◌, ℕ, ◌+◌, ◌*◌, ◌/◌, ◌%◌, Bool, true, false, List, [], ◌∷◌, ◌++◌, length, map, Option, Some, refl, ap, ◌∙◌, eq-eqb}
+use Rattle.std.specs.Prelude.{◌==◌, ◌&&◌, not}
 use Rattle.std.specs.List.{list_any}
 use Rattle.std.proofs.lemmas.Bool.{cond-true, cond-false}
 use Rattle.sector.specs.Bytes.{sectors_at, with_sectors}
@@ -19,14 +19,14 @@ use Rattle.pending.specs.Due.{least, is_stage}
 use Rattle.settled.specs.Saves.{marked, paired, zeroed}
 use Rattle.settling.specs.Devices.{Device, sectors_of, answers, met, written_by}
 use Rattle.settling.specs.Snaps.{Snap}
-use Rattle.settling.specs.Saving.{lacks_area, spoilt}
+use Rattle.settling.specs.Saving.{lacks_area}
 use Rattle.settling.specs.Held.{Copying, Held, Going, Moving, with_store, spoiled}
-use Rattle.settling.specs.Due.{can_commit, can_zero, copy_at, is_reading, publishable_in, is_publishable, least_in, due}
+use Rattle.settling.specs.Due.{can_commit, can_zero, copy_at, is_reading, is_publishable, least_in, due}
 use Rattle.settling.specs.Again.{again, placed, refused, rerouted}
-use Rattle.settling.specs.Stepping.{for_some, first_that, with_first, put, spoil, store_write, read_copy, write_copy, zero_next, commit_first, publish, mark_invalid, is_copy, on_copy, on_snap, stepped}
-use Rattle.settling.proofs.Lists.{Each, each_weaker, here_that, here_with}
+use Rattle.settling.specs.Stepping.{for_some, first_that, with_first, put, spoil, store_write, read_copy, write_copy, zero_next, commit_first, publish, mark_invalid, is_copy, on_copy, on_snap}
+use Rattle.settling.proofs.Lists.{same_number, Each, each_weaker, here_that, here_with}
 use Rattle.settling.proofs.Goes.{Goes, goes_step}
-use Rattle.settling.proofs.Around.{at, IsIdle, IsLater, idle_later, due_invalid, due_publish, due_area, due_zeros, due_write, due_read}
+use Rattle.settling.proofs.Around.{at, IsIdle, IsLater, due_invalid, due_publish, due_area, due_zeros, due_write, due_read}
 
 -- a live snapshot with these copies and marks
 abbrev pub holding : Snap → List Pair → ℕ → Bool → List Copying → List Mark → Held
@@ -35,13 +35,6 @@ holding s pairs next zeroed copies marks = record { snap = s; untried = false; p
 -- a copy
 abbrev pub copying : ℕ → Pair → Stage → List ℕ → Copying
 copying n pair stage bytes = record { number = n; pair = pair; stage = stage; bytes = bytes }
-
--- a number is itself
-same_number : (n : ℕ) (b : Bool) → ((n == n) && b) ≡ b
-same_number n b = rw (eq-eqb n n refl) refl
-
-or_false : (b : Bool) → b ≡ true → list_any (λ (x : Bool). x) (b ∷ []) ≡ true
-or_false b e = rw e refl
 
 module _ (origin : Device) (done rest : List Held) (rs : List Going) (a : Option Reply) (k : ℕ) where
   module _ (test : Held → Bool) (h : Held) (before : Each (λ d. test d ≡ false) done) (pass : test h ≡ true) where
@@ -63,7 +56,7 @@ module _ (origin : Device) (done rest : List Held) (rs : List Going) (a : Option
 
   -- the mark of a spoiled snapshot
   pub marks_here : (h : Held) → Each (λ d. d.untried ≡ false) done → h.untried ≡ true → (let after : Held = record h { snap = record h.snap { store = written_by h.snap.store (Writes 0 h.snap.chunk) (marked h.snap.chunk h.snap.store.bytes); stale = not (answers h.snap.store (Writes 0 h.snap.chunk)) }; untried = false } in
-    Goes (at origin (done ++ h ∷ rest) rs a k) (at origin (done ++ after ∷ rest) (map (again (done ++ after ∷ rest)) rs) a k))
+      Goes (at origin (done ++ h ∷ rest) rs a k) (at origin (done ++ after ∷ rest) (map (again (done ++ after ∷ rest)) rs) a k))
   marks_here h before is =
       let test : Held → Bool = λ d. (d.snap.number == h.snap.number) && d.untried in
       let fails : Each (λ d. test d ≡ false) done = each_weaker (λ (d : Held). d.untried ≡ false) (λ d. test d ≡ false) done (λ d e. and_no (d.snap.number == h.snap.number) d.untried e) before in
@@ -92,7 +85,7 @@ module _ (done rest : List Held) (a : Option Reply) (k : ℕ) (s : Snap) (ps : L
   no_copy stage = each_weaker IsIdle (λ d. list_any (is_copy stage n) d.copies ≡ false) done (λ d i. rw i.copies refl) before
 
   on_this_copy : (stage : Stage) (bytes : List ℕ) → is_stage stage stage ≡ true → (origin : Device) (rs : List Going) (f : (Held → Bool) → (Copying → Bool) → Held → Copying → Moving → Moving) →
-    on_copy stage n f (at origin (done ++ with_stage stage bytes ∷ rest) rs a k) ≡ f (λ d. list_any (is_copy stage n) d.copies) (is_copy stage n) (with_stage stage bytes) (copying n q stage bytes) (at origin (done ++ with_stage stage bytes ∷ rest) rs a k)
+      on_copy stage n f (at origin (done ++ with_stage stage bytes ∷ rest) rs a k) ≡ f (λ d. list_any (is_copy stage n) d.copies) (is_copy stage n) (with_stage stage bytes) (copying n q stage bytes) (at origin (done ++ with_stage stage bytes ∷ rest) rs a k)
   on_this_copy stage bytes same origin rs f =
       let v : Moving = at origin (done ++ with_stage stage bytes ∷ rest) rs a k in
       let test : Held → Bool = λ d. list_any (is_copy stage n) d.copies in
@@ -132,7 +125,7 @@ module _ (done rest : List Held) (a : Option Reply) (k : ℕ) (s : Snap) (ps : L
   store_after op bytes = record s { store = written_by s.store op bytes }
 
   pub writes_done : (origin : Device) (rs : List Going) (bytes : List ℕ) → answers s.store (write_op origin) ≡ true →
-    Goes (at origin (done ++ with_stage Read bytes ∷ rest) rs a k) (at origin (done ++ holding (store_after (write_op origin) (with_sectors s.store.bytes (s.chunk * q.new) bytes)) ps nx z (copying n q Written bytes ∷ []) [] ∷ rest) rs a k)
+      Goes (at origin (done ++ with_stage Read bytes ∷ rest) rs a k) (at origin (done ++ holding (store_after (write_op origin) (with_sectors s.store.bytes (s.chunk * q.new) bytes)) ps nx z (copying n q Written bytes ∷ []) [] ∷ rest) rs a k)
   writes_done origin rs bytes ok =
       let test : Held → Bool = λ d. list_any (is_copy Read n) d.copies in
       let now : Snap = store_after (write_op origin) (with_sectors s.store.bytes (s.chunk * q.new) bytes) in
@@ -143,7 +136,7 @@ module _ (done rest : List Held) (a : Option Reply) (k : ℕ) (s : Snap) (ps : L
       ∙ ap (λ cs. at origin (done ++ holding now ps nx z cs [] ∷ rest) rs a k) (cond-true _ _ _ (is_mine Read n q bytes refl)))
 
   pub writes_failed : (origin : Device) (rs : List Going) (bytes : List ℕ) → answers s.store (write_op origin) ≡ false →
-    Goes (at origin (done ++ with_stage Read bytes ∷ rest) rs a k) (at origin (done ++ spoiled (with_store (with_stage Read bytes) (written_by s.store (write_op origin) (with_sectors s.store.bytes (s.chunk * q.new) bytes))) ∷ rest) (map (refused s.number) rs) a k)
+      Goes (at origin (done ++ with_stage Read bytes ∷ rest) rs a k) (at origin (done ++ spoiled (with_store (with_stage Read bytes) (written_by s.store (write_op origin) (with_sectors s.store.bytes (s.chunk * q.new) bytes))) ∷ rest) (map (refused s.number) rs) a k)
   writes_failed origin rs bytes failed =
       let test : Held → Bool = λ d. list_any (is_copy Read n) d.copies in
       goes_step _ _ (CopyWrite n) (due_write origin done rest (with_stage Read bytes) rs a k before later n refl refl refl refl)
@@ -244,7 +237,7 @@ module _ (done rest : List Held) (a : Option Reply) (k : ℕ) (s : Snap) (ps : L
   idle_here = holding s ps nx z [] []
 
   pub publishes : (origin : Device) (rs : List Going) → ((h : Held) (c : ℕ) → list_any (is_reading h c) rs ≡ false) →
-    Goes (at origin (done ++ holding s ps nx z [] (mark_here ∷ []) ∷ rest) rs a k) (at origin (done ++ idle_here ∷ rest) (map (again (done ++ idle_here ∷ rest)) (map (placed idle_here) rs)) a k)
+      Goes (at origin (done ++ holding s ps nx z [] (mark_here ∷ []) ∷ rest) rs a k) (at origin (done ++ idle_here ∷ rest) (map (again (done ++ idle_here ∷ rest)) (map (placed idle_here) rs)) a k)
   publishes origin rs unread =
       let h : Held = holding s ps nx z [] (mark_here ∷ []) in
       let free : is_publishable rs h mark_here ≡ true = rw (unread h q.old) refl in

@@ -1,26 +1,26 @@
 -- The event that is due first is that of `volume_laws`; and the first element that passes a test is the one at its place.
-use Rattle.std.proofs.Common.{◌≡◌, ◌⊎◌, inl, inr, ℕ, zero, suc, ◌+◌, ◌/◌, ◌<◌, Bool, true, false, List, [], ◌∷◌, length, map, get_or, set, Option, Some, None, arith, refl, ap, ◌∙◌, sym}
-use Rattle.std.specs.Prelude.{◌==◌, ◌&&◌, ◌||◌, not, if◌then◌else◌}
-use Rattle.std.specs.List.{list_any, position}
-use Rattle.std.proofs.lemmas.Bool.{cases_Bool, cond-true, cond-false}
-use Rattle.std.proofs.lemmas.List.Quantifiers.{position-Some}
-use Rattle.plain.specs.declared.event.Event.{Event}
+use Rattle.std.proofs.Common.{◌≡◌, inl, inr, ℕ, Bool, false, List, [], ◌∷◌, map, Option, Some, None, refl, ap, ◌∙◌, sym}
+use Rattle.std.specs.Prelude.{◌&&◌, ◌||◌, not, if◌then◌else◌}
+use Rattle.std.specs.List.{list_any, list_all}
+use Rattle.std.proofs.lemmas.Bool.{cases_Bool}
 use Rattle.plain.specs.declared.request.Reply.{Reply}
 use Rattle.pending.specs.Kinds.{kind_of}
-use Rattle.pending.specs.Routes.{reads_origin_of, is_reading as is_being_read}
+use Rattle.pending.specs.Routes.{refused_of, again_route_of, write_route_of}
 use Rattle.pending.specs.Due.{first_by, least, front_written, is_copy_at, number_of_copy, number_of_mark, number_of_flight, is_publishable as can_publish, is_issuable as can_issue}
 use Rattle.pending.specs.declared.copies.Stage.{Stage}
 use Rattle.pending.specs.declared.copies.Stage.TheVariants.{Waiting, Read}
 use Rattle.pending.specs.declared.copies.ChunkCopy.{ChunkCopy}
-use Rattle.pending.specs.declared.copies.Mark.{Mark}
 use Rattle.pending.specs.declared.flights.Flight.{Flight}
 use Rattle.volume_laws.specs.Due.{DueSnap, snap_number, is_untried as untried_in, can_commit as commits, can_zero as zeroes, copy_of, publishable_of, least_of, due_of}
+use Rattle.volume_laws.specs.Published.{is_saved as is_saved_in, is_clear as is_clear_in}
+use Rattle.volume_laws.specs.Again.{placed_of, again_of}
 use Rattle.settling.specs.Devices.{Device}
 use Rattle.settling.specs.Held.{Held, Going, number_of, is_untried}
 use Rattle.settling.specs.Due.{is_front_written, can_commit, can_zero, is_at, number_of_copying, copy_at, is_reading, is_publishable, publishable_in, is_issuable, number_of_going, least_in, chosen, due}
-use Rattle.settling.specs.Stepping.{first_that, with_first}
+use Rattle.settling.specs.Again.{again, placed, refused, is_saved, is_clear}
 use Rattle.settling.specs.Seen.{Seen, copying_of, going_of, held_of, due_in, moving_of, NeedsAsSeen}
 use Rattle.settling.proofs.Lists.{Each}
+use Rattle.settling.proofs.Around.{at}
 
 -- a test and a number that are seen alike
 first_by_map : {X Y : Type 0} (f : X → Y) (test : Y → Bool) (test' : X → Bool) (number : Y → ℕ) (number' : X → ℕ) (xs : List X) → Each (λ x. test (f x) ≡ test' x) xs → ((x : X) → number (f x) ≡ number' x) → first_by test number (map f xs) ≡ first_by test' number' xs
@@ -99,20 +99,39 @@ due_tied origin snaps fs a k needs =
     ∙ ap (chosen (first_by untried_in snap_number ds) (least_of (publishable_of fs) ds) (first_by commits snap_number ds) (first_by zeroes snap_number ds) (least_of (copy_of Read) ds) (least_of (copy_of Waiting) ds))
     (first_by_map going_of is_issuable can_issue number_of_going number_of_flight fs (each_all (λ f. is_issuable (going_of f) ≡ can_issue f) fs (λ f. refl)) (λ f. refl))
 
--- the first element that passes, by its place
-module _ {X : Type 0} (test : X → Bool) where
-  first_at : (xs : List X) (k : ℕ) (d : X) → k < length xs → test (get_or xs k d) ≡ true → ((j : ℕ) → j < k → test (get_or xs j d) ≡ false) → first_that test xs ≡ Some (get_or xs k d)
-  first_at [] k d lt pass before = absurd (omega arith)
-  first_at (x ∷ xs) zero d lt pass before = cond-true _ _ _ pass
-  first_at (x ∷ xs) (suc k) d lt pass before = cond-false _ _ _ (before 0 (omega arith)) ∙ first_at xs k d (omega arith) pass (λ j lt. before (suc j) (omega arith))
+-- requests that are routed again are seen alike
+seen_alike : (g : Going → Going) (h : Flight → Flight) (fs : List Flight) → ((f : Flight) → g (going_of f) ≡ going_of (h f)) → map g (map going_of fs) ≡ map going_of (map h fs)
+seen_alike g h [] same = refl
+seen_alike g h (f ∷ fs) same = ap (λ r. r ∷ map g (map going_of fs)) (same f) ∙ ap (λ rs. going_of (h f) ∷ rs) (seen_alike g h fs same)
 
-  set_at : (y : X) (xs : List X) (k : ℕ) (d : X) → k < length xs → test (get_or xs k d) ≡ true → ((j : ℕ) → j < k → test (get_or xs j d) ≡ false) → with_first test y xs ≡ set xs k y
-  set_at y [] k d lt pass before = absurd (omega arith)
-  set_at y (x ∷ xs) zero d lt pass before = cond-true _ _ _ pass
-  set_at y (x ∷ xs) (suc k) d lt pass before = cond-false _ _ _ (before 0 (omega arith)) ∙ ap (λ zs. x ∷ zs) (set_at y xs k d (omega arith) pass (λ j lt. before (suc j) (omega arith)))
+pub refused_seen : (number : ℕ) (fs : List Flight) → map (refused number) (map going_of fs) ≡ map going_of (map (refused_of (number ∷ [])) fs)
+refused_seen number fs = seen_alike (refused number) (refused_of (number ∷ [])) fs (λ f. refl)
 
-  pub that_at : (xs : List X) (k : ℕ) (d : X) → position test xs ≡ Some k → first_that test xs ≡ Some (get_or xs k d)
-  that_at xs k d e = let (lt, pass, before) = position-Some test xs k d e in first_at xs k d lt pass before
+pub placed_seen : (s : Seen) (fs : List Flight) → map (placed (held_of s)) (map going_of fs) ≡ map going_of (map (placed_of s.due.books) fs)
+placed_seen s fs = seen_alike (placed (held_of s)) (placed_of s.due.books) fs (λ f. refl)
 
-  pub with_at : (y : X) (xs : List X) (k : ℕ) (d : X) → position test xs ≡ Some k → with_first test y xs ≡ set xs k y
-  with_at y xs k d e = let (lt, pass, before) = position-Some test xs k d e in set_at y xs k d lt pass before
+saved_seen : (first : ℕ) (snaps : List Seen) → list_all (is_saved first) (map held_of snaps) ≡ list_all (is_saved_in first) (map (λ s. s.due.books) snaps)
+saved_seen first [] = refl
+saved_seen first (s ∷ snaps) = ap (λ b. is_saved first (held_of s) && b) (saved_seen first snaps)
+
+untried_seen : (snaps : List Seen) → list_any is_untried (map held_of snaps) ≡ list_any (λ v. v.untried) (map (λ s. s.due.books) snaps)
+untried_seen [] = refl
+untried_seen (s ∷ snaps) = ap (λ b. s.due.books.untried || b) (untried_seen snaps)
+
+pub clear_seen : (first : ℕ) (snaps : List Seen) → is_clear (map held_of snaps) first ≡ is_clear_in (map (λ s. s.due.books) snaps) first
+clear_seen first snaps = ap (λ b. b && not (list_any is_untried (map held_of snaps))) (saved_seen first snaps) ∙ ap (λ b. list_all (is_saved_in first) (map (λ s. s.due.books) snaps) && not b) (untried_seen snaps)
+
+pub again_seen : (snaps : List Seen) (fs : List Flight) → map (again (map held_of snaps)) (map going_of fs) ≡ map going_of (map (again_of None (is_clear_in (map (λ s. s.due.books) snaps))) fs)
+again_seen snaps fs = seen_alike (again (map held_of snaps)) (again_of None (is_clear_in (map (λ s. s.due.books) snaps))) fs
+    (λ f. ap (λ b. again_with f b) (clear_seen f.request.range.first snaps))
+  where
+    again_with : Flight → Bool → Going
+    again_with f b = record { number = f.number; request = f.request; route = again_route_of (kind_of f.request) f.route (write_route_of false None b) }
+
+-- snapshots of any type that are seen so
+pub moving_is : {K : Type 0} (seen : K → Seen) (origin : Device) (ks : List K) (fs : List Flight) (a : Option Reply) (k : ℕ) → moving_of origin (map seen ks) fs a k ≡ at origin (map (λ s. held_of (seen s)) ks) (map going_of fs) a k
+moving_is seen origin ks fs a k = ap (λ hs. at origin hs (map going_of fs) a k) (all_seen ks)
+  where
+    all_seen : (ks : List _) → map held_of (map seen ks) ≡ map (λ s. held_of (seen s)) ks
+    all_seen [] = refl
+    all_seen (s ∷ ks) = ap (λ hs. held_of (seen s) ∷ hs) (all_seen ks)

@@ -1,34 +1,31 @@
 -- A write of the origin, submitted to a volume at rest, settles to the big step.
-use Rattle.std.proofs.Common.{◌≡◌, ℕ, zero, suc, ◌+◌, ◌*◌, ◌/◌, ◌<◌, ◌≤◌, Bool, true, false, List, [], ◌∷◌, ◌++◌, length, map, Option, Some, None, arith, refl, ap, ◌∙◌, sym, subst, inl, inr}
-use Rattle.std.specs.Prelude.{◌||◌, not, sum_by, if◌then◌else◌}
-use Rattle.std.specs.List.{All}
+use Rattle.std.proofs.Common.{◌≡◌, ℕ, ◌+◌, ◌*◌, ◌/◌, ◌<◌, ◌≤◌, false, List, [], ◌∷◌, ◌++◌, length, map, arith, refl, ap, ◌∙◌, sym, inl, inr}
+use Rattle.std.specs.Prelude.{◌||◌, not, sum_by}
 use Rattle.std.proofs.lemmas.Bool.{cases_Bool, cond-true, cond-false}
-use Rattle.std.proofs.lemmas.List.Elements.{All-nil, All-cons, All-head, All-tail}
 use Rattle.sector.specs.Bytes.{with_sectors}
 use Rattle.sector.specs.declared.range.Range.{Range}
 use Rattle.sector.proofs.Sectors.{length-with_sectors}
 use Rattle.device.specs.declared.operation.Operation.TheVariants.{Writes}
-use Rattle.chunk.specs.Pieces.{Span, span_of}
+use Rattle.chunk.specs.Pieces.{span_of}
 use Rattle.plain.specs.declared.request.Request.{Request}
 use Rattle.plain.specs.declared.request.Dev.TheVariants.{Origin as ToOrigin}
 use Rattle.plain.specs.declared.request.Op.TheVariants.{Write}
 use Rattle.plain.specs.declared.request.Reply.{Reply}
-use Rattle.settling.specs.Devices.{Device, answers, met, written_by}
+use Rattle.settling.specs.Devices.{Device, answers, written_by}
 use Rattle.settling.specs.Snaps.{Snap, Volume}
 use Rattle.settling.specs.Saving.{Saving, is_full, has_chunk, save}
 use Rattle.settling.specs.Pieces.{Answered, save_all, write_origin}
 use Rattle.settling.specs.Held.{Held, Going, Moving}
-use Rattle.settling.specs.Due.{due}
 use Rattle.settling.specs.Stepping.{write_reply}
 use Rattle.settling.specs.Submitting.{started_all, submitted}
 use Rattle.settling.specs.Rest.{IsResting, IsAtRest}
-use Rattle.settling.specs.Settles.{settle, SettlesTo}
+use Rattle.settling.specs.Settles.{SettlesTo}
 use Rattle.settling.proofs.Lists.{Each, each_weaker, each_from}
 use Rattle.settling.proofs.Goes.{goes_on}
 use Rattle.settling.proofs.Around.{at, IsIdle}
 use Rattle.settling.proofs.Issued.{settles_there}
 use Rattle.settling.proofs.Saves.{saves_nothing, saves_full, saves_copy}
-use Rattle.settling.proofs.Primed.{primed, resting_idle}
+use Rattle.settling.proofs.Primed.{resting_idle}
 use Rattle.settling.proofs.OriginWrites.{snap_of, going, route_for, writing, tries_all, Finals, copies_all, issues}
 
 -- a copy's read changes no byte of the origin
@@ -41,7 +38,7 @@ save_bytes c origin s = elim (cases_Bool (not s.live || has_chunk c s)) [
   ]
 ]
 
-save_all_bytes : (first : ℕ) (origin : Device) (snaps : List Snap) → (save_all first origin snaps).origin.bytes ≡ origin.bytes
+pub save_all_bytes : (first : ℕ) (origin : Device) (snaps : List Snap) → (save_all first origin snaps).origin.bytes ≡ origin.bytes
 save_all_bytes first origin [] = refl
 save_all_bytes first origin (s ∷ snaps) = save_all_bytes first (save (first / s.chunk) origin s).origin snaps ∙ save_bytes (first / s.chunk) origin s
 
@@ -57,7 +54,7 @@ abbrev pub write_request : Range → List ℕ → Request
 write_request range bytes = record { dev = ToOrigin; op = Write bytes; range = range }
 
 pub origin_write_settles : (sectors number : ℕ) (range : Range) (bytes : List ℕ) (v : Moving) → IsAtRest sectors v → 0 < range.count → range.first + range.count ≤ sectors → length bytes ≡ 512 * range.count →
-  SettlesTo sectors (submitted number (write_request range bytes) v) (write_origin (span_of range) bytes (record { origin = v.origin; snaps = map (λ (h : Held). h.snap) v.snaps }))
+    SettlesTo sectors (submitted number (write_request range bytes) v) (write_origin (span_of range) bytes (record { origin = v.origin; snaps = map (λ (h : Held). h.snap) v.snaps }))
 origin_write_settles sectors number range bytes v rest some fits len =
     let snaps : List Held = started_all range.first v.started v.snaps in
     let k : ℕ = v.started + sum_by (λ (h : Held). length h.copies) snaps in

@@ -13,3 +13,7 @@ pub mod Rest
 pub mod Settles
 pub mod Requests
 pub mod Seen
+pub mod Running
+pub mod Shown
+pub mod Attaching
+pub mod Moments

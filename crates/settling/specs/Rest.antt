@@ -1,5 +1,5 @@
 -- A volume between two requests.
-use Rattle.std.specs.Prelude.{◌≡◌, ℕ, ◌*◌, true, false, List, [], length}
+use Rattle.std.specs.Prelude.{◌≡◌, ℕ, ◌*◌, true, false, [], length}
 use Rattle.std.specs.List.{All}
 use Rattle.model.specs.Pairs.{pairs_of}
 use Rattle.settled.specs.Saves.{next_of}

@@ -1,7 +1,7 @@
 -- Saving one chunk of the origin for a snapshot, on devices that may fail: at most one read of the origin, one write of the
 -- copy, one of the next area's zeros, and one of the pair's area, each as `settled` has it; the first that fails spoils the
 -- snapshot. The format is that of dm-snap-persistent.c; that a spoiled store is marked is this project's own rule.
-use Rattle.std.specs.Prelude.{◌==◌, ◌||◌, not, ℕ, ◌+◌, ◌*◌, ◌/◌, ◌%◌, nat_lt, is_some, Bool, true, false, List, length, if◌then◌else◌}
+use Rattle.std.specs.Prelude.{◌==◌, ◌||◌, not, ℕ, ◌+◌, ◌*◌, ◌/◌, ◌%◌, nat_lt, is_some, Bool, false, List, length, if◌then◌else◌}
 use Rattle.sector.specs.declared.pair.Pair.{Pair}
 use Rattle.device.specs.declared.operation.Operation.TheVariants.{Reads, Writes}
 use Rattle.model.specs.Places.{area_place}

@@ -1,7 +1,9 @@
 -- What a volume keeps, as `volume_laws` has it, seen as the machine of this crate: without the buffers of copies that wait
 -- and of reads in flight.
-use Rattle.std.specs.Prelude.{◌≡◌, ℕ, Bool, true, List, [], Option, map, if◌then◌else◌}
+use Rattle.std.specs.Prelude.{◌≡◌, ℕ, Bool, true, List, [], Option, Some, map, if◌then◌else◌}
 use Rattle.device.specs.Layers.{Layer}
+use Rattle.plain.specs.declared.event.Outcome.{Outcome}
+use Rattle.plain.specs.declared.event.Outcome.TheVariants.{Done, Fault, Reply as Replied}
 use Rattle.plain.specs.declared.request.Reply.{Reply}
 use Rattle.pending.specs.declared.copies.ChunkCopy.{ChunkCopy}
 use Rattle.pending.specs.declared.copies.Stage.TheVariants.{Waiting}
@@ -49,6 +51,12 @@ due_in s = s.due
 abbrev pub moving_of : Device → List Seen → List Flight → Option Reply → ℕ → Moving
 moving_of origin snaps flights replied started =
     record { origin = origin; snaps = map held_of snaps; requests = map going_of flights; replied = replied; started = started }
+
+-- the last reply after an event with this outcome
+abbrev pub replied_by : Outcome → Option Reply → Option Reply
+replied_by Done before = before
+replied_by Fault before = before
+replied_by (Replied number reply) before = Some reply
 
 -- where its first copy is written, it needs the next area as its pairs say
 abbrev pub NeedsAsSeen : Seen → Type 0

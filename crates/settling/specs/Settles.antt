@@ -1,6 +1,5 @@
 -- A volume settles: the event that is due first is done, until none is due; and what it has settled to.
-use Rattle.std.specs.Prelude.{◌≡◌, ℕ, ◌+◌, zero, suc, Option, Some, None, map}
-use Rattle.plain.specs.declared.event.Event.{Event}
+use Rattle.std.specs.Prelude.{◌≡◌, ℕ, ◌+◌, zero, suc, Some, None, map}
 use Rattle.settling.specs.Pieces.{Answered}
 use Rattle.settling.specs.Held.{Held, Moving}
 use Rattle.settling.specs.Due.{due}

@@ -1,5 +1,5 @@
 -- A request is submitted: it is routed, and the copies that it waits for are started. This project's own.
-use Rattle.std.specs.Prelude.{◌==◌, ◌||◌, not, ℕ, ◌+◌, ◌*◌, ◌/◌, nat_lt, is_some, Bool, true, false, List, [], ◌∷◌, ◌++◌, length, sum_by, Option, Some, None, if◌then◌else◌}
+use Rattle.std.specs.Prelude.{◌==◌, ◌||◌, not, ℕ, ◌+◌, ◌*◌, ◌/◌, nat_lt, is_some, Bool, false, List, [], ◌∷◌, ◌++◌, length, sum_by, Option, Some, None, if◌then◌else◌}
 use Rattle.plain.specs.declared.request.Request.{Request}
 use Rattle.plain.specs.declared.request.Reply.TheVariants.{Refused as Declined}
 use Rattle.plain.specs.declared.request.Failure.TheVariants.{Invalid}
@@ -11,8 +11,8 @@ use Rattle.pending.specs.declared.copies.Stage.TheVariants.{Waiting}
 use Rattle.pending.specs.declared.flights.Kind.{Kind}
 use Rattle.pending.specs.declared.flights.Kind.TheVariants.{OriginRead, OriginWrite, SnapRead, SnapWrite}
 use Rattle.pending.specs.declared.flights.Route.{Route}
-use Rattle.pending.specs.declared.flights.Route.TheVariants.{Held as Waits, Origin, Store, Refused}
-use Rattle.settling.specs.Held.{Copying, Held, Going, Moving, spoiled}
+use Rattle.pending.specs.declared.flights.Route.TheVariants.{Held as Waits, Origin, Store}
+use Rattle.settling.specs.Held.{Held, Moving, spoiled}
 use Rattle.settling.specs.Again.{is_clear}
 use Rattle.settling.specs.Stepping.{for_some, first_that, put}
 
