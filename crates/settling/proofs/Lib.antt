@@ -22,3 +22,4 @@ pub mod Chunks
 pub mod Running
 pub mod Shown
 pub mod Moments
+pub mod Attaching
