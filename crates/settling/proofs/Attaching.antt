@@ -93,7 +93,7 @@ make_agrees snaps chunk array store = elim (cases_Bool (is_too_small chunk store
 byte_after : (chunk place j i : ℕ) (store : List ℕ) → 512 * (chunk * place + chunk) ≤ length store → 16 * (j + 1) + i < 512 * chunk → get_or (drop (16 * (j + 1)) (chunk_at chunk store place)) i 0 ≡ get_or store (512 * (chunk * place) + 16 * (j + 1) + i) 0
 byte_after chunk place j i store fits lt = grind (arith, places)
 
-no_tail : (chunk : ℕ) (store : List ℕ) → 0 < chunk → 512 * (chunk * area_place chunk (last_area chunk store) + chunk) ≤ length store → has_tail chunk store ≡ false → trimmed chunk store ≡ store
+pub no_tail : (chunk : ℕ) (store : List ℕ) → 0 < chunk → 512 * (chunk * area_place chunk (last_area chunk store) + chunk) ≤ length store → has_tail chunk store ≡ false → trimmed chunk store ≡ store
 unfolding trimmed
 no_tail chunk store pos fits none =
     let k : ℕ = length (pairs_of chunk store) in
@@ -138,7 +138,7 @@ areas_inside chunk last size i store whole room le =
     let more : chunk * (area_place chunk i + 1) ≤ chunk * (area_place chunk last + 1) = mul-le chunk (area_place chunk i + 1) chunk (area_place chunk last + 1) (omega arith) (omega arith) in
     subst (λ (x : ℕ). 512 * (chunk * (area_place chunk x + 1)) ≤ length store) (sym e) (omega arith)
 
-size_of : (n m : ℕ) → n ≡ 512 * m → n / 512 ≡ m
+pub size_of : (n m : ℕ) → n ≡ 512 * m → n / 512 ≡ m
 size_of n m e = omega arith
 
 load_agrees : (snaps : List Snap) (chunk size : ℕ) (array store : List ℕ) → 0 < chunk → length store ≡ 512 * size → Agrees snaps (load snaps (length array / 512) chunk (plainly store)) (taken_written chunk array store)

@@ -23,3 +23,4 @@ pub mod Running
 pub mod Shown
 pub mod Moments
 pub mod Attaching
+pub mod Opened

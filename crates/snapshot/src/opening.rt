@@ -112,6 +112,8 @@ pub fn open_snapshot<B: Block>(
     requires { is_chunk chunk ≡ true }
     ensures opened { IfOk result (λ s. IsOpened B.contents B.layers number chunk sectors (B.size store.device) store.device s) }
     ensures wanted { IfOk result (λ s. IsWanted wanted s.state.chunk) }
+    ensures counted { IfOk result (λ s. length s.pairs ≡ s.state.current * (32 * s.state.chunk) + s.state.filled) }
+    ensures unfilled { IfOk result (λ s. s.state.filled < 32 * s.state.chunk) }
     ensures new { IfOk result (λ s. (origin : List ℕ) → length origin ≡ 512 * sectors → IsNewSnap origin (books_of B.contents B.layers s)) }
     ensures shown { IfOk result (λ s. is_loud (B.layers store.device) ≡ true → (origin : List ℕ) → picture s.state.chunk origin (B.contents s.device) ≡ shown_array origin (B.contents store.device)) }
     ensures refused { IfErr result (λ e. IsOpenRefused chunk wanted sectors (B.size store.device) (B.contents store.device) e.0) }

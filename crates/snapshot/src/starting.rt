@@ -29,6 +29,8 @@ impl<B: Block> Snapshot<B> {
         requires idle { length (pending_of store.exceptions) ≡ 0 }
         ensures fields { result ≡ record { number = number; live = true; untried = false; stale = false; device = store.device; state = store.state; next = store.places.next; pairs = committed store.exceptions; begun = []; copies = []; marks = []; room = 0 } }
         ensures new { (origin : List ℕ) → length origin ≡ 512 * store.state.origin → IsNewSnap origin (books_of B.contents B.layers result) }
+        ensures counted { length result.pairs ≡ result.state.current * (32 * result.state.chunk) + result.state.filled }
+        ensures unfilled { result.state.filled < 32 * result.state.chunk }
     {
         Snapshot {
             number,

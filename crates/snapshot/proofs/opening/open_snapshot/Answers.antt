@@ -24,8 +24,8 @@ returns-in-Ok-prepare_all-clause-opened g c =
     c.prepare_all.new.store.places.next (committed c.prepare_all.new.store.exceptions) c.over.result c.over.ensures.fields e.state
     (subst (λ (ps : List Pair). IsOpenedAs c.args.chunk c.args.sectors (g.B.Block.size c.args.store.device) (g.B.Block.contents c.args.store.device) c.in-Ok.store.state ps) (sym (ap committed e.exceptions)) c.in-Ok.ensures.opened)
     (subst (λ (ps : List Pair). IsNextPlace c.prepare_all.new.store.state.chunk (map new_of ps) c.prepare_all.new.store.places.next)
-        (ap (λ qs. committed c.prepare_all.new.store.exceptions ++ pairs qs) (ap pending e.exceptions ∙ c.in-Ok.ensures.pending) ∙ append-nil (committed c.prepare_all.new.store.exceptions))
-        (given.least (ap (λ (t : State). t.copying) e.state ∙ opened_copying c.args.chunk c.args.sectors (g.B.Block.size c.args.store.device) (g.B.Block.contents c.args.store.device) c.in-Ok.store.state (committed c.in-Ok.store.exceptions) c.in-Ok.ensures.opened)))
+    (ap (λ qs. committed c.prepare_all.new.store.exceptions ++ pairs qs) (ap pending e.exceptions ∙ c.in-Ok.ensures.pending) ∙ append-nil (committed c.prepare_all.new.store.exceptions))
+    (given.least (ap (λ (t : State). t.copying) e.state ∙ opened_copying c.args.chunk c.args.sectors (g.B.Block.size c.args.store.device) (g.B.Block.contents c.args.store.device) c.in-Ok.store.state (committed c.in-Ok.store.exceptions) c.in-Ok.ensures.opened)))
     (λ loud. e.written (c.in-Ok.ensures.loud ∙ loud) ∙ ap (prepared c.in-Ok.store.state.left c.in-Ok.store.state) c.in-Ok.ensures.contents)
 
 pub returns-in-Ok-prepare_all-clause-new : goal.returns-in-Ok-prepare_all-clause-new

@@ -1,0 +1,31 @@
+-- What accepting a request does to a volume: copies are started, snapshots whose stores are full are spoiled, and then the
+-- request is in flight. This project's own.
+use Rattle.std.specs.Prelude.{◌≡◌, ℕ, ◌<◌, true, List, map, slice_index_or}
+use Rattle.plain.specs.declared.request.Request.{Request}
+use Rattle.plain.specs.Legal.{Spoils, IsSubmitted}
+use Rattle.pending.specs.Kinds.{in_flight}
+use Rattle.volume_laws.specs.Books.{SnapBooks, Books}
+use Rattle.volume_laws.specs.Whole.{Holds, IsLoud, plain_of}
+use Rattle.volume_laws.specs.Waits.{Waits, IsSaving}
+
+-- copies were started, and these snapshots spoiled
+pub record IsPrepared (which : List ℕ) (v w : Books) : Type 0 where
+  pub holds : Holds w
+  pub waits : Waits w
+  pub step : IsLoud v → Spoils which (plain_of v) (plain_of w)
+  pub loud : IsLoud v → IsLoud w
+  pub origin : w.origin ≡ v.origin
+  pub sectors : w.sectors ≡ v.sectors
+  pub merge : w.merge ≡ v.merge
+  pub requests : map in_flight w.requests ≡ map in_flight v.requests
+
+-- and the request is in flight
+pub record IsTakenIn (which : List ℕ) (number : ℕ) (request : Request) (v w : Books) : Type 0 where
+  pub holds : Holds w
+  pub waits : Waits w
+  pub step : IsLoud v → IsSubmitted which (plain_of v) number request (plain_of w)
+  pub loud : IsLoud v → IsLoud w
+
+-- each of the first snapshots that is live has the chunk, or a copy of it is under way
+pub record AreSaving (c i : ℕ) (snaps : List SnapBooks) : Type 0 where
+  pub each : (j : ℕ) (d : SnapBooks) → j < i → (slice_index_or snaps j d).live ≡ true → IsSaving c (slice_index_or snaps j d)

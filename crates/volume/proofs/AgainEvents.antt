@@ -1,0 +1,177 @@
+-- The events after which held writes are routed again: a mark is taken away, and a spoiled store's mark is tried.
+use Rattle.std.proofs.Common.{◌≡◌, inl, inr, ℕ, zero, suc, ◌<◌, Bool, true, false, List, [], ◌∷◌, ◌++◌, Some, None, length, get_or, set, map, refl, sym, ◌∙◌, ap, arith, nat_eq, length-append}
+use Rattle.std.specs.Prelude.{not}
+use Rattle.std.specs.List.{list_any, position, remove}
+use Rattle.std.proofs.lemmas.Bool.{false≢true, eqb-true}
+use Rattle.std.proofs.lemmas.List.{length-map, length-set, map-set, get_or-set_same}
+use Rattle.std.proofs.lemmas.List.Quantifiers.{position-Some}
+use Rattle.sector.specs.Bytes.{next_count}
+use Rattle.device.specs.Layers.{Layer, is_loud}
+use Rattle.plain.specs.declared.event.Event.TheVariants.{Publish, WriteInvalid}
+use Rattle.plain.specs.declared.event.Outcome.{Outcome}
+use Rattle.plain.specs.declared.event.Outcome.TheVariants.{Done}
+use Rattle.pending.specs.Due.{number_of_copy, number_of_mark, number_of_flight, is_publishable}
+use Rattle.pending.specs.Routes.{is_reading}
+use Rattle.pending.specs.declared.copies.Mark.{Mark}
+use Rattle.pending.specs.declared.flights.Flight.{Flight}
+use Rattle.volume_laws.specs.Books.{SnapBooks}
+use Rattle.volume_laws.specs.Published.{is_clear}
+use Rattle.volume_laws.specs.Again.{again_of, placed_of, Reroutes, Places}
+use Rattle.volume_laws.specs.Steps.{ChangesSnap, Unmarks, TriesMark}
+use Rattle.volume_laws.specs.Outcomes.{IsSilent}
+use Rattle.volume_laws.specs.Whole.{IsLoud}
+use Rattle.volume_laws.proofs.WholeOne.{snap_holds, live_by_mark, unmark_event}
+use Rattle.volume_laws.proofs.Placing.{place_event}
+use Rattle.volume_laws.proofs.Rerouting.{reroute, tried_event}
+use Rattle.volume_laws.proofs.Composing.{silent_then, loud_one}
+use Rattle.volume_laws.proofs.WaitingAgain.{waits_published, waits_tried}
+use Rattle.volume_laws.proofs.Left.{unmark_left, tried_left}
+use Rattle.volume_laws.proofs.Lists.{map-remove}
+use Rattle.snapshot.specs.Kept.{Kept, books_of as snap_books, due_of_kept}
+use Rattle.volume.specs.Volumed.{Volumed, books_of}
+use Rattle.volume.specs.Whole.{IsWhole, numbers_in}
+use Rattle.volume.specs.Finding.{is_trying, is_mark_of}
+use Rattle.volume.specs.Causes.{HasCause}
+use Rattle.volume.proofs.Changing.{SameDisk, same_disk, StaysAttached, changed, books_within, books_is, changes}
+use Rattle.volume.proofs.Counting.{counts_same, counts_store, store_within, lives_same}
+use Rattle.volume.proofs.CopyEvents.{both_left, both_right}
+use Rattle.volume.proofs.Good.{IsGood, Spoiling, silent_good}
+
+-- requests keep their numbers
+again_numbers : (clear : ℕ → Bool) (rs : List Flight) → map number_of_flight (map (again_of None clear) rs) ≡ map number_of_flight rs
+again_numbers clear [] = refl
+again_numbers clear (r ∷ rs) = ap (λ ns. r.number ∷ ns) (again_numbers clear rs)
+
+placed_numbers : (s : SnapBooks) (rs : List Flight) → map number_of_flight (map (placed_of s) rs) ≡ map number_of_flight rs
+placed_numbers s [] = refl
+placed_numbers s (r ∷ rs) = ap (λ ns. r.number ∷ ns) (placed_numbers s rs)
+
+remove_front : (xs ys : List ℕ) (k : ℕ) → k < length xs → remove (xs ++ ys) k ≡ remove xs k ++ ys
+remove_front [] ys k lt = absurd (omega (arith, lt))
+remove_front (x ∷ xs) ys zero lt = refl
+remove_front (x ∷ xs) ys (suc k) lt = ap (λ zs. x ∷ zs) (remove_front xs ys k (omega (arith, lt)))
+
+-- a mark that a search found
+module _ {B : Type 0} (s : Kept B) (flights : List Flight) (number j : ℕ) (found : position (is_mark_of s flights number) s.marks ≡ Some j) (m : Mark) (is : m ≡ get_or s.marks j m) where
+  pub mark_unread : list_any (is_reading s.number s.state.chunk m.chunk) flights ≡ false
+  mark_unread =
+      let h = position-Some (is_mark_of s flights number) s.marks j m found in
+      not_true (list_any (is_reading s.number s.state.chunk m.chunk) flights)
+      (both_right (nat_eq m.number number) (is_publishable s.number s.state.chunk flights m) (ap (is_mark_of s flights number) is ∙ h.1))
+    where
+      not_true : (b : Bool) → not b ≡ true → b ≡ false
+      not_true true e = absurd (false≢true e)
+      not_true false e = refl
+
+module _ {B : Type 0} (contents : B → List ℕ) (layers : B → List Layer) (size faults done : B → ℕ) (v : Volumed B) (h : IsWhole contents layers size v) (number : ℕ)
+    (k : ℕ) (s s' : Kept B) (within : k < length v.snaps) (is : s ≡ get_or v.snaps k s) where
+  disk : SameDisk contents layers size v.origin v.origin
+  disk = same_disk contents layers size v.origin
+
+  abbrev sb : Kept B → SnapBooks
+  sb = snap_books contents layers
+
+  sb_is : snap_books contents layers s ≡ get_or (map (snap_books contents layers) v.snaps) k (snap_books contents layers s)
+  sb_is = books_is contents layers size v v.origin k s s' within is
+
+  sb_in : k < length (map (snap_books contents layers) v.snaps)
+  sb_in = books_within contents layers size v v.origin k s s' within is
+
+  -- the volume with the snapshot changed, and its books
+  abbrev mid : Volumed B
+  mid = changed v v.origin k s' v.flights
+
+  e_is : ChangesSnap k (snap_books contents layers s) (snap_books contents layers s') (books_of contents layers size v) (books_of contents layers size mid)
+  e_is = changes contents layers size v v.origin k s s' within is disk
+
+  -- where an origin write is clear then
+  abbrev clear : ℕ → Bool
+  clear = is_clear (map (snap_books contents layers) (set v.snaps k s'))
+
+  abbrev again : List Flight → List Flight
+  again fs = map (again_of None clear) fs
+
+  reroutes : (fs : List Flight) → Reroutes clear (books_of contents layers size (changed v v.origin k s' fs)) (books_of contents layers size (changed v v.origin k s' (again fs)))
+  reroutes fs = record { requests = refl; origin = refl; sectors = refl; loud = refl; snaps = refl; merge = refl }
+
+  same_loud : (fs gs : List Flight) → IsLoud (books_of contents layers size (changed v v.origin k s' fs)) → IsLoud (books_of contents layers size (changed v v.origin k s' gs))
+  same_loud fs gs l = record { origin = l.origin; snaps = l.snaps; merge = l.merge }
+
+  -- a spoiled snapshot's mark was tried
+  module _ (outcome : Outcome) (told : Spoiling (WriteInvalid number) outcome) (found : is_trying number s ≡ true) (f : (s'.number ≡ s.number) × (s'.live ≡ s.live) × (s'.untried ≡ false) × (s'.state ≡ s.state) × (s'.copies ≡ s.copies) × (s'.marks ≡ s.marks))
+      (t : TriesMark (snap_books contents layers s) (snap_books contents layers s')) (loud : is_loud (layers s'.device) ≡ is_loud (layers s.device)) (counted : done s'.device ≡ next_count (done s.device)) where
+    pub tried_good : HasCause faults (WriteInvalid number) outcome v (changed v v.origin k s' (again v.flights)) → IsGood contents layers size faults done (WriteInvalid number) outcome v (changed v v.origin k s' (again v.flights))
+    tried_good cause =
+        let vb = books_of contents layers size v in
+        let ub = books_of contents layers size mid in
+        let wb = books_of contents layers size (changed v v.origin k s' (again v.flights)) in
+        let one : IsSilent vb ub = tried_event k (snap_books contents layers s) (snap_books contents layers s') vb ub h.holds e_is t in
+        let two : IsSilent ub wb = reroute ub wb one.holds (reroutes v.flights) in
+        let stays : StaysAttached s s' = record {
+          number = f.0;
+          chunk_is = ap (λ x. x.chunk) f.3;
+          origin = ap (λ x. x.origin) f.3;
+          numbers = inl (ap (λ ms. map number_of_mark ms ++ map number_of_copy s'.copies) f.5 ∙ ap (λ cs. map number_of_mark s.marks ++ map number_of_copy cs) f.4);
+        } in
+        silent_good contents layers size faults done v h (WriteInvalid number) outcome told v.origin k s s' within is disk loud (again v.flights) (again_numbers clear v.flights) stays
+        (silent_then vb ub wb one two (loud_one k (snap_books contents layers s) (snap_books contents layers s') vb ub e_is loud))
+        (waits_tried k (snap_books contents layers s) (snap_books contents layers s') vb ub wb h.waits e_is t (reroutes v.flights))
+        (tried_left (due_of_kept contents layers s) (due_of_kept contents layers s') (both_right (nat_eq s.number number) s.untried found) f.2 (f.1 ∙ t.was) f.4 f.5)
+        cause
+        (inr (suc k, store_within v v.origin k s s' (again v.flights) within is done, counts_store v v.origin k s s' (again v.flights) within is done refl counted))
+
+  pub trying_number : is_trying number s ≡ true → s.number ≡ number
+  trying_number found = eqb-true s.number number (both_left (nat_eq s.number number) s.untried found)
+
+  -- a mark was taken away
+  module _ (j : ℕ) (m : Mark) (found : position (is_mark_of s v.flights number) s.marks ≡ Some j) (f : s' ≡ record s { marks = remove s.marks j }) (r : Unmarks j m (snap_books contents layers s) (snap_books contents layers s')) where
+    abbrev placed : List Flight
+    placed = map (placed_of (snap_books contents layers s')) v.flights
+
+    pub published_good : IsGood contents layers size faults done (Publish number) Done v (changed v v.origin k s' (again placed))
+    published_good =
+        let vb = books_of contents layers size v in
+        let ub = books_of contents layers size mid in
+        let xb = books_of contents layers size (changed v v.origin k s' placed) in
+        let wb = books_of contents layers size (changed v v.origin k s' (again placed)) in
+        let a = snap_books contents layers s in
+        let b = snap_books contents layers s' in
+        let live : s.live ≡ true = live_by_mark (contents v.origin) v.flights (snap_books contents layers s) j (snap_holds vb k a h.holds sb_in sb_is) r.within in
+        let device : s'.device ≡ s.device = ap (λ (x : Kept B). x.device) f in
+        let loud : is_loud (layers s'.device) ≡ is_loud (layers s.device) = ap (λ d. is_loud (layers d)) device in
+        let one : IsSilent vb ub = unmark_event k a b vb ub h.holds e_is j m r (mark_unread s v.flights number j found m r.was) in
+        let places : Places k b ub xb = record {
+          within = omega (arith, sb_in, e_is.within, ap length e_is.snaps, length-set vb.snaps k b);
+          was = sym (get_or-set_at k);
+          requests = refl;
+          origin = refl;
+          sectors = refl;
+          loud = refl;
+          snaps = refl;
+          merge = refl;
+        } in
+        let two : IsSilent ub xb = place_event k b ub xb one.holds places (ap (λ (x : Kept B). x.live) f ∙ live) in
+        let three : IsSilent xb wb = reroute xb wb two.holds (reroutes placed) in
+        let stays : StaysAttached s s' = record {
+          number = ap (λ (x : Kept B). x.number) f;
+          chunk_is = ap (λ (x : Kept B). x.state.chunk) f;
+          origin = ap (λ (x : Kept B). x.state.origin) f;
+          numbers = inr (inl (
+            j,
+            marks_in,
+            ap (λ (x : Kept B). numbers_in x) f ∙ ap (λ ns. ns ++ map number_of_copy s.copies) (map-remove number_of_mark s.marks j)
+                ∙ sym (remove_front (map number_of_mark s.marks) (map number_of_copy s.copies) j (omega (arith, r.within, length-map s.marks number_of_mark))),
+          ));
+        } in
+        silent_good contents layers size faults done v h (Publish number) Done (λ p q x. x) v.origin k s s' within is disk loud (again placed) (again_numbers clear placed ∙ placed_numbers b v.flights) stays
+        (silent_then vb ub wb one (silent_then ub xb wb two three (same_loud v.flights placed)) (loud_one k a b vb ub e_is loud))
+        (waits_published k j m a b vb ub xb wb h.waits e_is r places (reroutes placed))
+        (unmark_left j m (due_of_kept contents layers s) (due_of_kept contents layers s') r (ap (λ (x : Kept B). x.state.zeroed) f))
+        (record { counts = counts_same v v.origin k s s' (again placed) within is faults refl (ap faults device); lives = lives_same v v.origin k s s' (again placed) within is (ap (λ (x : Kept B). x.live) f) })
+        (inl (counts_same v v.origin k s s' (again placed) within is done refl (ap done device)))
+      where
+        get_or-set_at : (i : ℕ) → get_or (map (snap_books contents layers) (set v.snaps k s')) k (snap_books contents layers s') ≡ snap_books contents layers s'
+        get_or-set_at i = ap (λ xs. get_or xs k (snap_books contents layers s')) (map-set (snap_books contents layers) v.snaps k s') ∙ get_or-set_same (map (snap_books contents layers) v.snaps) k (snap_books contents layers s') (snap_books contents layers s') sb_in
+
+        marks_in : j < length (numbers_in s)
+        marks_in = omega (arith, r.within, length-append (map number_of_mark s.marks) (map number_of_copy s.copies), length-map s.marks number_of_mark)

@@ -1,0 +1,98 @@
+-- A quiet volume takes a snapshot.
+use Rattle.std.proofs.Common.{◌≡◌, ◌≢◌, inl, inr, ℕ, ◌+◌, ◌<◌, ◌≤◌, Bool, true, false, List, [], ◌∷◌, ◌++◌, length, get_or, map, refl, sym, ap, subst, arith, length-append}
+use Rattle.std.specs.Prelude.{Some, None}
+use Rattle.std.specs.List.{All}
+use Rattle.std.proofs.lemmas.Bool.Decides.{leb_tells}
+use Rattle.sector.specs.declared.refusal.Refusal.TheVariants.{TooMany}
+use Rattle.std.proofs.lemmas.List.Elements.{All-nil, All-cons, All-push, All-weaker}
+use Rattle.std.proofs.lemmas.List.Quantifiers.{all_pairs_push}
+use Rattle.std.proofs.lemmas.List.Sums.{sum_by-append}
+use Rattle.device.specs.Layers.{Layer}
+use Rattle.model.specs.Picture.{picture}
+use Rattle.plain.specs.Legal.{IsTaken}
+use Rattle.volume_laws.specs.Books.{number_of}
+use Rattle.volume_laws.specs.Steps.{Attaches, IsNewSnap}
+use Rattle.volume_laws.specs.Whole.{plain_of as plain_books}
+use Rattle.volume_laws.proofs.Attaching.{attach_event}
+use Rattle.volume_laws.proofs.Waiting.{waits_none}
+use Rattle.snapshot.specs.Kept.{Kept, books_of as snap_books}
+use Rattle.snapshot.specs.Opening.{IsWanted}
+use Rattle.volume.specs.Volumed.{Volumed, books_of, piece_of, plain_of}
+use Rattle.volume.specs.Whole.{AreNumbers, number_of_snap, numbers_in, count_in, SharesNone, IsAttached, IsWhole}
+use Rattle.volume.specs.Taking.{wanted_of, taking_refusal}
+use Rattle.volume.proofs.Shown.{shown}
+use Rattle.volume.proofs.Sums.{sum_cons}
+
+-- a volume that takes one more is quiet, and has less than eight
+pub taking_none : (stale quiet : Bool) (count attached chunk : ℕ) → taking_refusal stale quiet count attached chunk ≡ None → (quiet ≡ true) × (count < 8)
+taking_none true quiet count attached chunk e = absurd (cc)
+taking_none false false count attached chunk e = absurd (cc)
+taking_none false true count attached chunk e = (
+  refl,
+  elim (leb_tells 8 count) [
+    | inl many ↦ (let got : Some TooMany ≡ None = rw many.0 at e in absurd (cc))
+    | inr few ↦ few.1
+  ],
+)
+
+books_push : {B : Type 0} (contents : B → List ℕ) (layers : B → List Layer) (xs : List (Kept B)) (s : Kept B) → map (snap_books contents layers) (xs ++ s ∷ []) ≡ map (snap_books contents layers) xs ++ snap_books contents layers s ∷ []
+books_push contents layers [] s = refl
+books_push contents layers (x ∷ xs) s = ap (λ ys. snap_books contents layers x ∷ ys) (books_push contents layers xs s)
+
+numbers_push : {B : Type 0} (xs : List (Kept B)) (s : Kept B) → map number_of_snap (xs ++ s ∷ []) ≡ map number_of_snap xs ++ s.number ∷ []
+numbers_push [] s = refl
+numbers_push (x ∷ xs) s = ap (λ ys. x.number ∷ ys) (numbers_push xs s)
+
+numbers_same : {B : Type 0} (contents : B → List ℕ) (layers : B → List Layer) (xs : List (Kept B)) → map number_of (map (snap_books contents layers) xs) ≡ map number_of_snap xs
+numbers_same contents layers [] = refl
+numbers_same contents layers (x ∷ xs) = ap (λ ys. x.number ∷ ys) (numbers_same contents layers xs)
+
+-- the new one's chunks are as large as those of the others
+attached_push : {B : Type 0} (copies sectors : ℕ) (xs : List (Kept B)) (s : Kept B) → IsWanted (wanted_of xs) s.state.chunk → All (IsAttached copies sectors (piece_of xs)) xs → IsAttached copies sectors s.state.chunk s → All (IsAttached copies sectors (piece_of (xs ++ s ∷ []))) (xs ++ s ∷ [])
+attached_push copies sectors [] s wanted all mine = All-cons (IsAttached copies sectors s.state.chunk) s [] mine (All-nil (IsAttached copies sectors s.state.chunk))
+attached_push copies sectors (x ∷ xs) s wanted all mine = All-push (IsAttached copies sectors x.state.chunk) (x ∷ xs) s all (subst (λ n. IsAttached copies sectors n s) (sym wanted) mine)
+
+module _ {B : Type 0} (contents : B → List ℕ) (layers : B → List Layer) (size : B → ℕ) (v : Volumed B) (s : Kept B) (none : v.flights ≡ []) (h : IsWhole contents layers size v) (number : s.number ≡ v.attached + 1) (new : IsNewSnap (contents v.origin) (snap_books contents layers s)) where
+  abbrev pub taken : Volumed B
+  taken = record v { snaps = v.snaps ++ s ∷ []; attached = v.attached + 1 }
+
+  attaches : Attaches (snap_books contents layers s) (books_of contents layers size v) (books_of contents layers size taken)
+  attaches = record {
+    quiet = none;
+    requests = refl;
+    fresh = subst (All (λ n. n ≢ s.number)) (sym (numbers_same contents layers v.snaps)) (All-weaker (λ n. n ≤ v.attached) (λ n. n ≢ s.number) (λ n le e. absurd (omega (arith, le, e, number))) (map number_of_snap v.snaps) h.numbers.given);
+    snaps = books_push contents layers v.snaps s;
+    origin = refl;
+    sectors = refl;
+    loud = refl;
+    merge = refl;
+  }
+
+  pub whole_taken : length v.snaps < 8 → s.state.origin ≡ size v.origin → IsWanted (wanted_of v.snaps) s.state.chunk → numbers_in s ≡ [] → IsWhole contents layers size taken
+  whole_taken room origin wanted idle =
+      let all_numbers : AreNumbers v.copies (numbers_in s) = subst (AreNumbers v.copies) (sym idle) (record { given = All-nil (λ n. n ≤ v.copies); ascending = λ i j d lt within. absurd (omega (arith, within)) }) in
+      record {
+        holds = (attach_event (snap_books contents layers s) (books_of contents layers size v) (books_of contents layers size taken) h.holds attaches new).0;
+        waits = waits_none (books_of contents layers size taken) none;
+        snaps = attached_push v.copies (size v.origin) v.snaps s wanted h.snaps (record { origin = origin; chunk_is = refl; some = new.text.some; numbers = all_numbers });
+        apart = all_pairs_push SharesNone v.snaps s h.apart (λ k d lt i e within. subst (All (λ n. get_or (numbers_in (get_or v.snaps k d)) i e ≢ n)) (sym idle) (All-nil (λ n. get_or (numbers_in (get_or v.snaps k d)) i e ≢ n)));
+        numbers = subst (AreNumbers (v.attached + 1)) (sym (numbers_push v.snaps s)) (record {
+          given = All-push (λ n. n ≤ v.attached + 1) (map number_of_snap v.snaps) s.number (All-weaker (λ n. n ≤ v.attached) (λ n. n ≤ v.attached + 1) (λ n le. omega (arith, le)) (map number_of_snap v.snaps) h.numbers.given) (omega (arith, number));
+          ascending = all_pairs_push (λ m n. m < n) (map number_of_snap v.snaps) s.number h.numbers.ascending (All-weaker (λ n. n ≤ v.attached) (λ n. n < s.number) (λ n le. omega (arith, le, number)) (map number_of_snap v.snaps) h.numbers.given);
+        });
+        requests = h.requests;
+        few = omega (arith, room, length-append v.snaps (s ∷ []));
+        few_copies = let sums = sum_by-append count_in v.snaps (s ∷ []) in let one = sum_cons count_in s [] in omega (arith, h.few_copies, sums, one, ap length idle);
+        few_requests = h.few_requests;
+      }
+
+  pub plain_taken : (array : List ℕ) → picture s.state.chunk (contents v.origin) (contents s.device) ≡ array → IsTaken (plain_of contents layers v) (v.attached + 1) array (plain_of contents layers taken)
+  plain_taken array shows =
+      let step = (attach_event (snap_books contents layers s) (books_of contents layers size v) (books_of contents layers size taken) h.holds attaches new).1 in
+      subst (λ (n : ℕ). IsTaken (plain_of contents layers v) n array (plain_of contents layers taken)) number
+      (subst (λ (x : List ℕ). IsTaken (plain_of contents layers v) s.number x (plain_of contents layers taken)) shows
+      (subst (λ p. IsTaken p s.number (picture s.state.chunk (contents v.origin) (contents s.device)) (plain_of contents layers taken)) (sym (shown contents layers size v))
+      (subst (IsTaken (plain_books (books_of contents layers size v)) s.number (picture s.state.chunk (contents v.origin) (contents s.device))) (sym (shown contents layers size taken)) step)))
+
+  pub plain_taken_as : (array : List ℕ) (snaps : List (Kept B)) → snaps ≡ v.snaps ++ s ∷ [] → picture s.state.chunk (contents v.origin) (contents s.device) ≡ array → IsTaken (plain_of contents layers v) (v.attached + 1) array (plain_of contents layers (record v { snaps = snaps; attached = v.attached + 1 }))
+  plain_taken_as array snaps same shows = subst (λ (x : List (Kept B)). IsTaken (plain_of contents layers v) (v.attached + 1) array (plain_of contents layers (record v { snaps = x; attached = v.attached + 1 }))) (sym same) (plain_taken array shows)

@@ -1,0 +1,158 @@
+-- One snapshot of a volume changes, and with it maybe what its requests wait for.
+use Rattle.std.proofs.Common.{◌≡◌, ◌≢◌, ℕ, zero, suc, ◌+◌, ◌<◌, ◌≤◌, List, [], ◌∷◌, length, get_or, set, map, refl, sym, ◌∙◌, ap, subst, arith}
+use Rattle.std.specs.Prelude.{◌&&◌, AllPairs, sum_by}
+use Rattle.std.specs.List.{All, list_all}
+use Rattle.std.proofs.lemmas.List.{map-set, length-map, get_or-map, length-set}
+use Rattle.std.proofs.lemmas.List.Elements.{All-set, All-weaker}
+use Rattle.std.proofs.lemmas.List.Sums.{sum_by-set}
+use Rattle.std.proofs.Math.Seq.{map-set_same}
+use Rattle.device.specs.Layers.{Layer, is_loud}
+use Rattle.pending.specs.Due.{number_of_flight}
+use Rattle.pending.specs.Routes.{refused_of}
+use Rattle.pending.specs.declared.flights.Flight.{Flight}
+use Rattle.volume_laws.specs.Books.{SnapBooks}
+use Rattle.volume_laws.specs.Due.{left_in, left_of}
+use Rattle.volume_laws.specs.Steps.{ChangesSnap, SpoilsOne, SpoilsSnap}
+use Rattle.volume_laws.specs.Whole.{Holds}
+use Rattle.volume_laws.specs.Waits.{Waits}
+use Rattle.volume_laws.proofs.Left.{one_left}
+use Rattle.snapshot.specs.Kept.{Kept, books_of as snap_books, due_of_kept}
+use Rattle.volume.specs.Volumed.{Volumed, books_of, piece_of, is_loud_in_all, left_in_all}
+use Rattle.volume.specs.Whole.{AreNumbers, number_of_snap, numbers_in, count_in, SharesNone, IsAttached, IsWhole}
+use Rattle.volume.proofs.Lists.{all_pairs_set, list_all_set, IsFewer, fewer_all, fewer_pairs, fewer_length}
+
+-- an origin disk that holds the same
+pub record SameDisk {B : Type 0} (contents : B → List ℕ) (layers : B → List Layer) (size : B → ℕ) (o o' : B) : Type 0 where
+  pub bytes : contents o' ≡ contents o
+  pub sectors : size o' ≡ size o
+  pub loud : is_loud (layers o') ≡ is_loud (layers o)
+
+pub same_disk : {B : Type 0} (contents : B → List ℕ) (layers : B → List Layer) (size : B → ℕ) (o : B) → SameDisk contents layers size o o
+same_disk contents layers size o = record { bytes = refl; sectors = refl; loud = refl }
+
+-- what an event leaves of a snapshot's place in its volume
+pub record StaysAttached {B : Type 0} (s s' : Kept B) : Type 0 where
+  pub number : s'.number ≡ s.number
+  pub chunk_is : s'.state.chunk ≡ s.state.chunk
+  pub origin : s'.state.origin ≡ s.state.origin
+  pub numbers : IsFewer (numbers_in s) (numbers_in s')
+
+abbrev pub changed : {B : Type 0} → Volumed B → B → ℕ → Kept B → List Flight → Volumed B
+changed v o k s flights = record v { origin = o; snaps = set v.snaps k s; flights = flights }
+
+pub piece_set : {B : Type 0} (snaps : List (Kept B)) (k : ℕ) (s s' : Kept B) → s ≡ get_or snaps k s → s'.state.chunk ≡ s.state.chunk → piece_of (set snaps k s') ≡ piece_of snaps
+piece_set [] k s s' is same = refl
+piece_set (x ∷ xs) zero s s' is same = same ∙ ap (λ (y : Kept _). y.state.chunk) is
+piece_set (x ∷ xs) (suc k) s s' is same = refl
+
+-- what a volume's snapshots keep among themselves
+pub record SnapsFit {B : Type 0} (copies attached sectors : ℕ) (all : List (Kept B)) : Type 0 where
+  pub snaps : All (IsAttached copies sectors (piece_of all)) all
+  pub apart : AllPairs SharesNone all
+  pub numbers : AreNumbers attached (map number_of_snap all)
+  pub few : length all ≤ 8
+  pub few_copies : sum_by count_in all ≤ 256
+
+pub snaps_fit : {B : Type 0} (contents : B → List ℕ) (layers : B → List Layer) (size : B → ℕ) (v : Volumed B) (sectors : ℕ) → IsWhole contents layers size v → sectors ≡ size v.origin → SnapsFit v.copies v.attached sectors v.snaps
+snaps_fit contents layers size v sectors h same = record {
+  snaps = subst (λ n. All (IsAttached v.copies n (piece_of v.snaps)) v.snaps) (sym same) h.snaps;
+  apart = h.apart;
+  numbers = h.numbers;
+  few = h.few;
+  few_copies = h.few_copies;
+}
+
+module _ {B : Type 0} (contents : B → List ℕ) (layers : B → List Layer) (size : B → ℕ) (v : Volumed B) (o' : B) (k : ℕ) (s s' : Kept B) (within : k < length v.snaps) (is : s ≡ get_or v.snaps k s) where
+  abbrev sb : Kept B → SnapBooks
+  sb = snap_books contents layers
+
+  pub books_within : k < length (books_of contents layers size v).snaps
+  books_within = omega (arith, within, length-map v.snaps (snap_books contents layers))
+
+  pub books_is : snap_books contents layers s ≡ get_or (map (snap_books contents layers) v.snaps) k (snap_books contents layers s)
+  books_is = ap (snap_books contents layers) is ∙ sym (get_or-map (snap_books contents layers) v.snaps k s (snap_books contents layers s) within)
+
+  pub changes : SameDisk contents layers size v.origin o' → ChangesSnap k (snap_books contents layers s) (snap_books contents layers s') (books_of contents layers size v) (books_of contents layers size (changed v o' k s' v.flights))
+  changes same = record {
+    within = books_within;
+    was = books_is;
+    snaps = map-set (snap_books contents layers) v.snaps k s';
+    origin = same.bytes;
+    sectors = same.sectors;
+    loud = same.loud;
+    merge = refl;
+    requests = refl;
+  }
+
+  pub spoils_one : SameDisk contents layers size v.origin o' → SpoilsSnap (snap_books contents layers s) (snap_books contents layers s')
+      → SpoilsOne k (snap_books contents layers s) (snap_books contents layers s') (books_of contents layers size v) (books_of contents layers size (changed v o' k s' (map (refused_of (s.number ∷ [])) v.flights)))
+  spoils_one same spoils = record {
+    within = books_within;
+    was = books_is;
+    spoils = spoils;
+    snaps = map-set (snap_books contents layers) v.snaps k s';
+    origin = same.bytes;
+    sectors = same.sectors;
+    loud = same.loud;
+    merge = refl;
+    requests = refl;
+  }
+
+  -- the snapshots fit the volume again
+  pub snaps_changed : IsWhole contents layers size v → SameDisk contents layers size v.origin o' → StaysAttached s s' → SnapsFit v.copies v.attached (size o') (set v.snaps k s')
+  snaps_changed h same stays =
+      let old : IsAttached v.copies (size v.origin) (piece_of v.snaps) s = subst (IsAttached v.copies (size v.origin) (piece_of v.snaps)) (sym is) (h.snaps k s within) in
+      let piece : piece_of (set v.snaps k s') ≡ piece_of v.snaps = piece_set v.snaps k s s' is stays.chunk_is in
+      let mine : IsAttached v.copies (size v.origin) (piece_of v.snaps) s' = record {
+        origin = stays.origin ∙ old.origin;
+        chunk_is = stays.chunk_is ∙ old.chunk_is;
+        some = subst (λ n. 0 < n) (sym stays.chunk_is) old.some;
+        numbers = record {
+          given = fewer_all (λ n. n ≤ v.copies) (numbers_in s) (numbers_in s') stays.numbers old.numbers.given;
+          ascending = fewer_pairs (λ m n. m < n) (numbers_in s) (numbers_in s') stays.numbers old.numbers.ascending;
+        };
+      } in
+      let sums = sum_by-set count_in v.snaps k s' s within in
+      let at : count_in (get_or v.snaps k s) ≡ count_in s = ap count_in (sym is) in
+      let less = fewer_length (numbers_in s) (numbers_in s') stays.numbers in
+      record {
+        snaps = subst (λ n. All (IsAttached v.copies n (piece_of (set v.snaps k s'))) (set v.snaps k s')) (sym same.sectors)
+            (subst (λ n. All (IsAttached v.copies (size v.origin) n) (set v.snaps k s')) (sym piece) (All-set (IsAttached v.copies (size v.origin) (piece_of v.snaps)) v.snaps k s' mine h.snaps));
+        apart = all_pairs_set SharesNone v.snaps k s s' within is
+            (λ t none. fewer_all (λ m. All (λ n. m ≢ n) (numbers_in t)) (numbers_in s) (numbers_in s') stays.numbers none)
+            (λ t none. All-weaker (λ m. All (λ n. m ≢ n) (numbers_in s)) (λ m. All (λ n. m ≢ n) (numbers_in s')) (λ m all. fewer_all (λ n. m ≢ n) (numbers_in s) (numbers_in s') stays.numbers all) (numbers_in t) none)
+            h.apart;
+        numbers = subst (AreNumbers v.attached) (sym (map-set_same number_of_snap v.snaps k s' s (stays.number ∙ ap number_of_snap is))) h.numbers;
+        few = omega (arith, h.few, length-set v.snaps k s');
+        few_copies = omega (arith, sums, at, less, h.few_copies);
+      }
+
+  -- the volume is whole again
+  pub whole_changed : (flights : List Flight) → IsWhole contents layers size v → SameDisk contents layers size v.origin o' → StaysAttached s s' → map number_of_flight flights ≡ map number_of_flight v.flights
+      → Holds (books_of contents layers size (changed v o' k s' flights)) → Waits (books_of contents layers size (changed v o' k s' flights)) → IsWhole contents layers size (changed v o' k s' flights)
+  whole_changed flights h same stays numbers holds waits =
+      let fit = snaps_changed h same stays in
+      record {
+        holds = holds;
+        waits = waits;
+        snaps = fit.snaps;
+        apart = fit.apart;
+        numbers = fit.numbers;
+        requests = subst (AreNumbers v.requests) (sym numbers) h.requests;
+        few = fit.few;
+        few_copies = fit.few_copies;
+        few_requests = omega (arith, h.few_requests, ap length numbers, length-map flights number_of_flight, length-map v.flights number_of_flight);
+      }
+
+  pub lower_changed : (flights : List Flight) → length flights ≡ length v.flights → left_in (due_of_kept contents layers s') < left_in (due_of_kept contents layers s)
+      → left_in_all contents layers (changed v o' k s' flights) < left_in_all contents layers v
+  lower_changed flights same less =
+      let due = due_of_kept contents layers in
+      let e = one_left (map due v.snaps) k (due s) (due s') v.flights (omega (arith, within, length-map v.snaps due)) (ap due is ∙ sym (get_or-map due v.snaps k s (due s) within)) less in
+      let at : left_in_all contents layers (changed v o' k s' flights) ≡ left_of (set (map due v.snaps) k (due s')) v.flights =
+      ap (λ xs. sum_by left_in xs + length flights) (map-set due v.snaps k s') ∙ ap (λ n. sum_by left_in (set (map due v.snaps) k (due s')) + n) same in
+      omega (arith, e, at)
+
+  pub loud_changed : (flights : List Flight) → SameDisk contents layers size v.origin o' → is_loud (layers s'.device) ≡ is_loud (layers s.device) → is_loud_in_all layers (changed v o' k s' flights) ≡ is_loud_in_all layers v
+  loud_changed flights same loud = ap (λ b. b && list_all (λ x. is_loud (layers x.device)) (set v.snaps k s')) same.loud
+      ∙ ap (λ b. is_loud (layers v.origin) && b) (list_all_set (λ x. is_loud (layers x.device)) v.snaps k s s' within is loud)

@@ -1,0 +1,143 @@
+-- A request is issued at the origin disk.
+use Rattle.std.proofs.Common.{◌≡◌, ◌≢◌, ◌⊎◌, inl, inr, ℕ, ◌<◌, true, List, ◌∷◌, Some, None, length, get_or, map, refl, sym, ◌∙◌, ap, subst, arith, nat_eq}
+use Rattle.std.specs.Prelude.{◌&&◌}
+use Rattle.std.specs.List.{list_all, remove, position}
+use Rattle.std.proofs.lemmas.Bool.{cases_Bool, eqb-true}
+use Rattle.std.proofs.lemmas.List.Quantifiers.{position-Some}
+use Rattle.sector.specs.Bytes.{sectors_at, with_sectors, next_count}
+use Rattle.device.specs.Layers.{Layer, is_loud}
+use Rattle.plain.specs.declared.event.Event.TheVariants.{Issue}
+use Rattle.plain.specs.declared.event.Outcome.TheVariants.{Reply as Replied}
+use Rattle.plain.specs.declared.request.Dev.{Dev}
+use Rattle.plain.specs.declared.request.Dev.TheVariants.{Origin as AtOrigin, Snap}
+use Rattle.plain.specs.declared.request.Op.{Op}
+use Rattle.plain.specs.declared.request.Op.TheVariants.{Read, Write}
+use Rattle.plain.specs.declared.request.Reply.{Reply}
+use Rattle.plain.specs.declared.request.Reply.TheVariants.{Data, Written as IsWritten, Refused as IsRefused}
+use Rattle.plain.specs.declared.request.Failure.TheVariants.{Io}
+use Rattle.pending.specs.Kinds.{kind_at, kind_of}
+use Rattle.pending.specs.declared.flights.Flight.{Flight}
+use Rattle.pending.specs.declared.flights.Kind.TheVariants.{OriginRead, OriginWrite, SnapRead, SnapWrite}
+use Rattle.pending.specs.declared.flights.Route.TheVariants.{Origin, Refused}
+use Rattle.volume_laws.specs.Books.{Books}
+use Rattle.volume_laws.specs.Held.{SnapHolds, RouteHolds, RefusedHolds}
+use Rattle.volume_laws.specs.Steps.{OnlyTakesOut, TakesOut, WritesDisk}
+use Rattle.volume_laws.specs.Waits.{WaitsHolds, Waits}
+use Rattle.volume_laws.specs.Outcomes.{IsReply}
+use Rattle.volume_laws.proofs.Requests.{found_holds}
+use Rattle.volume_laws.proofs.Waiting.{waits_out}
+use Rattle.volume_laws.proofs.Issuing.{io_read_event, io_write_event, read_disk_event, io_snap_read_event, snap_disk_event}
+use Rattle.volume_laws.proofs.IssuingWrites.{write_disk_event}
+use Rattle.snapshot.specs.Kept.{Kept}
+use Rattle.volume.specs.Volumed.{Volumed, books_of}
+use Rattle.volume.specs.Whole.{IsWhole}
+use Rattle.volume.specs.Causes.{HasReplied, IsFaultless, FailsAlone, GoesTo, IsOneAtMost}
+use Rattle.volume.proofs.Finds.{position_within}
+use Rattle.volume.proofs.Changing.{snaps_fit}
+use Rattle.volume.proofs.Good.{IsGood}
+use Rattle.volume.proofs.IssueEvents.{reply_good}
+
+-- what a request is, by its device
+pub read_kinds : (dev : Dev) (op : Op) → op ≡ Read → (kind_at dev op ≡ OriginRead) ⊎ ((n : ℕ) × (kind_at dev op ≡ SnapRead n))
+read_kinds AtOrigin op is = inl (ap (kind_at AtOrigin) is)
+read_kinds (Snap n) op is = inr (n, ap (kind_at (Snap n)) is)
+
+pub write_kinds : (dev : Dev) (op : Op) (bytes : List ℕ) → op ≡ Write bytes → (kind_at dev op ≡ OriginWrite) ⊎ ((n : ℕ) × (kind_at dev op ≡ SnapWrite n))
+write_kinds AtOrigin op bytes is = inl (ap (kind_at AtOrigin) is)
+write_kinds (Snap n) op bytes is = inr (n, ap (kind_at (Snap n)) is)
+
+origin_ne_refused : Origin ≢ Refused
+origin_ne_refused c = cc
+
+module _ {B : Type 0} (contents : B → List ℕ) (layers : B → List Layer) (size faults done : B → ℕ) (v : Volumed B) (h : IsWhole contents layers size v) (number place : ℕ) (r : Flight)
+    (found : position (λ (f : Flight). nat_eq f.number number) v.flights ≡ Some place) (was : r ≡ get_or v.flights place r) (route : r.route ≡ Origin) (o' : B) (same_size : size o' ≡ size v.origin) (same_loud : is_loud (layers o') ≡ is_loud (layers v.origin)) where
+  abbrev vb : Books
+  vb = books_of contents layers size v
+
+  -- the volume afterwards
+  abbrev issued : Volumed B
+  issued = record v { origin = o'; flights = remove v.flights place }
+
+  abbrev wb : Books
+  wb = books_of contents layers size issued
+
+  in_list : place < length v.flights
+  in_list = position_within (λ (f : Flight). nat_eq f.number number) v.flights place found
+
+  out : TakesOut number place r vb wb
+  out = record { found = found; was = was; requests = refl; sectors = same_size; loud = same_loud; merge = refl }
+
+  waits : Waits wb
+  waits = waits_out place vb wb h.waits in_list refl refl refl
+
+  waiting : WaitsHolds None vb.snaps r
+  waiting = found_holds (WaitsHolds None vb.snaps) number place r vb wb out h.waits.held
+
+  mine : r.number ≡ number
+  mine = (let p = position-Some (λ (f : Flight). nat_eq f.number number) v.flights place r found in eqb-true r.number number (ap (λ (f : Flight). nat_eq f.number number) was ∙ p.1))
+
+  good : (reply : Reply) → IsReply number reply vb wb → HasReplied faults number reply v issued → IsOneAtMost done v issued → IsGood contents layers size faults done (Issue number) (Replied number reply) v issued
+  good reply answered cause one = reply_good contents layers size faults done v issued h number place reply in_list refl refl refl refl (snaps_fit contents layers size v (size o') h same_size) refl
+      (ap (λ b. b && list_all (λ (s : Kept B). is_loud (layers s.device)) v.snaps) same_loud) answered waits cause one
+
+  faultless : faults o' ≡ faults v.origin → IsFaultless faults v issued
+  faultless same = record { counts = ap (λ n. n ∷ map (λ (s : Kept B). faults s.device) v.snaps) same; lives = refl }
+
+  failed : faults o' ≡ next_count (faults v.origin) → (device : ℕ) × GoesTo number device v × FailsAlone faults device v issued
+  failed more = (
+    0,
+    record { place = place; flight = r; within = in_list; is = was; mine = mine; route = inl (route, refl) },
+    record { counts = ap (λ n. n ∷ map (λ (s : Kept B). faults s.device) v.snaps) more; lives = refl },
+  )
+
+  one_done : done o' ≡ next_count (done v.origin) → IsOneAtMost done v issued
+  one_done more = inr (0, omega arith, ap (λ n. n ∷ map (λ (s : Kept B). done s.device) v.snaps) more)
+
+  only : contents o' ≡ contents v.origin → OnlyTakesOut number place r vb wb
+  only same = record { out = out; origin = same; snaps = refl }
+
+  -- a read
+  module _ (op : r.request.op ≡ Read) (same : contents o' ≡ contents v.origin) (counted : done o' ≡ next_count (done v.origin)) where
+    pub disk_read : (bytes : List ℕ) → bytes ≡ sectors_at (contents v.origin) r.request.range.first r.request.range.count → faults o' ≡ faults v.origin → IsGood contents layers size faults done (Issue number) (Replied number (Data bytes)) v issued
+    disk_read bytes read faulty = good (Data bytes) reply (faultless faulty) (one_done counted)
+      where
+        reply : IsReply number (Data bytes) vb wb
+        reply = elim (read_kinds r.request.dev r.request.op op) [
+          | inl kind ↦ read_disk_event number place r vb wb h.holds (only same) bytes refl kind read
+          | inr k ↦ (let any = waiting.read_attached k.0 k.1 in
+              snap_disk_event number place r vb wb h.holds (only same) any.0 any.1 any.2 (sym any.3) bytes (k.1 ∙ ap SnapRead (sym any.4)) route read)
+        ]
+
+    pub disk_read_io : faults o' ≡ next_count (faults v.origin) → IsGood contents layers size faults done (Issue number) (Replied number (IsRefused Io)) v issued
+    disk_read_io faulty = good (IsRefused Io) reply (failed faulty) (one_done counted)
+      where
+        reply : IsReply number (IsRefused Io) vb wb
+        reply = elim (read_kinds r.request.dev r.request.op op) [
+          | inl kind ↦ io_read_event number place r vb wb h.holds (only same) kind
+          | inr k ↦ (let any = waiting.read_attached k.0 k.1 in
+              io_snap_read_event number place r vb wb h.holds (only same) any.0 any.1 any.2 (sym any.3) (k.1 ∙ ap SnapRead (sym any.4)) (λ e. origin_ne_refused (sym route ∙ e)))
+        ]
+
+  -- a write is one of the origin
+  is_origin : (bytes : List ℕ) → r.request.op ≡ Write bytes → kind_of r.request ≡ OriginWrite
+  is_origin bytes op = elim (write_kinds r.request.dev r.request.op bytes op) [
+    | inl kind ↦ kind
+    | inr k ↦ (let any = waiting.write_attached k.0 k.1 in
+        let s = any.1 in
+        let kind : kind_of r.request ≡ SnapWrite s.number = k.1 ∙ ap SnapWrite (sym any.4) in
+        let here : SnapHolds vb.origin vb.requests s = subst (SnapHolds vb.origin vb.requests) any.3 (h.holds.snaps any.0 s any.2) in
+        elim (cases_Bool s.live) [
+          | inl live ↦ absurd ((found_holds (RouteHolds s.number s.chunk s.pairs s.marks) number place r vb wb out (here.alive live).routes).write kind route)
+          | inr dead ↦ absurd (origin_ne_refused (sym route ∙ (found_holds (RefusedHolds s.number) number place r vb wb out (here.spoilt dead).routes).write kind))
+        ])
+  ]
+
+  module _ (bytes : List ℕ) (op : r.request.op ≡ Write bytes) (counted : done o' ≡ next_count (done v.origin)) where
+    pub disk_write : WritesDisk r.request.range.first r.request.range.count (contents v.origin) (contents o') → (is_loud (layers v.origin) ≡ true → contents o' ≡ with_sectors (contents v.origin) r.request.range.first bytes) → faults o' ≡ faults v.origin
+        → IsGood contents layers size faults done (Issue number) (Replied number IsWritten) v issued
+    disk_write disk written faulty = good IsWritten
+        (write_disk_event number place r bytes vb wb h.holds (record { out = out; op = op; snaps = refl; disk = disk; written = written }) refl (is_origin bytes op) route)
+        (faultless faulty) (one_done counted)
+
+    pub disk_write_io : contents o' ≡ contents v.origin → faults o' ≡ next_count (faults v.origin) → IsGood contents layers size faults done (Issue number) (Replied number (IsRefused Io)) v issued
+    disk_write_io same faulty = good (IsRefused Io) (io_write_event number place r vb wb h.holds (only same) (is_origin bytes op)) (failed faulty) (one_done counted)

@@ -1,0 +1,64 @@
+-- What a search finds, and what is so where it finds nothing.
+use Rattle.std.proofs.Common.{◌≡◌, ℕ, suc, ◌+◌, ◌<◌, Bool, true, false, List, [], ◌∷◌, Some, None, length, get_or, map, drop, nat_lt, refl, sym, ◌∙◌, ap, inl, inr, arith, cond, ◌≤◌}
+use Rattle.std.specs.Prelude.{◌||◌}
+use Rattle.std.specs.List.{list_any, position, position_or_len}
+use Rattle.std.proofs.lemmas.Bool.{cases_Bool, cases_lt, false≢true}
+use Rattle.std.proofs.lemmas.List.{drop_more}
+use Rattle.std.proofs.lemmas.List.Folds.{list_any-from_Any}
+
+lt-true : (m n : ℕ) → m < n → nat_lt m n ≡ true
+lt-true m n lt = search (arith)
+
+any_at : {X : Type 0} (test : X → Bool) (xs : List X) → list_any test xs ≡ true → position_or_len test xs < length xs
+any_at test [] any = absurd (false≢true any)
+any_at test (x ∷ xs) any = elim (cases_Bool (test x)) [
+  | inl here ↦ rw here (omega arith)
+  | inr other ↦ (let later : list_any test xs ≡ true = rw other at any in let h = any_at test xs later in rw other (omega (arith, h)))
+]
+
+some_ne_none : {X : Type 0} (x : X) → Some x ≡ None → ⊥
+some_ne_none x e = cc
+
+pub position_none : {X : Type 0} (test : X → Bool) (xs : List X) → position test xs ≡ None → list_any test xs ≡ false
+position_none test xs none = elim (cases_Bool (list_any test xs)) [
+  | inl any ↦ (let lt = lt-true (position_or_len test xs) (length xs) (any_at test xs any) in
+      absurd (some_ne_none (position_or_len test xs) (ap (λ b. cond b (Some (position_or_len test xs)) None) (sym lt) ∙ none)))
+  | inr other ↦ other
+]
+
+-- one that does not pass is left behind
+pub any_fails : {X : Type 0} (test : X → Bool) (xs : List X) (i : ℕ) (d : X) → i < length xs → test (get_or xs i d) ≡ false → list_any test (drop i xs) ≡ list_any test (drop (i + 1) xs)
+any_fails test xs i d lt fails = ap (list_any test) (drop_more xs i d lt) ∙ ap (λ b. b || list_any test (drop (i + 1) xs)) fails
+
+ge-false : (m n : ℕ) → n ≤ m → nat_lt m n ≡ false
+ge-false m n le = search (arith)
+
+-- what is found is inside, and passes
+pub position_within : {X : Type 0} (test : X → Bool) (xs : List X) (j : ℕ) → position test xs ≡ Some j → j < length xs
+position_within test xs j found = elim (cases_lt (position_or_len test xs) (length xs)) [
+  | inl lt ↦ (let at : Some (position_or_len test xs) ≡ Some j = ap (λ b. cond b (Some (position_or_len test xs)) None) (sym (lt-true (position_or_len test xs) (length xs) lt)) ∙ found in
+      let same : position_or_len test xs ≡ j = cc in omega (arith, lt, same))
+  | inr ge ↦ (let at : None ≡ Some j = ap (λ b. cond b (Some (position_or_len test xs)) None) (sym (ge-false (position_or_len test xs) (length xs) ge)) ∙ found in absurd (cc))
+]
+
+passes_by : {X : Type 0} (test : X → Bool) (xs : List X) → position_or_len test xs < length xs → list_any test xs ≡ true
+passes_by test [] lt = absurd (omega (arith, lt))
+passes_by test (x ∷ xs) lt = elim (cases_Bool (test x)) [
+  | inl here ↦ rw here refl
+  | inr other ↦ (let later : suc (1 + position_or_len test xs) ≤ suc (length xs) = rw other at lt in rw other (passes_by test xs (omega (arith, later))))
+]
+
+pub position_any : {X : Type 0} (test : X → Bool) (xs : List X) (j : ℕ) → position test xs ≡ Some j → list_any test xs ≡ true
+position_any test xs j found = elim (cases_lt (position_or_len test xs) (length xs)) [
+  | inl lt ↦ passes_by test xs lt
+  | inr ge ↦ (let at : None ≡ Some j = ap (λ b. cond b (Some (position_or_len test xs)) None) (sym (ge-false (position_or_len test xs) (length xs) ge)) ∙ found in absurd (cc))
+]
+
+-- one that passes
+pub any_passes : {X : Type 0} (test : X → Bool) (xs : List X) (k : ℕ) (x : X) → k < length xs → x ≡ get_or xs k x → test x ≡ true → list_any test xs ≡ true
+any_passes test xs k x within is passes = list_any-from_Any test xs (k, x, within, sym is, passes)
+
+-- a test of what elements become
+pub any_of : {X Y : Type 0} (test : Y → Bool) (f : X → Y) (xs : List X) → list_any test (map f xs) ≡ list_any (λ x. test (f x)) xs
+any_of test f [] = refl
+any_of test f (x ∷ xs) = ap (λ b. test (f x) || b) (any_of test f xs)

@@ -1,0 +1,177 @@
+-- An origin write is accepted, once the copies of its chunk are started.
+use Rattle.std.proofs.Common.{◌≡◌, inl, inr, ℕ, ◌+◌, ◌*◌, ◌/◌, ◌%◌, ◌<◌, ◌≤◌, Bool, true, false, List, [], ◌∷◌, ◌++◌, None, length, get_or, map, take, drop, refl, sym, ◌∙◌, ap, subst, arith}
+use Rattle.std.specs.Prelude.{◌&&◌, ◌||◌, not, sum_by, count_by}
+use Rattle.std.specs.List.{All, list_all, list_any}
+use Rattle.std.proofs.lemmas.Bool.{cases_Bool, MatchBool-at_true, MatchBool-at_false}
+use Rattle.std.proofs.lemmas.List.{length-map, get_or-map}
+use Rattle.std.proofs.lemmas.List.Elements.{All-map, All-nil, All-cons, All-head, All-tail}
+use Rattle.std.proofs.lemmas.Nat.{div-add-mod'}
+use Rattle.std.proofs.lemmas.List.{take_at}
+use Rattle.device.specs.Layers.{Layer, is_loud}
+use Rattle.plain.specs.Plain.{Plain}
+use Rattle.plain.specs.Legal.{IsSubmitted}
+use Rattle.pending.specs.Kinds.{kind_of, room_of, in_flight}
+use Rattle.pending.specs.Routes.{write_route_of}
+use Rattle.pending.specs.declared.flights.Flight.{Flight}
+use Rattle.pending.specs.declared.flights.Kind.TheVariants.{OriginWrite}
+use Rattle.volume_laws.specs.Books.{SnapBooks, Books}
+use Rattle.volume_laws.specs.Published.{chunk_of, is_clear, is_saved}
+use Rattle.volume_laws.specs.Waits.{IsSaving}
+use Rattle.volume_laws.specs.Whole.{plain_of as plain_books}
+use Rattle.submit_laws.specs.Accepting.{IsTakenIn}
+use Rattle.submit_laws.proofs.Preparing.{prepared_none, saving_none}
+use Rattle.snapshot.specs.Kept.{Kept, books_of as snap_books}
+use Rattle.volume.specs.Volumed.{Volumed, books_of, piece_of, plain_of, is_loud_in_all}
+use Rattle.volume.specs.Whole.{IsWhole, count_in}
+use Rattle.volume.specs.Submitting.{unroomed, starts, overflows, is_clear_in, is_clear_of, IsSavedIn, AreSavedIn, IsAsked, IsAcceptedAs, entered_of}
+use Rattle.volume.proofs.ByKind.{origin_write_enters}
+use Rattle.volume.proofs.Enters.{whole_entered, plain_entered}
+use Rattle.volume.proofs.Roomed.{roomed_piece, roomed_sum, books_roomed, whole_roomed, starts_roomed}
+use Rattle.volume.proofs.Savings.{AreDone, done_all}
+use Rattle.volume.proofs.Shown.{shown}
+
+-- as the books say
+and_swap : (a u x y : Bool) → ((a && not u) && (x && not y)) ≡ ((a && x) && not (u || y))
+and_swap true true x y = sym (false_right x)
+  where
+    false_right : (b : Bool) → (b && false) ≡ false
+    false_right true = refl
+    false_right false = refl
+and_swap true false x y = refl
+and_swap false u x y = refl
+
+pub clear_books : {B : Type 0} (contents : B → List ℕ) (layers : B → List Layer) (first : ℕ) (snaps : List (Kept B)) → is_clear_of first snaps ≡ is_clear (map (snap_books contents layers) snaps) first
+clear_books contents layers first [] = refl
+clear_books contents layers first (s ∷ snaps) =
+    let b = map (snap_books contents layers) snaps in
+    ap (λ r. is_clear_in first s && r) (clear_books contents layers first snaps)
+    ∙ and_swap (is_saved first (snap_books contents layers s)) s.untried (list_all (is_saved first) (map (snap_books contents layers) snaps)) (list_any (λ (v : SnapBooks). v.untried) (map (snap_books contents layers) snaps))
+
+module _ {B : Type 0} (contents : B → List ℕ) (layers : B → List Layer) (c : ℕ) where
+  same_chunk : (s t : Kept B) (n m : ℕ) (fs gs : List Flight) → IsSavedIn contents layers c s t n m fs gs → t.state.chunk ≡ s.state.chunk
+  same_chunk s t n m fs gs e = elim (cases_Bool (starts c s)) [
+    | inl begins ↦ (let (buffer, at, m_is, g) = MatchBool-at_true _ _ begins e in ap (λ (x : Kept B). x.state.chunk) at.fields)
+    | inr unsaid ↦ elim (cases_Bool (overflows c s)) [
+      | inl over ↦ (let (same, m_is, g) = MatchBool-at_true _ _ over (MatchBool-at_false _ _ unsaid e) in ap (λ (x : Kept B). x.state.chunk) same)
+      | inr fine ↦ (let (same, m_is, g) = MatchBool-at_false _ _ fine (MatchBool-at_false _ _ unsaid e) in ap (λ (x : Kept B). x.state.chunk) same)
+    ]
+  ]
+
+  pub saved_piece : (ss ts : List (Kept B)) (n m : ℕ) (fs gs : List Flight) → AreSavedIn contents layers c ss ts n m fs gs → piece_of ts ≡ piece_of ss
+  saved_piece [] [] n m fs gs e = refl
+  saved_piece [] (t ∷ ts) n m fs gs e = absurd e
+  saved_piece (s ∷ ss) [] n m fs gs e = absurd e
+  saved_piece (s ∷ ss) (t ∷ ts) n m fs gs (k, hs, one, rest) = same_chunk s t n k fs hs one
+
+  pub saved_length : (ss ts : List (Kept B)) (n m : ℕ) (fs gs : List Flight) → AreSavedIn contents layers c ss ts n m fs gs → length ts ≡ length ss
+  saved_length [] [] n m fs gs e = refl
+  saved_length [] (t ∷ ts) n m fs gs e = absurd e
+  saved_length (s ∷ ss) [] n m fs gs e = absurd e
+  saved_length (s ∷ ss) (t ∷ ts) n m fs gs (k, hs, one, rest) = omega (arith, saved_length ss ts k m hs gs rest)
+
+-- the same plain machine, and the same loudness, whatever room there is
+unseen_all : {B : Type 0} (p : Kept B → Bool) (xs : List (Kept B)) → ((s : Kept B) → p (unroomed s) ≡ p s) → list_all p (map unroomed xs) ≡ list_all p xs
+unseen_all p [] same = refl
+unseen_all p (x ∷ xs) same = ap (λ b. b && list_all p (map unroomed xs)) (same x) ∙ ap (λ b. p x && b) (unseen_all p xs same)
+
+module _ {B : Type 0} (contents : B → List ℕ) (layers : B → List Layer) (size : B → ℕ) (v : Volumed B) (snaps : List (Kept B)) (e : map unroomed snaps ≡ map unroomed v.snaps) where
+  pub plain_roomed : plain_of contents layers (record v { snaps = snaps }) ≡ plain_of contents layers v
+  plain_roomed = shown contents layers size (record v { snaps = snaps })
+      ∙ ap (λ (xs : List SnapBooks). let b : Books = record (books_of contents layers size v) { snaps = xs } in plain_books b) (books_roomed contents layers size v snaps e)
+      ∙ sym (shown contents layers size v)
+
+  pub loud_roomed : is_loud_in_all layers (record v { snaps = snaps }) ≡ is_loud_in_all layers v
+  loud_roomed = ap (λ b. is_loud (layers v.origin) && b)
+      (sym (unseen_all (λ s. is_loud (layers s.device)) snaps (λ s. refl)) ∙ ap (list_all (λ s. is_loud (layers s.device))) e ∙ unseen_all (λ s. is_loud (layers s.device)) v.snaps (λ s. refl))
+
+module _ {B : Type 0} (contents : B → List ℕ) (layers : B → List Layer) (size : B → ℕ) (v : Volumed B) (h : IsWhole contents layers size v) (before after : List (Kept B)) (e : map unroomed before ≡ map unroomed v.snaps) (m : ℕ) (gs : List Flight) (f : Flight)
+    (at : AreSavedIn contents layers (f.request.range.first / piece_of v.snaps) before after v.copies m v.flights gs) (few : sum_by count_in v.snaps + count_by (starts (f.request.range.first / piece_of v.snaps)) v.snaps ≤ 256)
+    (number : f.number ≡ v.requests + 1) (asked : IsAsked (size v.origin) (piece_of v.snaps) f.request) (room : length f.room.items ≡ room_of f.request) (kind : kind_of f.request ≡ OriginWrite)
+    (route : f.route ≡ write_route_of false None (is_clear_of f.request.range.first after)) (space : length v.flights < 64) where
+  abbrev roomy : Volumed B
+  roomy = record v { snaps = before }
+
+  abbrev saved : Volumed B
+  saved = record v { snaps = after; copies = m; flights = gs }
+
+  abbrev pub written : Volumed B
+  written = entered_of f (record v { snaps = after; copies = m; flights = gs })
+
+  roomy_whole : IsWhole contents layers size roomy
+  roomy_whole = whole_roomed contents layers size v before e h
+
+  done : AreDone contents layers size (f.request.range.first / piece_of v.snaps) (length {A = Kept B} [] + length before) roomy saved
+  done =
+      let c = f.request.range.first / piece_of v.snaps in
+      let sums = roomed_sum count_in before v.snaps e (λ s. refl) in
+      let counts = starts_roomed contents layers size v before e c in
+      let start : AreDone contents layers size c (length {A = Kept B} []) roomy roomy = record {
+        which = [];
+        whole = roomy_whole;
+        prepared = prepared_none (books_of contents layers size roomy) roomy_whole.holds roomy_whole.waits;
+        saving = saving_none c (books_of contents layers size roomy).snaps;
+      } in
+      done_all contents layers size c roomy before after [] roomy m gs refl at (omega (arith, few, sums, counts)) start
+
+  piece_same : piece_of after ≡ piece_of v.snaps
+  piece_same = saved_piece contents layers (f.request.range.first / piece_of v.snaps) before after v.copies m v.flights gs at ∙ roomed_piece before v.snaps e
+
+  saving_all : All (λ s. s.live ≡ true → IsSaving (chunk_of s.chunk f) s) (map (snap_books contents layers) after)
+  saving_all = All-map (λ (s : SnapBooks). s.live ≡ true → IsSaving (chunk_of s.chunk f) s) (snap_books contents layers) after
+      (λ k d lt live.
+      (let c = f.request.range.first / piece_of v.snaps in
+      let s : Kept B = get_or after k d in
+      let len = saved_length contents layers (f.request.range.first / piece_of v.snaps) before after v.copies m v.flights gs at in
+      let is = get_or-map (snap_books contents layers) after k d (snap_books contents layers d) lt in
+      let j_in : k < length {A = Kept B} [] + length before = let none : ◌≡◌ {A = ℕ} (length {A = Kept B} []) 0 = refl in omega (arith, lt, len, none) in
+      let here = subst (IsSaving (f.request.range.first / piece_of v.snaps)) is (done.saving.each k (snap_books contents layers d) j_in (ap (λ (x : SnapBooks). x.live) is ∙ live)) in
+      let same : f.request.range.first / piece_of v.snaps ≡ f.request.range.first / (get_or after k d).state.chunk = ap (λ n. f.request.range.first / n) (sym piece_same ∙ sym (done.whole.snaps k d lt).chunk_is) in
+      subst (λ (n : ℕ). IsSaving n (snap_books contents layers (get_or after k d))) same here))
+
+  taken : IsTakenIn done.which f.number f.request (books_of contents layers size roomy) (books_of contents layers size written)
+  taken = origin_write_enters contents layers size roomy saved done.which done.prepared done.whole f number (subst (λ (n : ℕ). IsAsked (size v.origin) n f.request) (sym piece_same) asked) room kind
+      (route ∙ ap (write_route_of false None) (clear_books contents layers f.request.range.first after)) saving_all
+
+  pub written_whole : IsWhole contents layers size written
+  written_whole =
+      let len : length gs ≡ length v.flights = sym (length-map gs in_flight) ∙ ap length done.prepared.requests ∙ length-map v.flights in_flight in
+      whole_entered contents layers size saved f done.whole number done.which roomy (omega (arith, space, len)) taken
+
+  pub written_accepted : IsAcceptedAs contents layers f.request f.number v written
+  written_accepted = record {
+    next = number;
+    origin = refl;
+    given = sym number;
+    legal = λ loud. (
+      done.which,
+      subst (λ (p : Plain). IsSubmitted done.which p f.number f.request (plain_of contents layers written)) (plain_roomed contents layers size v before e)
+          (plain_entered contents layers size roomy written done.which f.number f.request taken (loud_roomed contents layers size v before e ∙ loud)),
+    );
+  }
+
+-- a list that was written back through a slice
+pub back : {X : Type 0} (n : ℕ) (x y : List X) → length x ≡ n → take n (x ++ drop (length x) y) ≡ x
+back n x y len = take_at x (drop (length x) y) n len
+
+first_below : (p q r first count sectors : ℕ) → q * p + r ≡ first → 0 < count → first + count ≤ sectors → p * q < sectors
+first_below p q r first count sectors whole some inside = let turned : q * p ≡ p * q = grind arith in omega (arith, whole, some, inside, turned)
+
+module _ {B : Type 0} (contents : B → List ℕ) (layers : B → List Layer) (size : B → ℕ) (v : Volumed B) (h : IsWhole contents layers size v) (before : List (Kept B)) (e : map unroomed before ≡ map unroomed v.snaps) where
+  -- the chunk begins inside of the origin
+  pub begins_all : (first count : ℕ) → 0 < count → first + count ≤ size v.origin → All (λ s. s.state.chunk * (first / piece_of v.snaps) < s.state.origin) before
+  begins_all first count some inside k d lt =
+      let a = (whole_roomed contents layers size v before e h).snaps k d lt in
+      let below = first_below (piece_of v.snaps) (first / piece_of v.snaps) (first % piece_of v.snaps) first count (size v.origin) (div-add-mod' first (piece_of v.snaps)) some inside in
+      subst (λ (n : ℕ). n * (first / piece_of v.snaps) < (get_or before k d).state.origin) (sym (a.chunk_is ∙ roomed_piece before v.snaps e))
+      (subst (λ (n : ℕ). piece_of v.snaps * (first / piece_of v.snaps) < n) (sym a.origin) below)
+
+  pub some_all : (c : ℕ) (after : List (Kept B)) (n m : ℕ) (fs gs : List Flight) → AreSavedIn contents layers c before after n m fs gs → All (λ s. 0 < s.state.chunk) after
+  some_all c after n m fs gs at = saved_some c before after n m fs gs at (λ k d lt. ((whole_roomed contents layers size v before e h).snaps k d lt).some)
+    where
+      saved_some : (c : ℕ) (ss ts : List (Kept B)) (n m : ℕ) (fs gs : List Flight) → AreSavedIn contents layers c ss ts n m fs gs → All (λ s. 0 < s.state.chunk) ss → All (λ s. 0 < s.state.chunk) ts
+      saved_some c [] [] n m fs gs at all = All-nil (λ s. 0 < s.state.chunk)
+      saved_some c [] (t ∷ ts) n m fs gs at all = absurd at
+      saved_some c (s ∷ ss) [] n m fs gs at all = absurd at
+      saved_some c (s ∷ ss) (t ∷ ts) n m fs gs (k, hs, one, rest) all =
+          All-cons (λ x. 0 < x.state.chunk) t ts (subst (λ (i : ℕ). 0 < i) (sym (same_chunk contents layers c s t n k fs hs one)) (All-head (λ x. 0 < x.state.chunk) s ss all))
+          (saved_some c ss ts k m hs gs rest (All-tail (λ x. 0 < x.state.chunk) s ss all))

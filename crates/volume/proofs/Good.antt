@@ -1,0 +1,101 @@
+-- An event of one snapshot leaves its volume whole, and does what a step promises.
+use Rattle.std.proofs.Common.{◌≡◌, inr, ℕ, ◌<◌, true, false, List, [], ◌∷◌, ◌++◌, length, get_or, map, refl, sym, ◌∙◌, ap, arith}
+use Rattle.std.proofs.lemmas.List.{length-map}
+use Rattle.device.specs.Layers.{Layer, is_loud}
+use Rattle.plain.specs.Plain.{Plain, spoiled}
+use Rattle.plain.specs.Legal.{IsLegalStep, Spoils}
+use Rattle.plain.specs.declared.event.Event.{Event}
+use Rattle.plain.specs.declared.event.Outcome.{Outcome}
+use Rattle.pending.specs.Due.{number_of_flight, number_of_copy, number_of_mark}
+use Rattle.pending.specs.Routes.{refused_of}
+use Rattle.pending.specs.declared.copies.Mark.{Mark}
+use Rattle.pending.specs.declared.flights.Flight.{Flight}
+use Rattle.volume_laws.specs.Due.{left_in}
+use Rattle.volume_laws.specs.Steps.{SpoilsSnap}
+use Rattle.volume_laws.specs.Waits.{Waits}
+use Rattle.volume_laws.specs.Whole.{IsLoud, plain_of as plain_books}
+use Rattle.volume_laws.specs.Outcomes.{IsSilent}
+use Rattle.volume_laws.proofs.Spoiling.{spoil_event}
+use Rattle.volume_laws.proofs.WaitingAgain.{waits_spoiled}
+use Rattle.volume_laws.proofs.Left.{spoil_left}
+use Rattle.snapshot.specs.Kept.{Kept, books_of as snap_books, due_of_kept}
+use Rattle.volume.specs.Volumed.{Volumed, books_of, plain_of, is_loud_in_all}
+use Rattle.volume.specs.Whole.{IsWhole, numbers_in}
+use Rattle.volume.specs.Causes.{HasCause, IsOneAtMost}
+use Rattle.volume.specs.Stepping.{IsStepped}
+use Rattle.volume.proofs.Shown.{shown, loud_books}
+use Rattle.volume.proofs.Changing.{SameDisk, StaysAttached, changed, spoils_one, whole_changed, lower_changed, loud_changed}
+
+pub record IsGood {B : Type 0} (contents : B → List ℕ) (layers : B → List Layer) (size faults done : B → ℕ) (event : Event) (outcome : Outcome) (v w : Volumed B) : Type 0 where
+  pub whole : IsWhole contents layers size w
+  pub stepped : IsStepped contents layers faults done event outcome v w
+
+-- an event that spoils, or is silent, is legal by any outcome that no reply is
+abbrev pub Spoiling : Event → Outcome → Type 0
+Spoiling event outcome = (p q : Plain) → (which : List ℕ) × Spoils which p q → IsLegalStep p event outcome q
+
+-- what became of a spoiled snapshot
+pub record SpoiltTo {B : Type 0} (s s' : Kept B) : Type 0 where
+  pub number : s'.number ≡ s.number
+  pub live : s'.live ≡ false
+  pub untried : s'.untried ≡ true
+  pub chunk_is : s'.state.chunk ≡ s.state.chunk
+  pub origin : s'.state.origin ≡ s.state.origin
+  pub copies : s'.copies ≡ []
+  pub marks : s'.marks ≡ []
+
+pub refused_numbers : (which : List ℕ) (rs : List Flight) → map number_of_flight (map (refused_of which) rs) ≡ map number_of_flight rs
+refused_numbers which [] = refl
+refused_numbers which (r ∷ rs) = ap (λ ns. r.number ∷ ns) (refused_numbers which rs)
+
+module _ {B : Type 0} (contents : B → List ℕ) (layers : B → List Layer) (size : B → ℕ) (v w : Volumed B) where
+  pub legal_by : (which : List ℕ) → (IsLoud (books_of contents layers size v) → Spoils which (plain_books (books_of contents layers size v)) (plain_books (books_of contents layers size w))) → is_loud_in_all layers v ≡ true
+      → (xs : List ℕ) × Spoils xs (plain_of contents layers v) (plain_of contents layers w)
+  legal_by which step loud = (which, shown contents layers size w ∙ step (loud_books contents layers size v loud) ∙ ap (spoiled which) (sym (shown contents layers size v)))
+
+module _ {B : Type 0} (contents : B → List ℕ) (layers : B → List Layer) (size faults done : B → ℕ) (v : Volumed B) (h : IsWhole contents layers size v) (event : Event) (outcome : Outcome) (told : Spoiling event outcome)
+    (o' : B) (k : ℕ) (s s' : Kept B) (within : k < length v.snaps) (is : s ≡ get_or v.snaps k s) (same : SameDisk contents layers size v.origin o') (loud : is_loud (layers s'.device) ≡ is_loud (layers s.device)) where
+  -- nothing is seen of it
+  pub silent_good : (flights : List Flight) → map number_of_flight flights ≡ map number_of_flight v.flights → StaysAttached s s'
+      → IsSilent (books_of contents layers size v) (books_of contents layers size (changed v o' k s' flights)) → Waits (books_of contents layers size (changed v o' k s' flights))
+      → left_in (due_of_kept contents layers s') < left_in (due_of_kept contents layers s)
+      → HasCause faults event outcome v (changed v o' k s' flights) → IsOneAtMost done v (changed v o' k s' flights) → IsGood contents layers size faults done event outcome v (changed v o' k s' flights)
+  silent_good flights numbers stays silent waits less cause one =
+      let w = changed v o' k s' flights in
+      let count : length flights ≡ length v.flights = omega (arith, ap length numbers, length-map flights number_of_flight, length-map v.flights number_of_flight) in
+      record {
+        whole = whole_changed contents layers size v o' k s s' within is flights h same stays numbers silent.holds waits;
+        stepped = record {
+          legal = λ l. told (plain_of contents layers v) (plain_of contents layers w) (legal_by contents layers size v w [] silent.step l);
+          lower = lower_changed contents layers size v o' k s s' within is flights count less;
+          loud = loud_changed contents layers size v o' k s s' within is flights same loud;
+          cause = cause;
+          one = one;
+        };
+      }
+
+  -- the snapshot is spoiled, and its requests refused
+  pub spoilt_good : s.live ≡ true → 0 < length s.copies → SpoiltTo s s'
+      → HasCause faults event outcome v (changed v o' k s' (map (refused_of (s.number ∷ [])) v.flights)) → IsOneAtMost done v (changed v o' k s' (map (refused_of (s.number ∷ [])) v.flights))
+      → IsGood contents layers size faults done event outcome v (changed v o' k s' (map (refused_of (s.number ∷ [])) v.flights))
+  spoilt_good live some t cause one =
+      let flights = map (refused_of (s.number ∷ [])) v.flights in
+      let w = changed v o' k s' flights in
+      let sb = snap_books contents layers in
+      let spoils : SpoilsSnap (sb s) (sb s') = record { number = t.number; live = t.live; copies = t.copies; marks = t.marks } in
+      let e = spoils_one contents layers size v o' k s s' within is same spoils in
+      let numbers = refused_numbers (s.number ∷ []) v.flights in
+      let count : length flights ≡ length v.flights = length-map v.flights (refused_of (s.number ∷ [])) in
+      let spoil = spoil_event k (sb s) (sb s') (books_of contents layers size v) (books_of contents layers size w) h.holds e in
+      let gone : numbers_in s' ≡ [] = ap (λ (x : List Mark). map number_of_mark x ++ map number_of_copy s'.copies) t.marks ∙ ap (map number_of_copy) t.copies in
+      record {
+        whole = whole_changed contents layers size v o' k s s' within is flights h same (record { number = t.number; chunk_is = t.chunk_is; origin = t.origin; numbers = inr (inr gone) }) numbers spoil.holds
+            (waits_spoiled k (sb s) (sb s') (books_of contents layers size v) (books_of contents layers size w) h.waits e t.untried);
+        stepped = record {
+          legal = λ l. told (plain_of contents layers v) (plain_of contents layers w) (legal_by contents layers size v w (s.number ∷ []) spoil.step l);
+          lower = lower_changed contents layers size v o' k s s' within is flights count (spoil_left (due_of_kept contents layers s) (due_of_kept contents layers s') spoils some);
+          loud = loud_changed contents layers size v o' k s s' within is flights same loud;
+          cause = cause;
+          one = one;
+        };
+      }

@@ -1,0 +1,62 @@
+-- A request is answered and taken out: what a step promises of it.
+use Rattle.std.proofs.Common.{◌≡◌, ℕ, ◌<◌, ◌≤◌, List, length, get_or, map, refl, sym, ap, subst, arith}
+use Rattle.std.specs.Prelude.{sum_by}
+use Rattle.std.specs.List.{All, remove}
+use Rattle.std.proofs.lemmas.List.{length-map}
+use Rattle.std.proofs.lemmas.List.Edits.{length-remove}
+use Rattle.std.proofs.lemmas.List.Quantifiers.{all_pairs_remove}
+use Rattle.device.specs.Layers.{Layer}
+use Rattle.plain.specs.Legal.{IsAnswered}
+use Rattle.plain.specs.declared.event.Event.TheVariants.{Issue}
+use Rattle.plain.specs.declared.event.Outcome.TheVariants.{Reply as Replied}
+use Rattle.plain.specs.declared.request.Reply.{Reply}
+use Rattle.pending.specs.Due.{number_of_flight}
+use Rattle.pending.specs.declared.flights.Flight.{Flight}
+use Rattle.volume_laws.specs.Due.{left_in}
+use Rattle.volume_laws.specs.Held.{RequestHolds}
+use Rattle.volume_laws.specs.Waits.{Waits}
+use Rattle.volume_laws.specs.Outcomes.{IsReply}
+use Rattle.volume_laws.proofs.Lists.{All-remove, map-remove}
+use Rattle.volume.specs.Volumed.{Volumed, books_of, plain_of, dues_of, piece_of, is_loud_in_all}
+use Rattle.volume.specs.Whole.{AreNumbers, IsAttached, IsWhole, number_of_snap}
+use Rattle.volume.specs.Causes.{HasReplied, IsOneAtMost}
+use Rattle.volume.proofs.Shown.{shown, loud_books}
+use Rattle.volume.proofs.Changing.{SnapsFit}
+use Rattle.volume.proofs.Good.{IsGood}
+
+-- one number fewer
+fewer_numbers : (most : ℕ) (rs : List Flight) (k : ℕ) → k < length rs → AreNumbers most (map number_of_flight rs) → AreNumbers most (map number_of_flight (remove rs k))
+fewer_numbers most rs k lt h = subst (AreNumbers most) (sym (map-remove number_of_flight rs k)) (record {
+  given = All-remove (λ n. n ≤ most) (map number_of_flight rs) k h.given;
+  ascending = all_pairs_remove (λ m n. m < n) (map number_of_flight rs) k (omega (arith, lt, length-map rs number_of_flight)) h.ascending;
+})
+
+module _ {B : Type 0} (contents : B → List ℕ) (layers : B → List Layer) (size faults done : B → ℕ) (v w : Volumed B) (h : IsWhole contents layers size v) (number place : ℕ) (reply : Reply) (in_list : place < length v.flights)
+    (flights : w.flights ≡ remove v.flights place) (requests : w.requests ≡ v.requests) (copies : w.copies ≡ v.copies) (attached : w.attached ≡ v.attached) (fit : SnapsFit v.copies v.attached (size w.origin) w.snaps)
+    (lefts : sum_by left_in (dues_of contents layers w) ≡ sum_by left_in (dues_of contents layers v)) (loud : is_loud_in_all layers w ≡ is_loud_in_all layers v) where
+  pub reply_good : IsReply number reply (books_of contents layers size v) (books_of contents layers size w) → Waits (books_of contents layers size w) → HasReplied faults number reply v w → IsOneAtMost done v w
+      → IsGood contents layers size faults done (Issue number) (Replied number reply) v w
+  reply_good answered waits cause one = record {
+    whole = record {
+      holds = answered.holds;
+      waits = waits;
+      snaps = subst (λ n. All (IsAttached n (size w.origin) (piece_of w.snaps)) w.snaps) (sym copies) fit.snaps;
+      apart = fit.apart;
+      numbers = subst (λ n. AreNumbers n (map number_of_snap w.snaps)) (sym attached) fit.numbers;
+      requests = subst (λ n. AreNumbers n (map number_of_flight w.flights)) (sym requests) (subst (λ fs. AreNumbers v.requests (map number_of_flight fs)) (sym flights) (fewer_numbers v.requests v.flights place in_list h.requests));
+      few = fit.few;
+      few_copies = fit.few_copies;
+      few_requests = omega (arith, h.few_requests, ap length flights, length-remove v.flights place in_list);
+    };
+    stepped = record {
+      legal = λ l. (refl, subst (λ p. IsAnswered p number reply (plain_of contents layers w)) (sym (shown contents layers size v)) (subst (IsAnswered _ number reply) (sym (shown contents layers size w)) (answered.step (loud_books contents layers size v l))));
+      lower = omega (arith, lefts, ap length flights, length-remove v.flights place in_list);
+      loud = loud;
+      cause = cause;
+      one = one;
+    };
+  }
+
+-- what is so of the request
+pub request_at : {B : Type 0} (contents : B → List ℕ) (layers : B → List Layer) (size : B → ℕ) (v : Volumed B) → IsWhole contents layers size v → (place : ℕ) (r : Flight) → place < length v.flights → r ≡ get_or v.flights place r → RequestHolds (size v.origin) r
+request_at contents layers size v h place r within is = subst (RequestHolds (size v.origin)) (sym is) (h.holds.requests place r within)

@@ -1,0 +1,100 @@
+-- A snapshot leaves a quiet volume.
+use Rattle.std.proofs.Common.{◌≡◌, ℕ, zero, suc, ◌<◌, ◌≤◌, List, [], ◌∷◌, length, get_or, map, refl, sym, ap, subst, arith, nat_eq, Bool, true, false, Some}
+use Rattle.std.specs.Prelude.{sum_by}
+use Rattle.std.specs.List.{All, remove}
+use Rattle.std.specs.Prelude.{◌&&◌}
+use Rattle.std.specs.List.{list_all}
+use Rattle.std.proofs.lemmas.Bool.{eqb-true}
+use Rattle.std.proofs.lemmas.List.{length-map, nil_from_length}
+use Rattle.std.proofs.lemmas.List.Edits.{length-remove}
+use Rattle.std.proofs.lemmas.List.Elements.{All-nil}
+use Rattle.std.proofs.lemmas.List.Quantifiers.{all_pairs_remove}
+use Rattle.device.specs.Layers.{Layer}
+use Rattle.plain.specs.Legal.{IsDetached}
+use Rattle.volume_laws.specs.Steps.{Detaches}
+use Rattle.volume_laws.specs.Whole.{plain_of as plain_books}
+use Rattle.volume_laws.proofs.Attaching.{detach_event}
+use Rattle.volume_laws.proofs.Lists.{All-remove, map-remove}
+use Rattle.volume_laws.proofs.Waiting.{waits_none}
+use Rattle.snapshot.specs.Kept.{Kept, books_of as snap_books}
+use Rattle.volume.specs.Volumed.{Volumed, books_of, piece_of, plain_of}
+use Rattle.volume.specs.Whole.{AreNumbers, number_of_snap, count_in, SharesNone, IsAttached, IsWhole}
+use Rattle.volume.proofs.Changing.{books_within, books_is}
+use Rattle.volume.specs.Leaving.{is_done_of, is_quiet_of, place_of_snap}
+use Rattle.std.proofs.lemmas.List.Quantifiers.{position-Some}
+use Rattle.volume.proofs.Shown.{shown}
+use Rattle.volume.proofs.Sums.{sum_cons}
+
+-- the piece goes by the first that is left
+pub piece_left : {B : Type 0} (copies sectors chunk : ℕ) (xs : List (Kept B)) → All (IsAttached copies sectors chunk) xs → All (IsAttached copies sectors (piece_of xs)) xs
+piece_left copies sectors chunk [] all = All-nil (IsAttached copies sectors 1024)
+piece_left copies sectors chunk (x ∷ xs) all = subst (λ n. All (IsAttached copies sectors n) (x ∷ xs)) (sym (all 0 x (omega arith)).chunk_is) all
+
+sum_left : {X : Type 0} (f : X → ℕ) (xs : List X) (k : ℕ) → sum_by f (remove xs k) ≤ sum_by f xs
+sum_left f [] zero = let none : remove {X = _} [] 0 ≡ [] = refl in omega (arith, ap (sum_by f) none)
+sum_left f [] (suc k) = let none : remove {X = _} [] (suc k) ≡ [] = refl in omega (arith, ap (sum_by f) none)
+sum_left f (x ∷ xs) zero = let out : remove (x ∷ xs) 0 ≡ xs = refl in omega (arith, ap (sum_by f) out, sum_cons f x xs)
+sum_left f (x ∷ xs) (suc k) =
+    let rest : remove (x ∷ xs) (suc k) ≡ x ∷ remove xs k = refl in
+    omega (arith, sum_left f xs k, ap (sum_by f) rest, sum_cons f x (remove xs k), sum_cons f x xs)
+
+module _ {B : Type 0} (contents : B → List ℕ) (layers : B → List Layer) (size : B → ℕ) (v : Volumed B) (k : ℕ) (s : Kept B) (within : k < length v.snaps) (is : s ≡ get_or v.snaps k s) (none : v.flights ≡ []) where
+  abbrev pub left : Volumed B
+  left = record v { snaps = remove v.snaps k }
+
+  detaches : Detaches k (snap_books contents layers s) (books_of contents layers size v) (books_of contents layers size left)
+  detaches = record {
+    quiet = none;
+    requests = refl;
+    within = books_within contents layers size v v.origin k s s within is;
+    was = books_is contents layers size v v.origin k s s within is;
+    snaps = map-remove (snap_books contents layers) v.snaps k;
+    origin = refl;
+    sectors = refl;
+    loud = refl;
+    merge = refl;
+  }
+
+  pub whole_left : IsWhole contents layers size v → IsWhole contents layers size left
+  whole_left h =
+      let fewer = length-remove v.snaps k within in
+      let sums = sum_left count_in v.snaps k in
+      record {
+        holds = (detach_event k (snap_books contents layers s) (books_of contents layers size v) (books_of contents layers size left) h.holds detaches).0;
+        waits = waits_none (books_of contents layers size left) none;
+        snaps = piece_left v.copies (size v.origin) (piece_of v.snaps) (remove v.snaps k) (All-remove (IsAttached v.copies (size v.origin) (piece_of v.snaps)) v.snaps k h.snaps);
+        apart = all_pairs_remove SharesNone v.snaps k within h.apart;
+        numbers = subst (AreNumbers v.attached) (sym (map-remove number_of_snap v.snaps k)) (record {
+          given = All-remove (λ n. n ≤ v.attached) (map number_of_snap v.snaps) k h.numbers.given;
+          ascending = all_pairs_remove (λ m n. m < n) (map number_of_snap v.snaps) k (omega (arith, within, length-map v.snaps number_of_snap)) h.numbers.ascending;
+        });
+        requests = h.requests;
+        few = omega (arith, fewer, h.few);
+        few_copies = omega (arith, sums, h.few_copies);
+        few_requests = h.few_requests;
+      }
+
+  pub plain_left : IsWhole contents layers size v → IsDetached (plain_of contents layers v) s.number (plain_of contents layers left)
+  plain_left h =
+      let step = (detach_event k (snap_books contents layers s) (books_of contents layers size v) (books_of contents layers size left) h.holds detaches).1 in
+      subst (λ p. IsDetached p s.number (plain_of contents layers left)) (sym (shown contents layers size v))
+      (subst (IsDetached (plain_books (books_of contents layers size v)) s.number) (sym (shown contents layers size left)) step)
+
+  pub plain_left_as : (number : ℕ) (snaps : List (Kept B)) → snaps ≡ remove v.snaps k → s.number ≡ number → IsWhole contents layers size v → IsDetached (plain_of contents layers v) number (plain_of contents layers (record v { snaps = snaps }))
+  plain_left_as number snaps same mine h =
+      subst (λ (n : ℕ). IsDetached (plain_of contents layers v) n (plain_of contents layers (record v { snaps = snaps }))) mine
+      (subst (λ (x : List (Kept B)). IsDetached (plain_of contents layers v) s.number (plain_of contents layers (record v { snaps = x }))) (sym same) (plain_left h))
+
+-- the snapshot with a number is found
+pub found_place : {B : Type 0} (number : ℕ) (snaps : List (Kept B)) (k : ℕ) (d : Kept B) → Some k ≡ place_of_snap number snaps → (k < length snaps) × ((get_or snaps k d).number ≡ number)
+found_place number snaps k d e =
+    let found = position-Some (λ s. nat_eq s.number number) snaps k d (sym e) in
+    (found.0, eqb-true (get_or snaps k d).number number found.1)
+
+-- a quiet volume has no request in flight
+pub quiet_none : {B : Type 0} (v : Volumed B) → is_quiet_of v ≡ true → v.flights ≡ []
+quiet_none v e = nil_from_length v.flights (eqb-true (length v.flights) 0 (and_first (nat_eq (length v.flights) 0) (list_all is_done_of v.snaps) e))
+  where
+    and_first : (a b : Bool) → (a && b) ≡ true → a ≡ true
+    and_first true b h = refl
+    and_first false b h = h

@@ -1,0 +1,75 @@
+-- Each call of a snapshot keeps its pairs counted.
+use Rattle.std.proofs.Common.{◌≡◌, ℕ, ◌+◌, ◌*◌, ◌<◌, Bool, true, false, List, [], ◌∷◌, ◌++◌, length, set, refl, sym, ◌∙◌, ap, subst, arith, inl, inr, eq-eqb}
+use Rattle.std.specs.Prelude.{◌==◌}
+use Rattle.std.proofs.lemmas.Bool.{cases_eq, false≢true}
+use Rattle.std.proofs.lemmas.List.{length-append}
+use Rattle.sector.specs.declared.pair.Pair.{Pair}
+use Rattle.pending.specs.declared.copies.ChunkCopy.{ChunkCopy}
+use Rattle.pending.specs.declared.copies.Mark.{Mark}
+use Rattle.store.specs.Stored.{after_commit}
+use Rattle.store.specs.declared.state.State.{State}
+use Rattle.snapshot.specs.Kept.{Kept}
+use Rattle.volume.specs.Moved.{IsCounted}
+use Rattle.volume.proofs.MovedLists.{if_true, if_false}
+use Rattle.volume.proofs.MovedDue.{unequal}
+use Rattle.volume.proofs.MovedSnaps.{spoilt}
+
+-- a snapshot whose store is in the same state
+pub counted_same : {B : Type 0} (s s' : Kept B) → IsCounted s → s'.state ≡ s.state → s'.pairs ≡ s.pairs → s'.live ≡ s.live → (s.copies ≡ [] → s'.copies ≡ []) → IsCounted s'
+counted_same s s' c state pairs live idle = record {
+  some = subst (λ (x : State). 0 < x.chunk) (sym state) c.some;
+  count = ap length pairs ∙ c.count ∙ ap (λ (x : State). x.current * (32 * x.chunk) + x.filled) (sym state);
+  fits = λ is. subst (λ (x : State). x.filled < 32 * x.chunk) (sym state) (c.fits (sym live ∙ is));
+  idle = λ is. idle (c.idle (sym live ∙ is));
+}
+
+set_none : (xs : List ChunkCopy) (j : ℕ) (q : ChunkCopy) → xs ≡ [] → set xs j q ≡ []
+set_none xs j q e = ap (λ ys. set ys j q) e
+
+next_full : (a n f k : ℕ) → f + 1 ≡ n → k ≡ a * n + f → k + 1 ≡ (a + 1) * n + 0
+next_full a n f k full is = omega (arith, is, full)
+
+next_part : (a n f k : ℕ) → k ≡ a * n + f → k + 1 ≡ a * n + (f + 1)
+next_part a n f k is = omega (arith, is)
+
+module _ {B : Type 0} (s : Kept B) (c : IsCounted s) where
+  pub counted_device : (d : B) → IsCounted (record s { device = d })
+  counted_device d = counted_same s (record s { device = d }) c refl refl refl (λ e. e)
+
+  pub counted_copies : (d : B) (j : ℕ) (q : ChunkCopy) → IsCounted (record s { device = d; copies = set s.copies j q })
+  counted_copies d j q = counted_same s (record s { device = d; copies = set s.copies j q }) c refl refl refl (set_none s.copies j q)
+
+  pub counted_zeroed : (d : B) → IsCounted (record s { device = d; state = record s.state { zeroed = true } })
+  counted_zeroed d = record { some = c.some; count = c.count; fits = c.fits; idle = c.idle }
+
+  pub counted_marks : (ms : List Mark) → IsCounted (record s { marks = ms })
+  counted_marks ms = counted_same s (record s { marks = ms }) c refl refl refl (λ e. e)
+
+  pub counted_tried : (d : B) (stale : Bool) → IsCounted (record s { device = d; untried = false; stale = stale })
+  counted_tried d stale = counted_same s (record s { device = d; untried = false; stale = stale }) c refl refl refl (λ e. e)
+
+  pub counted_spoilt : IsCounted (spoilt s)
+  counted_spoilt = record { some = c.some; count = c.count; fits = λ e. absurd (false≢true e); idle = λ e. refl }
+
+  -- a copy starts in a live one
+  pub counted_started : s.live ≡ true → (next room : ℕ) (begun : List Pair) (copies : List ChunkCopy) → IsCounted (record s { next = next; begun = begun; copies = copies; room = room })
+  counted_started live next room begun copies = record { some = c.some; count = c.count; fits = c.fits; idle = λ e. absurd (false≢true (sym e ∙ live)) }
+
+  -- one pair is committed in a live one
+  pub counted_committed : s.live ≡ true → (d : B) (begun : List Pair) (copies : List ChunkCopy) (marks : List Mark) (pair : Pair)
+      → IsCounted (record s { device = d; state = after_commit s.state 1; pairs = s.pairs ++ pair ∷ []; begun = begun; copies = copies; marks = marks })
+  counted_committed live d begun copies marks pair =
+      let one : length (s.pairs ++ pair ∷ []) ≡ length s.pairs + 1 = length-append s.pairs (pair ∷ []) in
+      let gone : s.live ≡ false → copies ≡ [] = λ e. absurd (false≢true (sym e ∙ live)) in
+      elim (cases_eq (s.state.filled + 1) (32 * s.state.chunk)) [
+        | inl full ↦
+            (let t : State = record s.state { current = s.state.current + 1; filled = 0; zeroed = false } in
+            let at : after_commit s.state 1 ≡ t = if_true (s.state.filled + 1 == 32 * s.state.chunk) t (record s.state { filled = s.state.filled + 1 }) (eq-eqb (s.state.filled + 1) (32 * s.state.chunk) full) in
+            subst (λ (x : State). IsCounted (record s { device = d; state = x; pairs = s.pairs ++ pair ∷ []; begun = begun; copies = copies; marks = marks })) (sym at)
+            (record { some = c.some; count = one ∙ next_full s.state.current (32 * s.state.chunk) s.state.filled (length s.pairs) full c.count; fits = λ e. omega (arith, c.some); idle = gone }))
+        | inr other ↦
+            (let t : State = record s.state { filled = s.state.filled + 1 } in
+            let at : after_commit s.state 1 ≡ t = if_false (s.state.filled + 1 == 32 * s.state.chunk) (record s.state { current = s.state.current + 1; filled = 0; zeroed = false }) t (unequal (s.state.filled + 1) (32 * s.state.chunk) other) in
+            subst (λ (x : State). IsCounted (record s { device = d; state = x; pairs = s.pairs ++ pair ∷ []; begun = begun; copies = copies; marks = marks })) (sym at)
+            (record { some = c.some; count = one ∙ next_part s.state.current (32 * s.state.chunk) s.state.filled (length s.pairs) c.count; fits = λ e. omega (arith, c.fits live, other); idle = gone }))
+      ]

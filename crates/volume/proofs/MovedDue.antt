@@ -1,0 +1,146 @@
+-- What is due of a volume is what is due of the event machine.
+use Rattle.std.proofs.Common.{◌≡◌, ℕ, ◌+◌, ◌*◌, ◌%◌, ◌<◌, Bool, true, false, List, [], ◌∷◌, Option, Some, length, get_or, map, refl, sym, ◌∙◌, ap, arith, inl, inr, eq-eqb}
+use Rattle.std.specs.Prelude.{◌==◌, ◌&&◌, not, if◌then◌else◌}
+use Rattle.std.specs.List.{All}
+use Rattle.std.proofs.lemmas.Bool.{cases_Bool, cases_eq, eqb-true, false≢true}
+use Rattle.std.proofs.lemmas.Nat.{mod-mul-add}
+use Rattle.std.proofs.Math.Nat.{add-mod_right, mul-mod_left}
+use Rattle.std.proofs.lemmas.List.Elements.{All-head, All-tail}
+use Rattle.device.specs.Layers.{Layer}
+use Rattle.plain.specs.declared.request.Reply.{Reply}
+use Rattle.pending.specs.Due.{first_by, least, is_copy_at, number_of_copy, number_of_mark, number_of_flight, front_written, is_publishable as is_publishable_in, is_issuable as is_issuable_in}
+use Rattle.pending.specs.Routes.{is_reading as is_reading_in}
+use Rattle.pending.specs.declared.copies.ChunkCopy.{ChunkCopy}
+use Rattle.pending.specs.declared.copies.Stage.{Stage}
+use Rattle.pending.specs.declared.copies.Stage.TheVariants.{Waiting, Read}
+use Rattle.pending.specs.declared.copies.Mark.{Mark}
+use Rattle.pending.specs.declared.flights.Flight.{Flight}
+use Rattle.volume_laws.specs.Due.{DueSnap, least_of, copy_of, publishable_of, is_untried as is_untried_due, can_commit as can_commit_due, can_zero as can_zero_due, snap_number}
+use Rattle.settling.specs.Held.{Held, number_of, is_untried}
+use Rattle.settling.specs.Due.{needs_area, is_front_written, can_commit, can_zero, is_at, copy_at, number_of_copying, is_reading, is_publishable, publishable_in, is_issuable, number_of_going, least_in, chosen, due}
+use Rattle.settling.specs.Seen.{copying_of, going_of}
+use Rattle.snapshot.specs.Kept.{Kept, due_of_kept, needs_area as needs_area_of}
+use Rattle.volume.specs.Volumed.{Volumed, next_of}
+use Rattle.volume.specs.Moved.{held_of, moving_of, IsCounted}
+use Rattle.volume.proofs.MovedLists.{any_seen}
+
+-- the first of a kind in two lists that are seen alike
+pub first_alike : {X Y Z : Type 0} (f : X → Y) (g : X → Z) (t : Y → Bool) (u : Z → Bool) (m : Y → ℕ) (n : Z → ℕ) (xs : List X) → All (λ x. t (f x) ≡ u (g x)) xs → ((x : X) → m (f x) ≡ n (g x))
+    → first_by t m (map f xs) ≡ first_by u n (map g xs)
+first_alike f g t u m n [] same numbers = refl
+first_alike {X = X} f g t u m n (x ∷ xs) same numbers =
+    ap (λ b. if b then Some (m (f x)) else first_by t m (map f xs)) (All-head (λ (y : X). t (f y) ≡ u (g y)) x xs same)
+    ∙ ap (λ k. if u (g x) then Some k else first_by t m (map f xs)) (numbers x)
+    ∙ ap (λ r. if u (g x) then Some (n (g x)) else r) (first_alike f g t u m n xs (All-tail (λ (y : X). t (f y) ≡ u (g y)) x xs same) numbers)
+
+least_alike : {X : Type 0} (f : X → Held) (g : X → DueSnap) (t : Held → Option ℕ) (u : DueSnap → Option ℕ) (xs : List X) → ((x : X) → t (f x) ≡ u (g x)) → least_in t (map f xs) ≡ least_of u (map g xs)
+least_alike f g t u [] same = refl
+least_alike f g t u (x ∷ xs) same = ap (λ a. least a (least_in t (map f xs))) (same x) ∙ ap (λ r. least (u (g x)) r) (least_alike f g t u xs same)
+
+-- the first of a kind in a list that is seen as another
+first_seen : {X Y : Type 0} (f : X → Y) (t : Y → Bool) (u : X → Bool) (m : Y → ℕ) (n : X → ℕ) (xs : List X) → ((x : X) → t (f x) ≡ u x) → ((x : X) → m (f x) ≡ n x) → first_by t m (map f xs) ≡ first_by u n xs
+first_seen f t u m n [] same numbers = refl
+first_seen f t u m n (x ∷ xs) same numbers =
+    ap (λ b. if b then Some (m (f x)) else first_by t m (map f xs)) (same x)
+    ∙ ap (λ k. if u x then Some k else first_by t m (map f xs)) (numbers x)
+    ∙ ap (λ r. if u x then Some (n x) else r) (first_seen f t u m n xs same numbers)
+
+first_same : {X : Type 0} (t u : X → Bool) (n : X → ℕ) (xs : List X) → ((x : X) → t x ≡ u x) → first_by t n xs ≡ first_by u n xs
+first_same t u n [] same = refl
+first_same t u n (x ∷ xs) same = ap (λ b. if b then Some (n x) else first_by t n xs) (same x) ∙ ap (λ r. if u x then Some (n x) else r) (first_same t u n xs same)
+
+pub front_same : (copies : List ChunkCopy) → is_front_written (map copying_of copies) ≡ front_written copies
+front_same [] = refl
+front_same (p ∷ ps) = refl
+
+pub front_none : (copies : List ChunkCopy) → copies ≡ [] → front_written copies ≡ false
+front_none copies e = ap front_written e
+
+pub unequal : (a b : ℕ) → (a ≡ b → ⊥) → (a == b) ≡ false
+unequal a b apart = elim (cases_Bool (a == b)) [
+  | inl same ↦ absurd (apart (eqb-true a b same))
+  | inr other ↦ other
+]
+
+-- numbers of slots
+slots_full : (a n f : ℕ) → f + 1 ≡ n → (a * n + f + 1) % n ≡ 0
+slots_full a n f e =
+    let at : a * n + f + 1 ≡ a * n + n = omega (arith, e) in
+    ap (λ x. x % n) at ∙ add-mod_right (a * n) n ∙ mul-mod_left a n
+
+slots_part : (a n f : ℕ) → f + 1 < n → (a * n + f + 1) % n ≡ f + 1
+slots_part a n f lt =
+    let at : a * n + f + 1 ≡ a * n + (f + 1) = omega arith in
+    ap (λ x. x % n) at ∙ mod-mul-add a n (f + 1) lt
+
+-- the slot after the last one in use is the last of its area
+pub last_slot : (a n f k : ℕ) → f < n → k ≡ a * n + f → ((k + 1) % n == 0) ≡ (f + 1 == n)
+last_slot a n f k lt is = elim (cases_eq (f + 1) n) [
+  | inl full ↦
+      (let at : (k + 1) % n ≡ 0 = ap (λ x. (x + 1) % n) is ∙ slots_full a n f full in
+      eq-eqb ((k + 1) % n) 0 at ∙ sym (eq-eqb (f + 1) n full))
+  | inr other ↦
+      (let at : (k + 1) % n ≡ f + 1 = ap (λ x. (x + 1) % n) is ∙ slots_part a n f (omega (arith, lt, other)) in
+      let no : ((k + 1) % n ≡ 0) → ⊥ = λ z. omega (arith, at, z) in
+      unequal ((k + 1) % n) 0 no ∙ sym (unequal (f + 1) n other))
+]
+
+module _ {B : Type 0} (contents : B → List ℕ) (layers : B → List Layer) where
+  pub needs_same : (s : Kept B) → IsCounted s → s.live ≡ true → needs_area (held_of contents layers s) ≡ needs_area_of s.state
+  needs_same s c live = ap (λ b. b && not s.state.zeroed) (last_slot s.state.current (32 * s.state.chunk) s.state.filled (length s.pairs) (c.fits live) c.count)
+
+  -- one whose first copy is written is live
+  pub front_lives : (s : Kept B) → IsCounted s → front_written s.copies ≡ true → s.live ≡ true
+  front_lives s c e = elim (cases_Bool s.live) [
+    | inl live ↦ live
+    | inr spoiled ↦ absurd (false≢true (sym (front_none s.copies (c.idle spoiled)) ∙ e))
+  ]
+
+  pub can_commit_same : (s : Kept B) → IsCounted s → can_commit (held_of contents layers s) ≡ (front_written s.copies && not (needs_area_of s.state))
+  can_commit_same s c = ap (λ b. b && not (needs_area (held_of contents layers s))) (front_same s.copies) ∙ elim (cases_Bool (front_written s.copies)) [
+    | inl front ↦ ap (λ b. front_written s.copies && not b) (needs_same s c (front_lives s c front))
+    | inr none ↦ ap (λ b. b && not (needs_area (held_of contents layers s))) none ∙ sym (ap (λ b. b && not (needs_area_of s.state)) none)
+  ]
+
+  pub can_zero_same : (s : Kept B) → IsCounted s → can_zero (held_of contents layers s) ≡ (front_written s.copies && needs_area_of s.state)
+  can_zero_same s c = ap (λ b. b && needs_area (held_of contents layers s)) (front_same s.copies) ∙ elim (cases_Bool (front_written s.copies)) [
+    | inl front ↦ ap (λ b. front_written s.copies && b) (needs_same s c (front_lives s c front))
+    | inr none ↦ ap (λ b. b && needs_area (held_of contents layers s)) none ∙ sym (ap (λ b. b && needs_area_of s.state) none)
+  ]
+
+  pub publishable_same : (s : Kept B) (fs : List Flight) (m : Mark) → is_publishable (map going_of fs) (held_of contents layers s) m ≡ is_publishable_in s.number s.state.chunk fs m
+  publishable_same s fs m = ap not (any_seen going_of (is_reading (held_of contents layers s) m.chunk) (is_reading_in s.number s.state.chunk m.chunk) fs (λ f. refl))
+
+  copy_seen : (stage : Stage) (s : Kept B) → copy_at stage (held_of contents layers s) ≡ copy_of stage (due_of_kept contents layers s)
+  copy_seen stage s = first_seen copying_of (is_at stage) (is_copy_at stage) number_of_copying number_of_copy s.copies (λ p. refl) (λ p. refl)
+
+  mark_seen : (fs : List Flight) (s : Kept B) → publishable_in (map going_of fs) (held_of contents layers s) ≡ publishable_of fs (due_of_kept contents layers s)
+  mark_seen fs s = first_same (is_publishable (map going_of fs) (held_of contents layers s)) (is_publishable_in s.number s.state.chunk fs) number_of_mark s.marks (publishable_same s fs)
+
+  seven : (a a' b b' c c' d d' e e' f f' g g' : Option ℕ) → a ≡ a' → b ≡ b' → c ≡ c' → d ≡ d' → e ≡ e' → f ≡ f' → g ≡ g' → chosen a b c d e f g ≡ chosen a' b' c' d' e' f' g'
+  seven a a' b b' c c' d d' e e' f f' g g' pa pb pc pd pe pf pg =
+      ap (λ x. chosen x b c d e f g) pa ∙ ap (λ x. chosen a' x c d e f g) pb ∙ ap (λ x. chosen a' b' x d e f g) pc ∙ ap (λ x. chosen a' b' c' x e f g) pd
+      ∙ ap (λ x. chosen a' b' c' d' x f g) pe ∙ ap (λ x. chosen a' b' c' d' e' x g) pf ∙ ap (λ x. chosen a' b' c' d' e' f' x) pg
+
+  -- the event that is due first
+  pub due_is : (replied : Option Reply) (v : Volumed B) → All IsCounted v.snaps → due (moving_of contents layers replied v) ≡ next_of contents layers v
+  due_is replied v counted =
+      let held : Kept B → Held = held_of contents layers in
+      let dues : Kept B → DueSnap = due_of_kept contents layers in
+      let snaps : List (Kept B) = v.snaps in
+      let fs : List Flight = v.flights in
+      seven
+      (first_by is_untried number_of (map held snaps)) (first_by is_untried_due snap_number (map dues snaps))
+      (least_in (publishable_in (map going_of fs)) (map held snaps)) (least_of (publishable_of fs) (map dues snaps))
+      (first_by can_commit number_of (map held snaps)) (first_by can_commit_due snap_number (map dues snaps))
+      (first_by can_zero number_of (map held snaps)) (first_by can_zero_due snap_number (map dues snaps))
+      (least_in (copy_at Read) (map held snaps)) (least_of (copy_of Read) (map dues snaps))
+      (least_in (copy_at Waiting) (map held snaps)) (least_of (copy_of Waiting) (map dues snaps))
+      (first_by is_issuable number_of_going (map going_of fs)) (first_by is_issuable_in number_of_flight fs)
+      (first_alike held dues is_untried is_untried_due number_of snap_number snaps (λ k d lt. refl) (λ s. refl))
+      (least_alike held dues (publishable_in (map going_of fs)) (publishable_of fs) snaps (mark_seen fs))
+      (first_alike held dues can_commit can_commit_due number_of snap_number snaps (λ k d lt. can_commit_same (get_or snaps k d) (counted k d lt)) (λ s. refl))
+      (first_alike held dues can_zero can_zero_due number_of snap_number snaps (λ k d lt. can_zero_same (get_or snaps k d) (counted k d lt)) (λ s. refl))
+      (least_alike held dues (copy_at Read) (copy_of Read) snaps (copy_seen Read))
+      (least_alike held dues (copy_at Waiting) (copy_of Waiting) snaps (copy_seen Waiting))
+      (first_seen going_of is_issuable is_issuable_in number_of_going number_of_flight fs (λ f. refl) (λ f. refl))

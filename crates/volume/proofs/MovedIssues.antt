@@ -1,0 +1,155 @@
+-- A request goes where its route says, and is answered.
+use Rattle.std.proofs.Common.{◌≡◌, ℕ, ◌+◌, ◌*◌, ◌%◌, Bool, true, List, Option, Some, get_or, set, map, refl, sym, ◌∙◌, ap}
+use Rattle.std.specs.Prelude.{◌==◌, ◌&&◌, if◌then◌else◌}
+use Rattle.std.specs.List.{remove}
+use Rattle.sector.specs.Bytes.{sectors_at, with_sectors}
+use Rattle.device.specs.Layers.{Layer}
+use Rattle.device.specs.declared.operation.Operation.{Operation}
+use Rattle.device.specs.declared.operation.Operation.TheVariants.{Reads, Writes}
+use Rattle.plain.specs.declared.event.Event.TheVariants.{Issue}
+use Rattle.plain.specs.declared.request.Dev.{Dev}
+use Rattle.plain.specs.declared.request.Dev.TheVariants.{Snap as ToSnap}
+use Rattle.plain.specs.declared.request.Op.{Op}
+use Rattle.plain.specs.declared.request.Op.TheVariants.{Read as ReadOp, Write as WriteOp}
+use Rattle.plain.specs.declared.request.Reply.{Reply}
+use Rattle.plain.specs.declared.request.Reply.TheVariants.{Data, Written as Done, Refused as Declined}
+use Rattle.plain.specs.declared.request.Failure.TheVariants.{Invalid, Io}
+use Rattle.pending.specs.Due.{is_routed}
+use Rattle.pending.specs.declared.flights.Flight.{Flight}
+use Rattle.pending.specs.declared.flights.Route.{Route}
+use Rattle.pending.specs.declared.flights.Route.TheVariants.{Origin, Store, Refused}
+use Rattle.store.specs.Operations.{IsOneOperation}
+use Rattle.settling.specs.Devices.{Device, answers, met, written_by, read_reply}
+use Rattle.settling.specs.Held.{Held, Going, Moving, with_store}
+use Rattle.settling.specs.Due.{is_issuable}
+use Rattle.settling.specs.Seen.{going_of}
+use Rattle.settling.specs.Stepping.{for_some, with_first, without_first, put, answer, write_reply, on_disk, on_store, on_place, issue, stepped}
+use Rattle.snapshot.specs.Kept.{Kept}
+use Rattle.volume.specs.Volumed.{Volumed}
+use Rattle.volume.specs.Moved.{device_of, held_of, moving_of}
+use Rattle.volume.proofs.MovedLists.{IsFirst, first_is, with_is, without_seen}
+use Rattle.volume.proofs.MovedSnaps.{changed, machine_by, device_by}
+
+-- whether it is found, and goes somewhere
+issuable_first : (n j : ℕ) (f : Flight) (fs : List Flight) → IsFirst (λ (x : Flight). x.number == n) j f fs → is_routed f.route ≡ true → IsFirst (λ (x : Flight). (x.number == n) && is_routed x.route) j f fs
+issuable_first n j f fs found routed = record {
+  within = found.within;
+  is = found.is;
+  passes = ap (λ b. b && is_routed f.route) found.passes ∙ routed;
+  before = λ i d lt. ap (λ b. b && is_routed (get_or fs i d).route) (found.before i d lt);
+}
+
+module _ {B : Type 0} (contents : B → List ℕ) (layers : B → List Layer) where
+  -- the device after an operation that was answered, or not
+  written_is : (op : Operation) (bytes : List ℕ) (ok : Bool) (faults faults' done done' : ℕ) (o o' : B) → IsOneOperation op ok (layers o) (layers o') faults faults' done done'
+      → contents o' ≡ (if ok then bytes else contents o) → written_by (device_of contents layers o) op bytes ≡ device_of contents layers o'
+  written_is op bytes ok faults faults' done done' o o' one new =
+      let same : ok ≡ answers (device_of contents layers o) op = one.answer in
+      device_by contents layers (if answers (device_of contents layers o) op then bytes else contents o) (contents o') (written_by (device_of contents layers o) op bytes).layers (layers o')
+      (sym (new ∙ ap (λ (b : Bool). if b then bytes else contents o) same)) (sym one.layers)
+
+  module _ (replied : Option Reply) (v : Volumed B) (n j : ℕ) (f : Flight) (found : IsFirst (λ (x : Flight). x.number == n) j f v.flights) where
+    -- the volume without it
+    abbrev left : Volumed B → Volumed B
+    left w = record w { flights = remove v.flights j }
+
+    answered_is : (reply : Reply) (o : Device) (o' : B) (hs : List Held) (snaps : List (Kept B)) → o ≡ device_of contents layers o' → hs ≡ map (held_of contents layers) snaps
+        → answer (λ (r : Going). r.number == n) reply (record (moving_of contents layers replied v) { origin = o; snaps = hs }) ≡ moving_of contents layers (Some reply) (record v { origin = o'; snaps = snaps; flights = remove v.flights j })
+    answered_is reply o o' hs snaps disk is =
+        machine_by contents layers (Some reply) v.copies o (device_of contents layers o') hs (map (held_of contents layers) snaps)
+        (without_first (λ (r : Going). r.number == n) (map going_of v.flights)) (map going_of (remove v.flights j)) disk is (without_seen going_of (λ (r : Going). r.number == n) j f v.flights found)
+
+    issue_is : (route : Route) → f.route ≡ route → is_routed route ≡ true
+        → stepped (Issue n) (moving_of contents layers replied v) ≡ issue route (λ (r : Going). r.number == n) (going_of f) (moving_of contents layers replied v)
+    issue_is route is routed =
+        let m : Moving = moving_of contents layers replied v in
+        let first : IsFirst (λ (x : Flight). (x.number == n) && is_routed x.route) j f v.flights = issuable_first n j f v.flights found (ap is_routed is ∙ routed) in
+        ap (λ (x : Option Going). for_some x (λ r. issue r.route (λ k. k.number == n) r m) m) (first_is going_of (λ (r : Going). (r.number == n) && is_issuable r) j f v.flights first)
+        ∙ ap (λ (x : Route). issue x (λ k. k.number == n) (going_of f) m) is
+
+    -- of a spoiled snapshot
+    pub issue_refused : f.route ≡ Refused → stepped (Issue n) (moving_of contents layers replied v) ≡ moving_of contents layers (Some (Declined Invalid)) (record v { flights = remove v.flights j })
+    issue_refused is = issue_is Refused is refl ∙ answered_is (Declined Invalid) (device_of contents layers v.origin) v.origin (map (held_of contents layers) v.snaps) v.snaps refl refl
+
+    module _ (ok : Bool) (faults faults' done done' : ℕ) where
+      module _ (is : f.route ≡ Origin) (o' : B) where
+        -- it reads the origin disk
+        pub issue_origin_read : f.request.op ≡ ReadOp → IsOneOperation (Reads f.request.range.first f.request.range.count) ok (layers v.origin) (layers o') faults faults' done done'
+            → contents o' ≡ contents v.origin → (reply : Reply) → reply ≡ (if ok then Data (sectors_at (contents v.origin) f.request.range.first f.request.range.count) else Declined Io)
+            → stepped (Issue n) (moving_of contents layers replied v) ≡ moving_of contents layers (Some reply) (record v { origin = o'; flights = remove v.flights j })
+        issue_origin_read kind one same reply answered =
+            let m : Moving = moving_of contents layers replied v in
+            let first : ℕ = f.request.range.first in
+            let count : ℕ = f.request.range.count in
+            let mine : Going → Bool = λ (r : Going). r.number == n in
+            let reply_is : read_reply m.origin first count ≡ reply = sym (answered ∙ ap (λ (b : Bool). if b then Data (sectors_at (contents v.origin) first count) else Declined Io) one.answer) in
+            issue_is Origin is refl ∙ ap (λ (op : Op). on_disk op first count mine m) kind
+            ∙ ap (λ (x : Reply). answer mine x (record m { origin = met m.origin (Reads first count) })) reply_is
+            ∙ answered_is reply (met m.origin (Reads first count)) o' m.snaps v.snaps (device_by contents layers (contents v.origin) (contents o') (met m.origin (Reads first count)).layers (layers o') (sym same) (sym one.layers)) refl
+
+        -- it writes it
+        pub issue_origin_write : (bytes : List ℕ) → f.request.op ≡ WriteOp bytes → IsOneOperation (Writes f.request.range.first f.request.range.count) ok (layers v.origin) (layers o') faults faults' done done'
+            → contents o' ≡ (if ok then with_sectors (contents v.origin) f.request.range.first bytes else contents v.origin) → (reply : Reply) → reply ≡ (if ok then Done else Declined Io)
+            → stepped (Issue n) (moving_of contents layers replied v) ≡ moving_of contents layers (Some reply) (record v { origin = o'; flights = remove v.flights j })
+        issue_origin_write bytes kind one new reply answered =
+            let m : Moving = moving_of contents layers replied v in
+            let first : ℕ = f.request.range.first in
+            let count : ℕ = f.request.range.count in
+            let mine : Going → Bool = λ (r : Going). r.number == n in
+            let after : Device = written_by m.origin (Writes first count) (with_sectors (contents v.origin) first bytes) in
+            let reply_is : write_reply m.origin first count ≡ reply = sym (answered ∙ ap (λ (b : Bool). if b then Done else Declined Io) one.answer) in
+            issue_is Origin is refl ∙ ap (λ (op : Op). on_disk op first count mine m) kind
+            ∙ ap (λ (x : Reply). answer mine x (record m { origin = after })) reply_is
+            ∙ answered_is reply after o' m.snaps v.snaps (written_is (Writes first count) (with_sectors (contents v.origin) first bytes) ok faults faults' done done' v.origin o' one new) refl
+
+      module _ (place : ℕ) (is : f.route ≡ Store place) (number : ℕ) (dev : f.request.dev ≡ ToSnap number) (k : ℕ) (s : Kept B) (of : IsFirst (λ (x : Kept B). x.number == number) k s v.snaps) (d : B) where
+        abbrev start : ℕ
+        start = s.state.chunk * place + f.request.range.first % s.state.chunk
+
+        -- it goes to its place
+        on_place_is : (op : Op) → f.request.op ≡ op → stepped (Issue n) (moving_of contents layers replied v)
+            ≡ on_store op start f.request.range.count (λ (r : Going). r.number == n) (λ (x : Held). x.snap.number == number) (held_of contents layers s) (moving_of contents layers replied v)
+        on_place_is op kind =
+            let m : Moving = moving_of contents layers replied v in
+            let mine : Going → Bool = λ (r : Going). r.number == n in
+            let first : ℕ = f.request.range.first in
+            let count : ℕ = f.request.range.count in
+            issue_is (Store place) is refl ∙ ap (λ (x : Dev). on_place x f.request.op place first count mine m) dev ∙ ap (λ (x : Op). on_place (ToSnap number) x place first count mine m) kind
+            ∙ ap (λ (x : Option Held). for_some x (λ h. on_store op (h.snap.chunk * place + first % h.snap.chunk) count mine (λ (y : Held). y.snap.number == number) h m) m)
+            (first_is (held_of contents layers) (λ (y : Held). y.snap.number == number) k s v.snaps of)
+
+        -- it reads its snapshot's store
+        pub issue_store_read : f.request.op ≡ ReadOp → IsOneOperation (Reads start f.request.range.count) ok (layers s.device) (layers d) faults faults' done done'
+            → contents d ≡ contents s.device → (reply : Reply) → reply ≡ (if ok then Data (sectors_at (contents s.device) start f.request.range.count) else Declined Io) → (s' : Kept B) → s' ≡ record s { device = d }
+            → stepped (Issue n) (moving_of contents layers replied v) ≡ moving_of contents layers (Some reply) (changed v v.origin k s' (remove v.flights j))
+        issue_store_read kind one same reply answered s' s_is =
+            let m : Moving = moving_of contents layers replied v in
+            let h : Held = held_of contents layers s in
+            let count : ℕ = f.request.range.count in
+            let mine : Going → Bool = λ (r : Going). r.number == n in
+            let test : Held → Bool = λ (x : Held). x.snap.number == number in
+            let after : Device = met h.snap.store (Reads start count) in
+            let reply_is : read_reply h.snap.store start count ≡ reply = sym (answered ∙ ap (λ (b : Bool). if b then Data (sectors_at (contents s.device) start count) else Declined Io) one.answer) in
+            let after_is : after ≡ device_of contents layers d = device_by contents layers (contents s.device) (contents d) after.layers (layers d) (sym same) (sym one.layers) in
+            on_place_is ReadOp kind
+            ∙ ap (λ (x : Reply). answer mine x (put test (with_store h after) m)) reply_is
+            ∙ answered_is reply m.origin v.origin (with_first test (with_store h after) m.snaps) (set v.snaps k s') refl
+            (ap (λ (x : Held). with_first test x m.snaps) (ap (λ (x : Device). with_store h x) after_is ∙ sym (ap (held_of contents layers) s_is)) ∙ with_is (held_of contents layers) test k s s' v.snaps of)
+
+        -- it writes it
+        pub issue_store_write : (bytes : List ℕ) → f.request.op ≡ WriteOp bytes → IsOneOperation (Writes start f.request.range.count) ok (layers s.device) (layers d) faults faults' done done'
+            → contents d ≡ (if ok then with_sectors (contents s.device) start bytes else contents s.device) → (reply : Reply) → reply ≡ (if ok then Done else Declined Io) → (s' : Kept B) → s' ≡ record s { device = d }
+            → stepped (Issue n) (moving_of contents layers replied v) ≡ moving_of contents layers (Some reply) (changed v v.origin k s' (remove v.flights j))
+        issue_store_write bytes kind one new reply answered s' s_is =
+            let m : Moving = moving_of contents layers replied v in
+            let h : Held = held_of contents layers s in
+            let count : ℕ = f.request.range.count in
+            let mine : Going → Bool = λ (r : Going). r.number == n in
+            let test : Held → Bool = λ (x : Held). x.snap.number == number in
+            let after : Device = written_by h.snap.store (Writes start count) (with_sectors (contents s.device) start bytes) in
+            let reply_is : write_reply h.snap.store start count ≡ reply = sym (answered ∙ ap (λ (b : Bool). if b then Done else Declined Io) one.answer) in
+            let after_is : after ≡ device_of contents layers d = written_is (Writes start count) (with_sectors (contents s.device) start bytes) ok faults faults' done done' s.device d one new in
+            on_place_is (WriteOp bytes) kind
+            ∙ ap (λ (x : Reply). answer mine x (put test (with_store h after) m)) reply_is
+            ∙ answered_is reply m.origin v.origin (with_first test (with_store h after) m.snaps) (set v.snaps k s') refl
+            (ap (λ (x : Held). with_first test x m.snaps) (ap (λ (x : Device). with_store h x) after_is ∙ sym (ap (held_of contents layers) s_is)) ∙ with_is (held_of contents layers) test k s s' v.snaps of)

@@ -1,0 +1,237 @@
+-- The events of a store: the next area is zeroed, and the first copy is committed.
+use Rattle.std.proofs.Common.{◌≡◌, ℕ, ◌+◌, ◌*◌, ◌/◌, ◌%◌, ◌<◌, ◌≤◌, Bool, true, false, List, [], ◌∷◌, ◌++◌, Option, length, get_or, map, take, drop, replicate, refl, sym, ◌∙◌, ap, arith}
+use Rattle.std.specs.Prelude.{◌==◌, ◌&&◌, not, if◌then◌else◌}
+use Rattle.std.specs.List.{All}
+use Rattle.std.proofs.lemmas.Bool.{false≢true}
+use Rattle.std.proofs.lemmas.List.{append-nil}
+use Rattle.std.proofs.lemmas.Nat.{mod-mul-add, div-mul-add}
+use Rattle.std.proofs.Math.Nat.{mul-div_cancel}
+use Rattle.sector.specs.Bytes.{with_part, with_sectors}
+use Rattle.sector.specs.declared.pair.Pair.{Pair}
+use Rattle.device.specs.Layers.{Layer}
+use Rattle.device.specs.declared.operation.Operation.{Operation}
+use Rattle.device.specs.declared.operation.Operation.TheVariants.{Writes}
+use Rattle.model.specs.Places.{area_place}
+use Rattle.model.specs.NextPlace.{LacksArea}
+use Rattle.model.specs.Slots.{pair_bytes}
+use Rattle.plain.specs.declared.event.Event.TheVariants.{ZeroNext, WriteArea}
+use Rattle.plain.specs.declared.request.Reply.{Reply}
+use Rattle.pending.specs.Copies.{pair_of}
+use Rattle.pending.specs.Routes.{refused_of}
+use Rattle.pending.specs.declared.copies.ChunkCopy.{ChunkCopy}
+use Rattle.pending.specs.declared.copies.Mark.{Mark}
+use Rattle.store.specs.Operations.{IsOneOperation}
+use Rattle.store.specs.Slots.{pairs_bytes, slot_start}
+use Rattle.store.specs.Stored.{after_commit}
+use Rattle.store.specs.declared.state.State.{State}
+use Rattle.volume_laws.specs.Steps.{mark_of}
+use Rattle.settled.specs.Saves.{paired, zeroed}
+use Rattle.settling.specs.Saving.{lacks_area}
+use Rattle.settling.specs.Held.{Copying, Held, Moving, with_store}
+use Rattle.settling.specs.Due.{can_commit, can_zero}
+use Rattle.settling.specs.Stepping.{spoil, store_write, zero_next, commit_first, stepped}
+use Rattle.settling.specs.Seen.{copying_of}
+use Rattle.snapshot.specs.Kept.{Kept}
+use Rattle.volume.specs.Volumed.{Volumed}
+use Rattle.volume.specs.Finding.{is_committing, is_zeroing}
+use Rattle.volume.specs.Moved.{device_of, held_of, moving_of, IsCounted}
+use Rattle.volume.proofs.MovedLists.{IsFirst, first_by_all, if_true, if_false}
+use Rattle.volume.proofs.MovedDue.{last_slot, can_commit_same, can_zero_same}
+use Rattle.volume.proofs.MovedSnaps.{changed, spoilt, spoil_is, on_snap_is, write_is, fail_is}
+
+and_false : (b : Bool) → (b && false) ≡ false
+and_false true = refl
+and_false false = refl
+
+and_true : (b : Bool) → (b && true) ≡ b
+and_true true = refl
+and_true false = refl
+
+and_left : (a b : Bool) → (a && b) ≡ true → a ≡ true
+and_left true b e = refl
+and_left false b e = absurd (false≢true e)
+
+and_right : (a b : Bool) → (a && b) ≡ true → b ≡ true
+and_right true b e = e
+and_right false b e = absurd (false≢true e)
+
+-- a snapshot by the parts that a commit changes
+held_by : (s : Held) (c c' : ℕ) (ps ps' : List Pair) (z z' : Bool) (cs cs' : List Copying) (ms ms' : List Mark) → c ≡ c' → ps ≡ ps' → z ≡ z' → cs ≡ cs' → ms ≡ ms'
+    → ◌≡◌ {A = Held} (record s { snap = record s.snap { chunk = c }; pairs = ps; zeroed = z; copies = cs; marks = ms }) (record s { snap = record s.snap { chunk = c' }; pairs = ps'; zeroed = z'; copies = cs'; marks = ms' })
+held_by s c c' ps ps' z z' cs cs' ms ms' pc pp pz pcs pm =
+    ap (λ (x : ℕ). record s { snap = record s.snap { chunk = x }; pairs = ps; zeroed = z; copies = cs; marks = ms }) pc
+    ∙ ap (λ (x : List Pair). record s { snap = record s.snap { chunk = c' }; pairs = x; zeroed = z; copies = cs; marks = ms }) pp
+    ∙ ap (λ (x : Bool). record s { snap = record s.snap { chunk = c' }; pairs = ps'; zeroed = x; copies = cs; marks = ms }) pz
+    ∙ ap (λ (x : List Copying). record s { snap = record s.snap { chunk = c' }; pairs = ps'; zeroed = z'; copies = x; marks = ms }) pcs
+    ∙ ap (λ (x : List Mark). record s { snap = record s.snap { chunk = c' }; pairs = ps'; zeroed = z'; copies = cs'; marks = x }) pm
+
+-- the state after a commit, as the event machine has it
+state_chunk : (b : Bool) (s x y : State) → x.chunk ≡ s.chunk → y.chunk ≡ s.chunk → s.chunk ≡ (if b then x else y).chunk
+state_chunk true s x y xc yc = sym xc
+state_chunk false s x y xc yc = sym yc
+
+state_zeroed : (b : Bool) (s x y : State) → x.zeroed ≡ false → y.zeroed ≡ s.zeroed → (s.zeroed && not b) ≡ (if b then x else y).zeroed
+state_zeroed true s x y xz yz = and_false s.zeroed ∙ sym xz
+state_zeroed false s x y xz yz = and_true s.zeroed ∙ sym yz
+
+commit_chunk : (s : State) → s.chunk ≡ (after_commit s 1).chunk
+commit_chunk s = state_chunk (s.filled + 1 == 32 * s.chunk) s (record s { current = s.current + 1; filled = 0; zeroed = false }) (record s { filled = s.filled + 1 }) refl refl
+
+commit_zeroed : (s : State) → (s.zeroed && not (s.filled + 1 == 32 * s.chunk)) ≡ (after_commit s 1).zeroed
+commit_zeroed s = state_zeroed (s.filled + 1 == 32 * s.chunk) s (record s { current = s.current + 1; filled = 0; zeroed = false }) (record s { filled = s.filled + 1 }) refl refl
+
+-- the slot of the next pair
+slot_area : (a n f k : ℕ) → f < n → k ≡ a * n + f → k / n ≡ a
+slot_area a n f k lt is = ap (λ x. x / n) is ∙ div-mul-add a n f lt
+
+slot_within : (a n f k : ℕ) → f < n → k ≡ a * n + f → k % n ≡ f
+slot_within a n f k lt is = ap (λ x. x % n) is ∙ mod-mul-add a n f lt
+
+next_area : (a n f k : ℕ) → 0 < n → f + 1 ≡ n → k ≡ a * n + f → (k + 1) / n ≡ a + 1
+next_area a n f k some full is =
+    let at : k + 1 ≡ (a + 1) * n = omega (arith, is, full) in
+    ap (λ x. x / n) at ∙ mul-div_cancel (a + 1) some
+
+paired_is : (chunk : ℕ) (store : List ℕ) (k a f : ℕ) (pair : Pair) → k / (32 * chunk) ≡ a → k % (32 * chunk) ≡ f → paired chunk store k pair ≡ with_part store (slot_start chunk a f) (pair_bytes pair)
+paired_is chunk store k a f pair area slot =
+    ap (λ x. with_part store (512 * (chunk * area_place chunk x) + 16 * (k % (32 * chunk))) (pair_bytes pair)) area
+    ∙ ap (λ x. with_part store (512 * (chunk * area_place chunk a) + 16 * x) (pair_bytes pair)) slot
+
+module _ {B : Type 0} (contents : B → List ℕ) (layers : B → List Layer) (replied : Option Reply) (v : Volumed B) (counted : All IsCounted v.snaps) (n k : ℕ) (s : Kept B) where
+  module _ (found : IsFirst (is_committing n) k s v.snaps) (counts : IsCounted s) (live : s.live ≡ true) (p : ChunkCopy) (ps : List ChunkCopy) (copies : s.copies ≡ p ∷ ps) (begun : s.begun ≡ p.pair ∷ map pair_of ps)
+      (faults faults' done done' : ℕ) (d : B) where
+    abbrev commits : Held → Bool
+    commits h = (h.snap.number == n) && can_commit h
+
+    commits_first : IsFirst (λ x. commits (held_of contents layers x)) k s v.snaps
+    commits_first = first_by_all (is_committing n) (λ x. commits (held_of contents layers x)) k s v.snaps
+        (λ i e lt. sym (ap (λ b. ((get_or v.snaps i e).number == n) && b) (can_commit_same contents layers (get_or v.snaps i e) (counted i e lt)))) found
+
+    abbrev op : Operation
+    op = Writes (s.state.chunk * area_place s.state.chunk s.state.current) s.state.chunk
+
+    abbrev bytes : List ℕ
+    bytes = with_part (contents s.device) (slot_start s.state.chunk s.state.current s.state.filled) (pair_bytes p.pair)
+
+    abbrev committed : Held → Held
+    committed after = record after {
+      pairs = after.pairs ++ p.pair ∷ [];
+      copies = map copying_of ps;
+      marks = after.marks ++ mark_of p ∷ [];
+      zeroed = after.zeroed && not ((length s.pairs + 1) % (32 * after.snap.chunk) == 0);
+    }
+
+    area_is : length s.pairs / (32 * s.state.chunk) ≡ s.state.current
+    area_is = slot_area s.state.current (32 * s.state.chunk) s.state.filled (length s.pairs) (counts.fits live) counts.count
+
+    slot_is : length s.pairs % (32 * s.state.chunk) ≡ s.state.filled
+    slot_is = slot_within s.state.current (32 * s.state.chunk) s.state.filled (length s.pairs) (counts.fits live) counts.count
+
+    committing_is : stepped (WriteArea n) (moving_of contents layers replied v) ≡ store_write commits (held_of contents layers s) op bytes committed (moving_of contents layers replied v)
+    committing_is =
+        let m : Moving = moving_of contents layers replied v in
+        let h : Held = held_of contents layers s in
+        on_snap_is contents layers replied v k s (λ (x : Held). (x.snap.number == n) && can_commit x) commits_first (λ test h. commit_first test h h.copies)
+        ∙ ap (λ (cs : List ChunkCopy). commit_first (λ (x : Held). (x.snap.number == n) && can_commit x) h (map copying_of cs) m) copies
+        ∙ ap (λ (a : ℕ). store_write (λ (x : Held). (x.snap.number == n) && can_commit x) h (Writes (s.state.chunk * area_place s.state.chunk a) s.state.chunk) (paired s.state.chunk (contents s.device) (length s.pairs) p.pair) committed m) area_is
+        ∙ ap (λ (b : List ℕ). store_write (λ (x : Held). (x.snap.number == n) && can_commit x) h op b committed m) (paired_is s.state.chunk (contents s.device) (length s.pairs) s.state.current s.state.filled p.pair area_is slot_is)
+
+    -- the first copy is committed
+    pub write_area_done : (s' : Kept B) → IsOneOperation op true (layers s.device) (layers d) faults faults' done done'
+        → contents d ≡ with_part (contents s.device) (slot_start s.state.chunk s.state.current s.state.filled) (pairs_bytes (take 1 s.begun))
+        → s' ≡ record s { device = d; state = after_commit s.state 1; pairs = s.pairs ++ take 1 s.begun; begun = drop 1 s.begun; copies = drop 1 s.copies; marks = s.marks ++ map mark_of (take 1 s.copies) }
+        → stepped (WriteArea n) (moving_of contents layers replied v) ≡ moving_of contents layers replied (changed v v.origin k s' v.flights)
+    write_area_done s' one new is =
+        let h : Held = with_store (held_of contents layers s) (device_of contents layers d) in
+        let bytes_is : contents d ≡ bytes =
+        new ∙ ap (λ (b : List Pair). with_part (contents s.device) (slot_start s.state.chunk s.state.current s.state.filled) (pairs_bytes (take 1 b))) begun
+        ∙ ap (λ (b : List ℕ). with_part (contents s.device) (slot_start s.state.chunk s.state.current s.state.filled) b) (append-nil (pair_bytes p.pair)) in
+        committing_is ∙ write_is contents layers replied v k s (λ (x : Held). (x.snap.number == n) && can_commit x) commits_first op bytes committed s' faults faults' done done' d one bytes_is
+        (held_by h s.state.chunk (after_commit s.state 1).chunk (s.pairs ++ p.pair ∷ []) (s.pairs ++ take 1 s.begun)
+        (s.state.zeroed && not ((length s.pairs + 1) % (32 * s.state.chunk) == 0)) (after_commit s.state 1).zeroed (map copying_of ps) (map copying_of (drop 1 s.copies))
+        (s.marks ++ mark_of p ∷ []) (s.marks ++ map mark_of (take 1 s.copies))
+        (commit_chunk s.state) (ap (λ (b : List Pair). s.pairs ++ take 1 b) (sym begun))
+        (ap (λ (b : Bool). s.state.zeroed && not b) (last_slot s.state.current (32 * s.state.chunk) s.state.filled (length s.pairs) (counts.fits live) counts.count) ∙ commit_zeroed s.state)
+        (ap (λ (cs : List ChunkCopy). map copying_of (drop 1 cs)) (sym copies)) (ap (λ (cs : List ChunkCopy). s.marks ++ map mark_of (take 1 cs)) (sym copies))
+        ∙ sym (ap (held_of contents layers) is))
+
+    -- the store failed, and the snapshot is spoiled
+    pub write_area_fault : (s' s'' : Kept B) → IsOneOperation op false (layers s.device) (layers d) faults faults' done done'
+        → contents d ≡ contents s.device → s' ≡ record s { device = d } → s'' ≡ spoilt s'
+        → stepped (WriteArea n) (moving_of contents layers replied v) ≡ moving_of contents layers replied (changed v v.origin k s'' (map (refused_of (s.number ∷ [])) v.flights))
+    write_area_fault s' s'' one same kept gone =
+        committing_is ∙ fail_is contents layers replied v k s (λ (x : Held). (x.snap.number == n) && can_commit x) commits_first op bytes committed s' s'' faults faults' done done' d one same kept gone
+
+  module _ (found : IsFirst (is_zeroing n) k s v.snaps) (counts : IsCounted s) (live : s.live ≡ true) (full : s.state.filled + 1 ≡ 32 * s.state.chunk) (sized : length (contents s.device) ≡ 512 * s.state.size)
+      (faults faults' done done' : ℕ) (d : B) where
+    abbrev zeroes : Held → Bool
+    zeroes h = (h.snap.number == n) && can_zero h
+
+    zeroes_first : IsFirst (λ x. zeroes (held_of contents layers x)) k s v.snaps
+    zeroes_first = first_by_all (is_zeroing n) (λ x. zeroes (held_of contents layers x)) k s v.snaps
+        (λ i e lt. sym (ap (λ b. ((get_or v.snaps i e).number == n) && b) (can_zero_same contents layers (get_or v.snaps i e) (counted i e lt)))) found
+
+    abbrev zero_op : ℕ → Operation
+    zero_op a = Writes (s.state.chunk * area_place s.state.chunk a) s.state.chunk
+
+    abbrev zero_kept : Held → Held
+    zero_kept after = record after { zeroed = true }
+
+    -- with area a as the next one
+    abbrev zeroing : ℕ → Moving
+    zeroing a =
+        let m : Moving = moving_of contents layers replied v in
+        let h : Held = held_of contents layers s in
+        if lacks_area a h.snap then spoil zeroes h m else store_write zeroes h (zero_op a) (zeroed s.state.chunk (contents s.device) a) zero_kept m
+
+    zeroing_is : stepped (ZeroNext n) (moving_of contents layers replied v) ≡ zeroing (s.state.current + 1)
+    zeroing_is = on_snap_is contents layers replied v k s (λ (x : Held). (x.snap.number == n) && can_zero x) zeroes_first zero_next
+        ∙ ap zeroing (next_area s.state.current (32 * s.state.chunk) s.state.filled (length s.pairs) (omega (arith, counts.some)) full counts.count)
+
+    lacks : LacksArea s.state.chunk s.state.size (s.state.current + 1) → lacks_area (s.state.current + 1) (held_of contents layers s).snap ≡ true
+    lacks short =
+        let lt : length (contents s.device) < 512 * (s.state.chunk * (area_place s.state.chunk (s.state.current + 1) + 1)) = omega (arith, sized, short) in
+        search (arith, lt)
+
+    has_area : s.state.chunk * (area_place s.state.chunk (s.state.current + 1) + 1) ≤ s.state.size → lacks_area (s.state.current + 1) (held_of contents layers s).snap ≡ false
+    has_area inside =
+        let le : 512 * (s.state.chunk * (area_place s.state.chunk (s.state.current + 1) + 1)) ≤ length (contents s.device) = omega (arith, sized, inside) in
+        search (arith, le)
+
+    -- the area is zeroed
+    pub zero_next_done : (s' : Kept B) → s.state.chunk * (area_place s.state.chunk (s.state.current + 1) + 1) ≤ s.state.size
+        → IsOneOperation (zero_op (s.state.current + 1)) true (layers s.device) (layers d) faults faults' done done'
+        → contents d ≡ with_sectors (contents s.device) (s.state.chunk * area_place s.state.chunk (s.state.current + 1)) (replicate (512 * s.state.chunk) 0)
+        → s' ≡ record s { device = d; state = record s.state { zeroed = true } }
+        → stepped (ZeroNext n) (moving_of contents layers replied v) ≡ moving_of contents layers replied (changed v v.origin k s' v.flights)
+    zero_next_done s' inside one new is =
+        let m : Moving = moving_of contents layers replied v in
+        let h : Held = held_of contents layers s in
+        let test : Held → Bool = λ (x : Held). (x.snap.number == n) && can_zero x in
+        let a : ℕ = s.state.current + 1 in
+        zeroing_is ∙ if_false (lacks_area a h.snap) (spoil test h m) (store_write test h (zero_op a) (zeroed s.state.chunk (contents s.device) a) zero_kept m) (has_area inside)
+        ∙ write_is contents layers replied v k s test zeroes_first (zero_op a) (zeroed s.state.chunk (contents s.device) a) zero_kept s' faults faults' done done' d one new (sym (ap (held_of contents layers) is))
+
+    -- the store failed, and the snapshot is spoiled
+    pub zero_next_fault : (s' s'' : Kept B) → s.state.chunk * (area_place s.state.chunk (s.state.current + 1) + 1) ≤ s.state.size
+        → IsOneOperation (zero_op (s.state.current + 1)) false (layers s.device) (layers d) faults faults' done done'
+        → contents d ≡ contents s.device → s' ≡ record s { device = d } → s'' ≡ spoilt s'
+        → stepped (ZeroNext n) (moving_of contents layers replied v) ≡ moving_of contents layers replied (changed v v.origin k s'' (map (refused_of (s.number ∷ [])) v.flights))
+    zero_next_fault s' s'' inside one same kept gone =
+        let m : Moving = moving_of contents layers replied v in
+        let h : Held = held_of contents layers s in
+        let test : Held → Bool = λ (x : Held). (x.snap.number == n) && can_zero x in
+        let a : ℕ = s.state.current + 1 in
+        zeroing_is ∙ if_false (lacks_area a h.snap) (spoil test h m) (store_write test h (zero_op a) (zeroed s.state.chunk (contents s.device) a) zero_kept m) (has_area inside)
+        ∙ fail_is contents layers replied v k s test zeroes_first (zero_op a) (zeroed s.state.chunk (contents s.device) a) zero_kept s' s'' faults faults' done done' d one same kept gone
+
+    -- the store lacks the area, and the snapshot is spoiled
+    pub zero_next_lacks : (s' : Kept B) → LacksArea s.state.chunk s.state.size (s.state.current + 1) → s' ≡ spoilt s
+        → stepped (ZeroNext n) (moving_of contents layers replied v) ≡ moving_of contents layers replied (changed v v.origin k s' (map (refused_of (s.number ∷ [])) v.flights))
+    zero_next_lacks s' short gone =
+        let m : Moving = moving_of contents layers replied v in
+        let h : Held = held_of contents layers s in
+        let test : Held → Bool = λ (x : Held). (x.snap.number == n) && can_zero x in
+        let a : ℕ = s.state.current + 1 in
+        zeroing_is ∙ if_true (lacks_area a h.snap) (spoil test h m) (store_write test h (zero_op a) (zeroed s.state.chunk (contents s.device) a) zero_kept m) (lacks short)
+        ∙ spoil_is contents layers replied v k s test zeroes_first v.origin m.origin s' h refl (sym (ap (held_of contents layers) gone)) refl

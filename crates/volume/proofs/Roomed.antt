@@ -1,0 +1,82 @@
+-- Room for copies is made, and nothing else changes.
+use Rattle.std.proofs.Common.{◌≡◌, ℕ, ◌+◌, ◌<◌, List, [], ◌∷◌, length, get_or, map, refl, sym, ◌∙◌, ap, subst, arith, if◌then◌else◌}
+use Rattle.std.specs.Prelude.{sum_by, count_by}
+use Rattle.std.proofs.lemmas.List.{length-map, get_or-map}
+use Rattle.device.specs.Layers.{Layer}
+use Rattle.volume_laws.specs.Books.{SnapBooks, Books}
+use Rattle.volume_laws.specs.Whole.{Holds}
+use Rattle.volume_laws.specs.Waits.{Waits}
+use Rattle.snapshot.specs.Kept.{Kept, books_of as snap_books}
+use Rattle.volume.specs.Volumed.{Volumed, books_of, piece_of}
+use Rattle.volume.specs.Whole.{AreNumbers, number_of_snap, count_in, SharesNone, IsAttached, IsWhole}
+use Rattle.volume.specs.Submitting.{unroomed, starts}
+use Rattle.volume.proofs.Sums.{sum_cons}
+
+unseen : {B X : Type 0} (f : Kept B → X) (xs : List (Kept B)) → ((s : Kept B) → f (unroomed s) ≡ f s) → map f (map unroomed xs) ≡ map f xs
+unseen f [] same = refl
+unseen f (x ∷ xs) same = ap (λ y. y ∷ map f (map unroomed xs)) (same x) ∙ ap (λ ys. f x ∷ ys) (unseen f xs same)
+
+-- what doesn't look at the room is as it was
+pub roomed : {B X : Type 0} (f : Kept B → X) (xs ys : List (Kept B)) → map unroomed xs ≡ map unroomed ys → ((s : Kept B) → f (unroomed s) ≡ f s) → map f xs ≡ map f ys
+roomed f xs ys e same = sym (unseen f xs same) ∙ ap (map f) e ∙ unseen f ys same
+
+unseen_sum : {B : Type 0} (f : Kept B → ℕ) (xs : List (Kept B)) → ((s : Kept B) → f (unroomed s) ≡ f s) → sum_by f (map unroomed xs) ≡ sum_by f xs
+unseen_sum f [] same = refl
+unseen_sum f (x ∷ xs) same = sum_cons f (unroomed x) (map unroomed xs) ∙ ap (λ n. n + sum_by f (map unroomed xs)) (same x) ∙ ap (λ n. f x + n) (unseen_sum f xs same) ∙ sym (sum_cons f x xs)
+
+pub roomed_sum : {B : Type 0} (f : Kept B → ℕ) (xs ys : List (Kept B)) → map unroomed xs ≡ map unroomed ys → ((s : Kept B) → f (unroomed s) ≡ f s) → sum_by f xs ≡ sum_by f ys
+roomed_sum f xs ys e same = sym (unseen_sum f xs same) ∙ ap (sum_by f) e ∙ unseen_sum f ys same
+
+pub roomed_length : {B : Type 0} (xs ys : List (Kept B)) → map unroomed xs ≡ map unroomed ys → length xs ≡ length ys
+roomed_length xs ys e = sym (length-map xs unroomed) ∙ ap length e ∙ length-map ys unroomed
+
+pub roomed_piece : {B : Type 0} (xs ys : List (Kept B)) → map unroomed xs ≡ map unroomed ys → piece_of xs ≡ piece_of ys
+roomed_piece xs ys e = sym (unseen_piece xs) ∙ ap piece_of e ∙ unseen_piece ys
+  where
+    unseen_piece : {B : Type 0} (xs : List (Kept B)) → piece_of (map unroomed xs) ≡ piece_of xs
+    unseen_piece [] = refl
+    unseen_piece (x ∷ xs) = refl
+
+-- one of them
+pub roomed_at : {B : Type 0} (xs ys : List (Kept B)) (k : ℕ) (d : Kept B) → map unroomed xs ≡ map unroomed ys → k < length xs → unroomed (get_or ys k d) ≡ unroomed (get_or xs k d)
+roomed_at xs ys k d e lt =
+    let len = roomed_length xs ys e in
+    sym (get_or-map unroomed ys k d (unroomed d) (omega (arith, lt, len))) ∙ ap (λ zs. get_or zs k (unroomed d)) (sym e) ∙ get_or-map unroomed xs k d (unroomed d) lt
+
+module _ {B : Type 0} (contents : B → List ℕ) (layers : B → List Layer) (size : B → ℕ) (v : Volumed B) (snaps : List (Kept B)) (e : map unroomed snaps ≡ map unroomed v.snaps) where
+  pub books_roomed : map (snap_books contents layers) snaps ≡ map (snap_books contents layers) v.snaps
+  books_roomed = roomed (snap_books contents layers) snaps v.snaps e (λ s. refl)
+
+  pub whole_roomed : IsWhole contents layers size v → IsWhole contents layers size (record v { snaps = snaps })
+  whole_roomed h =
+      let bs = books_of contents layers size v in
+      let piece = roomed_piece snaps v.snaps e in
+      let len = roomed_length snaps v.snaps e in
+      let sums = roomed_sum count_in snaps v.snaps e (λ s. refl) in
+      record {
+        holds = subst (λ (xs : List SnapBooks). let b : Books = record bs { snaps = xs } in Holds b) (sym books_roomed) h.holds;
+        waits = subst (λ (xs : List SnapBooks). let b : Books = record bs { snaps = xs } in Waits b) (sym books_roomed) h.waits;
+        snaps = λ k d lt. subst (λ (n : ℕ). IsAttached v.copies (size v.origin) n (get_or snaps k d)) (sym piece)
+            (seen v.copies (size v.origin) (piece_of v.snaps) (get_or snaps k d)
+            (subst (IsAttached v.copies (size v.origin) (piece_of v.snaps)) (roomed_at snaps v.snaps k d e lt) (hidden v.copies (size v.origin) (piece_of v.snaps) (get_or v.snaps k d) (h.snaps k d (omega (arith, lt, len))))));
+        apart = λ i j d lt inside.
+            (let i_in : i < length snaps = omega (arith, lt, inside) in
+            let was : SharesNone (unroomed (get_or v.snaps i d)) (unroomed (get_or v.snaps j d)) = h.apart i j d lt (omega (arith, inside, len)) in
+            let now : SharesNone (unroomed (get_or snaps i d)) (unroomed (get_or snaps j d)) =
+            subst (λ (x : Kept B). SharesNone x (unroomed (get_or snaps j d))) (roomed_at snaps v.snaps i d e i_in) (subst (SharesNone (unroomed (get_or v.snaps i d))) (roomed_at snaps v.snaps j d e inside) was) in
+            now);
+        numbers = subst (AreNumbers v.attached) (sym (roomed number_of_snap snaps v.snaps e (λ s. refl))) h.numbers;
+        requests = h.requests;
+        few = omega (arith, h.few, len);
+        few_copies = omega (arith, h.few_copies, sums);
+        few_requests = h.few_requests;
+      }
+    where
+      hidden : (copies sectors chunk : ℕ) (s : Kept B) → IsAttached copies sectors chunk s → IsAttached copies sectors chunk (unroomed s)
+      hidden copies sectors chunk s a = record { origin = a.origin; chunk_is = a.chunk_is; some = a.some; numbers = a.numbers }
+
+      seen : (copies sectors chunk : ℕ) (s : Kept B) → IsAttached copies sectors chunk (unroomed s) → IsAttached copies sectors chunk s
+      seen copies sectors chunk s a = record { origin = a.origin; chunk_is = a.chunk_is; some = a.some; numbers = a.numbers }
+
+  pub starts_roomed : (c : ℕ) → count_by (starts c) snaps ≡ count_by (starts c) v.snaps
+  starts_roomed c = roomed_sum (λ s. if starts c s then 1 else 0) snaps v.snaps e (λ s. refl)

@@ -1,0 +1,46 @@
+-- What became of a snapshot that was spoiled, and the place of a snapshot in its volume.
+use Rattle.std.proofs.Common.{◌≡◌, ℕ, ◌<◌, true, false, List, [], length, get_or, sym, ◌∙◌, ap, subst}
+use Rattle.device.specs.Layers.{Layer}
+use Rattle.pending.specs.declared.copies.ChunkCopy.{ChunkCopy}
+use Rattle.snapshot.specs.Kept.{Kept}
+use Rattle.volume.specs.Volumed.{Volumed, piece_of}
+use Rattle.volume.specs.Whole.{IsAttached, IsWhole}
+use Rattle.volume.proofs.Good.{SpoiltTo}
+
+-- a snapshot as a spoil leaves it
+abbrev pub spoilt : {B : Type 0} → Kept B → Kept B
+spoilt s = record s { live = false; untried = true; state = record s.state { copying = false }; begun = []; copies = []; marks = [] }
+
+-- after a read into one of its copies
+pub spoilt_copies : {B : Type 0} (s u s' : Kept B) (copies : List ChunkCopy) → u ≡ record s { copies = copies } → s' ≡ spoilt u → SpoiltTo s s' × (s'.device ≡ s.device)
+spoilt_copies s u s' copies first then = (
+  record {
+    number = ap (λ (x : Kept _). x.number) then ∙ ap (λ (x : Kept _). x.number) first;
+    live = ap (λ (x : Kept _). x.live) then;
+    untried = ap (λ (x : Kept _). x.untried) then;
+    chunk_is = ap (λ (x : Kept _). x.state.chunk) then ∙ ap (λ (x : Kept _). x.state.chunk) first;
+    origin = ap (λ (x : Kept _). x.state.origin) then ∙ ap (λ (x : Kept _). x.state.origin) first;
+    copies = ap (λ (x : Kept _). x.copies) then;
+    marks = ap (λ (x : Kept _). x.marks) then;
+  },
+  ap (λ (x : Kept _). x.device) then ∙ ap (λ (x : Kept _). x.device) first,
+)
+
+-- after an operation of its device
+pub spoilt_device : {B : Type 0} (s u s' : Kept B) (d : B) → u ≡ record s { device = d } → s' ≡ spoilt u → SpoiltTo s s' × (s'.device ≡ d)
+spoilt_device s u s' d first then = (
+  record {
+    number = ap (λ (x : Kept _). x.number) then ∙ ap (λ (x : Kept _). x.number) first;
+    live = ap (λ (x : Kept _). x.live) then;
+    untried = ap (λ (x : Kept _). x.untried) then;
+    chunk_is = ap (λ (x : Kept _). x.state.chunk) then ∙ ap (λ (x : Kept _). x.state.chunk) first;
+    origin = ap (λ (x : Kept _). x.state.origin) then ∙ ap (λ (x : Kept _). x.state.origin) first;
+    copies = ap (λ (x : Kept _). x.copies) then;
+    marks = ap (λ (x : Kept _). x.marks) then;
+  },
+  ap (λ (x : Kept _). x.device) then ∙ ap (λ (x : Kept _). x.device) first,
+)
+
+module _ {B : Type 0} (contents : B → List ℕ) (layers : B → List Layer) (size : B → ℕ) (v : Volumed B) (h : IsWhole contents layers size v) where
+  pub attached_at : (k : ℕ) (s : Kept B) → k < length v.snaps → s ≡ get_or v.snaps k s → IsAttached v.copies (size v.origin) (piece_of v.snaps) s
+  attached_at k s within is = subst (IsAttached v.copies (size v.origin) (piece_of v.snaps)) (sym is) (h.snaps k s within)

@@ -1,0 +1,211 @@
+-- The events of one store: an area is zeroed, and the first copy is committed.
+use Rattle.std.proofs.Common.{◌≡◌, inl, inr, ℕ, suc, ◌+◌, ◌*◌, ◌<◌, Bool, true, false, List, [], ◌∷◌, ◌++◌, length, get_or, map, take, drop, refl, ◌∙◌, ap, arith, nat_eq, eq-eqb, append_assoc}
+use Rattle.std.specs.Prelude.{◌&&◌, not, if◌then◌else◌}
+use Rattle.std.specs.List.{All}
+use Rattle.std.proofs.lemmas.Bool.{false≢true, eqb-true}
+use Rattle.std.proofs.lemmas.List.{map-append}
+use Rattle.std.proofs.lemmas.List.Elements.{All-cons, All-nil}
+use Rattle.sector.specs.Bytes.{next_count}
+use Rattle.device.specs.Layers.{Layer, is_loud}
+use Rattle.model.specs.NextPlace.{LacksArea}
+use Rattle.plain.specs.declared.event.Event.TheVariants.{ZeroNext, WriteArea}
+use Rattle.plain.specs.declared.event.Outcome.TheVariants.{Done, Fault}
+use Rattle.pending.specs.Due.{number_of_copy, number_of_mark, front_written}
+use Rattle.pending.specs.Routes.{refused_of}
+use Rattle.pending.specs.declared.copies.ChunkCopy.{ChunkCopy}
+use Rattle.pending.specs.declared.copies.Mark.{Mark}
+use Rattle.pending.specs.declared.copies.Stage.TheVariants.{Written}
+use Rattle.store.specs.declared.state.State.{State}
+use Rattle.store.specs.Stored.{after_commit}
+use Rattle.volume_laws.specs.Held.{LiveHolds}
+use Rattle.volume_laws.specs.Steps.{ChangesSnap, ZeroesArea, Commits, mark_of}
+use Rattle.volume_laws.proofs.WholeOne.{snap_holds, live_by_copy, zero_event, commit_event}
+use Rattle.volume_laws.proofs.Keeping.{zero_keeps, commit_keeps}
+use Rattle.volume_laws.proofs.Waiting.{waits_changed}
+use Rattle.volume_laws.proofs.Left.{zero_left, commit_left}
+use Rattle.snapshot.specs.Kept.{Kept, books_of as snap_books, due_of_kept, needs_area}
+use Rattle.volume.specs.Volumed.{Volumed, books_of}
+use Rattle.volume.specs.Whole.{IsWhole, numbers_in}
+use Rattle.volume.specs.Finding.{is_committing, is_zeroing}
+use Rattle.volume.proofs.Changing.{SameDisk, same_disk, StaysAttached, changed, books_within, books_is, changes}
+use Rattle.volume.proofs.Counting.{counts_same, counts_store, store_within, lives_same, lives_spoiled, lived}
+use Rattle.volume.proofs.CopyEvents.{stage_by, both_left, both_right}
+use Rattle.volume.proofs.Good.{IsGood, SpoiltTo, silent_good, spoilt_good}
+
+-- the first copy is written
+pub first_some : (copies : List ChunkCopy) → front_written copies ≡ true → 0 < length copies
+first_some [] e = absurd (false≢true e)
+first_some (p ∷ ps) e = omega arith
+
+pub first_ready : (copies : List ChunkCopy) → front_written copies ≡ true → All (λ (p : ChunkCopy). p.stage ≡ Written) (take 1 copies)
+first_ready [] e = All-nil (λ (p : ChunkCopy). p.stage ≡ Written)
+first_ready (p ∷ ps) e = All-cons (λ (p : ChunkCopy). p.stage ≡ Written) p [] (stage_by Written p.stage e) (All-nil (λ (p : ChunkCopy). p.stage ≡ Written))
+
+-- what a test of a snapshot found
+module _ {B : Type 0} (number : ℕ) (s : Kept B) where
+  pub zeroing_number : is_zeroing number s ≡ true → s.number ≡ number
+  zeroing_number e = eqb-true s.number number (both_left (nat_eq s.number number) (front_written s.copies && needs_area s.state) e)
+
+  pub zeroing_front : is_zeroing number s ≡ true → front_written s.copies ≡ true
+  zeroing_front e = both_left (front_written s.copies) (needs_area s.state) (both_right (nat_eq s.number number) (front_written s.copies && needs_area s.state) e)
+
+  pub zeroing_needs : is_zeroing number s ≡ true → s.state.zeroed ≡ false
+  zeroing_needs e = not_true s.state.zeroed (both_right (nat_eq (s.state.filled + 1) (32 * s.state.chunk)) (not s.state.zeroed)
+      (both_right (front_written s.copies) (needs_area s.state) (both_right (nat_eq s.number number) (front_written s.copies && needs_area s.state) e)))
+    where
+      not_true : (b : Bool) → not b ≡ true → b ≡ false
+      not_true true h = absurd (false≢true h)
+      not_true false h = refl
+
+  pub committing_number : is_committing number s ≡ true → s.number ≡ number
+  committing_number e = eqb-true s.number number (both_left (nat_eq s.number number) (front_written s.copies && not (needs_area s.state)) e)
+
+  pub committing_front : is_committing number s ≡ true → front_written s.copies ≡ true
+  committing_front e = both_left (front_written s.copies) (not (needs_area s.state)) (both_right (nat_eq s.number number) (front_written s.copies && not (needs_area s.state)) e)
+
+  -- a full area's next one is zeroed
+  pub committing_next : is_committing number s ≡ true → s.state.filled + 1 ≡ 32 * s.state.chunk → s.state.zeroed ≡ true
+  committing_next e full =
+      let kept : not (needs_area s.state) ≡ true = both_right (front_written s.copies) (not (needs_area s.state)) (both_right (nat_eq s.number number) (front_written s.copies && not (needs_area s.state)) e) in
+      at (nat_eq (s.state.filled + 1) (32 * s.state.chunk)) s.state.zeroed (eq-eqb (s.state.filled + 1) (32 * s.state.chunk) full) kept
+    where
+      at : (a b : Bool) → a ≡ true → not (a && not b) ≡ true → b ≡ true
+      at true true f k = refl
+      at true false f k = absurd (false≢true k)
+      at false b f k = absurd (false≢true f)
+
+-- a commit keeps the store's sizes
+state_parts : (b : Bool) (s x y : State) → x.chunk ≡ s.chunk → y.chunk ≡ s.chunk → x.origin ≡ s.origin → y.origin ≡ s.origin → ((if b then x else y).chunk ≡ s.chunk) × ((if b then x else y).origin ≡ s.origin)
+state_parts true s x y xc yc xo yo = (xc, xo)
+state_parts false s x y xc yc xo yo = (yc, yo)
+
+commit_sizes : (s : State) (count : ℕ) → ((after_commit s count).chunk ≡ s.chunk) × ((after_commit s count).origin ≡ s.origin)
+commit_sizes s count = state_parts (nat_eq (s.filled + count) (32 * s.chunk)) s (record s { current = s.current + 1; filled = 0; zeroed = false }) (record s { filled = s.filled + count }) refl refl refl refl
+
+-- and the copies' numbers
+commit_front : (copies : List ChunkCopy) → map number_of_mark (map mark_of (take 1 copies)) ++ map number_of_copy (drop 1 copies) ≡ map number_of_copy copies
+commit_front [] = refl
+commit_front (p ∷ ps) = refl
+
+commit_numbers : (marks : List Mark) (copies : List ChunkCopy) → map number_of_mark (marks ++ map mark_of (take 1 copies)) ++ map number_of_copy (drop 1 copies) ≡ map number_of_mark marks ++ map number_of_copy copies
+commit_numbers marks copies =
+    ap (λ ns. ns ++ map number_of_copy (drop 1 copies)) (map-append number_of_mark marks (map mark_of (take 1 copies)))
+    ∙ append_assoc (map number_of_mark marks) (map number_of_mark (map mark_of (take 1 copies))) (map number_of_copy (drop 1 copies))
+    ∙ ap (λ ns. map number_of_mark marks ++ ns) (commit_front copies)
+
+module _ {B : Type 0} (contents : B → List ℕ) (layers : B → List Layer) (size faults done : B → ℕ) (v : Volumed B) (h : IsWhole contents layers size v) (number : ℕ)
+    (k : ℕ) (s s' : Kept B) (within : k < length v.snaps) (is : s ≡ get_or v.snaps k s) where
+  abbrev o' : B
+  o' = v.origin
+
+  disk : SameDisk contents layers size v.origin v.origin
+  disk = same_disk contents layers size v.origin
+
+  sb_is : snap_books contents layers s ≡ get_or (map (snap_books contents layers) v.snaps) k (snap_books contents layers s)
+  sb_is = books_is contents layers size v v.origin k s s' within is
+
+  sb_in : k < length (map (snap_books contents layers) v.snaps)
+  sb_in = books_within contents layers size v v.origin k s s' within is
+
+  -- one whose first copy is written is live
+  pub front_live : front_written s.copies ≡ true → s.live ≡ true
+  front_live e = live_by_copy (contents v.origin) v.flights (snap_books contents layers s) 0 (snap_holds (books_of contents layers size v) k (snap_books contents layers s) h.holds sb_in sb_is) (first_some s.copies e)
+
+  e_is : ChangesSnap k (snap_books contents layers s) (snap_books contents layers s') (books_of contents layers size v) (books_of contents layers size (changed v v.origin k s' v.flights))
+  e_is = changes contents layers size v v.origin k s s' within is disk
+
+  holds_live : (live : s.live ≡ true) → LiveHolds (contents v.origin) v.flights (snap_books contents layers s)
+  holds_live live = (snap_holds (books_of contents layers size v) k (snap_books contents layers s) h.holds sb_in sb_is).alive live
+
+  pub zero_good : is_zeroing number s ≡ true → (d : B) → s' ≡ record s { device = d; state = record s.state { zeroed = true } } → ZeroesArea (s.state.current + 1) (snap_books contents layers s) (snap_books contents layers s')
+      → is_loud (layers d) ≡ is_loud (layers s.device) → faults d ≡ faults s.device → done d ≡ next_count (done s.device) → IsGood contents layers size faults done (ZeroNext number) Done v (changed v v.origin k s' v.flights)
+  zero_good found d f r loud faulty counted =
+      let sb = snap_books contents layers in
+      let w = changed v v.origin k s' v.flights in
+      let live = front_live (zeroing_front number s found) in
+      let device : s'.device ≡ d = ap (λ (x : Kept B). x.device) f in
+      let stays : StaysAttached s s' = record {
+        number = ap (λ (x : Kept B). x.number) f;
+        chunk_is = ap (λ (x : Kept B). x.state.chunk) f;
+        origin = ap (λ (x : Kept B). x.state.origin) f;
+        numbers = inl (ap (λ (x : Kept B). numbers_in x) f);
+      } in
+      silent_good contents layers size faults done v h (ZeroNext number) Done (λ a b x. x) v.origin k s s' within is disk (ap (λ x. is_loud (layers x)) device ∙ loud) v.flights refl stays
+      (zero_event k (sb s) (sb s') (books_of contents layers size v) (books_of contents layers size w) h.holds e_is (s.state.current + 1) live r)
+      (waits_changed k (sb s) (sb s') (books_of contents layers size v) (books_of contents layers size w) h.waits e_is (zero_keeps (s.state.current + 1) (sb s) (sb s') r))
+      (zero_left (s.state.current + 1) (due_of_kept contents layers s) (due_of_kept contents layers s') r live (zeroing_needs number s found) (ap (λ (x : Kept B). x.state.zeroed) f))
+      (inl (record { counts = counts_same v v.origin k s s' v.flights within is faults refl (ap faults device ∙ faulty); lives = lives_same v v.origin k s s' v.flights within is (ap (λ (x : Kept B). x.live) f) }))
+      (inr (suc k, store_within v v.origin k s s' v.flights within is done, counts_store v v.origin k s s' v.flights within is done refl (ap done device ∙ counted)))
+
+  -- the store failed
+  pub zero_fault : is_zeroing number s ≡ true → SpoiltTo s s' → is_loud (layers s'.device) ≡ is_loud (layers s.device) → faults s'.device ≡ next_count (faults s.device) → done s'.device ≡ next_count (done s.device)
+      → IsGood contents layers size faults done (ZeroNext number) Fault v (changed v v.origin k s' (map (refused_of (s.number ∷ [])) v.flights))
+  zero_fault found t loud faulty counted =
+      let flights = map (refused_of (s.number ∷ [])) v.flights in
+      let live = front_live (zeroing_front number s found) in
+      spoilt_good contents layers size faults done v h (ZeroNext number) Fault (λ a b x. x) v.origin k s s' within is disk loud live (first_some s.copies (zeroing_front number s found)) t
+      (record {
+        place = k;
+        snap = s;
+        at = record { within = within; is = is };
+        mine = zeroing_number number s found;
+        spoils = record { counts = counts_store v v.origin k s s' flights within is faults refl faulty; was = lived v v.origin k s s' flights within is live; lives = lives_spoiled v v.origin k s s' flights within is t.live };
+      })
+      (inr (suc k, store_within v v.origin k s s' flights within is done, counts_store v v.origin k s s' flights within is done refl counted))
+
+  -- the store has no room for the area
+  pub zero_lacks : is_zeroing number s ≡ true → SpoiltTo s s' → s'.device ≡ s.device → LacksArea s.state.chunk s.state.size (s.state.current + 1)
+      → IsGood contents layers size faults done (ZeroNext number) Done v (changed v v.origin k s' (map (refused_of (s.number ∷ [])) v.flights))
+  zero_lacks found t device lacks =
+      let flights = map (refused_of (s.number ∷ [])) v.flights in
+      let live = front_live (zeroing_front number s found) in
+      spoilt_good contents layers size faults done v h (ZeroNext number) Done (λ a b x. x) v.origin k s s' within is disk (ap (λ x. is_loud (layers x)) device) live (first_some s.copies (zeroing_front number s found)) t
+      (inr (record {
+        place = k;
+        snap = s;
+        at = record { within = within; is = is };
+        mine = zeroing_number number s found;
+        lacks = lacks;
+        counts = counts_same v v.origin k s s' flights within is faults refl (ap faults device);
+        lives = lives_spoiled v v.origin k s s' flights within is t.live;
+      }))
+      (inl (counts_same v v.origin k s s' flights within is done refl (ap done device)))
+
+  pub commit_good : is_committing number s ≡ true → (d : B)
+      → s' ≡ record s { device = d; state = after_commit s.state 1; pairs = s.pairs ++ take 1 s.begun; begun = drop 1 s.begun; copies = drop 1 s.copies; marks = s.marks ++ map mark_of (take 1 s.copies) }
+      → Commits 1 s.state.current (snap_books contents layers s) (snap_books contents layers s')
+      → is_loud (layers d) ≡ is_loud (layers s.device) → faults d ≡ faults s.device → done d ≡ next_count (done s.device) → IsGood contents layers size faults done (WriteArea number) Done v (changed v v.origin k s' v.flights)
+  commit_good found d f r loud faulty counted =
+      let sb = snap_books contents layers in
+      let w = changed v v.origin k s' v.flights in
+      let live = front_live (committing_front number s found) in
+      let device : s'.device ≡ d = ap (λ (x : Kept B). x.device) f in
+      let sizes = commit_sizes s.state 1 in
+      let stays : StaysAttached s s' = record {
+        number = ap (λ (x : Kept B). x.number) f;
+        chunk_is = ap (λ (x : Kept B). x.state.chunk) f ∙ sizes.0;
+        origin = ap (λ (x : Kept B). x.state.origin) f ∙ sizes.1;
+        numbers = inl (ap (λ (x : Kept B). numbers_in x) f ∙ commit_numbers s.marks s.copies);
+      } in
+      silent_good contents layers size faults done v h (WriteArea number) Done (λ a b x. x) v.origin k s s' within is disk (ap (λ x. is_loud (layers x)) device ∙ loud) v.flights refl stays
+      (commit_event k (sb s) (sb s') (books_of contents layers size v) (books_of contents layers size w) h.holds e_is 1 s.state.current live r)
+      (waits_changed k (sb s) (sb s') (books_of contents layers size v) (books_of contents layers size w) h.waits e_is (commit_keeps (contents v.origin) v.flights 1 s.state.current (sb s) (sb s') (holds_live live) r))
+      (commit_left 1 s.state.current (due_of_kept contents layers s) (due_of_kept contents layers s') r (omega arith))
+      (record { counts = counts_same v v.origin k s s' v.flights within is faults refl (ap faults device ∙ faulty); lives = lives_same v v.origin k s s' v.flights within is (ap (λ (x : Kept B). x.live) f) })
+      (inr (suc k, store_within v v.origin k s s' v.flights within is done, counts_store v v.origin k s s' v.flights within is done refl (ap done device ∙ counted)))
+
+  -- the store failed
+  pub commit_fault : is_committing number s ≡ true → SpoiltTo s s' → is_loud (layers s'.device) ≡ is_loud (layers s.device) → faults s'.device ≡ next_count (faults s.device) → done s'.device ≡ next_count (done s.device)
+      → IsGood contents layers size faults done (WriteArea number) Fault v (changed v v.origin k s' (map (refused_of (s.number ∷ [])) v.flights))
+  commit_fault found t loud faulty counted =
+      let flights = map (refused_of (s.number ∷ [])) v.flights in
+      let live = front_live (committing_front number s found) in
+      spoilt_good contents layers size faults done v h (WriteArea number) Fault (λ a b x. x) v.origin k s s' within is disk loud live (first_some s.copies (committing_front number s found)) t
+      (record {
+        place = k;
+        snap = s;
+        at = record { within = within; is = is };
+        mine = committing_number number s found;
+        spoils = record { counts = counts_store v v.origin k s s' flights within is faults refl faulty; was = lived v v.origin k s s' flights within is live; lives = lives_spoiled v v.origin k s s' flights within is t.live };
+      })
+      (inr (suc k, store_within v v.origin k s s' flights within is done, counts_store v v.origin k s s' flights within is done refl counted))

@@ -1,0 +1,37 @@
+-- The snapshot that is found leaves.
+use Rattle.std.proofs.Common.{◌≡◌, List, [], get_or, sym, ◌∙◌, ap}
+use Rattle.std.proofs.lemmas.List.{get_or_default}
+use Rattle.snapshot.specs.Kept.{Kept}
+use Rattle.volume.specs.Volumed.{Volumed}
+use Rattle.volume.specs.Leaving.{place_of_snap}
+use Rattle.volume.proofs.Leaves.{whole_left, plain_left_as, found_place, quiet_none}
+use Rattle.volume.proofs.volume.Volume.detach.Goals as goal
+
+pub invariant_of-self : goal.invariant_of-self
+invariant_of-self g c =
+    let v : Volumed g.row.B.Denot = record { origin = c.self.inside.origin; snaps = c.self.inside.snaps.items; flights = c.self.inside.flights.items; requests = c.self.inside.requests; copies = c.self.inside.copies; attached = c.self.inside.attached } in
+    let found = found_place c.args.number c.self.inside.snaps.items c.in-Some.k c.remove-snap.result (c.in-Some.ensures ∙ ap (place_of_snap c.args.number) c.as_slice.ensures.value) in
+    let none : v.flights ≡ [] = ap (λ (x : Volumed g.row.B.Denot). x.flights) c.self.view_is ∙ quiet_none c.args.self.now (sym c.if-not-is_quiet.ensures) in
+    rw (c.remove-snap.ensures.items) (whole_left g.B.Block.contents g.B.Block.layers g.B.Block.size v c.in-Some.k c.remove-snap.result found.0 c.remove-snap.ensures.value none c.self.invariant)
+
+pub returns-clause-taken : goal.returns-clause-taken
+returns-clause-taken g c =
+    let v : Volumed g.row.B.Denot = record { origin = c.self.inside.origin; snaps = c.self.inside.snaps.items; flights = c.self.inside.flights.items; requests = c.self.inside.requests; copies = c.self.inside.copies; attached = c.self.inside.attached } in
+    let place = c.in-Some.ensures ∙ ap (place_of_snap c.args.number) c.as_slice.ensures.value in
+    let found = found_place c.args.number c.self.inside.snaps.items c.in-Some.k c.remove-snap.result place in
+    let at : (d : Kept g.row.B.Denot) → c.remove-snap.result ≡ get_or c.self.inside.snaps.items c.in-Some.k d = λ d. c.remove-snap.ensures.value ∙ get_or_default c.self.inside.snaps.items c.in-Some.k c.remove-snap.result d found.0 in
+    rw (← c.self.view_is) (record {
+      place = c.in-Some.k;
+      found = sym place;
+      device = λ d. c.into_device.ensures ∙ ap (λ (x : Kept g.row.B.Denot). x.device) (at d);
+      stale = λ d. c.is_stale-stale.ensures ∙ ap (λ (x : Kept g.row.B.Denot). x.stale) (at d);
+      becomes = ap (λ (x : List (Kept g.row.B.Denot)). let w : Volumed g.row.B.Denot = record v { snaps = x } in w) c.remove-snap.ensures.items;
+    })
+
+pub returns-clause-plain : goal.returns-clause-plain
+returns-clause-plain g c = λ _.
+    let v : Volumed g.row.B.Denot = record { origin = c.self.inside.origin; snaps = c.self.inside.snaps.items; flights = c.self.inside.flights.items; requests = c.self.inside.requests; copies = c.self.inside.copies; attached = c.self.inside.attached } in
+    let found = found_place c.args.number c.self.inside.snaps.items c.in-Some.k c.remove-snap.result (c.in-Some.ensures ∙ ap (place_of_snap c.args.number) c.as_slice.ensures.value) in
+    let none : v.flights ≡ [] = ap (λ (x : Volumed g.row.B.Denot). x.flights) c.self.view_is ∙ quiet_none c.args.self.now (sym c.if-not-is_quiet.ensures) in
+    let mine = ap (λ (x : Kept g.row.B.Denot). x.number) c.remove-snap.ensures.value ∙ found.1 in
+    rw (← c.self.view_is) (plain_left_as g.B.Block.contents g.B.Block.layers g.B.Block.size v c.in-Some.k c.remove-snap.result found.0 c.remove-snap.ensures.value none c.args.number c.remove-snap.new.self.items c.remove-snap.ensures.items mine c.self.invariant)

@@ -1,0 +1,38 @@
+-- A request of a spoiled snapshot is answered.
+use Rattle.std.proofs.Common.{◌≡◌, ◌∙◌, ap, Some, get_or, nat_eq}
+use Rattle.std.specs.List.{position}
+use Rattle.pending.specs.declared.flights.Flight.{Flight}
+use Rattle.pending.specs.declared.flights.Route.TheVariants.{Refused}
+use Rattle.volume.specs.Volumed.{Volumed}
+use Rattle.volume.proofs.StoreIssues.{refused_good}
+use Rattle.volume.proofs.ExactIssues.{refused_exact}
+use Rattle.volume.proofs.volume.Volume.issue_refused.Goals as goal
+
+pub invariant_of-self : goal.invariant_of-self
+invariant_of-self g c =
+    let v = c.self.inside in
+    let r = c.remove.result in
+    let found : position (λ (f : Flight). nat_eq f.number c.args.number) v.flights.items ≡ Some c.args.place = ap (λ (x : Volumed _). position (λ (f : Flight). nat_eq f.number c.args.number) x.flights) c.self.view_is ∙ c.requires.found in
+    let was : r ≡ get_or v.flights.items c.args.place r = c.remove.ensures.value in
+    let route : r.route ≡ Refused = ap (λ (x : Flight). x.route) was ∙ ap (λ (x : Volumed _). (get_or x.flights c.args.place r).route) c.self.view_is ∙ c.requires.route r in
+    let good = refused_good g.B.Block.contents g.B.Block.layers g.B.Block.size g.B.Block.fault_count g.B.Block.done_count _ c.self.invariant c.args.number c.args.place r found was route in
+    rw c.remove.ensures.items good.whole
+
+pub returns-clause-step : goal.returns-clause-step
+returns-clause-step g c =
+    let v = c.self.inside in
+    let r = c.remove.result in
+    let found : position (λ (f : Flight). nat_eq f.number c.args.number) v.flights.items ≡ Some c.args.place = ap (λ (x : Volumed _). position (λ (f : Flight). nat_eq f.number c.args.number) x.flights) c.self.view_is ∙ c.requires.found in
+    let was : r ≡ get_or v.flights.items c.args.place r = c.remove.ensures.value in
+    let route : r.route ≡ Refused = ap (λ (x : Flight). x.route) was ∙ ap (λ (x : Volumed _). (get_or x.flights c.args.place r).route) c.self.view_is ∙ c.requires.route r in
+    let good = refused_good g.B.Block.contents g.B.Block.layers g.B.Block.size g.B.Block.fault_count g.B.Block.done_count _ c.self.invariant c.args.number c.args.place r found was route in
+    rw (← c.self.view_is, c.remove.ensures.items) good.stepped
+
+pub returns-clause-exact : goal.returns-clause-exact
+returns-clause-exact g c =
+    let v = c.self.inside in
+    let r = c.remove.result in
+    let found : position (λ (f : Flight). nat_eq f.number c.args.number) v.flights.items ≡ Some c.args.place = ap (λ (x : Volumed _). position (λ (f : Flight). nat_eq f.number c.args.number) x.flights) c.self.view_is ∙ c.requires.found in
+    let was : r ≡ get_or v.flights.items c.args.place r = c.remove.ensures.value in
+    let route : r.route ≡ Refused = ap (λ (x : Flight). x.route) was ∙ ap (λ (x : Volumed _). (get_or x.flights c.args.place r).route) c.self.view_is ∙ c.requires.route r in
+    rw (← c.self.view_is, c.remove.ensures.items) (λ counted. refused_exact g.B.Block.contents g.B.Block.layers g.B.Block.size _ c.self.invariant counted c.args.number c.args.place r found was route)

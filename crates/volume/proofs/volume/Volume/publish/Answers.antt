@@ -1,0 +1,114 @@
+-- A committed copy is published.
+use Rattle.std.proofs.Common.{◌≡◌, ◌<◌, true, false, Some, refl, sym, ◌∙◌, ap, subst, length, arith, map, None, slice_set}
+use Rattle.std.specs.List.{All, position, list_any}
+use Rattle.volume_laws.specs.Published.{is_clear}
+use Rattle.volume_laws.specs.Again.{again_of, placed_of}
+use Rattle.snapshot.specs.Kept.{Kept, books_of}
+use Rattle.volume.specs.Finding.{is_mark_of, has_mark_at}
+use Rattle.volume.proofs.Finds.{position_within}
+use Rattle.volume.proofs.DueEvents.{due_by, mark_found, mark_due, mark_is}
+use Rattle.volume.proofs.Chunks.{chunks_all, chunks_set}
+use Rattle.volume.proofs.AgainEvents.{published_good}
+use Rattle.volume.proofs.Exactly.{publish_exact}
+use Rattle.volume.proofs.volume.Volume.publish.Goals as goal
+
+pub find_mark-requires : goal.find_mark-requires
+find_mark-requires g c =
+    subst (All (λ (x : Kept _). 0 < x.state.chunk)) (sym c.deref.ensures.value) (chunks_all g.B.Block.contents g.B.Block.layers g.B.Block.size _ c.self.invariant)
+
+pub publish-requires : goal.publish-requires
+publish-requires g c =
+    let v = c.self.inside in
+    let s = c.index_mut-snap.result.now in
+    let k = c.in-Some.place in
+    let j = c.in-Some.index in
+    let within : k < length v.snaps.items = omega (arith, c.in-Some.ensures.found.0, ap length c.deref.ensures.value) in
+    let is = c.index_mut-snap.ensures.value in
+    let found : position (is_mark_of s v.flights.items c.args.number) s.marks ≡ Some j = mark_found c.args.number k j v.snaps.items c.deref.result.now v.flights.items c.deref-2.result.now s c.deref.ensures.value c.deref-2.ensures.value is (c.in-Some.ensures.found.1 s) in
+    record { within = position_within (is_mark_of s v.flights.items c.args.number) s.marks j found }
+
+pub route_placed-requires : goal.route_placed-requires
+route_placed-requires g c =
+    let v = c.self.inside in
+    let s = c.index_mut-snap.result.now in
+    let k = c.in-Some.place in
+    let j = c.in-Some.index in
+    let within : k < length v.snaps.items = omega (arith, c.in-Some.ensures.found.0, ap length c.deref.ensures.value) in
+    let is = c.index_mut-snap.ensures.value in
+    let found : position (is_mark_of s v.flights.items c.args.number) s.marks ≡ Some j = mark_found c.args.number k j v.snaps.items c.deref.result.now v.flights.items c.deref-2.result.now s c.deref.ensures.value c.deref-2.ensures.value is (c.in-Some.ensures.found.1 s) in
+    let old : 0 < s.state.chunk = subst (λ (x : Kept _). 0 < x.state.chunk) (sym is) (chunks_all g.B.Block.contents g.B.Block.layers g.B.Block.size _ c.self.invariant k s within) in
+    subst (λ n. 0 < n) (sym (ap (λ (x : Kept _). x.state.chunk) c.publish.ensures.fields)) old
+
+pub route_again-requires : goal.route_again-requires
+route_again-requires g c =
+    let v = c.self.inside in
+    let s = c.index_mut-snap.result.now in
+    let k = c.in-Some.place in
+    let j = c.in-Some.index in
+    let within : k < length v.snaps.items = omega (arith, c.in-Some.ensures.found.0, ap length c.deref.ensures.value) in
+    let is = c.index_mut-snap.ensures.value in
+    let found : position (is_mark_of s v.flights.items c.args.number) s.marks ≡ Some j = mark_found c.args.number k j v.snaps.items c.deref.result.now v.flights.items c.deref-2.result.now s c.deref.ensures.value c.deref-2.ensures.value is (c.in-Some.ensures.found.1 s) in
+    subst (All (λ (x : Kept _). 0 < x.state.chunk)) (sym c.deref-in-Some.ensures.value) (chunks_set g.B.Block.contents g.B.Block.layers g.B.Block.size _ c.self.invariant k s c.publish.new.self within is (ap (λ (x : Kept _). x.state.chunk) c.publish.ensures.fields))
+
+pub invariant_of-self : goal.invariant_of-self
+invariant_of-self g c =
+    let v = c.self.inside in
+    let s = c.index_mut-snap.result.now in
+    let k = c.in-Some.place in
+    let j = c.in-Some.index in
+    let within : k < length v.snaps.items = omega (arith, c.in-Some.ensures.found.0, ap length c.deref.ensures.value) in
+    let is = c.index_mut-snap.ensures.value in
+    let found : position (is_mark_of s v.flights.items c.args.number) s.marks ≡ Some j = mark_found c.args.number k j v.snaps.items c.deref.result.now v.flights.items c.deref-2.result.now s c.deref.ensures.value c.deref-2.ensures.value is (c.in-Some.ensures.found.1 s) in
+    let m = mark_is c.args.number j v.flights.items s found in
+    let good = published_good g.B.Block.contents g.B.Block.layers g.B.Block.size g.B.Block.fault_count g.B.Block.done_count _ c.self.invariant c.args.number k s c.publish.new.self within is j m.0 found c.publish.ensures.fields (c.publish.ensures.publishes m.0 m.1) in
+    let flights : c.route_again.new.flights.items ≡ map (again_of None (is_clear (map (books_of g.B.Block.contents g.B.Block.layers) (slice_set v.snaps.items k c.publish.new.self)))) (map (placed_of (books_of g.B.Block.contents g.B.Block.layers c.publish.new.self)) v.flights.items) =
+    c.route_again.ensures ∙ ap (λ xs. map (again_of None (is_clear (map (books_of g.B.Block.contents g.B.Block.layers) xs))) c.route_placed.new.flights.items) c.deref-in-Some.ensures.value
+    ∙ ap (map (again_of None (is_clear (map (books_of g.B.Block.contents g.B.Block.layers) (slice_set v.snaps.items k c.publish.new.self))))) c.route_placed.ensures in
+    rw flights good.whole
+
+pub returns-in-Some-clause-step : goal.returns-in-Some-clause-step
+returns-in-Some-clause-step g c =
+    let v = c.self.inside in
+    let s = c.index_mut-snap.result.now in
+    let k = c.in-Some.place in
+    let j = c.in-Some.index in
+    let within : k < length v.snaps.items = omega (arith, c.in-Some.ensures.found.0, ap length c.deref.ensures.value) in
+    let is = c.index_mut-snap.ensures.value in
+    let found : position (is_mark_of s v.flights.items c.args.number) s.marks ≡ Some j = mark_found c.args.number k j v.snaps.items c.deref.result.now v.flights.items c.deref-2.result.now s c.deref.ensures.value c.deref-2.ensures.value is (c.in-Some.ensures.found.1 s) in
+    let m = mark_is c.args.number j v.flights.items s found in
+    let good = published_good g.B.Block.contents g.B.Block.layers g.B.Block.size g.B.Block.fault_count g.B.Block.done_count _ c.self.invariant c.args.number k s c.publish.new.self within is j m.0 found c.publish.ensures.fields (c.publish.ensures.publishes m.0 m.1) in
+    let flights : c.route_again.new.flights.items ≡ map (again_of None (is_clear (map (books_of g.B.Block.contents g.B.Block.layers) (slice_set v.snaps.items k c.publish.new.self)))) (map (placed_of (books_of g.B.Block.contents g.B.Block.layers c.publish.new.self)) v.flights.items) =
+    c.route_again.ensures ∙ ap (λ xs. map (again_of None (is_clear (map (books_of g.B.Block.contents g.B.Block.layers) xs))) c.route_placed.new.flights.items) c.deref-in-Some.ensures.value
+    ∙ ap (map (again_of None (is_clear (map (books_of g.B.Block.contents g.B.Block.layers) (slice_set v.snaps.items k c.publish.new.self))))) c.route_placed.ensures in
+    rw (← c.self.view_is, flights) good.stepped
+
+pub returns-in-Some-clause-exact : goal.returns-in-Some-clause-exact
+returns-in-Some-clause-exact g c =
+    let v = c.self.inside in
+    let s = c.index_mut-snap.result.now in
+    let k = c.in-Some.place in
+    let j = c.in-Some.index in
+    let within : k < length v.snaps.items = omega (arith, c.in-Some.ensures.found.0, ap length c.deref.ensures.value) in
+    let is = c.index_mut-snap.ensures.value in
+    let found : position (is_mark_of s v.flights.items c.args.number) s.marks ≡ Some j = mark_found c.args.number k j v.snaps.items c.deref.result.now v.flights.items c.deref-2.result.now s c.deref.ensures.value c.deref-2.ensures.value is (c.in-Some.ensures.found.1 s) in
+    let m = mark_is c.args.number j v.flights.items s found in
+    let flights : c.route_again.new.flights.items ≡ map (again_of None (is_clear (map (books_of g.B.Block.contents g.B.Block.layers) (slice_set v.snaps.items k c.publish.new.self)))) (map (placed_of (books_of g.B.Block.contents g.B.Block.layers c.publish.new.self)) v.flights.items) =
+    c.route_again.ensures ∙ ap (λ xs. map (again_of None (is_clear (map (books_of g.B.Block.contents g.B.Block.layers) xs))) c.route_placed.new.flights.items) c.deref-in-Some.ensures.value
+    ∙ ap (map (again_of None (is_clear (map (books_of g.B.Block.contents g.B.Block.layers) (slice_set v.snaps.items k c.publish.new.self))))) c.route_placed.ensures in
+    rw (← c.self.view_is) (λ counted. publish_exact g.B.Block.contents g.B.Block.layers g.B.Block.size _ c.self.invariant counted c.args.number k s within c.index_mut-snap.ensures.value c.publish.new.self j m.0 c.route_again.new.flights.items found m.1 c.publish.ensures.fields flights)
+
+pub returns-in-Some-clause-due : goal.returns-in-Some-clause-due
+returns-in-Some-clause-due g c =
+    let v = c.self.inside in
+    let s = c.index_mut-snap.result.now in
+    let k = c.in-Some.place in
+    let j = c.in-Some.index in
+    let within : k < length v.snaps.items = omega (arith, c.in-Some.ensures.found.0, ap length c.deref.ensures.value) in
+    let is = c.index_mut-snap.ensures.value in
+    let found : position (is_mark_of s v.flights.items c.args.number) s.marks ≡ Some j = mark_found c.args.number k j v.snaps.items c.deref.result.now v.flights.items c.deref-2.result.now s c.deref.ensures.value c.deref-2.ensures.value is (c.in-Some.ensures.found.1 s) in
+    rw (← c.self.view_is) (sym (due_by g.B.Block.contents g.B.Block.layers _ (has_mark_at v.flights.items c.args.number) v.snaps.items v.snaps.items true refl (λ s. refl) (mark_due c.args.number k j v.snaps.items v.flights.items s within is found)))
+
+pub returns-in-None-clause-due : goal.returns-in-None-clause-due
+returns-in-None-clause-due g c =
+    rw (← c.self.view_is) (sym (due_by g.B.Block.contents g.B.Block.layers _ (has_mark_at c.self.inside.flights.items c.args.number) c.self.inside.snaps.items c.deref.result.now false c.deref.ensures.value (λ s. refl)
+    (ap (λ fs. list_any (has_mark_at fs c.args.number) c.deref.result.now) (sym c.deref-2.ensures.value) ∙ c.in-None.ensures.none)))

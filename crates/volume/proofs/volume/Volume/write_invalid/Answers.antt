@@ -1,0 +1,132 @@
+-- A spoiled snapshot's mark is tried.
+use Rattle.std.proofs.Common.{◌≡◌, ◌<◌, true, false, refl, sym, ◌∙◌, ap, subst, length, arith, map, None, slice_set}
+use Rattle.std.specs.List.{All}
+use Rattle.volume_laws.specs.Published.{is_clear}
+use Rattle.volume_laws.specs.Again.{again_of}
+use Rattle.snapshot.specs.Kept.{Kept, books_of}
+use Rattle.volume.specs.Finding.{is_trying}
+use Rattle.volume.proofs.DueEvents.{due_by, snap_found, snap_due}
+use Rattle.volume.proofs.Chunks.{chunks_set}
+use Rattle.volume.proofs.Tried.{tried_done, tried_fault}
+use Rattle.volume.proofs.Exactly.{tried_exact, tried_fault_exact}
+use Rattle.volume.proofs.volume.Volume.write_invalid.Goals as goal
+
+pub route_again-requires : goal.route_again-requires
+route_again-requires g c =
+    let v = c.self.inside in
+    let s = c.index_mut-snap.result.now in
+    let k = c.in-Some.place in
+    let within : k < length v.snaps.items = omega (arith, c.in-Some.ensures.found.0, ap length c.deref.ensures.value) in
+    let is = c.index_mut-snap.ensures.value in
+    let found : is_trying c.args.number s ≡ true = snap_found (is_trying c.args.number) k v.snaps.items c.deref.result.now s c.deref.ensures.value is (c.in-Some.ensures.found.1 s) in
+    subst (All (λ (x : Kept _). 0 < x.state.chunk)) (sym c.deref-in-Ok.ensures.value) (chunks_set g.B.Block.contents g.B.Block.layers g.B.Block.size _ c.self.invariant k s c.write_invalid.new.self within is (ap (λ (x : Kept _). x.state.chunk) c.write_invalid.ensures.fields))
+
+pub invariant_of-self : goal.invariant_of-self
+invariant_of-self g c =
+    let v = c.self.inside in
+    let s = c.index_mut-snap.result.now in
+    let k = c.in-Some.place in
+    let within : k < length v.snaps.items = omega (arith, c.in-Some.ensures.found.0, ap length c.deref.ensures.value) in
+    let is = c.index_mut-snap.ensures.value in
+    let found : is_trying c.args.number s ≡ true = snap_found (is_trying c.args.number) k v.snaps.items c.deref.result.now s c.deref.ensures.value is (c.in-Some.ensures.found.1 s) in
+    let good = tried_done g.B.Block.contents g.B.Block.layers g.B.Block.size g.B.Block.fault_count g.B.Block.done_count _ c.self.invariant c.args.number k s c.write_invalid.new.self within is found c.write_invalid.new.self.device false c.in-Ok.ensures.fields c.write_invalid.ensures.tries c.write_invalid.ensures.loud c.in-Ok.ensures.operation.counted c.in-Ok.ensures.operation.faulty in
+    let flights : c.route_again.new.flights.items ≡ map (again_of None (is_clear (map (books_of g.B.Block.contents g.B.Block.layers) (slice_set v.snaps.items k c.write_invalid.new.self)))) v.flights.items =
+    c.route_again.ensures ∙ ap (λ xs. map (again_of None (is_clear (map (books_of g.B.Block.contents g.B.Block.layers) xs))) v.flights.items) c.deref-in-Ok.ensures.value in
+    rw flights good.whole
+
+pub route_again-requires-in-Err : goal.route_again-requires-in-Err
+route_again-requires-in-Err g c =
+    let v = c.self.inside in
+    let s = c.index_mut-snap.result.now in
+    let k = c.in-Some.place in
+    let within : k < length v.snaps.items = omega (arith, c.in-Some.ensures.found.0, ap length c.deref.ensures.value) in
+    let is = c.index_mut-snap.ensures.value in
+    let found : is_trying c.args.number s ≡ true = snap_found (is_trying c.args.number) k v.snaps.items c.deref.result.now s c.deref.ensures.value is (c.in-Some.ensures.found.1 s) in
+    subst (All (λ (x : Kept _). 0 < x.state.chunk)) (sym c.deref-in-Err.ensures.value) (chunks_set g.B.Block.contents g.B.Block.layers g.B.Block.size _ c.self.invariant k s c.write_invalid.new.self within is (ap (λ (x : Kept _). x.state.chunk) c.write_invalid.ensures.fields))
+
+pub invariant_of-self-in-Err : goal.invariant_of-self-in-Err
+invariant_of-self-in-Err g c =
+    let v = c.self.inside in
+    let s = c.index_mut-snap.result.now in
+    let k = c.in-Some.place in
+    let within : k < length v.snaps.items = omega (arith, c.in-Some.ensures.found.0, ap length c.deref.ensures.value) in
+    let is = c.index_mut-snap.ensures.value in
+    let found : is_trying c.args.number s ≡ true = snap_found (is_trying c.args.number) k v.snaps.items c.deref.result.now s c.deref.ensures.value is (c.in-Some.ensures.found.1 s) in
+    let good = tried_fault g.B.Block.contents g.B.Block.layers g.B.Block.size g.B.Block.fault_count g.B.Block.done_count _ c.self.invariant c.args.number k s c.write_invalid.new.self within is found c.write_invalid.new.self.device true c.in-Err.ensures.fields c.write_invalid.ensures.tries c.write_invalid.ensures.loud c.in-Err.ensures.operation.counted refl c.in-Err.ensures.operation.faulty in
+    let flights : c.route_again-in-Err.new.flights.items ≡ map (again_of None (is_clear (map (books_of g.B.Block.contents g.B.Block.layers) (slice_set v.snaps.items k c.write_invalid.new.self)))) v.flights.items =
+    c.route_again-in-Err.ensures ∙ ap (λ xs. map (again_of None (is_clear (map (books_of g.B.Block.contents g.B.Block.layers) xs))) v.flights.items) c.deref-in-Err.ensures.value in
+    rw flights good.whole
+
+pub returns-in-Ok-clause-step : goal.returns-in-Ok-clause-step
+returns-in-Ok-clause-step g c =
+    let v = c.self.inside in
+    let s = c.index_mut-snap.result.now in
+    let k = c.in-Some.place in
+    let within : k < length v.snaps.items = omega (arith, c.in-Some.ensures.found.0, ap length c.deref.ensures.value) in
+    let is = c.index_mut-snap.ensures.value in
+    let found : is_trying c.args.number s ≡ true = snap_found (is_trying c.args.number) k v.snaps.items c.deref.result.now s c.deref.ensures.value is (c.in-Some.ensures.found.1 s) in
+    let good = tried_done g.B.Block.contents g.B.Block.layers g.B.Block.size g.B.Block.fault_count g.B.Block.done_count _ c.self.invariant c.args.number k s c.write_invalid.new.self within is found c.write_invalid.new.self.device false c.in-Ok.ensures.fields c.write_invalid.ensures.tries c.write_invalid.ensures.loud c.in-Ok.ensures.operation.counted c.in-Ok.ensures.operation.faulty in
+    let flights : c.route_again.new.flights.items ≡ map (again_of None (is_clear (map (books_of g.B.Block.contents g.B.Block.layers) (slice_set v.snaps.items k c.write_invalid.new.self)))) v.flights.items =
+    c.route_again.ensures ∙ ap (λ xs. map (again_of None (is_clear (map (books_of g.B.Block.contents g.B.Block.layers) xs))) v.flights.items) c.deref-in-Ok.ensures.value in
+    rw (← c.self.view_is, flights) good.stepped
+
+pub returns-in-Ok-clause-exact : goal.returns-in-Ok-clause-exact
+returns-in-Ok-clause-exact g c =
+    let v = c.self.inside in
+    let s = c.index_mut-snap.result.now in
+    let k = c.in-Some.place in
+    let within : k < length v.snaps.items = omega (arith, c.in-Some.ensures.found.0, ap length c.deref.ensures.value) in
+    let is = c.index_mut-snap.ensures.value in
+    let found : is_trying c.args.number s ≡ true = snap_found (is_trying c.args.number) k v.snaps.items c.deref.result.now s c.deref.ensures.value is (c.in-Some.ensures.found.1 s) in
+    let flights : c.route_again.new.flights.items ≡ map (again_of None (is_clear (map (books_of g.B.Block.contents g.B.Block.layers) (slice_set v.snaps.items k c.write_invalid.new.self)))) v.flights.items =
+    c.route_again.ensures ∙ ap (λ xs. map (again_of None (is_clear (map (books_of g.B.Block.contents g.B.Block.layers) xs))) v.flights.items) c.deref-in-Ok.ensures.value in
+    rw (← c.self.view_is) (λ counted. tried_exact g.B.Block.contents g.B.Block.layers g.B.Block.size _ c.self.invariant counted c.args.number k s within c.index_mut-snap.ensures.value _ _ _ _ found c.write_invalid.new.self c.route_again.new.flights.items c.in-Ok.ensures.operation c.in-Ok.ensures.written c.in-Ok.ensures.fields flights)
+
+pub returns-in-Ok-clause-due : goal.returns-in-Ok-clause-due
+returns-in-Ok-clause-due g c =
+    let v = c.self.inside in
+    let s = c.index_mut-snap.result.now in
+    let k = c.in-Some.place in
+    let within : k < length v.snaps.items = omega (arith, c.in-Some.ensures.found.0, ap length c.deref.ensures.value) in
+    let is = c.index_mut-snap.ensures.value in
+    let found : is_trying c.args.number s ≡ true = snap_found (is_trying c.args.number) k v.snaps.items c.deref.result.now s c.deref.ensures.value is (c.in-Some.ensures.found.1 s) in
+    rw (← c.self.view_is) (sym (due_by g.B.Block.contents g.B.Block.layers _ (is_trying c.args.number) v.snaps.items v.snaps.items true refl (λ s. refl) (snap_due (is_trying c.args.number) k v.snaps.items s within is found)))
+
+pub returns-in-Err-clause-step : goal.returns-in-Err-clause-step
+returns-in-Err-clause-step g c =
+    let v = c.self.inside in
+    let s = c.index_mut-snap.result.now in
+    let k = c.in-Some.place in
+    let within : k < length v.snaps.items = omega (arith, c.in-Some.ensures.found.0, ap length c.deref.ensures.value) in
+    let is = c.index_mut-snap.ensures.value in
+    let found : is_trying c.args.number s ≡ true = snap_found (is_trying c.args.number) k v.snaps.items c.deref.result.now s c.deref.ensures.value is (c.in-Some.ensures.found.1 s) in
+    let good = tried_fault g.B.Block.contents g.B.Block.layers g.B.Block.size g.B.Block.fault_count g.B.Block.done_count _ c.self.invariant c.args.number k s c.write_invalid.new.self within is found c.write_invalid.new.self.device true c.in-Err.ensures.fields c.write_invalid.ensures.tries c.write_invalid.ensures.loud c.in-Err.ensures.operation.counted refl c.in-Err.ensures.operation.faulty in
+    let flights : c.route_again-in-Err.new.flights.items ≡ map (again_of None (is_clear (map (books_of g.B.Block.contents g.B.Block.layers) (slice_set v.snaps.items k c.write_invalid.new.self)))) v.flights.items =
+    c.route_again-in-Err.ensures ∙ ap (λ xs. map (again_of None (is_clear (map (books_of g.B.Block.contents g.B.Block.layers) xs))) v.flights.items) c.deref-in-Err.ensures.value in
+    rw (← c.self.view_is, flights) good.stepped
+
+pub returns-in-Err-clause-exact : goal.returns-in-Err-clause-exact
+returns-in-Err-clause-exact g c =
+    let v = c.self.inside in
+    let s = c.index_mut-snap.result.now in
+    let k = c.in-Some.place in
+    let within : k < length v.snaps.items = omega (arith, c.in-Some.ensures.found.0, ap length c.deref.ensures.value) in
+    let is = c.index_mut-snap.ensures.value in
+    let found : is_trying c.args.number s ≡ true = snap_found (is_trying c.args.number) k v.snaps.items c.deref.result.now s c.deref.ensures.value is (c.in-Some.ensures.found.1 s) in
+    let flights : c.route_again-in-Err.new.flights.items ≡ map (again_of None (is_clear (map (books_of g.B.Block.contents g.B.Block.layers) (slice_set v.snaps.items k c.write_invalid.new.self)))) v.flights.items =
+    c.route_again-in-Err.ensures ∙ ap (λ xs. map (again_of None (is_clear (map (books_of g.B.Block.contents g.B.Block.layers) xs))) v.flights.items) c.deref-in-Err.ensures.value in
+    rw (← c.self.view_is) (λ counted. tried_fault_exact g.B.Block.contents g.B.Block.layers g.B.Block.size _ c.self.invariant counted c.args.number k s within c.index_mut-snap.ensures.value _ _ _ _ found c.write_invalid.new.self c.route_again-in-Err.new.flights.items c.in-Err.ensures.operation c.in-Err.ensures.same c.in-Err.ensures.fields flights)
+
+pub returns-in-Err-clause-due : goal.returns-in-Err-clause-due
+returns-in-Err-clause-due g c =
+    let v = c.self.inside in
+    let s = c.index_mut-snap.result.now in
+    let k = c.in-Some.place in
+    let within : k < length v.snaps.items = omega (arith, c.in-Some.ensures.found.0, ap length c.deref.ensures.value) in
+    let is = c.index_mut-snap.ensures.value in
+    let found : is_trying c.args.number s ≡ true = snap_found (is_trying c.args.number) k v.snaps.items c.deref.result.now s c.deref.ensures.value is (c.in-Some.ensures.found.1 s) in
+    rw (← c.self.view_is) (sym (due_by g.B.Block.contents g.B.Block.layers _ (is_trying c.args.number) v.snaps.items v.snaps.items true refl (λ s. refl) (snap_due (is_trying c.args.number) k v.snaps.items s within is found)))
+
+pub returns-in-None-clause-due : goal.returns-in-None-clause-due
+returns-in-None-clause-due g c =
+    rw (← c.self.view_is) (sym (due_by g.B.Block.contents g.B.Block.layers _ (is_trying c.args.number) c.self.inside.snaps.items c.deref.result.now false c.deref.ensures.value (λ s. refl) c.in-None.ensures.none))

@@ -1,0 +1,128 @@
+-- What made an event fail, and how many operations it did: which device's counts rose, and which snapshot was spoiled. The
+-- rules are this project's own, after the kernel's admin-guide page on snapshots: a store that fails makes its own
+-- snapshot invalid, and nothing else.
+use Rattle.std.specs.Prelude.{◌≡◌, ◌⊎◌, ℕ, suc, ◌+◌, ◌<◌, Bool, true, false, List, ◌∷◌, Any, length, map, slice_index, slice_index_or, slice_set}
+use Rattle.sector.specs.Bytes.{next_count}
+use Rattle.model.specs.NextPlace.{LacksArea}
+use Rattle.plain.specs.declared.event.Event.{Event}
+use Rattle.plain.specs.declared.event.Event.TheVariants.{CopyRead, CopyWrite, ZeroNext, WriteArea, WriteInvalid}
+use Rattle.plain.specs.declared.event.Outcome.{Outcome}
+use Rattle.plain.specs.declared.event.Outcome.TheVariants.{Done, Fault, Reply as Replied}
+use Rattle.plain.specs.declared.request.Reply.{Reply}
+use Rattle.plain.specs.declared.request.Reply.TheVariants.{Refused}
+use Rattle.plain.specs.declared.request.Failure.TheVariants.{Io}
+use Rattle.pending.specs.declared.flights.Flight.{Flight}
+use Rattle.pending.specs.declared.flights.Route.TheVariants.{Origin, Store}
+use Rattle.pending.specs.Kinds.{kind_of}
+use Rattle.pending.specs.declared.flights.Kind.TheVariants.{SnapRead, SnapWrite}
+use Rattle.snapshot.specs.Kept.{Kept}
+use Rattle.volume.specs.Volumed.{Volumed}
+
+-- what each device counted: the origin disk, which is device 0, and then each snapshot's store
+abbrev pub counts_of : {B : Type 0} → (B → ℕ) → Volumed B → List ℕ
+counts_of count v = count v.origin ∷ map (λ s. count s.device) v.snaps
+
+-- one device counted one more
+abbrev pub counted : ℕ → List ℕ → List ℕ
+counted device counts = slice_set counts device (next_count (slice_index counts device))
+
+-- which snapshots are live
+abbrev pub lives_of : {B : Type 0} → Volumed B → List Bool
+lives_of v = map (λ s. s.live) v.snaps
+
+-- at most one operation, of one device
+abbrev pub IsOneAtMost : {B : Type 0} → (B → ℕ) → Volumed B → Volumed B → Type 0
+IsOneAtMost done old new =
+    (counts_of done new ≡ counts_of done old) ⊎ ((device : ℕ) × (device < length (counts_of done old)) × (counts_of done new ≡ counted device (counts_of done old)))
+
+-- no device failed, and no snapshot was spoiled
+pub record IsFaultless {B : Type 0} (faults : B → ℕ) (old new : Volumed B) : Type 0 where
+  pub counts : counts_of faults new ≡ counts_of faults old
+  pub lives : lives_of new ≡ lives_of old
+
+-- a device failed, and no snapshot was spoiled
+pub record FailsAlone {B : Type 0} (faults : B → ℕ) (device : ℕ) (old new : Volumed B) : Type 0 where
+  pub counts : counts_of faults new ≡ counted device (counts_of faults old)
+  pub lives : lives_of new ≡ lives_of old
+
+-- a device failed, and just the snapshot at this place was spoiled by it
+pub record Spoils {B : Type 0} (faults : B → ℕ) (device place : ℕ) (old new : Volumed B) : Type 0 where
+  pub counts : counts_of faults new ≡ counted device (counts_of faults old)
+  pub was : slice_index_or (lives_of old) place false ≡ true
+  pub lives : lives_of new ≡ slice_set (lives_of old) place false
+
+-- the snapshot at a place
+pub record IsAt {B : Type 0} (place : ℕ) (s : Kept B) (v : Volumed B) : Type 0 where
+  pub within : place < length v.snaps
+  pub is : s ≡ slice_index_or v.snaps place s
+
+-- No device failed, and the snapshot whose next area lies outside of its store was spoiled.
+pub record LacksNext {B : Type 0} (faults : B → ℕ) (number : ℕ) (old new : Volumed B) : Type 0 where
+  pub place : ℕ
+  pub snap : Kept B
+  pub at : IsAt place snap old
+  pub mine : snap.number ≡ number
+  pub lacks : LacksArea snap.state.chunk snap.state.size (snap.state.current + 1)
+  pub counts : counts_of faults new ≡ counts_of faults old
+  pub lives : lives_of new ≡ slice_set (lives_of old) place false
+
+-- the device that a request of this kind goes to by its route; the first snapshot with its number
+pub record GoesTo {B : Type 0} (number device : ℕ) (v : Volumed B) : Type 0 where
+  pub place : ℕ
+  pub flight : Flight
+  pub within : place < length v.flights
+  pub is : flight ≡ slice_index_or v.flights place flight
+  pub mine : flight.number ≡ number
+  pub route : ((flight.route ≡ Origin) × (device ≡ 0))
+      ⊎ ((stored : ℕ) × (snap : ℕ) × (s : Kept B) × (flight.route ≡ Store stored) × IsAt snap s v × (device ≡ suc snap)
+      × ((kind_of flight.request ≡ SnapRead s.number) ⊎ (kind_of flight.request ≡ SnapWrite s.number)))
+
+-- A copy that fails spoils its own snapshot: device says which of the devices fails, by the snapshot's place.
+pub record CopyFails {B : Type 0} (faults : B → ℕ) (device : ℕ → ℕ) (number : ℕ) (old new : Volumed B) : Type 0 where
+  pub place : ℕ
+  pub snap : Kept B
+  pub at : IsAt place snap old
+  pub mine : Any (λ p. p.number ≡ number) snap.copies
+  pub spoils : Spoils faults (device place) place old new
+
+-- a store that fails spoils its own snapshot
+pub record StoreFails {B : Type 0} (faults : B → ℕ) (number : ℕ) (old new : Volumed B) : Type 0 where
+  pub place : ℕ
+  pub snap : Kept B
+  pub at : IsAt place snap old
+  pub mine : snap.number ≡ number
+  pub spoils : Spoils faults (suc place) place old new
+
+-- a spoiled snapshot's mark fails: its store is stale, and nothing is spoiled
+pub record MarkFails {B : Type 0} (faults : B → ℕ) (number : ℕ) (old new : Volumed B) : Type 0 where
+  pub place : ℕ
+  pub snap : Kept B
+  pub at : IsAt place snap old
+  pub mine : snap.number ≡ number
+  pub stale : slice_index_or (map (λ s. s.stale) new.snaps) place false ≡ true
+  pub fails : FailsAlone faults (suc place) old new
+
+-- what made an event fail that names no request
+abbrev pub HasFailed : {B : Type 0} → (B → ℕ) → Event → Volumed B → Volumed B → Type 0
+HasFailed faults (CopyRead number) old new = CopyFails faults (λ place. 0) number old new
+HasFailed faults (CopyWrite number) old new = CopyFails faults suc number old new
+HasFailed faults (ZeroNext number) old new = StoreFails faults number old new
+HasFailed faults (WriteArea number) old new = StoreFails faults number old new
+HasFailed faults (WriteInvalid number) old new = MarkFails faults number old new
+HasFailed faults event old new = ⊥
+
+-- an event that is done: only one that zeroes an area spoils, where the store has no room for it
+abbrev pub HasDone : {B : Type 0} → (B → ℕ) → Event → Volumed B → Volumed B → Type 0
+HasDone faults (ZeroNext number) old new = IsFaultless faults old new ⊎ LacksNext faults number old new
+HasDone faults event old new = IsFaultless faults old new
+
+-- a reply: Io where the device failed that the request goes to
+abbrev pub HasReplied : {B : Type 0} → (B → ℕ) → ℕ → Reply → Volumed B → Volumed B → Type 0
+HasReplied faults number (Refused Io) old new = (device : ℕ) × GoesTo number device old × FailsAlone faults device old new
+HasReplied faults number reply old new = IsFaultless faults old new
+
+-- what made the outcome
+abbrev pub HasCause : {B : Type 0} → (B → ℕ) → Event → Outcome → Volumed B → Volumed B → Type 0
+HasCause faults event Done old new = HasDone faults event old new
+HasCause faults event Fault old new = HasFailed faults event old new
+HasCause faults event (Replied number reply) old new = HasReplied faults number reply old new

@@ -1,0 +1,11 @@
+pub mod Volumed
+pub mod Whole
+pub mod Finding
+pub mod Causes
+pub mod Stepping
+pub mod Moved
+pub mod Exact
+pub mod Reaching
+pub mod Leaving
+pub mod Taking
+pub mod Submitting

@@ -1,0 +1,38 @@
+-- A volume as the event machine that its events step: the same devices, snapshots, copies and requests, without the
+-- buffers' room. This project's own.
+use Rattle.std.specs.Prelude.{ℕ, ◌+◌, ◌*◌, ◌<◌, ◌≡◌, true, false, List, [], length, Option, map}
+use Rattle.device.specs.Layers.{Layer}
+use Rattle.plain.specs.declared.request.Reply.{Reply}
+use Rattle.settling.specs.Devices.{Device}
+use Rattle.settling.specs.Held.{Held, Moving}
+use Rattle.settling.specs.Seen.{Seen, held_of as held_seen, going_of}
+use Rattle.snapshot.specs.Kept.{Kept, due_of_kept}
+use Rattle.volume.specs.Volumed.{Volumed}
+
+-- a snapshot as `settling` sees it
+abbrev pub seen_of : {B : Type 0} → (B → List ℕ) → (B → List Layer) → Kept B → Seen
+seen_of contents layers s = record { due = due_of_kept contents layers s; layers = layers s.device; stale = s.stale; next = s.next }
+
+abbrev pub held_of : {B : Type 0} → (B → List ℕ) → (B → List Layer) → Kept B → Held
+held_of contents layers s = held_seen (seen_of contents layers s)
+
+abbrev pub device_of : {B : Type 0} → (B → List ℕ) → (B → List Layer) → B → Device
+device_of contents layers device = record { bytes = contents device; layers = layers device }
+
+-- with the last reply
+abbrev pub moving_of : {B : Type 0} → (B → List ℕ) → (B → List Layer) → Option Reply → Volumed B → Moving
+moving_of contents layers replied v = record {
+  origin = device_of contents layers v.origin;
+  snaps = map (held_of contents layers) v.snaps;
+  requests = map going_of v.flights;
+  replied = replied;
+  started = v.copies;
+}
+
+-- A snapshot's committed pairs fill the areas below the current one and its first slots; while it is live the current area
+-- has an empty slot. One that is not live has no copies.
+pub record IsCounted {B : Type 0} (s : Kept B) : Type 0 where
+  pub some : 0 < s.state.chunk
+  pub count : length s.pairs ≡ s.state.current * (32 * s.state.chunk) + s.state.filled
+  pub fits : s.live ≡ true → s.state.filled < 32 * s.state.chunk
+  pub idle : s.live ≡ false → s.copies ≡ []

@@ -1,0 +1,163 @@
+-- When a request is accepted, and which copies it starts. The limits, the order of the refusals, and that a write never
+-- waits for a copy that is under way twice, are this project's own; that a full store makes its snapshot invalid is the
+-- kernel's rule, of its admin-guide page on snapshots.
+use Rattle.std.specs.Prelude.{◌≡◌, ◌==◌, ◌&&◌, ◌||◌, not, nat_lt, nat_le, ℕ, ◌+◌, ◌*◌, ◌/◌, ◌%◌, ◌<◌, ◌≤◌, Bool, true, false, List, [], ◌∷◌, ◌++◌, length, map, filter, sum_by, count_by, MatchBool, Option, Some, None, if◌then◌else◌, slice_index_or}
+use Rattle.std.specs.List.{list_any, list_all}
+use Rattle.std.specs.Option.{is_some}
+use Rattle.std.specs.Global.{Vec}
+use Rattle.sector.specs.declared.range.Range.{Range}
+use Rattle.sector.specs.declared.refusal.Refusal.{Refusal}
+use Rattle.sector.specs.declared.refusal.Refusal.TheVariants.{NoSuchDevice, OutOfRange, Invalid, TooMany}
+use Rattle.device.specs.Layers.{Layer}
+use Rattle.model.specs.Picture.{place_of}
+use Rattle.plain.specs.declared.request.Dev.{Dev}
+use Rattle.plain.specs.declared.request.Dev.TheVariants.{Origin, Snap}
+use Rattle.plain.specs.declared.request.Op.TheVariants.{Write}
+use Rattle.plain.specs.declared.request.Request.{Request}
+use Rattle.pending.specs.Copies.{count_of}
+use Rattle.pending.specs.Kinds.{kind_of}
+use Rattle.pending.specs.Routes.{refused_of}
+use Rattle.pending.specs.declared.flights.Flight.{Flight}
+use Rattle.pending.specs.declared.flights.Kind.{Kind}
+use Rattle.pending.specs.declared.flights.Kind.TheVariants.{OriginRead, OriginWrite, SnapRead, SnapWrite}
+use Rattle.snapshot.specs.Kept.{Kept}
+use Rattle.snapshot.specs.Calls.{StartsAt, started}
+use Rattle.volume.specs.Leaving.{place_of_snap}
+use Rattle.pending.specs.declared.flights.Route.{Route}
+use Rattle.plain.specs.Legal.{IsSubmitted}
+use Rattle.volume_laws.specs.Published.{is_published, IsPiece}
+use Rattle.volume.specs.Volumed.{Volumed, piece_of, plain_of, is_loud_in_all}
+use Rattle.volume.specs.Whole.{count_in, number_of_snap}
+
+-- a live snapshot has neither a chunk nor a copy of it under way
+abbrev pub lacks : {B : Type 0} → ℕ → Kept B → Bool
+lacks c s = s.live && not (is_some (place_of s.pairs c)) && not (list_any (λ p. p.pair.old == c) s.copies)
+
+-- its store has no place for one more copy
+abbrev pub is_full_of : {B : Type 0} → Kept B → Bool
+is_full_of s = nat_lt s.state.size (s.state.chunk * (s.next + 1))
+
+-- it starts a copy of the chunk, or is found full
+abbrev pub starts : {B : Type 0} → ℕ → Kept B → Bool
+starts c s = lacks c s && not (is_full_of s)
+
+abbrev pub overflows : {B : Type 0} → ℕ → Kept B → Bool
+overflows c s = lacks c s && is_full_of s
+
+-- a snapshot that was spoiled
+abbrev pub spoilt_of : {B : Type 0} → Kept B → Kept B
+spoilt_of s = record s { live = false; untried = true; state = record s.state { copying = false }; begun = []; copies = []; marks = [] }
+
+-- a snapshot, but for the room that it has for copies
+abbrev pub unroomed : {B : Type 0} → Kept B → Kept B
+unroomed s = record s { room = 0 }
+
+-- room for the copy of a chunk, where a snapshot lacks it
+pub record HasRoomFor {B : Type 0} (c : ℕ) (s : Kept B) (room : Vec ℕ) : Type 0 where
+  pub pairs : lacks c s ≡ true → 0 < s.room
+  pub bytes : lacks c s ≡ true → length room.items ≡ 512 * count_of s.state.chunk s.state.origin c
+
+-- and for those of all snapshots
+pub record HaveRooms {B : Type 0} (c : ℕ) (snaps : List (Kept B)) (rooms : List (Vec ℕ)) : Type 0 where
+  pub len : length rooms ≡ length snaps
+  pub each : (k : ℕ) (d : Kept B) (e : Vec ℕ) → k < length snaps → HasRoomFor c (slice_index_or snaps k d) (slice_index_or rooms k e)
+
+-- What a write of chunk c does to a snapshot s that it waits for, and to the requests in flight. n and m: how many numbers
+-- of copies were given.
+abbrev pub IsSavedIn : {B : Type 0} → (B → List ℕ) → (B → List Layer) → ℕ → Kept B → Kept B → ℕ → ℕ → List Flight → List Flight → Type 0
+IsSavedIn contents layers c s t n m fs gs =
+    MatchBool (starts c s) ((buffer : Vec ℕ) × StartsAt contents layers (started (n + 1) c s.next buffer) s t × (m ≡ n + 1) × (gs ≡ fs))
+    (MatchBool (overflows c s) ((t ≡ spoilt_of s) × (m ≡ n) × (gs ≡ map (refused_of (s.number ∷ [])) fs)) ((t ≡ s) × (m ≡ n) × (gs ≡ fs)))
+
+-- and to all snapshots, in their order
+abbrev pub AreSavedIn : {B : Type 0} → (B → List ℕ) → (B → List Layer) → ℕ → List (Kept B) → List (Kept B) → ℕ → ℕ → List Flight → List Flight → Type 0
+AreSavedIn contents layers c [] [] n m fs gs = (m ≡ n) × (gs ≡ fs)
+AreSavedIn contents layers c [] (t ∷ ts) n m fs gs = ⊥
+AreSavedIn contents layers c (s ∷ ss) [] n m fs gs = ⊥
+AreSavedIn contents layers c (s ∷ ss) (t ∷ ts) n m fs gs = (k : ℕ) × (hs : List Flight) × IsSavedIn contents layers c s t n k fs hs × AreSavedIn contents layers c ss ts k m hs gs
+
+-- the numbers of the snapshots that are found full
+abbrev pub overflowing : {B : Type 0} → ℕ → List (Kept B) → List ℕ
+overflowing c snaps = map number_of_snap (filter (overflows c) snaps)
+
+-- a refusal, or else the next
+abbrev pub first_of_two : Option Refusal → Option Refusal → Option Refusal
+first_of_two None other = other
+first_of_two (Some refusal) other = Some refusal
+
+-- a snapshot that is not there, or is spoiled
+abbrev pub refusal_at : {B : Type 0} → List (Kept B) → Option ℕ → Option Refusal
+refusal_at snaps None = Some NoSuchDevice
+refusal_at snaps (Some k) = if slice_index_or (map (λ s. s.live) snaps) k false then None else Some Invalid
+
+abbrev pub dev_refusal : {B : Type 0} → Dev → List (Kept B) → Option Refusal
+dev_refusal Origin snaps = None
+dev_refusal (Snap number) snaps = refusal_at snaps (place_of_snap number snaps)
+
+-- a range of some sectors, inside a device of so many, and inside one piece
+abbrev pub is_piece_of : ℕ → ℕ → Range → Bool
+is_piece_of piece sectors range = nat_lt 0 range.count && nat_le (range.first + range.count) sectors && nat_le (range.first % piece + range.count) piece
+
+-- how many copies a request of chunk c starts
+abbrev pub starting : {B : Type 0} → Kind → ℕ → List (Kept B) → ℕ
+starting OriginRead c snaps = 0
+starting OriginWrite c snaps = count_by (starts c) snaps
+starting (SnapRead number) c snaps = 0
+starting (SnapWrite number) c snaps = count_by (λ s. (s.number == number) && starts c s) snaps
+
+-- one request too many, or one copy, with so many new ones
+abbrev pub are_too_many : {B : Type 0} → ℕ → Volumed B → Bool
+are_too_many new v = nat_le 64 (length v.flights) || nat_le 18_446_744_073_709_551_615 v.requests || nat_lt 256 (sum_by count_in v.snaps + new) || nat_lt 18_446_744_073_709_551_607 v.copies
+
+abbrev pub limit_refusal : {B : Type 0} → ℕ → Volumed B → Option Refusal
+limit_refusal new v = if are_too_many new v then Some TooMany else None
+
+abbrev pub range_refusal : ℕ → ℕ → Range → Option Refusal
+range_refusal piece sectors range = if is_piece_of piece sectors range then None else Some OutOfRange
+
+-- the first reason to refuse a request; want of memory comes after it, and that a store is found full last
+abbrev pub submit_refusal : {B : Type 0} → (B → ℕ) → Request → Volumed B → Option Refusal
+submit_refusal size request v =
+    first_of_two (dev_refusal request.dev v.snaps)
+    (first_of_two (range_refusal (piece_of v.snaps) (size v.origin) request.range)
+    (limit_refusal (starting (kind_of request) (request.range.first / piece_of v.snaps) v.snaps) v))
+
+-- whether an origin write at this sector may go to the origin disk: each live snapshot has published the chunk, and no
+-- invalid mark is untried
+abbrev pub is_clear_in : {B : Type 0} → ℕ → Kept B → Bool
+is_clear_in first s = (not s.live || is_published s.pairs s.marks (first / s.state.chunk)) && not s.untried
+
+abbrev pub is_clear_of : {B : Type 0} → ℕ → List (Kept B) → Bool
+is_clear_of first snaps = list_all (is_clear_in first) snaps
+
+-- a request is in flight, under the next number
+abbrev pub entered_of : {B : Type 0} → Flight → Volumed B → Volumed B
+entered_of f v = record v { flights = v.flights ++ f ∷ []; requests = v.requests + 1 }
+
+pub record IsEntered {B : Type 0} (contents : B → List ℕ) (layers : B → List Layer) (request : Request) (route : Route) (number : ℕ) (old new : Volumed B) : Type 0 where
+  pub flight : Flight
+  pub request_is : flight.request ≡ request
+  pub route_is : flight.route ≡ route
+  pub number_is : flight.number ≡ number
+  pub next : number ≡ old.requests + 1
+  pub becomes : new ≡ entered_of flight old
+  pub legal : is_loud_in_all layers old ≡ true → IsSubmitted [] (plain_of contents layers old) number request (plain_of contents layers new)
+
+-- what is asked of a request, for an origin of so many sectors in pieces of so many
+pub record IsAsked (sectors chunk : ℕ) (request : Request) : Type 0 where
+  pub some : 0 < request.range.count
+  pub inside : request.range.first + request.range.count ≤ sectors
+  pub piece : IsPiece chunk request.range
+  pub bytes : (bytes : List ℕ) → request.op ≡ Write bytes → length bytes ≡ 512 * request.range.count
+
+-- a request was accepted, under the next number; snapshots whose stores were found full were spoiled
+pub record IsAcceptedAs {B : Type 0} (contents : B → List ℕ) (layers : B → List Layer) (request : Request) (number : ℕ) (old new : Volumed B) : Type 0 where
+  pub next : number ≡ old.requests + 1
+  pub origin : new.origin ≡ old.origin
+  pub given : new.requests ≡ number
+  pub legal : is_loud_in_all layers old ≡ true → (which : List ℕ) × IsSubmitted which (plain_of contents layers old) number request (plain_of contents layers new)
+
+-- nothing but room for copies was made
+pub record SameButRoom {B : Type 0} (old new : Volumed B) : Type 0 where
+  pub roomed : map unroomed new.snaps ≡ map unroomed old.snaps
+  pub becomes : new ≡ record old { snaps = new.snaps }

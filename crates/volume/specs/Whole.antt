@@ -1,0 +1,47 @@
+-- What a volume keeps true.
+use Rattle.std.specs.Prelude.{◌≡◌, ◌≢◌, ℕ, ◌<◌, ◌≤◌, List, ◌++◌, length, map, AllPairs, sum_by}
+use Rattle.std.specs.List.{All}
+use Rattle.device.specs.Layers.{Layer}
+use Rattle.pending.specs.Due.{number_of_copy, number_of_mark, number_of_flight}
+use Rattle.volume_laws.specs.Whole.{Holds}
+use Rattle.volume_laws.specs.Waits.{Waits}
+use Rattle.snapshot.specs.Kept.{Kept}
+use Rattle.volume.specs.Volumed.{Volumed, books_of, piece_of}
+
+-- numbers that were given one after another, the last of them `most`
+pub record AreNumbers (most : ℕ) (numbers : List ℕ) : Type 0 where
+  pub given : All (λ n. n ≤ most) numbers
+  pub ascending : AllPairs (λ m n. m < n) numbers
+
+abbrev pub number_of_snap : {B : Type 0} → Kept B → ℕ
+number_of_snap s = s.number
+
+-- the numbers of a snapshot's copies, those that are committed first
+abbrev pub numbers_in : {B : Type 0} → Kept B → List ℕ
+numbers_in s = map number_of_mark s.marks ++ map number_of_copy s.copies
+
+abbrev pub count_in : {B : Type 0} → Kept B → ℕ
+count_in s = length (numbers_in s)
+
+-- no copy of one snapshot has the number of a copy of the other
+abbrev pub SharesNone : {B : Type 0} → Kept B → Kept B → Type 0
+SharesNone s t = All (λ m. All (λ n. m ≢ n) (numbers_in t)) (numbers_in s)
+
+-- A snapshot of the volume: it is of this origin, its chunks are as large as those of the others, and its copies have
+-- their numbers from the volume.
+pub record IsAttached {B : Type 0} (copies sectors chunk : ℕ) (s : Kept B) : Type 0 where
+  pub origin : s.state.origin ≡ sectors
+  pub chunk_is : s.state.chunk ≡ chunk
+  pub some : 0 < s.state.chunk
+  pub numbers : AreNumbers copies (numbers_in s)
+
+pub record IsWhole {B : Type 0} (contents : B → List ℕ) (layers : B → List Layer) (size : B → ℕ) (v : Volumed B) : Type 0 where
+  pub holds : Holds (books_of contents layers size v)
+  pub waits : Waits (books_of contents layers size v)
+  pub snaps : All (IsAttached v.copies (size v.origin) (piece_of v.snaps)) v.snaps
+  pub apart : AllPairs SharesNone v.snaps
+  pub numbers : AreNumbers v.attached (map number_of_snap v.snaps)
+  pub requests : AreNumbers v.requests (map number_of_flight v.flights)
+  pub few : length v.snaps ≤ 8
+  pub few_copies : sum_by count_in v.snaps ≤ 256
+  pub few_requests : length v.flights ≤ 64

@@ -1,0 +1,103 @@
+// A volume, and what callers ask of it.
+ghost use Rattle.std.specs.Prelude.{◌≡◌, [], IfErr, IfNone, IfOk, length};
+ghost use Rattle.sector.specs.declared.refusal.Refusal.TheVariants.{NoMemory};
+ghost use Rattle.volume_laws.specs.Waits.{IsQuiet};
+ghost use Rattle.volume.specs.Volumed.{books_of, next_of, piece_of};
+
+use crate::due::first_due;
+use device::Block;
+use pending::{Flight, MAX_REQUESTS};
+use plain::Event;
+use sector::Refusal;
+use snapshot::Snapshot;
+use std::alloc::Global;
+use std::marker::Model;
+
+/// The sectors of a piece of a volume without snapshots.
+pub const LARGEST_PIECE: u32 = 1024;
+
+/// A volume has at most so many snapshots.
+pub const MAX_SNAPSHOTS: usize = 8;
+
+/// An origin disk, its snapshots in order of attaching, and the requests in flight in order of acceptance. Contracts see
+/// the devices, each snapshot's state and the lists; a call of a volume does no more than it names.
+#[derive(Drop)]
+pub struct Volume<B: Block> {
+    pub(crate) origin: B,
+    pub(crate) snaps: Vec<Snapshot<B>>,
+    pub(crate) flights: Vec<Flight>,
+    /// How many numbers of requests, of copies and of snapshots were given.
+    pub(crate) requests: u64,
+    pub(crate) copies: u64,
+    pub(crate) attached: u32,
+}
+
+impl<B: Block> Model for Volume<B> {
+    ghost use Rattle.volume.specs.Volumed.{Volumed};
+
+    ghost Value = { Volumed B };
+
+    ghost use Rattle.volume.specs.Whole.{IsWhole};
+
+    ghost view = { λ v. record { origin = v.origin; snaps = v.snaps.items; flights = v.flights.items; requests = v.requests; copies = v.copies; attached = v.attached } };
+
+    ghost invariant = { λ v. IsWhole B.contents B.layers B.size (record { origin = v.origin; snaps = v.snaps.items; flights = v.flights.items; requests = v.requests; copies = v.copies; attached = v.attached }) };
+}
+
+impl<B: Block> Volume<B> {
+    /// A volume over an origin disk, without snapshots and requests. Where the room for both is refused, the disk is given
+    /// back.
+    pub fn new(alloc: Global, origin: B) -> Result<Volume<B>, (Refusal, B)>
+        ensures ok { IfOk result (λ v. v ≡ record { origin = origin; snaps = []; flights = []; requests = 0; copies = 0; attached = 0 }) }
+        ensures err { IfErr result (λ e. e ≡ record { 0 = NoMemory; 1 = origin }) }
+    {
+        let Ok(flights) = Vec::with_capacity(alloc, MAX_REQUESTS) else {
+            return Err((Refusal::NoMemory, origin));
+        };
+        let Ok(snaps) = Vec::with_capacity(alloc, MAX_SNAPSHOTS) else {
+            return Err((Refusal::NoMemory, origin));
+        };
+        Ok(Volume {
+            origin,
+            snaps,
+            flights,
+            requests: 0,
+            copies: 0,
+            attached: 0,
+        })
+    }
+
+    /// The origin disk.
+    pub fn origin(&self) -> &B
+        ensures { result.now ≡ self.now.origin }
+    {
+        &self.origin
+    }
+
+    /// How many snapshots there are.
+    pub fn len(&self) -> usize
+        ensures { result ≡ length self.now.snaps }
+    {
+        self.snaps.len()
+    }
+
+    /// The sectors of a piece: of a chunk of the snapshots, or of the largest chunk where there is none. A request lies
+    /// inside one piece.
+    pub fn piece(&self) -> u32
+        ensures { result ≡ piece_of self.now.snaps }
+    {
+        match self.snaps.as_slice() {
+            [] => LARGEST_PIECE,
+            [first, ..] => first.chunk(),
+        }
+    }
+
+    /// The event that is due first, by kind and then by number. None is due where the volume is quiet: no request is in
+    /// flight, and no copy, publication or mark of a spoiled store is left to do.
+    pub fn due(&self) -> Option<Event>
+        ensures event { result ≡ next_of B.contents B.layers self.now }
+        ensures quiet { IfNone result (IsQuiet (books_of B.contents B.layers B.size self.now)) }
+    {
+        first_due(&self.snaps, &self.flights)
+    }
+}
