@@ -124,7 +124,10 @@ fn compare(rt: &impl Abort, area: &Area, slots: &[Pair; 32]) {
     assert!(rt; area.chunk == 1);
     for slot in 0..32 {
         assert_eq!(rt; area.pair(slot), slots[slot as usize], "slot {slot}");
-        let tail = slots.iter().skip(slot as usize + 1).any(|pair| *pair != EMPTY);
+        let tail = slots
+            .iter()
+            .skip(slot as usize + 1)
+            .any(|pair| *pair != EMPTY);
         assert_eq!(rt; area.has_tail(slot), tail, "after slot {slot}");
     }
     let first = slots.iter().position(|pair| pair.new == 0);
