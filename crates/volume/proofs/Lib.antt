@@ -40,3 +40,5 @@ pub mod Roomed
 pub mod Admits
 pub mod Loops
 pub mod Finishes
+pub mod MovedSubmits
+pub mod MovedAccepts
