@@ -8,6 +8,7 @@ use Rattle.device.specs.Layers.{Layer}
 use Rattle.plain.specs.Legal.{IsSubmitted}
 use Rattle.plain.specs.declared.request.Request.{Request}
 use Rattle.pending.specs.Due.{number_of_flight}
+use Rattle.pending.specs.Kinds.{in_flight}
 use Rattle.pending.specs.declared.flights.Flight.{Flight}
 use Rattle.volume_laws.specs.Books.{SnapBooks}
 use Rattle.volume_laws.specs.Published.{IsPiece}
@@ -37,6 +38,10 @@ module _ {B : Type 0} (contents : B → List ℕ) (layers : B → List Layer) (s
       let given = h.requests.given k (number_of_flight d) (omega (arith, lt, length-map u.flights number_of_flight)) in
       let at = get_or-map number_of_flight u.flights k d (number_of_flight d) lt in
       omega (arith, given, at, e, number)
+
+  -- as the plain machine has them
+  pub fresh_plain : All (λ r. r.number ≢ f.number) (plain_of contents layers u).requests
+  fresh_plain = All-map (λ r. r.number ≢ f.number) in_flight u.flights fresh
 
   pub whole_entered : (which : List ℕ) (v0 : Volumed B) → length u.flights < 64 → IsTakenIn which f.number f.request (books_of contents layers size v0) (books_of contents layers size entered) → IsWhole contents layers size entered
   whole_entered which v0 room t = record {

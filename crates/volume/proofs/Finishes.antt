@@ -25,7 +25,7 @@ use Rattle.volume.specs.Volumed.{Volumed, books_of, piece_of, plain_of, is_loud_
 use Rattle.volume.specs.Whole.{IsWhole, count_in}
 use Rattle.volume.specs.Submitting.{unroomed, starts, overflows, is_clear_in, is_clear_of, IsSavedIn, AreSavedIn, IsAsked, IsAcceptedAs, entered_of}
 use Rattle.volume.proofs.ByKind.{origin_write_enters}
-use Rattle.volume.proofs.Enters.{whole_entered, plain_entered}
+use Rattle.volume.proofs.Enters.{fresh_plain, whole_entered, plain_entered}
 use Rattle.volume.proofs.Roomed.{roomed_piece, roomed_sum, books_roomed, whole_roomed, starts_roomed}
 use Rattle.volume.proofs.Savings.{AreDone, done_all}
 use Rattle.volume.proofs.Shown.{shown}
@@ -56,6 +56,23 @@ module _ {B : Type 0} (contents : B → List ℕ) (layers : B → List Layer) (c
       | inr fine ↦ (let (same, m_is, g) = MatchBool-at_false _ _ fine (MatchBool-at_false _ _ unsaid e) in ap (λ (x : Kept B). x.state.chunk) same)
     ]
   ]
+
+  same_loud : (s t : Kept B) (n m : ℕ) (fs gs : List Flight) → IsSavedIn contents layers c s t n m fs gs → is_loud (layers t.device) ≡ is_loud (layers s.device)
+  same_loud s t n m fs gs e = elim (cases_Bool (starts c s)) [
+    | inl begins ↦ (let (buffer, at, m_is, g) = MatchBool-at_true _ _ begins e in ap (λ (x : Kept B). is_loud (layers x.device)) at.fields)
+    | inr unsaid ↦ elim (cases_Bool (overflows c s)) [
+      | inl over ↦ (let (same, m_is, g) = MatchBool-at_true _ _ over (MatchBool-at_false _ _ unsaid e) in ap (λ (x : Kept B). is_loud (layers x.device)) same)
+      | inr fine ↦ (let (same, m_is, g) = MatchBool-at_false _ _ fine (MatchBool-at_false _ _ unsaid e) in ap (λ (x : Kept B). is_loud (layers x.device)) same)
+    ]
+  ]
+
+  -- the devices are as loud as they were
+  pub saved_loud : (ss ts : List (Kept B)) (n m : ℕ) (fs gs : List Flight) → AreSavedIn contents layers c ss ts n m fs gs → list_all (λ s. is_loud (layers s.device)) ts ≡ list_all (λ s. is_loud (layers s.device)) ss
+  saved_loud [] [] n m fs gs e = refl
+  saved_loud [] (t ∷ ts) n m fs gs e = absurd e
+  saved_loud (s ∷ ss) [] n m fs gs e = absurd e
+  saved_loud (s ∷ ss) (t ∷ ts) n m fs gs (k, hs, one, rest) = ap (λ b. b && list_all (λ x. is_loud (layers x.device)) ts) (same_loud s t n k fs hs one)
+      ∙ ap (λ b. is_loud (layers s.device) && b) (saved_loud ss ts k m hs gs rest)
 
   pub saved_piece : (ss ts : List (Kept B)) (n m : ℕ) (fs gs : List Flight) → AreSavedIn contents layers c ss ts n m fs gs → piece_of ts ≡ piece_of ss
   saved_piece [] [] n m fs gs e = refl
@@ -142,6 +159,8 @@ module _ {B : Type 0} (contents : B → List ℕ) (layers : B → List Layer) (s
     next = number;
     origin = refl;
     given = sym number;
+    fresh = fresh_plain contents layers size v f h number;
+    loud = ap (λ b. is_loud (layers v.origin) && b) (saved_loud contents layers (f.request.range.first / piece_of v.snaps) before after v.copies m v.flights gs at) ∙ loud_roomed contents layers size v before e;
     legal = λ loud. (
       done.which,
       subst (λ (p : Plain). IsSubmitted done.which p f.number f.request (plain_of contents layers written)) (plain_roomed contents layers size v before e)

@@ -42,3 +42,7 @@ pub mod Loops
 pub mod Finishes
 pub mod MovedSubmits
 pub mod MovedAccepts
+pub mod Named
+pub mod SnapWrites
+pub mod Accepts
+pub mod Declines

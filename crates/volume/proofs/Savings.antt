@@ -29,13 +29,13 @@ and_first : (a b : Bool) → (a && b) ≡ true → a ≡ true
 and_first true b e = refl
 and_first false b e = e
 
-neither : (a b : Bool) → (a && not b) ≡ false → (a && b) ≡ false → a ≡ false
+pub neither : (a b : Bool) → (a && not b) ≡ false → (a && b) ≡ false → a ≡ false
 neither false b e f = refl
 neither true true e f = f
 neither true false e f = e
 
 -- a live snapshot that does not lack a chunk has it, or a copy of it is under way
-not_lacking : {B : Type 0} (c : ℕ) (s : Kept B) → lacks c s ≡ false → s.live ≡ true → (place_of s.pairs c ≢ None) ⊎ Any (λ p. p.pair.old ≡ c) s.copies
+pub not_lacking : {B : Type 0} (c : ℕ) (s : Kept B) → lacks c s ≡ false → s.live ≡ true → (place_of s.pairs c ≢ None) ⊎ Any (λ p. p.pair.old ≡ c) s.copies
 not_lacking c s e live = at (place_of s.pairs c) refl
   where
     some_ne_none : (n : ℕ) → Some n ≢ None
@@ -48,7 +48,7 @@ not_lacking c s e live = at (place_of s.pairs c) refl
       | inr none ↦ (let here : lacks c s ≡ true = rw (live, is, none) refl in absurd (true≢false (sym here ∙ e)))
     ])
 
-refused_numbers : (which : List ℕ) (fs : List Flight) → map number_of_flight (map (refused_of which) fs) ≡ map number_of_flight fs
+pub refused_numbers : (which : List ℕ) (fs : List Flight) → map number_of_flight (map (refused_of which) fs) ≡ map number_of_flight fs
 refused_numbers which [] = refl
 refused_numbers which (f ∷ fs) = ap (λ ns. f.number ∷ ns) (refused_numbers which fs)
 

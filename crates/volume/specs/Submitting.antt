@@ -1,13 +1,13 @@
 -- When a request is accepted, and which copies it starts. The limits, the order of the refusals, and that a write never
 -- waits for a copy that is under way twice, are this project's own; that a full store makes its snapshot invalid is the
 -- kernel's rule, of its admin-guide page on snapshots.
-use Rattle.std.specs.Prelude.{◌≡◌, ◌==◌, ◌&&◌, ◌||◌, not, nat_lt, nat_le, ℕ, ◌+◌, ◌*◌, ◌/◌, ◌%◌, ◌<◌, ◌≤◌, Bool, true, false, List, [], ◌∷◌, ◌++◌, length, map, filter, sum_by, count_by, MatchBool, Option, Some, None, if◌then◌else◌, slice_index_or}
-use Rattle.std.specs.List.{list_any, list_all}
+use Rattle.std.specs.Prelude.{◌≡◌, ◌≢◌, ◌⊎◌, ◌==◌, ◌&&◌, ◌||◌, not, nat_lt, nat_le, ℕ, ◌+◌, ◌*◌, ◌/◌, ◌%◌, ◌<◌, ◌≤◌, Bool, true, false, List, [], ◌∷◌, ◌++◌, length, map, filter, sum_by, count_by, MatchBool, Option, Some, None, if◌then◌else◌, slice_index_or, slice_set}
+use Rattle.std.specs.List.{All, list_any, list_all}
 use Rattle.std.specs.Option.{is_some}
 use Rattle.std.specs.Global.{Vec}
 use Rattle.sector.specs.declared.range.Range.{Range}
 use Rattle.sector.specs.declared.refusal.Refusal.{Refusal}
-use Rattle.sector.specs.declared.refusal.Refusal.TheVariants.{NoSuchDevice, OutOfRange, Invalid, TooMany}
+use Rattle.sector.specs.declared.refusal.Refusal.TheVariants.{NoSuchDevice, OutOfRange, Invalid, TooMany, NoMemory}
 use Rattle.device.specs.Layers.{Layer}
 use Rattle.model.specs.Picture.{place_of}
 use Rattle.plain.specs.declared.request.Dev.{Dev}
@@ -24,7 +24,7 @@ use Rattle.snapshot.specs.Kept.{Kept}
 use Rattle.snapshot.specs.Calls.{StartsAt, started}
 use Rattle.volume.specs.Leaving.{place_of_snap}
 use Rattle.pending.specs.declared.flights.Route.{Route}
-use Rattle.plain.specs.Legal.{IsSubmitted}
+use Rattle.plain.specs.Legal.{IsSubmitted, Spoils}
 use Rattle.volume_laws.specs.Published.{is_published, IsPiece}
 use Rattle.volume.specs.Volumed.{Volumed, piece_of, plain_of, is_loud_in_all}
 use Rattle.volume.specs.Whole.{count_in, number_of_snap}
@@ -141,6 +141,7 @@ pub record IsEntered {B : Type 0} (contents : B → List ℕ) (layers : B → Li
   pub number_is : flight.number ≡ number
   pub next : number ≡ old.requests + 1
   pub becomes : new ≡ entered_of flight old
+  pub fresh : All (λ r. r.number ≢ number) (plain_of contents layers old).requests
   pub legal : is_loud_in_all layers old ≡ true → IsSubmitted [] (plain_of contents layers old) number request (plain_of contents layers new)
 
 -- what is asked of a request, for an origin of so many sectors in pieces of so many
@@ -155,9 +156,32 @@ pub record IsAcceptedAs {B : Type 0} (contents : B → List ℕ) (layers : B →
   pub next : number ≡ old.requests + 1
   pub origin : new.origin ≡ old.origin
   pub given : new.requests ≡ number
+  pub fresh : All (λ r. r.number ≢ number) (plain_of contents layers old).requests
+  pub loud : is_loud_in_all layers new ≡ is_loud_in_all layers old
   pub legal : is_loud_in_all layers old ≡ true → (which : List ℕ) × IsSubmitted which (plain_of contents layers old) number request (plain_of contents layers new)
 
 -- nothing but room for copies was made
 pub record SameButRoom {B : Type 0} (old new : Volumed B) : Type 0 where
   pub roomed : map unroomed new.snaps ≡ map unroomed old.snaps
   pub becomes : new ≡ record old { snaps = new.snaps }
+
+-- A write of chunk c of a snapshot found its store full: the snapshot with the number is spoiled, its requests are refused,
+-- and nothing else changes.
+pub record IsFoundFull {B : Type 0} (contents : B → List ℕ) (layers : B → List Layer) (number c : ℕ) (old new : Volumed B) : Type 0 where
+  pub place : ℕ
+  pub snap : Kept B
+  pub found : place_of_snap number old.snaps ≡ Some place
+  pub is : snap ≡ slice_index_or old.snaps place snap
+  pub full : overflows c snap ≡ true
+  pub spoilt : map unroomed new.snaps ≡ map unroomed (slice_set old.snaps place (spoilt_of snap))
+  pub becomes : new ≡ record old { snaps = new.snaps; flights = map (refused_of (number ∷ [])) old.flights }
+  pub loud : is_loud_in_all layers new ≡ is_loud_in_all layers old
+  pub spoils : is_loud_in_all layers old ≡ true → Spoils (number ∷ []) (plain_of contents layers old) (plain_of contents layers new)
+
+-- A request was refused: for the first reason, and nothing changed; or memory was refused; or, last of all, a write of a
+-- snapshot found its store full.
+abbrev pub IsRefusedAs : {B : Type 0} → (B → List ℕ) → (B → List Layer) → (B → ℕ) → Request → Refusal → Volumed B → Volumed B → Type 0
+IsRefusedAs contents layers size request refusal old new =
+    ((submit_refusal size request old ≡ Some refusal) × (new ≡ old))
+    ⊎ ((submit_refusal size request old ≡ None) × (refusal ≡ NoMemory) × SameButRoom old new)
+    ⊎ ((submit_refusal size request old ≡ None) × (refusal ≡ Invalid) × ((number : ℕ) × (kind_of request ≡ SnapWrite number) × IsFoundFull contents layers number (request.range.first / piece_of old.snaps) old new))

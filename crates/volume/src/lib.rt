@@ -12,10 +12,16 @@ mod closing;
 mod due;
 mod finding;
 mod issuing;
+mod machine;
 mod routing;
 mod step;
 mod stepping;
+mod submit;
 mod submitting;
+mod submitting_snaps;
 mod volume;
 
 pub use volume::{LARGEST_PIECE, MAX_SNAPSHOTS, Volume};
+
+#[cfg(test)]
+mod tests;

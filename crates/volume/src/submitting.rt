@@ -2,7 +2,6 @@
 ghost use Rattle.std.specs.Prelude.{◌≡◌, ◌≢◌, ◌==◌, ◌&&◌, ◌⊎◌, ℕ, ◌+◌, ◌*◌, ◌/◌, ◌%◌, ◌^◌, ◌<◌, ◌≤◌, List, [], ◌∷◌, ◌++◌, length, map, sum_by, count_by, slice_index_or, Option, Some, None, IfOk, IfErr, OnErr, Ok, Err, true, false, if◌then◌else◌};
 ghost use Rattle.std.specs.List.{All};
 ghost use Rattle.sector.specs.declared.refusal.Refusal.TheVariants.{NoMemory};
-ghost use Rattle.plain.specs.declared.request.Dev.TheVariants.{Origin as OriginDev};
 ghost use Rattle.plain.specs.declared.request.Op.TheVariants.{Write};
 ghost use Rattle.pending.specs.Copies.{count_of};
 ghost use Rattle.pending.specs.Kinds.{kind_of, room_of};
@@ -27,7 +26,7 @@ use snapshot::Snapshot;
 use std::alloc::Global;
 
 /// Whether a snapshot is live, and has neither a chunk nor a copy of it under way.
-fn is_lacking<B: Block>(snap: &Snapshot<B>, chunk: Chunk) -> bool
+pub(crate) fn is_lacking<B: Block>(snap: &Snapshot<B>, chunk: Chunk) -> bool
     ensures { result ≡ lacks chunk snap.now }
 {
     snap.is_live() && !snap.place_of(chunk).is_some() && !has_copy(snap.copies(), chunk)
@@ -35,7 +34,7 @@ fn is_lacking<B: Block>(snap: &Snapshot<B>, chunk: Chunk) -> bool
 
 /// Makes room for the copy of a chunk of so many sectors, where a snapshot lacks it: the buffer is as long as the chunk, or
 /// empty where none is needed.
-fn take_room<B: Block>(
+pub(crate) fn take_room<B: Block>(
     alloc: Global,
     snap: &mut Snapshot<B>,
     chunk: Chunk,
@@ -87,7 +86,7 @@ fn take_rooms<B: Block>(
 
 /// Starts the copy of a chunk in one snapshot, where it lacks it, under the next number, and tells how many numbers were
 /// given then. A snapshot whose store is full is spoiled, and its requests are refused.
-fn save_in<B: Block>(
+pub(crate) fn save_in<B: Block>(
     snap: &mut Snapshot<B>,
     flights: &mut [Flight],
     copies: u64,
@@ -197,7 +196,7 @@ impl<B: Block> Volume<B> {
     /// Why a request is refused, memory and full stores aside: there is no such snapshot (`NoSuchDevice`), it is spoiled
     /// (`Invalid`), the range is empty or lies not inside the origin and one piece (`OutOfRange`), or there are too many
     /// requests, copies or numbers (`TooMany`).
-    fn submit_refused(&self, request: &Request) -> Option<Refusal>
+    pub(crate) fn submit_refused(&self, request: &Request) -> Option<Refusal>
         ensures { result ≡ submit_refusal B.size request.now self.now }
     {
         if let Some(refusal) = self.dev_refused(request.dev) {
@@ -241,7 +240,12 @@ impl<B: Block> Volume<B> {
     }
 
     /// Puts a request in flight by a route.
-    fn enter(&mut self, alloc: Global, request: Request, route: Route) -> Result<ReqId, Refusal>
+    pub(crate) fn enter(
+        &mut self,
+        alloc: Global,
+        request: Request,
+        route: Route,
+    ) -> Result<ReqId, Refusal>
         requires room { length self.old.flights < 64 }
         requires numbers { self.old.requests + 1 < 2 ^ 64 }
         requires goes { (f : Flight) → IsWhole B.contents B.layers B.size self.old → f.number ≡ self.old.requests + 1 → f.request ≡ request → f.route ≡ route → length f.room.items ≡ room_of request → IsTakenIn [] f.number f.request (books_of B.contents B.layers B.size self.old) (books_of B.contents B.layers B.size (entered_of f self.old)) }
@@ -285,7 +289,11 @@ impl<B: Block> Volume<B> {
 
     /// Accepts a write of the origin: copies of its chunk are started in the live snapshots that lack it, and it is held
     /// until each live snapshot has published the chunk. Snapshots whose stores are full are spoiled.
-    fn submit_origin_write(&mut self, alloc: Global, request: Request) -> Result<ReqId, Refusal>
+    pub(crate) fn submit_origin_write(
+        &mut self,
+        alloc: Global,
+        request: Request,
+    ) -> Result<ReqId, Refusal>
         requires kind { kind_of request ≡ OriginWrite }
         requires asked { IsAsked (B.size self.old.origin) (piece_of self.old.snaps) request }
         requires room { length self.old.flights < 64 }
@@ -322,28 +330,5 @@ impl<B: Block> Volume<B> {
         self.flights.push_reserved(flight);
         self.requests += 1;
         Ok(self.requests)
-    }
-    /// Accepts a request of the origin, and tells its number. A read goes to the origin disk. A write goes there where each
-    /// live snapshot has published its chunk and no invalid mark is untried; else it is held, and copies of the chunk are
-    /// started in the live snapshots that lack it: those whose stores are full are spoiled. Refused, in this order: an empty
-    /// range, or one outside of the origin or of one piece (`OutOfRange`), the 65th request, the 257th copy or one past the
-    /// last number (`TooMany`); and `NoMemory` where memory is refused, which is asked for before anything is started.
-    pub fn submit_origin(&mut self, alloc: Global, request: Request) -> Result<ReqId, Refusal>
-        requires origin { request.dev ≡ OriginDev }
-        requires bytes { (bytes : List ℕ) → request.op ≡ Write bytes → length bytes ≡ 512 * request.range.count }
-        ensures ok { IfOk result (λ number. IsAcceptedAs B.contents B.layers request number self.old self.new) }
-        ensures admitted { IfOk result (λ _. submit_refusal B.size request self.old ≡ None) }
-        ensures refused { IfErr result (λ refusal. ((submit_refusal B.size request self.old ≡ Some refusal) × (self.new ≡ self.old)) ⊎ ((submit_refusal B.size request self.old ≡ None) × (refusal ≡ NoMemory) × SameButRoom self.old self.new)) }
-    {
-        match self.submit_refused(&request) {
-            Some(refusal) => return Err(refusal),
-            None => {}
-        }
-        match request_kind(&request) {
-            Kind::OriginRead => self.enter(alloc, request, Route::Origin),
-            Kind::OriginWrite => self.submit_origin_write(alloc, request),
-            Kind::SnapRead(_) => Err(Refusal::NoSuchDevice),
-            Kind::SnapWrite(_) => Err(Refusal::NoSuchDevice),
-        }
     }
 }

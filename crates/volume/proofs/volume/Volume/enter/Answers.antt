@@ -1,5 +1,6 @@
 -- The request is the last in flight.
-use Rattle.std.proofs.Common.{◌≡◌, ◌+◌, ◌<◌, ℕ, List, [], length, sym, ◌∙◌, ap, subst, arith}
+use Rattle.std.proofs.Common.{◌≡◌, ◌≢◌, ◌+◌, ◌<◌, ℕ, List, [], length, sym, ◌∙◌, ap, subst, arith}
+use Rattle.std.specs.List.{All}
 use Rattle.plain.specs.Legal.{IsSubmitted}
 use Rattle.plain.specs.declared.request.Request.{Request}
 use Rattle.pending.specs.declared.flights.Flight.{Flight}
@@ -7,7 +8,7 @@ use Rattle.submit_laws.specs.Accepting.{IsTakenIn}
 use Rattle.volume.specs.Volumed.{Volumed, books_of, plain_of}
 use Rattle.volume.specs.Whole.{IsWhole}
 use Rattle.volume.specs.Submitting.{entered_of}
-use Rattle.volume.proofs.Enters.{whole_entered, plain_entered}
+use Rattle.volume.proofs.Enters.{fresh_plain, whole_entered, plain_entered}
 use Rattle.volume.proofs.volume.Volume.enter.Goals as goal
 
 pub invariant_of-self-2 : goal.invariant_of-self-2
@@ -37,6 +38,8 @@ returns-clause-ok g c =
       number_is = c.in-Ok.ensures.number;
       next = ap (λ (x : Volumed g.row.B.Denot). x.requests + 1) c.self.view_is;
       becomes = becomes;
+      fresh = subst (λ (n : ℕ). All (λ r. r.number ≢ n) (plain_of g.B.Block.contents g.B.Block.layers c.args.self.now).requests) c.in-Ok.ensures.number
+          (fresh_plain g.B.Block.contents g.B.Block.layers g.B.Block.size c.args.self.now f (subst (IsWhole g.B.Block.contents g.B.Block.layers g.B.Block.size) c.self.view_is c.self.invariant) next);
       legal = λ loud.
           subst (λ (x : Volumed g.row.B.Denot). IsSubmitted [] (plain_of g.B.Block.contents g.B.Block.layers c.args.self.now) (c.self.inside.requests + 1) c.args.request (plain_of g.B.Block.contents g.B.Block.layers x)) (sym becomes)
           (subst (λ (n : ℕ). IsSubmitted [] (plain_of g.B.Block.contents g.B.Block.layers c.args.self.now) n c.args.request (plain_of g.B.Block.contents g.B.Block.layers (entered_of f c.args.self.now))) c.in-Ok.ensures.number

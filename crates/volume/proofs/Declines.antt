@@ -1,0 +1,51 @@
+-- A refused request, as the plain machine has it.
+use Rattle.std.proofs.Common.{◌≡◌, inl, inr, ℕ, true, List, [], map, refl, ◌∙◌, ap}
+use Rattle.device.specs.Layers.{Layer}
+use Rattle.sector.specs.declared.refusal.Refusal.{Refusal}
+use Rattle.plain.specs.declared.request.Dev.{Dev}
+use Rattle.plain.specs.declared.request.Dev.TheVariants.{Origin, Snap}
+use Rattle.plain.specs.declared.request.Op.{Op}
+use Rattle.plain.specs.declared.request.Op.TheVariants.{Read, Write}
+use Rattle.plain.specs.declared.request.Request.{Request}
+use Rattle.plain.specs.Legal.{IsDeclined}
+use Rattle.pending.specs.Kinds.{kind_at, in_flight}
+use Rattle.pending.specs.declared.flights.Kind.TheVariants.{SnapWrite}
+use Rattle.volume_laws.specs.Waits.{IsQuiet}
+use Rattle.volume.specs.Volumed.{Volumed, books_of, plain_of, is_loud_in_all}
+use Rattle.volume.specs.Submitting.{SameButRoom, IsRefusedAs}
+use Rattle.volume.proofs.Finishes.{plain_roomed, loud_roomed}
+use Rattle.volume.proofs.Named.{dev_of_write}
+
+op_at_write : (dev : Dev) (op : Op) (n : ℕ) → kind_at dev op ≡ SnapWrite n → (bytes : List ℕ) × (op ≡ Write bytes)
+op_at_write Origin Read n e = absurd (cc)
+op_at_write Origin (Write b) n e = absurd (cc)
+op_at_write (Snap m) Read n e = absurd (cc)
+op_at_write (Snap m) (Write b) n e = (b, refl)
+
+module _ {B : Type 0} (contents : B → List ℕ) (layers : B → List Layer) (size : B → ℕ) (v w : Volumed B) where
+  plain_same : SameButRoom v w → plain_of contents layers w ≡ plain_of contents layers v
+  plain_same e = ap (plain_of contents layers) e.becomes ∙ plain_roomed contents layers size v w.snaps e.roomed
+
+  pub refused_declined : (request : Request) (refusal : Refusal) → IsRefusedAs contents layers size request refusal v w → is_loud_in_all layers v ≡ true → IsDeclined request refusal (plain_of contents layers v) (plain_of contents layers w)
+  refused_declined request refusal e loud = elim e [
+    | inl first ↦ inl (ap (plain_of contents layers) first.1)
+    | inr later ↦ elim later [
+      | inl lacks ↦ (let (admitted, refused, roomed) = lacks in inl (plain_same roomed))
+      | inr full ↦
+          (let (admitted, invalid, rest) = full in let (number, kind, found) = rest in
+          let (bytes, op) = op_at_write request.dev request.op number kind in
+          inr (number, bytes, dev_of_write request number kind, op, invalid, found.spoils loud))
+    ]
+  ]
+
+  pub refused_loud : (request : Request) (refusal : Refusal) → IsRefusedAs contents layers size request refusal v w → is_loud_in_all layers w ≡ is_loud_in_all layers v
+  refused_loud request refusal e = elim e [
+    | inl first ↦ ap (is_loud_in_all layers) first.1
+    | inr later ↦ elim later [
+      | inl lacks ↦ (let (admitted, refused, roomed) = lacks in ap (is_loud_in_all layers) roomed.becomes ∙ loud_roomed contents layers size v w.snaps roomed.roomed)
+      | inr full ↦ (let (admitted, invalid, rest) = full in let (number, kind, found) = rest in found.loud)
+    ]
+  ]
+
+pub quiet_requests : {B : Type 0} (contents : B → List ℕ) (layers : B → List Layer) (size : B → ℕ) (v : Volumed B) → IsQuiet (books_of contents layers size v) → (plain_of contents layers v).requests ≡ []
+quiet_requests contents layers size v e = ap (map in_flight) e.requests

@@ -1,0 +1,148 @@
+-- The snapshot that a request names.
+use Rattle.std.proofs.Common.{◌≡◌, ◌≢◌, inl, inr, ℕ, ◌+◌, ◌/◌, ◌<◌, true, false, List, [], ◌∷◌, Option, Some, None, length, get_or, map, refl, sym, ◌∙◌, ap, subst, nat_eq}
+use Rattle.std.specs.List.{list_any}
+use Rattle.std.proofs.lemmas.Bool.{cases_Bool, true≢false, eqb-true}
+use Rattle.std.proofs.lemmas.List.Folds.{Any-from_list_any}
+use Rattle.device.specs.Layers.{Layer}
+use Rattle.model.specs.Picture.{place_of}
+use Rattle.sector.specs.declared.pair.Pair.{Pair}
+use Rattle.pending.specs.declared.copies.Mark.{Mark}
+use Rattle.pending.specs.declared.flights.Flight.{Flight}
+use Rattle.pending.specs.declared.flights.Route.TheVariants.{Held}
+use Rattle.pending.specs.Routes.{read_route_of}
+use Rattle.volume_laws.specs.Published.{IsPublished, is_published}
+use Rattle.volume_laws.specs.Waits.{IsCopying}
+use Rattle.volume_laws.proofs.Clear.{published_true}
+use Rattle.submit_laws.specs.Accepting.{IsPrepared, IsTakenIn}
+use Rattle.submit_laws.proofs.Preparing.{prepared_none}
+use Rattle.std.proofs.lemmas.List.{get_or-map, get_or_default}
+use Rattle.sector.specs.declared.refusal.Refusal.TheVariants.{NoSuchDevice, Invalid}
+use Rattle.plain.specs.declared.request.Dev.{Dev}
+use Rattle.plain.specs.declared.request.Dev.TheVariants.{Origin, Snap}
+use Rattle.plain.specs.declared.request.Op.{Op}
+use Rattle.plain.specs.declared.request.Op.TheVariants.{Read, Write}
+use Rattle.plain.specs.declared.request.Request.{Request}
+use Rattle.pending.specs.Kinds.{kind_of, kind_at, room_of}
+use Rattle.pending.specs.declared.flights.Kind.TheVariants.{SnapRead, SnapWrite}
+use Rattle.snapshot.specs.Kept.{Kept, books_of as snap_books}
+use Rattle.volume.specs.Volumed.{Volumed, books_of, piece_of}
+use Rattle.volume.specs.Whole.{IsWhole}
+use Rattle.volume.specs.Leaving.{place_of_snap}
+use Rattle.volume.specs.Submitting.{lacks, IsAsked, entered_of, refusal_at, dev_refusal}
+use Rattle.volume.proofs.ByKind.{snap_read_enters, snap_write_held_enters, snap_write_placed_enters}
+use Rattle.volume.proofs.Savings.{not_lacking}
+use Rattle.volume.proofs.Leaves.{found_place}
+
+dev_at_read : (dev : Dev) (op : Op) (n : ℕ) → kind_at dev op ≡ SnapRead n → dev ≡ Snap n
+dev_at_read Origin Read n e = cc
+dev_at_read Origin (Write b) n e = cc
+dev_at_read (Snap m) Read n e = let same : m ≡ n = cc in ap Snap same
+dev_at_read (Snap m) (Write b) n e = cc
+
+dev_at_write : (dev : Dev) (op : Op) (n : ℕ) → kind_at dev op ≡ SnapWrite n → dev ≡ Snap n
+dev_at_write Origin Read n e = cc
+dev_at_write Origin (Write b) n e = cc
+dev_at_write (Snap m) Read n e = cc
+dev_at_write (Snap m) (Write b) n e = let same : m ≡ n = cc in ap Snap same
+
+pub dev_of_read : (request : Request) (n : ℕ) → kind_of request ≡ SnapRead n → request.dev ≡ Snap n
+dev_of_read request n e = dev_at_read request.dev request.op n e
+
+pub dev_of_write : (request : Request) (n : ℕ) → kind_of request ≡ SnapWrite n → request.dev ≡ Snap n
+dev_of_write request n e = dev_at_write request.dev request.op n e
+
+-- it is there
+pub found_some : {B : Type 0} (snaps : List (Kept B)) (dev : Dev) (n : ℕ) → dev_refusal dev snaps ≡ None → dev ≡ Snap n → None ≡ place_of_snap n snaps → ⊥
+found_some snaps dev n free is none =
+    let here : refusal_at snaps (place_of_snap n snaps) ≡ None = sym (ap (λ d. dev_refusal d snaps) is) ∙ free in
+    let got : Some NoSuchDevice ≡ None = ap (refusal_at snaps) none ∙ here in cc
+
+-- and live
+pub found_live : {B : Type 0} (snaps : List (Kept B)) (dev : Dev) (n k : ℕ) (d : Kept B) → dev_refusal dev snaps ≡ None → dev ≡ Snap n → Some k ≡ place_of_snap n snaps → (get_or snaps k d).live ≡ true
+found_live snaps dev n k d free is at =
+    let within = (found_place n snaps k d at).0 in
+    let here : refusal_at snaps (Some k) ≡ None = ap (refusal_at snaps) at ∙ sym (ap (λ x. dev_refusal x snaps) is) ∙ free in
+    sym (get_or-map (λ s. s.live) snaps k d false within) ∙ elim (cases_Bool (get_or (map (λ (s : Kept _). s.live) snaps) k false)) [
+      | inl live ↦ live
+      | inr dead ↦ (let got : Some Invalid ≡ None = rw dead at here in absurd (cc))
+    ]
+
+-- at a place of the list
+pub found_within : {B : Type 0} (n : ℕ) (snaps : List (Kept B)) (k : ℕ) → Some k ≡ place_of_snap n snaps → k < length snaps
+found_within n [] k e = absurd (cc)
+found_within n (s ∷ snaps) k e = (found_place n (s ∷ snaps) k s e).0
+
+-- an element that is looked up twice
+pub index_same : {X : Type 0} (xs : List X) (k : ℕ) (x y : X) → k < length xs → x ≡ get_or xs k x → y ≡ get_or xs k y → x ≡ y
+index_same xs k x y within at also = at ∙ get_or_default xs k x y within ∙ sym also
+
+-- the live snapshot at place k, s, is the one with this number
+pub record IsNamed {B : Type 0} (v : Volumed B) (id k : ℕ) (s : Kept B) : Type 0 where
+  pub within : k < length v.snaps
+  pub is : s ≡ get_or v.snaps k s
+  pub live : s.live ≡ true
+  pub number : s.number ≡ id
+
+pub is_named : {B : Type 0} (v : Volumed B) (items : List (Kept B)) (dev : Dev) (id k : ℕ) (s : Kept B) → items ≡ v.snaps → s ≡ get_or items k s → dev_refusal dev v.snaps ≡ None → dev ≡ Snap id → Some k ≡ place_of_snap id items → IsNamed v id k s
+is_named v items dev id k s same at free is found =
+    let here : s ≡ get_or v.snaps k s = at ∙ ap (λ (xs : List (Kept _)). get_or xs k s) same in
+    let place : Some k ≡ place_of_snap id v.snaps = found ∙ ap (place_of_snap id) same in
+    record {
+      within = found_within id v.snaps k place;
+      is = here;
+      live = ap (λ (x : Kept _). x.live) here ∙ found_live v.snaps dev id k s free is place;
+      number = ap (λ (x : Kept _). x.number) here ∙ (found_place id v.snaps k s place).1;
+    }
+
+-- a published chunk has its place
+place_published : (pairs : List Pair) (marks : List Mark) (c : ℕ) → is_published pairs marks c ≡ true → (place : ℕ) × (place_of pairs c ≡ Some place)
+place_published pairs marks c e = at (place_of pairs c) refl
+  where
+    at : (found : Option ℕ) → place_of pairs c ≡ found → (place : ℕ) × (place_of pairs c ≡ Some place)
+    at (Some n) is = (n, is)
+    at None is = (let got : is_published pairs marks c ≡ false = rw is refl in absurd (true≢false (sym e ∙ got)))
+
+-- a chunk that is not published, and not lacking either, is under way
+copying_held : {B : Type 0} (contents : B → List ℕ) (layers : B → List Layer) (c : ℕ) (s : Kept B) → s.live ≡ true → is_published s.pairs s.marks c ≡ false → lacks c s ≡ false → IsCopying c (snap_books contents layers s)
+copying_held contents layers c s live unpublished has = at (place_of s.pairs c) refl
+  where
+    some_ne_none : (n : ℕ) → Some n ≢ None
+    some_ne_none n is = cc
+
+    at : (found : Option ℕ) → place_of s.pairs c ≡ found → IsCopying c (snap_books contents layers s)
+    at (Some n) is = elim (cases_Bool (list_any (λ m. nat_eq m.chunk c) s.marks)) [
+      | inl any ↦ (let (k, m, lt, m_is, same) = Any-from_list_any (λ m. nat_eq m.chunk c) s.marks any in inr ((λ none. some_ne_none n (sym is ∙ none)), (k, m, lt, m_is, eqb-true m.chunk c same)))
+      | inr free ↦ (let got : is_published s.pairs s.marks c ≡ true = rw (is, free) refl in absurd (true≢false (sym got ∙ unpublished)))
+    ]
+    at None is = elim (not_lacking c s has live) [ inl placed ↦ absurd (placed is) | inr any ↦ inl any ]
+
+module _ {B : Type 0} (contents : B → List ℕ) (layers : B → List Layer) (size : B → ℕ) (v : Volumed B) (h : IsWhole contents layers size v) (f : Flight) (number : f.number ≡ v.requests + 1) (asked : IsAsked (size v.origin) (piece_of v.snaps) f.request)
+    (room : length f.room.items ≡ room_of f.request) (id k : ℕ) (s : Kept B) (n : IsNamed v id k s) where
+  none : IsPrepared [] (books_of contents layers size v) (books_of contents layers size v)
+  none = prepared_none (books_of contents layers size v) h.holds h.waits
+
+  pub chunk_named : piece_of v.snaps ≡ s.state.chunk
+  chunk_named = sym (ap (λ (x : Kept B). x.state.chunk) n.is ∙ (h.snaps k s n.within).chunk_is)
+
+  pub snap_read_goes : kind_of f.request ≡ SnapRead id → f.route ≡ read_route_of (place_of s.pairs (f.request.range.first / piece_of v.snaps)) → IsTakenIn [] f.number f.request (books_of contents layers size v) (books_of contents layers size (entered_of f v))
+  snap_read_goes kind route = snap_read_enters contents layers size v v [] none h f number asked room k s n.within n.is n.live (kind ∙ ap SnapRead (sym n.number))
+      (route ∙ ap (λ c. read_route_of (place_of s.pairs (f.request.range.first / c))) chunk_named)
+
+  -- a write of a chunk that has its place
+  pub snap_write_placed_goes : kind_of f.request ≡ SnapWrite id → is_published s.pairs s.marks (f.request.range.first / piece_of v.snaps) ≡ true → f.route ≡ read_route_of (place_of s.pairs (f.request.range.first / piece_of v.snaps))
+      → IsTakenIn [] f.number f.request (books_of contents layers size v) (books_of contents layers size (entered_of f v))
+  snap_write_placed_goes kind published route =
+      let (place, at) = place_published s.pairs s.marks (f.request.range.first / piece_of v.snaps) published in
+      let c : f.request.range.first / piece_of v.snaps ≡ f.request.range.first / s.state.chunk = ap (λ (c : ℕ). f.request.range.first / c) chunk_named in
+      snap_write_placed_enters contents layers size v v [] none h f number asked room k s n.within n.is n.live place (kind ∙ ap SnapWrite (sym n.number))
+      (route ∙ ap read_route_of at)
+      (ap (place_of s.pairs) (sym c) ∙ at)
+      (subst (IsPublished s.pairs s.marks) c (published_true s.pairs s.marks (f.request.range.first / piece_of v.snaps) published))
+
+  -- a write of a chunk whose copy is under way
+  pub snap_write_held_goes : kind_of f.request ≡ SnapWrite id → is_published s.pairs s.marks (f.request.range.first / piece_of v.snaps) ≡ false → lacks (f.request.range.first / piece_of v.snaps) s ≡ false → f.route ≡ Held
+      → IsTakenIn [] f.number f.request (books_of contents layers size v) (books_of contents layers size (entered_of f v))
+  snap_write_held_goes kind unpublished has route =
+      let c : f.request.range.first / piece_of v.snaps ≡ f.request.range.first / s.state.chunk = ap (λ (c : ℕ). f.request.range.first / c) chunk_named in
+      snap_write_held_enters contents layers size v v [] none h f number asked room k s n.within n.is n.live (kind ∙ ap SnapWrite (sym n.number)) route
+      (subst (λ (x : ℕ). IsCopying x (snap_books contents layers s)) c (copying_held contents layers (f.request.range.first / piece_of v.snaps) s n.live unpublished has))

@@ -1,0 +1,39 @@
+-- The snapshot that is found is live, and the write goes where its chunk is, or waits for its copy.
+use Rattle.std.proofs.Common.{◌≡◌, ◌/◌, ℕ, sym, ◌∙◌, ap, subst}
+use Rattle.model.specs.Picture.{place_of}
+use Rattle.pending.specs.Kinds.{kind_of, room_of}
+use Rattle.pending.specs.Routes.{read_route_of}
+use Rattle.plain.specs.declared.request.Request.{Request}
+use Rattle.volume_laws.specs.Published.{is_published}
+use Rattle.snapshot.specs.Kept.{Kept}
+use Rattle.volume.specs.Volumed.{Volumed, piece_of}
+use Rattle.volume.specs.Leaving.{place_of_snap}
+use Rattle.volume.specs.Submitting.{lacks, IsAsked}
+use Rattle.volume.proofs.Named.{dev_of_write, found_within, is_named, index_same, snap_write_placed_goes, snap_write_held_goes}
+use Rattle.volume.proofs.volume.Volume.submit_snap_write.Goals as goal
+
+pub enter-requires-clause-goes : goal.enter-requires-clause-goes
+enter-requires-clause-goes g c = λ f h number same route room.
+    let s : Kept g.row.B.Denot = c.index-2.result.now in
+    let asked : IsAsked (g.B.Block.size c.args.self.now.origin) (piece_of c.args.self.now.snaps) f.request = subst (IsAsked (g.B.Block.size c.args.self.now.origin) (piece_of c.args.self.now.snaps)) (sym same) c.requires.asked in
+    let named = is_named c.args.self.now c.self.inside.snaps.items c.args.request.dev c.args.id c.in-Some.k s (ap (λ (x : Volumed g.row.B.Denot). x.snaps) c.self.view_is) c.index-2.ensures c.requires.found (dev_of_write c.args.request c.args.id c.requires.kind) (c.in-Some.ensures ∙ ap (place_of_snap c.args.id) c.as_slice.ensures.value) in
+    let place = c.in-Some.ensures ∙ ap (place_of_snap c.args.id) c.as_slice.ensures.value in
+    let within = found_within c.args.id c.self.inside.snaps.items c.in-Some.k place in
+    let chunk : c.args.request.range.first / c.piece.result ≡ f.request.range.first / piece_of c.args.self.now.snaps = ap (λ (n : ℕ). c.args.request.range.first / n) c.piece.ensures ∙ ap (λ (r : Request). r.range.first / piece_of c.args.self.now.snaps) (sym same) in
+    let published = sym (ap (is_published s.pairs s.marks) chunk) ∙ sym c.if-is_published.ensures in
+    let at : c.index-then-is_published.result.now ≡ s = index_same c.self.inside.snaps.items c.in-Some.k c.index-then-is_published.result.now s within c.index-then-is_published.ensures c.index-2.ensures in
+    snap_write_placed_goes g.B.Block.contents g.B.Block.layers g.B.Block.size c.args.self.now h f number asked (room ∙ ap room_of (sym same)) c.args.id c.in-Some.k s named (ap kind_of same ∙ c.requires.kind) published
+    (route ∙ c.read_route-route.ensures ∙ ap read_route_of c.place_of.ensures ∙ ap (λ (x : Kept g.row.B.Denot). read_route_of (place_of x.pairs (c.args.request.range.first / c.piece.result))) at ∙ ap (λ (n : ℕ). read_route_of (place_of s.pairs n)) chunk)
+
+pub enter-requires-2-clause-goes : goal.enter-requires-2-clause-goes
+enter-requires-2-clause-goes g c = λ f h number same route room.
+    let s : Kept g.row.B.Denot = c.index-2.result.now in
+    let asked : IsAsked (g.B.Block.size c.args.self.now.origin) (piece_of c.args.self.now.snaps) f.request = subst (IsAsked (g.B.Block.size c.args.self.now.origin) (piece_of c.args.self.now.snaps)) (sym same) c.requires.asked in
+    let named = is_named c.args.self.now c.self.inside.snaps.items c.args.request.dev c.args.id c.in-Some.k s (ap (λ (x : Volumed g.row.B.Denot). x.snaps) c.self.view_is) c.index-2.ensures c.requires.found (dev_of_write c.args.request c.args.id c.requires.kind) (c.in-Some.ensures ∙ ap (place_of_snap c.args.id) c.as_slice.ensures.value) in
+    let place = c.in-Some.ensures ∙ ap (place_of_snap c.args.id) c.as_slice.ensures.value in
+    let within = found_within c.args.id c.self.inside.snaps.items c.in-Some.k place in
+    let chunk : c.args.request.range.first / c.piece.result ≡ f.request.range.first / piece_of c.args.self.now.snaps = ap (λ (n : ℕ). c.args.request.range.first / n) c.piece.ensures ∙ ap (λ (r : Request). r.range.first / piece_of c.args.self.now.snaps) (sym same) in
+    let published = sym (ap (is_published s.pairs s.marks) chunk) ∙ sym c.if-is_published.ensures in
+    let at : c.index.result.now ≡ s = index_same c.self.inside.snaps.items c.in-Some.k c.index.result.now s within c.index.ensures c.index-2.ensures in
+    let has = sym (ap (λ (x : Kept g.row.B.Denot). lacks (c.args.request.range.first / c.piece.result) x) at ∙ ap (λ (n : ℕ). lacks n s) chunk) ∙ sym c.if-is_lacking.ensures in
+    snap_write_held_goes g.B.Block.contents g.B.Block.layers g.B.Block.size c.args.self.now h f number asked (room ∙ ap room_of (sym same)) c.args.id c.in-Some.k s named (ap kind_of same ∙ c.requires.kind) published has route
