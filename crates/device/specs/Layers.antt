@@ -14,6 +14,11 @@ pub record Features : Type 0 where
   pub error_writes : Bool
   pub error_reads : Bool
 
+-- the bytes of a device that lie before and after some of its sectors
+pub record Beside : Type 0 where
+  pub before : List ℕ
+  pub after : List ℕ
+
 -- a layer
 pub data Layer : Type 0 where
   -- flakey: seconds since the period began, seconds up, seconds down, features, first sector of the device below
@@ -24,6 +29,8 @@ pub data Layer : Type 0 where
   Broken : Layer
   -- the operations that pass before one fails; none fails where there is no number
   Counted : Option ℕ → Layer
+  -- no layer of its own: what lies beside the bytes that the layer above shows of the device below. It passes everything
+  Window : Beside → Layer
 
 -- whether block number `block`, of `size` bytes, has a byte of these sectors
 abbrev pub touches : ℕ → ℕ → ℕ → ℕ → Bool
@@ -59,6 +66,7 @@ layer_fate (Dusty sectors size enabled bad) (Writes first count) = Pass
 layer_fate (Dusty sectors size enabled bad) Flushes = Pass
 layer_fate Broken op = Fail
 layer_fate (Counted left) op = if counted_passes left then Pass else Fail
+layer_fate (Window aside) op = Pass
 
 -- the operation as it is passed on
 abbrev pub passed_on : Layer → Operation → Operation

@@ -12,6 +12,14 @@ disk_of (Flakey' f p below) = disk_of below
 disk_of (Dust' d p below) = disk_of below
 disk_of (Error e) = None
 
+-- the stack over another disk, where there is one
+abbrev pub with_disk : Stack → Option MemDisk → Stack
+with_disk (Disk d) None = Disk d
+with_disk (Disk d) (Some e) = Disk e
+with_disk (Flakey' f p below) disk = Flakey' f p (with_disk below disk)
+with_disk (Dust' d p below) disk = Dust' d p (with_disk below disk)
+with_disk (Error e) disk = Error e
+
 -- there is a disk, and it has these sectors
 abbrev pub HasSectors : Option MemDisk → ℕ → ℕ → Type 0
 HasSectors None first count = ⊥

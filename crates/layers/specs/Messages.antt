@@ -6,7 +6,7 @@ use Rattle.std.specs.Ordering.{nat_cmp}
 use Rattle.std.specs.BTreeMap.{is_at}
 use Rattle.std.specs.BTreeSet.{insert_key}
 use Rattle.std.specs.Set.{remove_key}
-use Rattle.device.specs.Layers.{Layer, Dusty}
+use Rattle.device.specs.Layers.{Layer, Dusty, Window}
 use Rattle.sector.specs.declared.refusal.Refusal.{Refusal}
 use Rattle.sector.specs.declared.refusal.Refusal.TheVariants.{BadTable, OutOfRange}
 use Rattle.layers.specs.declared.message.Message.{Message}
@@ -47,9 +47,10 @@ abbrev pub layer_told : Layer → Message → Told Layer
 layer_told (Dusty sectors size on bad) m = dust_told sectors size on bad m
 layer_told l m = Refused BadTable
 
--- the layer at a depth, counted from the top; there is none below the last
+-- the layer at a depth, counted from the top, windows aside; there is none below the last
 abbrev pub told : List Layer → ℕ → Message → Told (List Layer)
 told [] d m = Refused BadTable
+told (Window aside ∷ ls) d m = told_with (λ ns. Window aside ∷ ns) (told ls d m)
 told (l ∷ ls) d m = if d == 0 then told_with (λ n. n ∷ ls) (layer_told l m) else told_with (λ ns. l ∷ ns) (told ls (d - 1) m)
 
 -- the answer, unless there is a refusal

@@ -2,9 +2,10 @@
 use Rattle.std.specs.Prelude.{◌≡◌, ℕ, ◌+◌, ◌-◌, ◌*◌, List, [], ◌∷◌, Option, Some, None, replicate, min}
 use Rattle.sector.specs.Bytes.{sectors_at, sector_at}
 use Rattle.device.specs.Disk.{disk_size, disk_contents, disk_durable, disk_done, disk_may_hold}
-use Rattle.device.specs.Layers.{Layer, Broken}
+use Rattle.device.specs.Layers.{Layer, Broken, Window}
 use Rattle.layers.specs.declared.stack.Stack.{Stack, Disk, Flakey', Dust', Error}
 use Rattle.layers.specs.Layer.{flakey_layer, dust_layer}
+use Rattle.layers.specs.Windows.{beside}
 
 -- how many sectors it has: a layer's own, as far as the device below reaches
 abbrev pub stack_size : Stack → ℕ
@@ -27,11 +28,11 @@ stack_durable (Flakey' f p below) = sectors_at (stack_durable below) f.offset (m
 stack_durable (Dust' d p below) = sectors_at (stack_durable below) 0 (min d.sectors (stack_size below))
 stack_durable (Error e) = replicate (512 * e.sectors) 0
 
--- the layers, from the top
+-- the layers, from the top, each with its window on the device below
 abbrev pub stack_layers : Stack → List Layer
 stack_layers (Disk d) = []
-stack_layers (Flakey' f p below) = flakey_layer f ∷ stack_layers below
-stack_layers (Dust' d p below) = dust_layer d ∷ stack_layers below
+stack_layers (Flakey' f p below) = flakey_layer f ∷ Window (beside (stack_contents below) f.offset (min f.sectors (stack_size below - f.offset))) ∷ stack_layers below
+stack_layers (Dust' d p below) = dust_layer d ∷ Window (beside (stack_contents below) 0 (min d.sectors (stack_size below))) ∷ stack_layers below
 stack_layers (Error e) = Broken ∷ []
 
 -- how many operations its top answered with a fault

@@ -176,20 +176,24 @@ impl Block for Stack {
 }
 
 impl Stack {
-    ghost use Rattle.std.specs.Prelude.{◌≡◌, ◌≤◌, ◌+◌, ◌*◌, ◌∷◌, ℕ, List, Some, length, IfOk, IfErr};
+    ghost use Rattle.std.specs.Prelude.{◌≡◌, ◌≤◌, ◌+◌, ◌*◌, [], ◌∷◌, ℕ, List, Some, length, None, IfOk, IfErr, IfSome, IfNone};
     ghost use Rattle.std.specs.Option.{option_copied, is_some};
-    ghost use Rattle.sector.specs.Bytes.{sectors_at};
+    ghost use Rattle.sector.specs.Bytes.{sectors_at, with_sectors};
     ghost use Rattle.sector.specs.declared.refusal.Refusal.TheVariants.{NoMemory};
-    ghost use Rattle.layers.specs.Disk.{disk_of, HasSectors, IsLoaded, IsLost};
+    ghost use Rattle.device.specs.Layers.{Window};
+    ghost use Rattle.layers.specs.Disk.{disk_of, with_disk, HasSectors, IsLoaded, IsLost};
     ghost use Rattle.layers.specs.Layer.{flakey_layer, dust_layer};
-    ghost use Rattle.layers.specs.Stack.{below_of, stack_size, stack_contents, stack_durable, stack_layers, stack_faults, stack_done, stack_may_hold};
+    ghost use Rattle.layers.specs.Stack.{below_of, stack_size, stack_contents, stack_durable, stack_layers, stack_faults, stack_done};
+    ghost use Rattle.layers.specs.Beneath.{IsOver};
+    ghost use Rattle.layers.specs.Windows.{beside, layers_below, without_windows};
 
     /// The stack under a flakey layer, whose sectors lie inside it. `NoMemory` where the allocator refuses room; the stack
     /// is then given back.
     pub fn under_flakey(self, alloc: Global, flakey: Flakey) -> Result<Stack, (Refusal, Stack)>
         requires inside { flakey.offset + flakey.sectors ≤ stack_size self }
         ensures below { IfOk result (λ s. below_of s ≡ Some self) }
-        ensures layers { IfOk result (λ s. stack_layers s ≡ flakey_layer flakey ∷ stack_layers self) }
+        ensures layers { IfOk result (λ s. stack_layers s ≡ flakey_layer flakey ∷ Window (beside (stack_contents self) flakey.offset flakey.sectors) ∷ stack_layers self) }
+        ensures over { IfOk result (λ s. IsOver self s) }
         ensures size { IfOk result (λ s. stack_size s ≡ flakey.sectors) }
         ensures contents { IfOk result (λ s. stack_contents s ≡ sectors_at (stack_contents self) flakey.offset flakey.sectors) }
         ensures durable { IfOk result (λ s. stack_durable s ≡ sectors_at (stack_durable self) flakey.offset flakey.sectors) }
@@ -205,10 +209,12 @@ impl Stack {
 
     /// The stack under a dust layer, which has no more sectors. `NoMemory` where the allocator refuses room; the stack is
     /// then given back.
+    #[tactic(auto, using(crate::specs::Beneath::stack_over))]
     pub fn under_dust(self, alloc: Global, dust: Dust) -> Result<Stack, (Refusal, Stack)>
         requires inside { dust.sectors ≤ stack_size self }
         ensures below { IfOk result (λ s. below_of s ≡ Some self) }
-        ensures layers { IfOk result (λ s. stack_layers s ≡ dust_layer dust ∷ stack_layers self) }
+        ensures layers { IfOk result (λ s. stack_layers s ≡ dust_layer dust ∷ Window (beside (stack_contents self) 0 dust.sectors) ∷ stack_layers self) }
+        ensures over { IfOk result (λ s. IsOver self s) }
         ensures size { IfOk result (λ s. stack_size s ≡ dust.sectors) }
         ensures contents { IfOk result (λ s. stack_contents s ≡ sectors_at (stack_contents self) 0 dust.sectors) }
         ensures durable { IfOk result (λ s. stack_durable s ≡ sectors_at (stack_durable self) 0 dust.sectors) }
@@ -223,8 +229,11 @@ impl Stack {
     }
 
     /// What is below the top layer, which is dropped. `None` for a disk and an error layer, which nothing is below.
+    #[tactic(auto, using(crate::specs::Beneath::stack_over, crate::specs::Beneath::stack_over_none))]
     pub fn into_below(self) -> Option<Stack>
-        ensures { result ≡ below_of self }
+        ensures below { result ≡ below_of self }
+        ensures over { IfSome result (λ s. IsOver s self) }
+        ensures none { IfNone result (layers_below (stack_layers self) ≡ None) }
     {
         match self {
             Stack::Disk(_) | Stack::Error(_) => None,
@@ -262,7 +271,9 @@ impl Stack {
         requires inside { HasSectors (disk_of self.old) range.first range.count }
         requires room { length bytes.now ≡ 512 * range.count }
         ensures disk { IsLoaded range.first bytes.now (disk_of self.old) (disk_of self.new) }
-        ensures layers { stack_layers self.new ≡ stack_layers self.old }
+        ensures bare { stack_layers self.old ≡ [] → (stack_layers self.new ≡ []) × (stack_contents self.new ≡ with_sectors (stack_contents self.old) range.first bytes.now) × (stack_durable self.new ≡ with_sectors (stack_durable self.old) range.first bytes.now) }
+        ensures same { self.new ≡ with_disk self.old (disk_of self.new) }
+        ensures layers { without_windows (stack_layers self.new) ≡ without_windows (stack_layers self.old) }
         ensures size { stack_size self.new ≡ stack_size self.old }
         ensures counts { (stack_faults self.new ≡ stack_faults self.old) × (stack_done self.new ≡ stack_done self.old) }
     {
@@ -278,9 +289,10 @@ impl Stack {
     /// reached it. The layers stay. It counts no operation.
     pub fn lose(&mut self)
         ensures disk { IsLost (disk_of self.old) (disk_of self.new) }
+        ensures same { self.new ≡ with_disk self.old (disk_of self.new) }
         ensures contents { stack_contents self.new ≡ stack_durable self.old }
         ensures durable { stack_durable self.new ≡ stack_durable self.old }
-        ensures layers { stack_layers self.new ≡ stack_layers self.old }
+        ensures layers { without_windows (stack_layers self.new) ≡ without_windows (stack_layers self.old) }
         ensures size { stack_size self.new ≡ stack_size self.old }
         ensures counts { (stack_faults self.new ≡ stack_faults self.old) × (stack_done self.new ≡ stack_done self.old) }
     {

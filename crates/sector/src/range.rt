@@ -33,6 +33,7 @@ impl Range {
         requires { self.now.first + self.now.count + by < 2 ^ 64 }
         ensures first { result.first ≡ self.now.first + by }
         ensures count { result.count ≡ self.now.count }
+        ensures size { result.size ≡ self.now.first + by + self.now.count }
     {
         Range {
             first: self.first + by,
