@@ -82,9 +82,11 @@ rest_through a b b' o n f c f' c' i eb ef ec below outside =
 pub zeros_at : (n f c : ℕ) → f + c ≤ n → replicate (512 * c) 0 ≡ sectors_at (replicate (512 * n) 0) f c
 zeros_at n f c inside = sym (ap (take (512 * c)) (drop-replicate (512 * f) (512 * n) 0) ∙ take-replicate (512 * c) _ 0 (omega arith))
 
+-- bytes that are the same outside a range are the same before it
 front_same : (a b : List ℕ) (o f c : ℕ) → length a ≡ length b → ((j : ℕ) → (j < 512 * f) ⊎ (512 * (f + c) ≤ j) → get_or a j 0 ≡ get_or b j 0) → o ≤ f → take (512 * o) a ≡ take (512 * o) b
 front_same a b o f c len rest apart = sectors_apart a b f c 0 o len rest (inl (omega arith))
 
+-- and after it
 back_same : (a b : List ℕ) (p f c size : ℕ) → length a ≡ 512 * size → length b ≡ 512 * size → ((j : ℕ) → (j < 512 * f) ⊎ (512 * (f + c) ≤ j) → get_or a j 0 ≡ get_or b j 0) → f + c ≤ p → drop (512 * p) a ≡ drop (512 * p) b
 back_same a b p f c size la lb rest apart =
     sym (take_all (512 * size) (drop (512 * p) a) (simp length-drop (omega (arith, la))))

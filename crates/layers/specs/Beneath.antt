@@ -48,6 +48,7 @@ pub record IsOver (below s : Stack) : Type 0 where
   pub raw : raw_of (stack_layers s) (stack_contents s) ≡ raw_of (stack_layers below) (stack_contents below)
   pub disk : disk_of s ≡ disk_of below
 
+-- under a flakey layer
 over_flakey : (f : Flakey) (p : _) (below : Stack) → IsOver below (Flakey' f p below)
 over_flakey f p below =
     let contents = beside_all (stack_contents below) f.offset _ in
@@ -58,6 +59,7 @@ over_flakey f p below =
       disk = refl;
     }
 
+-- under a dust layer
 over_dust : (d : Dust) (p : _) (below : Stack) → IsOver below (Dust' d p below)
 over_dust d p below =
     let contents = beside_all (stack_contents below) 0 (min d.sectors (stack_size below)) in
@@ -89,6 +91,7 @@ stack_reads (Flakey' f p below) first count = either_same (is_passed (layer_fate
 stack_reads (Dust' d p below) first count = either_same (is_passed (layer_fate (dust_layer d) (Reads first count))) (stack_reads below first count)
 stack_reads (Error e) first count = refl
 
+-- an operation leaves what lies beside one window
 widened_after : (l : Layer) (op : Operation) (done : Bool) (bytes : List ℕ) → widened (layer_after l op done) bytes ≡ widened l bytes
 widened_after (Flaky moment up down features offset) op done bytes = refl
 widened_after (Dusty sectors size enabled bad) (Reads first count) done bytes = refl
@@ -98,17 +101,19 @@ widened_after Broken op done bytes = refl
 widened_after (Counted left) op done bytes = refl
 widened_after (Window aside) op done bytes = refl
 
+-- the bytes at the bottom, where the layers may or may not be others that give the same
 either_raw : (b : Bool) (xs ys : List Layer) (bytes : List ℕ) → raw_of xs bytes ≡ raw_of ys bytes → raw_of (if b then xs else ys) bytes ≡ raw_of ys bytes
 either_raw true xs ys bytes same = same
 either_raw false xs ys bytes same = refl
 
--- an operation leaves what lies beside the windows as it is
+-- an operation leaves what lies beside all windows
 pub raw_after : (ls : List Layer) (op : Operation) (bytes : List ℕ) → raw_of (layers_after ls op) bytes ≡ raw_of ls bytes
 raw_after [] op bytes = refl
 raw_after (l ∷ ls) op bytes =
     either_raw (is_passed (layer_fate l op)) (layers_after ls (passed_on l op)) ls _ (raw_after ls (passed_on l op) _)
     ∙ ap (raw_of ls) (widened_after l op (is_answered (fate ls (passed_on l op))) bytes)
 
+-- the time leaves what lies beside one window
 widened_ticked : (n : ℕ) (l : Layer) (bytes : List ℕ) → widened (ticked n l) bytes ≡ widened l bytes
 widened_ticked n (Flaky moment up down features offset) bytes = refl
 widened_ticked n (Dusty sectors size enabled bad) bytes = refl
@@ -116,7 +121,7 @@ widened_ticked n Broken bytes = refl
 widened_ticked n (Counted left) bytes = refl
 widened_ticked n (Window aside) bytes = refl
 
--- so does the time
+-- the time leaves what lies beside all windows
 pub raw_ticked : (n : ℕ) (ls : List Layer) (bytes : List ℕ) → raw_of (layers_ticked n ls) bytes ≡ raw_of ls bytes
 raw_ticked n [] bytes = refl
 raw_ticked n (l ∷ ls) bytes = raw_ticked n ls _ ∙ ap (raw_of ls) (widened_ticked n l bytes)

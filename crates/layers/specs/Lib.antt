@@ -1,6 +1,7 @@
 pub mod Beneath
 pub mod Disk
 pub mod Layer
+pub mod Loudness
 pub mod Messages
 pub mod Stack
 pub mod Ticks

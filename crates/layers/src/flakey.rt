@@ -1,6 +1,6 @@
 // The flakey layer: reliable for some seconds, unreliable for some, and so on. Source: the kernel's page on dm-flakey. What a
 // flush does is this project's own choice.
-ghost use Rattle.std.specs.Prelude.{◌≡◌, ℕ, ◌+◌, ◌%◌, ◌<◌, if◌then◌else◌};
+ghost use Rattle.std.specs.Prelude.{◌≡◌, ℕ, ◌+◌, ◌%◌, ◌^◌, ◌<◌, if◌then◌else◌};
 ghost use Rattle.device.specs.declared.operation.Operation.TheVariants.{Reads};
 ghost use Rattle.device.specs.declared.operation.Fate.TheVariants.{Pass, Fail};
 
@@ -38,6 +38,7 @@ pub struct Flakey {
     /// How many operations it was asked for, modulo 2^64.
     pub done: u64,
     pub ghost runs: { moment < up + down },
+    pub ghost near: { offset < 2 ^ 32 },
 }
 
 impl Flakey {
@@ -45,9 +46,11 @@ impl Flakey {
     ghost use Rattle.layers.specs.Layer.{flakey_layer, features_of};
     ghost use Rattle.layers.specs.Ticks.{ticked};
 
-    /// A layer of so many sectors, those of the device below from `offset` on, at the first second of its `up`.
+    /// A layer of so many sectors, those of the device below from `offset` on, at the first second of its `up`. A table
+    /// line has an offset of 32 bits.
     pub fn new(sectors: u64, offset: u64, up: u32, down: u32, features: Features) -> Flakey
-        requires { 0 < up + down }
+        requires runs { 0 < up + down }
+        requires near { offset < 2 ^ 32 }
         ensures layer { flakey_layer result ≡ Flaky 0 up down (features_of features) offset }
         ensures sectors { result.sectors ≡ sectors }
         ensures offset { result.offset ≡ offset }

@@ -177,7 +177,7 @@ impl Block for Stack {
 
 impl Stack {
     ghost use Rattle.std.specs.Prelude.{◌≡◌, ◌≤◌, ◌+◌, ◌*◌, [], ◌∷◌, ℕ, List, Some, length, None, IfOk, IfErr, IfSome, IfNone};
-    ghost use Rattle.std.specs.Option.{option_copied, is_some};
+    ghost use Rattle.std.specs.Option.{option_copied};
     ghost use Rattle.sector.specs.Bytes.{sectors_at, with_sectors};
     ghost use Rattle.sector.specs.declared.refusal.Refusal.TheVariants.{NoMemory};
     ghost use Rattle.device.specs.Layers.{Window};
@@ -209,7 +209,6 @@ impl Stack {
 
     /// The stack under a dust layer, which has no more sectors. `NoMemory` where the allocator refuses room; the stack is
     /// then given back.
-    #[tactic(auto, using(crate::specs::Beneath::stack_over))]
     pub fn under_dust(self, alloc: Global, dust: Dust) -> Result<Stack, (Refusal, Stack)>
         requires inside { dust.sectors ≤ stack_size self }
         ensures below { IfOk result (λ s. below_of s ≡ Some self) }
@@ -229,7 +228,7 @@ impl Stack {
     }
 
     /// What is below the top layer, which is dropped. `None` for a disk and an error layer, which nothing is below.
-    #[tactic(auto, using(crate::specs::Beneath::stack_over, crate::specs::Beneath::stack_over_none))]
+    #[tactic(auto, using(crate::specs::Beneath::stack_over_none))]
     pub fn into_below(self) -> Option<Stack>
         ensures below { result ≡ below_of self }
         ensures over { IfSome result (λ s. IsOver s self) }
@@ -242,25 +241,13 @@ impl Stack {
         }
     }
 
-    /// The disk at the bottom. `None` over an error layer.
+    /// The disk at the bottom, whose sectors are its own, past all layers. `None` over an error layer.
     pub fn disk(&self) -> Option<&MemDisk>
         ensures { option_copied result ≡ disk_of self.now }
     {
         match self {
             Stack::Disk(disk) => Some(disk),
             Stack::Flakey(_, below) | Stack::Dust(_, below) => below.disk(),
-            Stack::Error(_) => None,
-        }
-    }
-
-    /// The disk at the bottom, to be changed. `None` over an error layer.
-    pub fn disk_mut(&mut self) -> Option<&mut MemDisk>
-        ensures { is_some result ≡ is_some (disk_of self.old) }
-    {
-        match self {
-            Stack::Disk(disk) => Some(disk),
-            Stack::Flakey(_, below) => below.disk_mut(),
-            Stack::Dust(_, below) => below.disk_mut(),
             Stack::Error(_) => None,
         }
     }

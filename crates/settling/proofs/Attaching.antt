@@ -226,21 +226,25 @@ tried_agrees number v w tried (Ok t) is agrees =
           (ap (λ o. (taken_by number tried.device o v).refused) refused, ap (λ o. (taken_by number tried.device o v).volume) refused))
     ]
 
--- an attach of a store that is not stale
-pub attach_faultless : (number line size : ℕ) (bytes : List ℕ) (v : Volume) (w : Settled) → IsBare v w → length w.array ≡ length w.disk → length bytes ≡ 512 * size →
+-- an attach of a store that is not stale, under a number of 32 bits
+pub attach_faultless : (number line size : ℕ) (bytes : List ℕ) (v : Volume) (w : Settled) → number < 4_294_967_296 → IsBare v w → length w.array ≡ length w.disk → length bytes ≡ 512 * size →
     AttachAgrees (attached number line (record { device = plainly bytes; stale = false }) v) v (settled_attached line bytes w)
 unfolding attached settled_attached
-attach_faultless number line size bytes v w is array whole =
+attach_faultless number line size bytes v w few is array whole =
     let count : length v.snaps ≡ length w.snaps = count_same v.snaps w.snaps is.snaps in
     let store : Store = record { device = plainly bytes; stale = false } in
     let outer : Bool → Bool → Attached = λ (b c : Bool). if b then (if c then with_tried number (open_store v.snaps (sectors_of v.origin) line store.device) v else refused_attach BadChunk store v) else refused_attach TooMany store v in
     let outer' : Bool → Bool → Result Settled Refusal = λ (b c : Bool). if b then (if c then with_taken w (taken line w.array bytes) else Err BadChunk) else Err TooMany in
-    let same : nat_lt (length v.snaps) 8 ≡ nat_lt (length w.snaps) 8 = ap (λ n. nat_lt n 8) count in
+    let same : (nat_lt (length v.snaps) 8 && nat_lt number 4_294_967_296) ≡ nat_lt (length w.snaps) 8 = ap (λ b. nat_lt (length v.snaps) 8 && b) (lt-ltb _ _ few) ∙ and_all (nat_lt (length v.snaps) 8) ∙ ap (λ n. nat_lt n 8) count in
     let sectors : sectors_of v.origin ≡ length w.array / 512 = ap (λ (d : Device). length d.bytes / 512) is.origin ∙ ap (λ n. n / 512) (sym array) in
-    subst (λ b. AttachAgrees (outer (nat_lt (length v.snaps) 8) (is_chunk line)) v (outer' b (is_chunk line))) same
-    (by_tests (nat_lt (length v.snaps) 8) (is_chunk line) (λ allowed. subst (λ n. AttachAgrees (with_tried number (open_store v.snaps n line (plainly bytes)) v) v (with_taken w (taken line w.array bytes))) (sym sectors)
+    subst (λ b. AttachAgrees (outer (nat_lt (length v.snaps) 8 && nat_lt number 4_294_967_296) (is_chunk line)) v (outer' b (is_chunk line))) same
+    (by_tests (nat_lt (length v.snaps) 8 && nat_lt number 4_294_967_296) (is_chunk line) (λ allowed. subst (λ n. AttachAgrees (with_tried number (open_store v.snaps n line (plainly bytes)) v) v (with_taken w (taken line w.array bytes))) (sym sectors)
     (tried_agrees number v w (open_store v.snaps (length w.array / 512) line (plainly bytes)) (taken line w.array bytes) is (open_agrees v.snaps line size w.array bytes (is_chunk-some line allowed) whole))))
   where
+    and_all : (b : Bool) → (b && true) ≡ b
+    and_all true = refl
+    and_all false = refl
+
     by_tests : (b c : Bool) → (c ≡ true → AttachAgrees (with_tried number (open_store v.snaps (sectors_of v.origin) line (plainly bytes)) v) v (with_taken w (taken line w.array bytes))) →
         AttachAgrees (if b then (if c then with_tried number (open_store v.snaps (sectors_of v.origin) line (plainly bytes)) v else refused_attach BadChunk (record { device = plainly bytes; stale = false }) v) else refused_attach TooMany (record { device = plainly bytes; stale = false }) v) v
         (if b then (if c then with_taken w (taken line w.array bytes) else Err BadChunk) else Err TooMany)

@@ -42,7 +42,7 @@ use Rattle.settling.proofs.Ends.{Ends, IsUnread, requests_after, ends_read}
 use Rattle.settling.proofs.Saves.{saves_nothing, saves_full, saves_copy, chunk_read}
 use Rattle.settling.proofs.Resting.{rests_live, saved_chunk, saved_snap}
 use Rattle.settling.proofs.Clears.{and_last, unclear_unsaved, unclear_untried, clear_all}
-use Rattle.settling.proofs.Primed.{tried_of, primed, primed_none, primed_full, primed_copy, resting_idle, primed_later, primed_above, least_low}
+use Rattle.settling.proofs.Primed.{tried_of, primed, primed_none, primed_full, primed_copy, needs_resting, resting_idle, primed_later, primed_above, least_low}
 
 goes_between : (u u' v v' : Moving) → u ≡ u' → v' ≡ v → Goes u' v' → Goes u v
 goes_between u u' v v' a b goes = subst (λ (x : Moving). Goes x v) (sym a) (subst (Goes u') b goes)
@@ -143,7 +143,7 @@ module _ (sectors number : ℕ) (range : Range) (bytes : List ℕ) (a : Option R
 
   -- what the store's bytes say is what is in memory
   pub needs_same : (c : ℕ) (h : Held) → IsResting sectors h → needs_none c h ≡ (not h.snap.live || has_chunk c h.snap)
-  needs_same c h rest = elim (cases_Bool h.snap.live) [
+  needs_same c h rest = needs_resting c h rest.copies ∙ elim (cases_Bool h.snap.live) [
     | inl on ↦ ap (λ ps. not h.snap.live || is_some (place_of ps c)) (sym (rest.live on).pairs)
     | inr out ↦ rw out refl
   ]
@@ -152,7 +152,7 @@ module _ (sectors number : ℕ) (range : Range) (bytes : List ℕ) (a : Option R
   next_same h kept = kept.next ∙ ap (next_of h.snap.chunk) (sym kept.pairs)
 
   saved_already : (h : Held) → IsResting sectors h → needs_none (range.first / h.snap.chunk) h ≡ true → is_saved range.first h ≡ true
-  saved_already h rest none = rw rest.marks (or_and (not h.snap.live) (is_some (place_of h.pairs (range.first / h.snap.chunk))) none)
+  saved_already h rest none = rw rest.marks (or_and (not h.snap.live) (is_some (place_of h.pairs (range.first / h.snap.chunk))) (sym (needs_resting (range.first / h.snap.chunk) h rest.copies) ∙ none))
 
   size_is : (n m : ℕ) → n ≡ 512 * m → n / 512 ≡ m
   size_is n m e = omega arith

@@ -1,15 +1,17 @@
 -- An origin write's copies, once the marks of the stores that were full are tried: each snapshot is idle, or has one copy
 -- that waits, and the copies' numbers go up.
-use Rattle.std.proofs.Common.{◌≡◌, inl, inr, ℕ, ◌+◌, ◌/◌, ◌<◌, ◌≤◌, true, false, List, [], ◌∷◌, Option, Some, None, min, arith, refl, ap, ◌∙◌, sym, subst}
-use Rattle.std.specs.Prelude.{if◌then◌else◌}
+use Rattle.std.proofs.Common.{◌≡◌, inl, inr, ℕ, ◌+◌, ◌/◌, ◌<◌, ◌≤◌, Bool, true, false, List, [], ◌∷◌, Option, Some, None, min, arith, refl, ap, ◌∙◌, sym, subst}
+use Rattle.std.specs.Prelude.{◌==◌, ◌||◌, not, is_some, if◌then◌else◌}
+use Rattle.std.specs.List.{list_any}
 use Rattle.std.proofs.lemmas.Bool.{cases_Bool, cond-true, cond-false}
 use Rattle.pending.specs.declared.copies.Stage.TheVariants.{Waiting}
 use Rattle.pending.specs.Due.{least}
 use Rattle.settling.specs.Saving.{spoilt}
-use Rattle.settling.specs.Held.{Held}
+use Rattle.model.specs.Picture.{place_of}
+use Rattle.settling.specs.Held.{Copying, Held}
 use Rattle.settling.specs.Due.{copy_at, least_in}
 use Rattle.settling.specs.Rest.{IsResting}
-use Rattle.settling.specs.Submitting.{needs_none, is_filled, with_copy, started_all}
+use Rattle.settling.specs.Submitting.{needs_none, is_filled, with_copy, started_all, refused_by}
 use Rattle.settling.proofs.Lists.{Each}
 use Rattle.settling.proofs.Around.{IsIdle, IsLater, idle_later}
 
@@ -32,6 +34,22 @@ primed_full first m h snaps some full = cond-false _ _ _ some ∙ cond-true _ _ 
 
 pub primed_copy : (first m : ℕ) (h : Held) (snaps : List Held) → needs_none (first / h.snap.chunk) h ≡ false → is_filled h ≡ false → primed first m (h ∷ snaps) ≡ with_copy (m + 1) (first / h.snap.chunk) h ∷ primed first (m + 1) snaps
 primed_copy first m h snaps some room = cond-false _ _ _ some ∙ cond-false _ _ _ room
+
+or_none : (b : Bool) → (b || false) ≡ b
+or_none true = refl
+or_none false = refl
+
+-- while no copy is under way
+pub needs_resting : (c : ℕ) (h : Held) → h.copies ≡ [] → needs_none c h ≡ (not h.snap.live || is_some (place_of h.pairs c))
+needs_resting c h none = ap (λ (cs : List Copying). not h.snap.live || is_some (place_of h.pairs c) || list_any (λ p. p.pair.old == c) cs) none ∙ or_none (not h.snap.live || is_some (place_of h.pairs c))
+
+-- no request is in flight that could be refused
+pub refused_none : (first : ℕ) (snaps : List Held) → refused_by first snaps [] ≡ []
+refused_none first [] = refl
+refused_none first (h ∷ snaps) = elim (cases_Bool (needs_none (first / h.snap.chunk) h || not (is_filled h))) [
+  | inl stays ↦ cond-true _ _ _ stays ∙ refused_none first snaps
+  | inr full ↦ cond-false _ _ _ full ∙ refused_none first snaps
+]
 
 pub started_none : (first m : ℕ) (h : Held) (snaps : List Held) → needs_none (first / h.snap.chunk) h ≡ true → started_all first m (h ∷ snaps) ≡ h ∷ started_all first m snaps
 started_none first m h snaps none = cond-true _ _ _ none

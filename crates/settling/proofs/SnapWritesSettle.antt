@@ -1,6 +1,6 @@
 -- A write of a snapshot, submitted to a volume at rest, settles to the big step.
 use Rattle.std.proofs.Common.{◌≡◌, inl, inr, ℕ, ◌+◌, ◌*◌, ◌/◌, ◌%◌, ◌<◌, ◌≤◌, Bool, true, false, List, [], ◌∷◌, ◌++◌, length, map, Option, Some, None, arith, refl, ap, ◌∙◌, sym, subst, eq-eqb, eqb-true}
-use Rattle.std.specs.Prelude.{◌==◌, ◌||◌, not, is_some, nat_lt, if◌then◌else◌}
+use Rattle.std.specs.Prelude.{◌==◌, ◌&&◌, ◌||◌, not, is_some, nat_lt, if◌then◌else◌}
 use Rattle.std.specs.List.{All}
 use Rattle.std.proofs.lemmas.Bool.{cases_Bool, cond-true, cond-false, true≢false}
 use Rattle.sector.specs.Bytes.{with_sectors}
@@ -35,7 +35,7 @@ use Rattle.settling.specs.Held.{Held, Going, Moving, with_store, spoiled}
 use Rattle.settling.specs.Due.{copy_at, least_in}
 use Rattle.settling.specs.Again.{again}
 use Rattle.settling.specs.Stepping.{for_some, answer, on_store, write_reply}
-use Rattle.settling.specs.Submitting.{submitted, accepted, declined, is_filled, with_copy, write_placed, write_snap as submit_write}
+use Rattle.settling.specs.Submitting.{submitted, accepted, declined, needs_none, is_filled, with_copy, write_placed, write_snap as submit_write}
 use Rattle.settling.specs.Rest.{IsKept, IsResting, IsAtRest}
 use Rattle.settling.specs.Settles.{SettlesTo}
 use Rattle.settling.proofs.Lists.{Each, each_weaker, each_from, here_that, none_least}
@@ -47,7 +47,7 @@ use Rattle.settling.proofs.Saves.{saves_nothing, saves_full, saves_copy, chunk_r
 use Rattle.settling.proofs.Resting.{rests_live, saved_snap, saved_chunk, saved_number}
 use Rattle.settling.proofs.Clears.{and_last}
 use Rattle.settling.proofs.Primed.{tried_of, resting_idle}
-use Rattle.settling.proofs.OriginWrites.{next_same, copy_bytes, as_holding}
+use Rattle.settling.proofs.OriginWrites.{needs_same, next_same, copy_bytes, as_holding}
 use Rattle.settling.proofs.Found.{split_at, none_that, served_nowhere}
 use Rattle.settling.proofs.Issued.{mine_of, issued, answered_here, settles_there}
 use Rattle.settling.proofs.Served.{snap_of, each_first, each_here, each_last, each_joined, served_settles}
@@ -135,9 +135,17 @@ module _ (sectors number n : ℕ) (range : Range) (bytes : List ℕ) where
       begun : write_begun (done ++ h ∷ rest) ≡ submit_write number (snap_write_request n range bytes) is_this h (at origin (done ++ h ∷ rest) [] a k)
       begun = ap (λ o. for_some o (λ x. submit_write number (snap_write_request n range bytes) is_this x (at origin (done ++ h ∷ rest) [] a k)) (declined (at origin (done ++ h ∷ rest) [] a k))) (here_that is_this done rest h before pass)
 
+      if_some : (o : Option ℕ) → (if is_some o && not false then o else None) ≡ o
+      if_some None = refl
+      if_some (Some p) = refl
+
+      -- without marks each chunk that it has is published
+      published_rest : (ps : List Pair) (ms : List Mark) (x : ℕ) → ms ≡ [] → published_place ps ms x ≡ place_of ps x
+      published_rest ps ms x none = ap (λ (m : List Mark). published_place ps m x) none ∙ if_some (place_of ps x)
+
       -- by the place of the chunk
       by_place : (o : Option ℕ) → h.snap.live ≡ true → place_of h.pairs c ≡ o → write_begun (done ++ h ∷ rest) ≡ write_placed number (snap_write_request n range bytes) is_this h o (at origin (done ++ h ∷ rest) [] a k)
-      by_place o on is = begun ∙ cond-true _ _ _ on ∙ ap (λ x. write_placed number (snap_write_request n range bytes) is_this h x (at origin (done ++ h ∷ rest) [] a k)) is
+      by_place o on is = begun ∙ cond-true _ _ _ on ∙ ap (λ x. write_placed number (snap_write_request n range bytes) is_this h x (at origin (done ++ h ∷ rest) [] a k)) (published_rest h.pairs h.marks c here.marks ∙ is)
 
       -- a snapshot that is not live
       write_dead : h.snap.live ≡ false → WriteSettles (done ++ h ∷ rest)
@@ -164,6 +172,9 @@ module _ (sectors number n : ℕ) (range : Range) (bytes : List ℕ) where
       lacks : h.snap.live ≡ true → place_of h.pairs c ≡ None → (not h.snap.live || has_chunk c h.snap) ≡ false
       lacks on none = rw (on, has_same None on none) refl
 
+      lacks_copy : h.snap.live ≡ true → place_of h.pairs c ≡ None → needs_none c h ≡ false
+      lacks_copy on none = needs_same sectors number range bytes a k c h here ∙ lacks on none
+
       -- one whose store is full
       write_full : h.snap.live ≡ true → place_of h.pairs c ≡ None → is_filled h ≡ true → WriteSettles (done ++ h ∷ rest)
       write_full on none filled =
@@ -173,7 +184,7 @@ module _ (sectors number n : ℕ) (range : Range) (bytes : List ℕ) where
           served_settles sectors n (write_snap (span_of range) bytes) origin origin done rest h (tried_of h) reply k _ v before pass all
           (record { tried = refl; copies = refl; marks = refl; live = λ live. absurd (true≢false (sym live)) }) whole
           (saved_is origin h.snap x (saves_full c origin h.snap (lacks on none) (sym (full_same on) ∙ filled)) ∙ saved_dead x refl)
-          (by_place None on none ∙ cond-true _ _ _ filled ∙ ap declined (put_here origin done rest [] a k is_this h before pass (spoiled h)))
+          (by_place None on none ∙ cond-false _ _ _ (lacks_copy on none) ∙ cond-true _ _ _ filled ∙ ap declined (put_here origin done rest [] a k is_this h before pass (spoiled h)))
           (marks_here origin done rest [] (Some reply) k (spoiled h) (each_weaker IsIdle (λ (d : Held). d.untried ≡ false) done (λ d i. i.tried) idle_done) refl)
 
       -- one that copies the chunk first
@@ -223,7 +234,7 @@ module _ (sectors number n : ℕ) (range : Range) (bytes : List ℕ) where
         copied_idle = each_joined IsIdle done rest e.held idle_done (resting_idle sectors e.held copied_rests) idle_rest
 
         copied_begun : write_begun (done ++ h ∷ rest) ≡ at origin (done ++ with_copy (k + 1) c h ∷ rest) (routed Waits ∷ []) a (k + 1)
-        copied_begun = by_place None on none ∙ cond-false _ _ _ filled ∙ ap (accepted number (snap_write_request n range bytes) Waits) (put_here origin done rest [] a (k + 1) is_this h before pass (with_copy (k + 1) c h))
+        copied_begun = by_place None on none ∙ cond-false _ _ _ (lacks_copy on none) ∙ cond-false _ _ _ filled ∙ ap (accepted number (snap_write_request n range bytes) Waits) (put_here origin done rest [] a (k + 1) is_this h before pass (with_copy (k + 1) c h))
 
         copied_saved : write_snap (span_of range) bytes origin h.snap ≡ write_saved (span_of range) bytes saving
         copied_saved = saved_is origin h.snap saving (saves_copy c origin h.snap (lacks on none) has_room)

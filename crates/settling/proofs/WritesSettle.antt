@@ -1,6 +1,6 @@
 -- A write of the origin, submitted to a volume at rest, settles to the big step.
 use Rattle.std.proofs.Common.{◌≡◌, ℕ, ◌+◌, ◌*◌, ◌/◌, ◌<◌, ◌≤◌, false, List, [], ◌∷◌, ◌++◌, length, map, arith, refl, ap, ◌∙◌, sym, inl, inr}
-use Rattle.std.specs.Prelude.{◌||◌, not, sum_by}
+use Rattle.std.specs.Prelude.{◌||◌, not}
 use Rattle.std.proofs.lemmas.Bool.{cases_Bool, cond-true, cond-false}
 use Rattle.sector.specs.Bytes.{with_sectors}
 use Rattle.sector.specs.declared.range.Range.{Range}
@@ -17,7 +17,7 @@ use Rattle.settling.specs.Saving.{Saving, is_full, has_chunk, save}
 use Rattle.settling.specs.Pieces.{Answered, save_all, write_origin}
 use Rattle.settling.specs.Held.{Held, Going, Moving}
 use Rattle.settling.specs.Stepping.{write_reply}
-use Rattle.settling.specs.Submitting.{started_all, submitted}
+use Rattle.settling.specs.Submitting.{started_all, started_by, refused_by, submitted}
 use Rattle.settling.specs.Rest.{IsResting, IsAtRest}
 use Rattle.settling.specs.Settles.{SettlesTo}
 use Rattle.settling.proofs.Lists.{Each, each_weaker, each_from}
@@ -25,7 +25,7 @@ use Rattle.settling.proofs.Goes.{goes_on}
 use Rattle.settling.proofs.Around.{at, IsIdle}
 use Rattle.settling.proofs.Issued.{settles_there}
 use Rattle.settling.proofs.Saves.{saves_nothing, saves_full, saves_copy}
-use Rattle.settling.proofs.Primed.{resting_idle}
+use Rattle.settling.proofs.Primed.{resting_idle, refused_none}
 use Rattle.settling.proofs.OriginWrites.{snap_of, going, route_for, writing, tries_all, Finals, copies_all, issues}
 
 -- a copy's read changes no byte of the origin
@@ -57,7 +57,7 @@ pub origin_write_settles : (sectors number : ℕ) (range : Range) (bytes : List 
     SettlesTo sectors (submitted number (write_request range bytes) v) (write_origin (span_of range) bytes (record { origin = v.origin; snaps = map (λ (h : Held). h.snap) v.snaps }))
 origin_write_settles sectors number range bytes v rest some fits len =
     let snaps : List Held = started_all range.first v.started v.snaps in
-    let k : ℕ = v.started + sum_by (λ (h : Held). length h.copies) snaps in
+    let k : ℕ = started_by range.first v.started v.snaps in
     let start : Moving = writing sectors number range bytes v.replied k v.origin snaps in
     let going_as : List Going → Moving = λ (rs : List Going). at v.origin snaps (rs ++ going sectors number range bytes v.replied k (route_for sectors number range bytes v.replied k snaps) ∷ []) v.replied k in
     let resting : Each (IsResting sectors) v.snaps = each_from (IsResting sectors) v.snaps rest.snaps in
@@ -71,7 +71,7 @@ origin_write_settles sectors number range bytes v rest some fits len =
     let after : Device = written_by all.origin (Writes range.first range.count) (with_sectors all.origin.bytes range.first bytes) in
     let reply : Reply = write_reply all.origin range.first range.count in
     let made : List Snap → Answered = λ (ss : List Snap). record { volume = record { origin = after; snaps = ss }; reply = reply } in
-    settles_there sectors (submitted number (write_request range bytes) v) start after saved.finals reply k _ (ap going_as rest.requests)
+    settles_there sectors (submitted number (write_request range bytes) v) start after saved.finals reply k _ (ap (λ (rs : List Going). going_as (refused_by range.first v.snaps rs)) rest.requests ∙ ap going_as (refused_none range.first v.snaps))
     (goes_on start _ _ (tries_all sectors number range bytes v.replied k v.origin [] v.snaps v.started tt (each_weaker (IsResting sectors) (λ (d : Held). d.untried ≡ false) v.snaps (λ d r. r.tried) resting))
     (goes_on _ _ _ saved.goes (issues sectors number range bytes v.replied k all.origin saved.finals idle saved.saved)))
     (written_length all.origin range.first range.count bytes len room ∙ same ∙ whole) saved.rest (ap made (sym saved.same))

@@ -1,7 +1,7 @@
 -- Attaching a snapshot over a device that may fail, and giving its store back: what is read and written, in what order, and
 -- each refusal. The format is that of dm-snap-persistent.c; the order of the tests and of the writes, and that the first
 -- operation that fails ends it with Io, are this project's rules.
-use Rattle.std.specs.Prelude.{◌==◌, ℕ, zero, suc, ◌+◌, ◌*◌, ◌/◌, ◌%◌, nat_lt, Bool, false, true, not, List, [], ◌∷◌, ◌++◌, length, drop, Option, Some, None, Result, Ok, Err, if◌then◌else◌}
+use Rattle.std.specs.Prelude.{◌==◌, ℕ, zero, suc, ◌+◌, ◌*◌, ◌/◌, ◌%◌, nat_lt, Bool, false, true, ◌&&◌, not, List, [], ◌∷◌, ◌++◌, length, drop, Option, Some, None, Result, Ok, Err, if◌then◌else◌}
 use Rattle.std.specs.List.{list_all}
 use Rattle.sector.specs.Bytes.{with_part, sector_at}
 use Rattle.sector.specs.declared.refusal.Refusal.{Refusal}
@@ -115,11 +115,12 @@ taken_by number device (Ok chunk) v = record {
 abbrev pub with_tried : ℕ → Tried → Volume → Attached
 with_tried number tried v = taken_by number tried.device tried.outcome v
 
--- an attach of a store, under a number and by a table line with this chunk size
+-- An attach of a store, under a number and by a table line with this chunk size. A volume has eight snapshots at most, and
+-- numbers have 32 bits.
 unfoldable pub attached : ℕ → ℕ → Store → Volume → Attached
 attached number chunk store v =
     if store.stale then refused_attach Stale store v
-    else (if nat_lt (length v.snaps) 8 then (if is_chunk chunk then with_tried number (open_store v.snaps (sectors_of v.origin) chunk store.device) v else refused_attach BadChunk store v)
+    else (if nat_lt (length v.snaps) 8 && nat_lt number 4_294_967_296 then (if is_chunk chunk then with_tried number (open_store v.snaps (sectors_of v.origin) chunk store.device) v else refused_attach BadChunk store v)
     else refused_attach TooMany store v)
 
 -- a detach of the snapshot of a number, the first that has it: its store, with its stale mark

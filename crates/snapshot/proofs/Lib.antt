@@ -2,3 +2,4 @@ pub mod Copies
 pub mod Stores
 pub mod Events
 pub mod Openings
+pub mod Tries

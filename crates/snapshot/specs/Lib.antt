@@ -1,3 +1,4 @@
+pub mod Attaching
 pub mod Calls
 pub mod Held
 pub mod Kept

@@ -28,6 +28,7 @@ impl<B: Block> Snapshot<B> {
         ensures written { OnOk result (IsTrue (is_loud (B.layers self.old.device)) → B.contents self.new.device ≡ with_sectors (B.contents self.old.device) (self.old.state.chunk * area_place self.old.state.chunk (self.old.state.current + 1)) (replicate (512 * self.old.state.chunk) 0)) }
         ensures same { OnErr result (B.contents self.new.device ≡ B.contents self.old.device) }
         ensures durable { B.durable self.new.device ≡ B.durable self.old.device }
+        ensures size { B.size self.new.device ≡ B.size self.old.device }
 
         ensures fields { OnOk result (self.new ≡ record self.old { device = self.new.device; state = record self.old.state { zeroed = true } }) }
         ensures zeroes { OnOk result (ZeroesArea (self.old.state.current + 1) (books_of B.contents B.layers self.old) (books_of B.contents B.layers self.new)) }
@@ -54,6 +55,7 @@ impl<B: Block> Snapshot<B> {
         ensures written { OnOk result (IsTrue (is_loud (B.layers self.old.device)) → B.contents self.new.device ≡ with_part (B.contents self.old.device) (slot_start self.old.state.chunk self.old.state.current self.old.state.filled) (pairs_bytes (take count self.old.begun))) }
         ensures same { OnErr result (B.contents self.new.device ≡ B.contents self.old.device) }
         ensures durable { B.durable self.new.device ≡ B.durable self.old.device }
+        ensures size { B.size self.new.device ≡ B.size self.old.device }
 
         ensures fields { OnOk result (self.new ≡ record self.old { device = self.new.device; state = after_commit self.old.state count; pairs = self.old.pairs ++ take count self.old.begun; begun = drop count self.old.begun; copies = drop count self.old.copies; marks = self.old.marks ++ map mark_of (take count self.old.copies) }) }
         ensures commits { OnOk result (Commits count self.old.state.current (books_of B.contents B.layers self.old) (books_of B.contents B.layers self.new)) }

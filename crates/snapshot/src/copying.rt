@@ -50,6 +50,7 @@ impl<B: Block> Snapshot<B> {
         ensures loud { is_loud (B.layers self.new.device) ≡ is_loud (B.layers self.old.device) }
         ensures same { OnErr result (B.contents self.new.device ≡ B.contents self.old.device) }
         ensures durable { B.durable self.new.device ≡ B.durable self.old.device }
+        ensures size { B.size self.new.device ≡ B.size self.old.device }
 
         ensures wrote { OnOk result ((p : ChunkCopy) × (q : ChunkCopy) × WritesAt B.contents B.layers index p q self.old self.new) }
         ensures kept { OnErr result (self.new ≡ record self.old { device = self.new.device }) }

@@ -9,6 +9,7 @@
 
 mod committing;
 mod copying;
+mod layering;
 mod opening;
 mod placing;
 mod snapshot;

@@ -14,6 +14,10 @@ ghost use Rattle.volume_laws.specs.Steps.{IsNewSnap};
 ghost use Rattle.snapshot.specs.Kept.{books_of};
 ghost use Rattle.snapshot.specs.Opening.{IsWanted, IsOpenRefused, IsOpenedAs, prepared, shown_array, ChangesFront};
 ghost use Rattle.snapshot.specs.Opened.{IsOpened, IsBack};
+ghost use Rattle.store.specs.Reading.{AreRead};
+ghost use Rattle.settling.specs.Snaps.{Snap};
+ghost use Rattle.settling.specs.Attaching.{open_store, refuse, done};
+ghost use Rattle.snapshot.specs.Attaching.{device_of, AreSized, prepared_by};
 
 use crate::Snapshot;
 use device::{Block, Io};
@@ -57,6 +61,9 @@ fn open_wanted<B: Block>(
     ensures contents { MatchResult result (λ store. B.contents store.device ≡ B.contents device) (λ refused. B.contents refused.1 ≡ B.contents device) }
     ensures durable { MatchResult result (λ store. B.durable store.device ≡ B.durable device) (λ refused. B.durable refused.1 ≡ B.durable device) }
     ensures size { MatchResult result (λ store. B.size store.device ≡ B.size device) (λ refused. B.size refused.1 ≡ B.size device) }
+    ensures exact { IfOk result (λ store. (snaps : List Snap) → AreSized wanted snaps → open_store snaps sectors chunk (device_of B.contents B.layers device) ≡ prepared_by store.state.left store.state (device_of B.contents B.layers store.device)) }
+    ensures back { IfErr result (λ e. e.0 ≢ NoMemory → (snaps : List Snap) → AreSized wanted snaps → open_store snaps sectors chunk (device_of B.contents B.layers device) ≡ refuse e.0 (device_of B.contents B.layers e.1)) }
+    ensures starved { IfErr result (λ e. e.0 ≡ NoMemory → AreRead (B.layers device) (B.layers e.1)) }
     ensures loud { MatchResult result (λ store. is_loud (B.layers store.device) ≡ is_loud (B.layers device)) (λ refused. is_loud (B.layers refused.1) ≡ is_loud (B.layers device)) }
     ensures faults { MatchResult result (λ store. B.fault_count store.device ≡ B.fault_count device) (λ refused. B.fault_count refused.1 ≡ faults_after refused.0 (B.fault_count device)) }
 {
@@ -79,6 +86,7 @@ fn prepare_all<B: Block>(store: &mut Store<B>) -> Result<(), Io>
     ensures places { store.new.places ≡ store.old.places }
     ensures written { OnOk result (IsTrue (is_loud (B.layers store.old.device)) → B.contents store.new.device ≡ prepared store.old.state.left store.old.state (B.contents store.old.device)) }
     ensures stopped { OnErr result ((B.contents store.new.device ≡ B.contents store.old.device) ⊎ ((store.old.state.left ≡ FirstArea) × (IsTrue (is_loud (B.layers store.old.device)) → B.contents store.new.device ≡ with_left FirstArea store.old.state (B.contents store.old.device)) × ChangesOnly store.old.state.chunk (area_place store.old.state.chunk store.old.state.current) (B.contents store.old.device) (B.contents store.new.device))) }
+    ensures operations { is_loud (B.layers store.old.device) ≡ true → MatchResult result (λ _. prepared_by store.old.state.left store.old.state (device_of B.contents B.layers store.old.device) ≡ done store.old.state.chunk (device_of B.contents B.layers store.new.device)) (λ _. prepared_by store.old.state.left store.old.state (device_of B.contents B.layers store.old.device) ≡ refuse IoRefusal (device_of B.contents B.layers store.new.device)) }
     ensures only { ChangesFront store.old.state.chunk store.old.state.current (B.contents store.old.device) (B.contents store.new.device) }
     ensures durable { B.durable store.new.device ≡ B.durable store.old.device }
     ensures loud { is_loud (B.layers store.new.device) ≡ is_loud (B.layers store.old.device) }
@@ -116,6 +124,9 @@ pub fn open_snapshot<B: Block>(
     ensures unfilled { IfOk result (λ s. s.state.filled < 32 * s.state.chunk) }
     ensures new { IfOk result (λ s. (origin : List ℕ) → length origin ≡ 512 * sectors → IsNewSnap origin (books_of B.contents B.layers s)) }
     ensures shown { IfOk result (λ s. is_loud (B.layers store.device) ≡ true → (origin : List ℕ) → picture s.state.chunk origin (B.contents s.device) ≡ shown_array origin (B.contents store.device)) }
+    ensures exact { IfOk result (λ s. is_loud (B.layers store.device) ≡ true → (snaps : List Snap) → AreSized wanted snaps → open_store snaps sectors chunk (device_of B.contents B.layers store.device) ≡ done s.state.chunk (device_of B.contents B.layers s.device)) }
+    ensures given_back { IfErr result (λ e. e.0 ≢ NoMemory → is_loud (B.layers store.device) ≡ true → (snaps : List Snap) → AreSized wanted snaps → open_store snaps sectors chunk (device_of B.contents B.layers store.device) ≡ refuse e.0 (device_of B.contents B.layers e.1.device)) }
+    ensures starved { IfErr result (λ e. e.0 ≡ NoMemory → (B.contents e.1.device ≡ B.contents store.device) × AreRead (B.layers store.device) (B.layers e.1.device)) }
     ensures refused { IfErr result (λ e. IsOpenRefused chunk wanted sectors (B.size store.device) (B.contents store.device) e.0) }
     ensures back { IfErr result (λ e. IsBack chunk e.0 (B.contents store.device) (B.contents e.1.device)) }
     ensures stale { IfErr result (λ e. e.1.stale ≡ store.stale) }

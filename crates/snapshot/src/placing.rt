@@ -26,6 +26,7 @@ impl<B: Block> Snapshot<B> {
         ensures writes { OnOk result ((c : ℕ) → WritesPlace c place first bytes.now (books_of B.contents B.layers self.old) (books_of B.contents B.layers self.new)) }
         ensures same { OnErr result (B.contents self.new.device ≡ B.contents self.old.device) }
         ensures durable { B.durable self.new.device ≡ B.durable self.old.device }
+        ensures size { B.size self.new.device ≡ B.size self.old.device }
         ensures fields { self.new ≡ record self.old { device = self.new.device } }
     {
         match self.store.write_chunk(place, first, count, bytes) {
@@ -54,6 +55,7 @@ impl<B: Block> Snapshot<B> {
         ensures err { OnErr result (out.new ≡ out.old) }
         ensures same { B.contents self.new.device ≡ B.contents self.old.device }
         ensures durable { B.durable self.new.device ≡ B.durable self.old.device }
+        ensures size { B.size self.new.device ≡ B.size self.old.device }
         ensures fields { self.new ≡ record self.old { device = self.new.device } }
     {
         match self.store.read_chunk(place, first, count, out) {

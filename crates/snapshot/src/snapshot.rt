@@ -1,5 +1,6 @@
 // A snapshot, and what callers ask of it.
-ghost use Rattle.std.specs.Prelude.{◌≡◌, ℕ, ◌+◌, ◌*◌, ◌<◌, ◌≤◌, MatchBool};
+ghost use Rattle.std.specs.Prelude.{◌≡◌, ℕ, ◌+◌, ◌*◌, ◌<◌, ◌≤◌, MatchBool, true};
+ghost use Rattle.chunk.specs.Sizes.{is_chunk};
 ghost use Rattle.model.specs.NextPlace.{IsFull, LacksArea};
 ghost use Rattle.model.specs.Places.{area_place};
 ghost use Rattle.model.specs.Picture.{place_of as place_in};
@@ -75,7 +76,8 @@ impl<B: Block> Snapshot<B> {
 
     /// The sectors of a chunk.
     pub fn chunk(&self) -> u32
-        ensures { result ≡ self.now.state.chunk }
+        ensures is { result ≡ self.now.state.chunk }
+        ensures allowed { is_chunk result ≡ true }
     {
         self.store.chunk()
     }

@@ -1,6 +1,8 @@
+pub mod AreaReads
 pub mod Areas
 pub mod Commits
 pub mod Distinct
+pub mod FirstReads
 pub mod Given
 pub mod Judged
 pub mod Loads

@@ -97,24 +97,28 @@ areas_rise chunk a b le =
     let rows : a * (32 * chunk + 1) ≤ b * (32 * chunk + 1) = mul-le a (32 * chunk + 1) b (32 * chunk + 1) le (omega arith) in
     mul-le chunk (area_place chunk a + 1) chunk (area_place chunk b + 1) (omega arith) (omega arith)
 
--- a store whose full areas have no next one
-pub prefix_lacks : (size chunk a : ℕ) (b : List ℕ) (ps : List Pair) → 0 < chunk → IsPrefix chunk b a ps → size < chunk * (area_place chunk a + 1) → size < chunk * (area_place chunk (length (pairs_of chunk b) / (32 * chunk)) + 1)
-prefix_lacks size chunk a b ps pos pre past =
+-- full areas come before the one of the first empty slot
+pub prefix_low : (chunk a : ℕ) (b : List ℕ) (ps : List Pair) → 0 < chunk → IsPrefix chunk b a ps → a ≤ length (pairs_of chunk b) / (32 * chunk)
+prefix_low chunk a b ps pos pre =
     let all = IsListed-of chunk b (pairs_of chunk b) pos refl in
     let len = pre.len in
     let many : a * (32 * chunk) ≤ length (pairs_of chunk b) = elim (cases_lt (length (pairs_of chunk b)) (a * (32 * chunk))) [
       | inl lt ↦ absurd (pre.valid (length (pairs_of chunk b)) (omega arith) all.ends)
       | inr ge ↦ ge
     ] in
-    let le : a ≤ length (pairs_of chunk b) / (32 * chunk) = quotient_le a (32 * chunk) (length (pairs_of chunk b)) (omega arith) many in
-    let up = areas_rise chunk a (length (pairs_of chunk b) / (32 * chunk)) le in
-    omega arith
+    quotient_le a (32 * chunk) (length (pairs_of chunk b)) (omega arith) many
   where
     quotient_le : (a w n : ℕ) → 0 < w → a * w ≤ n → a ≤ n / w
     quotient_le a w n pos le = elim (cases_lt (n / w) a) [
       | inl lt ↦ absurd (let h : n / w * w + w ≤ a * w = rows_below (n / w) a w lt in let d : w * (n / w) + n % w ≡ n = omega arith in let m : n % w < w = omega arith in let c : w * (n / w) ≡ n / w * w = grind arith in omega arith)
       | inr ge ↦ ge
     ]
+
+-- a store whose full areas have no next one
+pub prefix_lacks : (size chunk a : ℕ) (b : List ℕ) (ps : List Pair) → 0 < chunk → IsPrefix chunk b a ps → size < chunk * (area_place chunk a + 1) → size < chunk * (area_place chunk (length (pairs_of chunk b) / (32 * chunk)) + 1)
+prefix_lacks size chunk a b ps pos pre past =
+    let up = areas_rise chunk a (length (pairs_of chunk b) / (32 * chunk)) (prefix_low chunk a b ps pos pre) in
+    omega arith
 
 -- an area whose number is not below a store's sectors is not in it
 pub area_far : (size chunk a : ℕ) → 0 < chunk → size ≤ a → size < chunk * (area_place chunk a + 1)

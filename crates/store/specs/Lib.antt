@@ -4,5 +4,7 @@ pub mod Loading
 pub mod Opened
 pub mod Opening
 pub mod Operations
+pub mod Reading
 pub mod Slots
 pub mod Stored
+pub mod Layering

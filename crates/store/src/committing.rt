@@ -48,6 +48,7 @@ impl<B: Block> Store<B> {
         ensures same { OnErr result (B.contents self.new.device ≡ B.contents self.old.device) }
         ensures only { ChangesOnly self.old.state.chunk (area_place self.old.state.chunk (self.old.state.current + 1)) (B.contents self.old.device) (B.contents self.new.device) }
         ensures durable { B.durable self.new.device ≡ B.durable self.old.device }
+        ensures size { B.size self.new.device ≡ B.size self.old.device }
 
         ensures exceptions { self.new.exceptions ≡ self.old.exceptions }
         ensures places { self.new.places ≡ self.old.places }
@@ -84,6 +85,7 @@ impl<B: Block> Store<B> {
         ensures only { ChangesOnly self.old.state.chunk (area_place self.old.state.chunk self.old.state.current) (B.contents self.old.device) (B.contents self.new.device) }
         ensures loud { is_loud (B.layers self.new.device) ≡ is_loud (B.layers self.old.device) }
         ensures durable { B.durable self.new.device ≡ B.durable self.old.device }
+        ensures size { B.size self.new.device ≡ B.size self.old.device }
 
         ensures committed { OnOk result (committed self.new.exceptions ≡ committed self.old.exceptions ++ pairs (take count (pending self.old.exceptions))) }
         ensures pending { OnOk result (pending self.new.exceptions ≡ drop count (pending self.old.exceptions)) }

@@ -12,6 +12,7 @@ mod chunks;
 mod committing;
 mod copying;
 mod judging;
+mod layering;
 mod loading;
 mod marking;
 mod merging;

@@ -5,7 +5,8 @@ ghost use Rattle.sector.specs.declared.refusal.Refusal.TheVariants.{NoMemory, Io
 ghost use Rattle.std.specs.Prelude.{AllPairs};
 ghost use Rattle.std.specs.List.{All};
 ghost use Rattle.chunk.specs.Sizes.{is_chunk};
-ghost use Rattle.device.specs.Layers.{is_loud};
+ghost use Rattle.device.specs.Layers.{layers_after, is_loud};
+ghost use Rattle.device.specs.declared.operation.Operation.TheVariants.{Reads};
 ghost use Rattle.model.specs.Places.{chunk_at, area_place};
 ghost use Rattle.model.specs.Pairs.{pairs_of, IsApart, IsInside, AreWellFormed};
 ghost use Rattle.metadata_area.specs.Cleared.{HasTail, HasNoTail};
@@ -15,6 +16,7 @@ ghost use Rattle.store.specs.Held.{committed, pending, reserved};
 ghost use Rattle.store.specs.Loaded.{IsCleared};
 ghost use Rattle.store.specs.Opening.{IsRefused, IsOpenedFresh, IsOpenedWritten, IsFirstRefusal, faults_after};
 ghost use Rattle.store.specs.Opened.{MatchLoaded};
+ghost use Rattle.store.specs.Reading.{ended, all_read, read_found, read_pairs, reading, IsEnded};
 
 use crate::judging::{are_formed, greatest_new};
 use crate::loading::{hold_pairs, read_areas};
@@ -35,6 +37,9 @@ fn read_header<B: Block>(device: &mut B) -> Result<Found, Refusal>
     ensures durable { B.durable device.new ≡ B.durable device.old }
     ensures size { B.size device.new ≡ B.size device.old }
     ensures loud { is_loud (B.layers device.new) ≡ is_loud (B.layers device.old) }
+    ensures one { OnOk result (B.layers device.new ≡ layers_after (B.layers device.old) (Reads 0 1)) }
+    ensures says { IfOk result (λ found. (line : ℕ) → reading line (B.size device.old) (B.contents device.old) (B.layers device.old) ≡ read_found line (B.size device.old) (B.contents device.old) (Ok found) (B.layers device.new)) }
+    ensures unread { IfErr result (λ e. (line : ℕ) → reading line (B.size device.old) (B.contents device.old) (B.layers device.old) ≡ ended e (B.layers device.new)) }
     ensures faults { MatchResult result (λ _. B.fault_count device.new ≡ B.fault_count device.old) (λ e. B.fault_count device.new ≡ faults_after e (B.fault_count device.old)) }
 {
     let size = device.sectors();
@@ -88,6 +93,7 @@ pub fn open<B: Block>(
     ensures durable { MatchResult result (λ opened. B.durable opened.0.device ≡ B.durable device) (λ refused. B.durable refused.1 ≡ B.durable device) }
     ensures size { MatchResult result (λ opened. B.size opened.0.device ≡ B.size device) (λ refused. B.size refused.1 ≡ B.size device) }
     ensures loud { MatchResult result (λ opened. is_loud (B.layers opened.0.device) ≡ is_loud (B.layers device)) (λ refused. is_loud (B.layers refused.1) ≡ is_loud (B.layers device)) }
+    ensures layers { MatchResult result (λ opened. reading chunk (B.size device) (B.contents device) (B.layers device) ≡ all_read (B.layers opened.0.device)) (λ refused. IsEnded (reading chunk (B.size device) (B.contents device) (B.layers device)) refused.0 (B.layers device) (B.layers refused.1)) }
     ensures faults { MatchResult result (λ opened. B.fault_count opened.0.device ≡ B.fault_count device) (λ refused. B.fault_count refused.1 ≡ faults_after refused.0 (B.fault_count device)) }
 {
     let found = match read_header(&mut device) {
@@ -186,6 +192,7 @@ fn open_written<B: Block>(
     ensures durable { MatchResult result (λ store. B.durable store.device ≡ B.durable device) (λ refused. B.durable refused.1 ≡ B.durable device) }
     ensures size { MatchResult result (λ store. B.size store.device ≡ B.size device) (λ refused. B.size refused.1 ≡ B.size device) }
     ensures loud { MatchResult result (λ store. is_loud (B.layers store.device) ≡ is_loud (B.layers device)) (λ refused. is_loud (B.layers refused.1) ≡ is_loud (B.layers device)) }
+    ensures layers { MatchResult result (λ store. read_pairs chunk (B.size device) (B.contents device) (B.layers device) ≡ all_read (B.layers store.device)) (λ refused. IsEnded (read_pairs chunk (B.size device) (B.contents device) (B.layers device)) refused.0 (B.layers device) (B.layers refused.1)) }
     ensures faults { MatchResult result (λ store. B.fault_count store.device ≡ B.fault_count device) (λ refused. B.fault_count refused.1 ≡ faults_after refused.0 (B.fault_count device)) }
 {
     let Ok(mut area) = Area::new(alloc, chunk) else {

@@ -1,5 +1,5 @@
 -- The events after which held writes are routed again: a mark is taken away, and a spoiled store's mark is tried.
-use Rattle.std.proofs.Common.{◌≡◌, inl, inr, ℕ, zero, suc, ◌<◌, Bool, true, false, List, [], ◌∷◌, ◌++◌, Some, None, length, get_or, set, map, refl, sym, ◌∙◌, ap, arith, nat_eq, length-append}
+use Rattle.std.proofs.Common.{◌≡◌, inl, inr, ℕ, zero, suc, ◌<◌, Bool, true, false, List, [], ◌∷◌, ◌++◌, Some, None, length, get_or, set, map, refl, sym, ◌∙◌, ap, arith, nat_eq, length-append, subst}
 use Rattle.std.specs.Prelude.{not}
 use Rattle.std.specs.List.{list_any, position, remove}
 use Rattle.std.proofs.lemmas.Bool.{false≢true, eqb-true}
@@ -29,13 +29,14 @@ use Rattle.volume_laws.proofs.Left.{unmark_left, tried_left}
 use Rattle.volume_laws.proofs.Lists.{map-remove}
 use Rattle.snapshot.specs.Kept.{Kept, books_of as snap_books, due_of_kept}
 use Rattle.volume.specs.Volumed.{Volumed, books_of}
-use Rattle.volume.specs.Whole.{IsWhole, numbers_in}
+use Rattle.volume.specs.Whole.{IsWhole, IsCounted, numbers_in}
 use Rattle.volume.specs.Finding.{is_trying, is_mark_of}
 use Rattle.volume.specs.Causes.{HasCause}
 use Rattle.volume.proofs.Changing.{SameDisk, same_disk, StaysAttached, changed, books_within, books_is, changes}
 use Rattle.volume.proofs.Counting.{counts_same, counts_store, store_within, lives_same}
 use Rattle.volume.proofs.CopyEvents.{both_left, both_right}
 use Rattle.volume.proofs.Good.{IsGood, Spoiling, silent_good}
+use Rattle.volume.proofs.MovedCounts.{counted_marks}
 
 -- requests keep their numbers
 again_numbers : (clear : ℕ → Bool) (rs : List Flight) → map number_of_flight (map (again_of None clear) rs) ≡ map number_of_flight rs
@@ -99,7 +100,7 @@ module _ {B : Type 0} (contents : B → List ℕ) (layers : B → List Layer) (s
 
   -- a spoiled snapshot's mark was tried
   module _ (outcome : Outcome) (told : Spoiling (WriteInvalid number) outcome) (found : is_trying number s ≡ true) (f : (s'.number ≡ s.number) × (s'.live ≡ s.live) × (s'.untried ≡ false) × (s'.state ≡ s.state) × (s'.copies ≡ s.copies) × (s'.marks ≡ s.marks))
-      (t : TriesMark (snap_books contents layers s) (snap_books contents layers s')) (loud : is_loud (layers s'.device) ≡ is_loud (layers s.device)) (counted : done s'.device ≡ next_count (done s.device)) where
+      (t : TriesMark (snap_books contents layers s) (snap_books contents layers s')) (loud : is_loud (layers s'.device) ≡ is_loud (layers s.device)) (sized : size s'.device ≡ size s.device) (counted : done s'.device ≡ next_count (done s.device)) (counts : IsCounted s → IsCounted s') where
     pub tried_good : HasCause faults (WriteInvalid number) outcome v (changed v v.origin k s' (again v.flights)) → IsGood contents layers size faults done (WriteInvalid number) outcome v (changed v v.origin k s' (again v.flights))
     tried_good cause =
         let vb = books_of contents layers size v in
@@ -112,8 +113,9 @@ module _ {B : Type 0} (contents : B → List ℕ) (layers : B → List Layer) (s
           chunk_is = ap (λ x. x.chunk) f.3;
           origin = ap (λ x. x.origin) f.3;
           numbers = inl (ap (λ ms. map number_of_mark ms ++ map number_of_copy s'.copies) f.5 ∙ ap (λ cs. map number_of_mark s.marks ++ map number_of_copy cs) f.4);
+          counted = counts;
         } in
-        silent_good contents layers size faults done v h (WriteInvalid number) outcome told v.origin k s s' within is disk loud (again v.flights) (again_numbers clear v.flights) stays
+        silent_good contents layers size faults done v h (WriteInvalid number) outcome told v.origin k s s' within is disk loud sized (again v.flights) (again_numbers clear v.flights) stays
         (silent_then vb ub wb one two (loud_one k (snap_books contents layers s) (snap_books contents layers s') vb ub e_is loud))
         (waits_tried k (snap_books contents layers s) (snap_books contents layers s') vb ub wb h.waits e_is t (reroutes v.flights))
         (tried_left (due_of_kept contents layers s) (due_of_kept contents layers s') (both_right (nat_eq s.number number) s.untried found) f.2 (f.1 ∙ t.was) f.4 f.5)
@@ -162,8 +164,9 @@ module _ {B : Type 0} (contents : B → List ℕ) (layers : B → List Layer) (s
             ap (λ (x : Kept B). numbers_in x) f ∙ ap (λ ns. ns ++ map number_of_copy s.copies) (map-remove number_of_mark s.marks j)
                 ∙ sym (remove_front (map number_of_mark s.marks) (map number_of_copy s.copies) j (omega (arith, r.within, length-map s.marks number_of_mark))),
           ));
+          counted = λ counts. subst IsCounted (sym f) (counted_marks s counts (remove s.marks j));
         } in
-        silent_good contents layers size faults done v h (Publish number) Done (λ p q x. x) v.origin k s s' within is disk loud (again placed) (again_numbers clear placed ∙ placed_numbers b v.flights) stays
+        silent_good contents layers size faults done v h (Publish number) Done (λ p q x. x) v.origin k s s' within is disk loud (ap size device) (again placed) (again_numbers clear placed ∙ placed_numbers b v.flights) stays
         (silent_then vb ub wb one (silent_then ub xb wb two three (same_loud v.flights placed)) (loud_one k a b vb ub e_is loud))
         (waits_published k j m a b vb ub xb wb h.waits e_is r places (reroutes placed))
         (unmark_left j m (due_of_kept contents layers s) (due_of_kept contents layers s') r (ap (λ (x : Kept B). x.state.zeroed) f))

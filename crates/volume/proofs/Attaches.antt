@@ -18,7 +18,7 @@ use Rattle.volume_laws.proofs.Waiting.{waits_none}
 use Rattle.snapshot.specs.Kept.{Kept, books_of as snap_books}
 use Rattle.snapshot.specs.Opening.{IsWanted}
 use Rattle.volume.specs.Volumed.{Volumed, books_of, piece_of, plain_of}
-use Rattle.volume.specs.Whole.{AreNumbers, number_of_snap, numbers_in, count_in, SharesNone, IsAttached, IsWhole}
+use Rattle.volume.specs.Whole.{AreNumbers, number_of_snap, numbers_in, count_in, SharesNone, IsAttached, IsWhole, IsCounted}
 use Rattle.volume.specs.Taking.{wanted_of, taking_refusal}
 use Rattle.volume.proofs.Shown.{shown}
 use Rattle.volume.proofs.Sums.{sum_cons}
@@ -68,13 +68,14 @@ module _ {B : Type 0} (contents : B → List ℕ) (layers : B → List Layer) (s
     merge = refl;
   }
 
-  pub whole_taken : length v.snaps < 8 → s.state.origin ≡ size v.origin → IsWanted (wanted_of v.snaps) s.state.chunk → numbers_in s ≡ [] → IsWhole contents layers size taken
-  whole_taken room origin wanted idle =
+  pub whole_taken : length v.snaps < 8 → s.state.origin ≡ size v.origin → IsWanted (wanted_of v.snaps) s.state.chunk → numbers_in s ≡ [] → IsCounted s → IsWhole contents layers size taken
+  whole_taken room origin wanted idle counts =
       let all_numbers : AreNumbers v.copies (numbers_in s) = subst (AreNumbers v.copies) (sym idle) (record { given = All-nil (λ n. n ≤ v.copies); ascending = λ i j d lt within. absurd (omega (arith, within)) }) in
       record {
         holds = (attach_event (snap_books contents layers s) (books_of contents layers size v) (books_of contents layers size taken) h.holds attaches new).0;
         waits = waits_none (books_of contents layers size taken) none;
         snaps = attached_push v.copies (size v.origin) v.snaps s wanted h.snaps (record { origin = origin; chunk_is = refl; some = new.text.some; numbers = all_numbers });
+        counted = All-push IsCounted v.snaps s h.counted counts;
         apart = all_pairs_push SharesNone v.snaps s h.apart (λ k d lt i e within. subst (All (λ n. get_or (numbers_in (get_or v.snaps k d)) i e ≢ n)) (sym idle) (All-nil (λ n. get_or (numbers_in (get_or v.snaps k d)) i e ≢ n)));
         numbers = subst (AreNumbers (v.attached + 1)) (sym (numbers_push v.snaps s)) (record {
           given = All-push (λ n. n ≤ v.attached + 1) (map number_of_snap v.snaps) s.number (All-weaker (λ n. n ≤ v.attached) (λ n. n ≤ v.attached + 1) (λ n le. omega (arith, le)) (map number_of_snap v.snaps) h.numbers.given) (omega (arith, number));

@@ -15,7 +15,7 @@ use Rattle.volume_laws.specs.Whole.{Holds}
 use Rattle.volume_laws.specs.Waits.{Waits}
 use Rattle.snapshot.specs.Kept.{Kept}
 use Rattle.volume.specs.Volumed.{Volumed, books_of, piece_of}
-use Rattle.volume.specs.Whole.{AreNumbers, number_of_snap, numbers_in, count_in, SharesNone, IsAttached, IsWhole}
+use Rattle.volume.specs.Whole.{AreNumbers, number_of_snap, numbers_in, count_in, SharesNone, IsAttached, IsWhole, IsCounted}
 use Rattle.volume.proofs.Changing.{piece_set}
 
 map_push : {X : Type 0} (f : X → ℕ) (xs : List X) (x : X) → map f (xs ++ x ∷ []) ≡ map f xs ++ f x ∷ []
@@ -56,9 +56,9 @@ module _ {B : Type 0} (contents : B → List ℕ) (layers : B → List Layer) (s
   abbrev pub begun : Volumed B
   begun = record v { snaps = set v.snaps k s'; copies = v.copies + 1 }
 
-  pub whole_begun : IsWhole contents layers size v → s'.number ≡ s.number → s'.state.chunk ≡ s.state.chunk → s'.state.origin ≡ s.state.origin → numbers_in s' ≡ numbers_in s ++ (v.copies + 1) ∷ [] → sum_by count_in v.snaps < 256
+  pub whole_begun : IsWhole contents layers size v → s'.number ≡ s.number → s'.state.chunk ≡ s.state.chunk → s'.state.origin ≡ s.state.origin → numbers_in s' ≡ numbers_in s ++ (v.copies + 1) ∷ [] → (IsCounted s → IsCounted s') → sum_by count_in v.snaps < 256
       → Holds (books_of contents layers size begun) → Waits (books_of contents layers size begun) → IsWhole contents layers size begun
-  whole_begun h number chunk origin numbers room holds waits =
+  whole_begun h number chunk origin numbers counts room holds waits =
       let old : IsAttached v.copies (size v.origin) (piece_of v.snaps) s = subst (IsAttached v.copies (size v.origin) (piece_of v.snaps)) (sym is) (h.snaps k s within) in
       let piece : piece_of (set v.snaps k s') ≡ piece_of v.snaps = piece_set v.snaps k s s' is chunk in
       let more : v.copies ≤ v.copies + 1 = omega arith in
@@ -82,6 +82,7 @@ module _ {B : Type 0} (contents : B → List ℕ) (layers : B → List Layer) (s
         holds = holds;
         waits = waits;
         snaps = subst (λ n. All (IsAttached (v.copies + 1) (size v.origin) n) (set v.snaps k s')) (sym piece) (All-set (IsAttached (v.copies + 1) (size v.origin) (piece_of v.snaps)) v.snaps k s' mine all);
+        counted = All-set IsCounted v.snaps k s' (counts (subst IsCounted (sym is) (h.counted k s within))) h.counted;
         apart = all_pairs_set_in (IsAttached v.copies (size v.origin) (piece_of v.snaps)) SharesNone v.snaps k s s' within is h.snaps
             (λ t known none. subst (All (λ m. All (λ n. m ≢ n) (numbers_in t))) (sym numbers)
             (All-push (λ m. All (λ n. m ≢ n) (numbers_in t)) (numbers_in s) (v.copies + 1) none

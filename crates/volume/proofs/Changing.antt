@@ -18,7 +18,7 @@ use Rattle.volume_laws.specs.Waits.{Waits}
 use Rattle.volume_laws.proofs.Left.{one_left}
 use Rattle.snapshot.specs.Kept.{Kept, books_of as snap_books, due_of_kept}
 use Rattle.volume.specs.Volumed.{Volumed, books_of, piece_of, is_loud_in_all, left_in_all}
-use Rattle.volume.specs.Whole.{AreNumbers, number_of_snap, numbers_in, count_in, SharesNone, IsAttached, IsWhole}
+use Rattle.volume.specs.Whole.{AreNumbers, number_of_snap, numbers_in, count_in, SharesNone, IsAttached, IsWhole, IsCounted}
 use Rattle.volume.proofs.Lists.{all_pairs_set, list_all_set, IsFewer, fewer_all, fewer_pairs, fewer_length}
 
 -- an origin disk that holds the same
@@ -36,6 +36,7 @@ pub record StaysAttached {B : Type 0} (s s' : Kept B) : Type 0 where
   pub chunk_is : s'.state.chunk ≡ s.state.chunk
   pub origin : s'.state.origin ≡ s.state.origin
   pub numbers : IsFewer (numbers_in s) (numbers_in s')
+  pub counted : IsCounted s → IsCounted s'
 
 abbrev pub changed : {B : Type 0} → Volumed B → B → ℕ → Kept B → List Flight → Volumed B
 changed v o k s flights = record v { origin = o; snaps = set v.snaps k s; flights = flights }
@@ -48,6 +49,7 @@ piece_set (x ∷ xs) (suc k) s s' is same = refl
 -- what a volume's snapshots keep among themselves
 pub record SnapsFit {B : Type 0} (copies attached sectors : ℕ) (all : List (Kept B)) : Type 0 where
   pub snaps : All (IsAttached copies sectors (piece_of all)) all
+  pub counted : All IsCounted all
   pub apart : AllPairs SharesNone all
   pub numbers : AreNumbers attached (map number_of_snap all)
   pub few : length all ≤ 8
@@ -56,6 +58,7 @@ pub record SnapsFit {B : Type 0} (copies attached sectors : ℕ) (all : List (Ke
 pub snaps_fit : {B : Type 0} (contents : B → List ℕ) (layers : B → List Layer) (size : B → ℕ) (v : Volumed B) (sectors : ℕ) → IsWhole contents layers size v → sectors ≡ size v.origin → SnapsFit v.copies v.attached sectors v.snaps
 snaps_fit contents layers size v sectors h same = record {
   snaps = subst (λ n. All (IsAttached v.copies n (piece_of v.snaps)) v.snaps) (sym same) h.snaps;
+  counted = h.counted;
   apart = h.apart;
   numbers = h.numbers;
   few = h.few;
@@ -118,6 +121,7 @@ module _ {B : Type 0} (contents : B → List ℕ) (layers : B → List Layer) (s
       record {
         snaps = subst (λ n. All (IsAttached v.copies n (piece_of (set v.snaps k s'))) (set v.snaps k s')) (sym same.sectors)
             (subst (λ n. All (IsAttached v.copies (size v.origin) n) (set v.snaps k s')) (sym piece) (All-set (IsAttached v.copies (size v.origin) (piece_of v.snaps)) v.snaps k s' mine h.snaps));
+        counted = All-set IsCounted v.snaps k s' (stays.counted (subst IsCounted (sym is) (h.counted k s within))) h.counted;
         apart = all_pairs_set SharesNone v.snaps k s s' within is
             (λ t none. fewer_all (λ m. All (λ n. m ≢ n) (numbers_in t)) (numbers_in s) (numbers_in s') stays.numbers none)
             (λ t none. All-weaker (λ m. All (λ n. m ≢ n) (numbers_in s)) (λ m. All (λ n. m ≢ n) (numbers_in s')) (λ m all. fewer_all (λ n. m ≢ n) (numbers_in s) (numbers_in s') stays.numbers all) (numbers_in t) none)
@@ -136,6 +140,7 @@ module _ {B : Type 0} (contents : B → List ℕ) (layers : B → List Layer) (s
         holds = holds;
         waits = waits;
         snaps = fit.snaps;
+        counted = fit.counted;
         apart = fit.apart;
         numbers = fit.numbers;
         requests = subst (AreNumbers v.requests) (sym numbers) h.requests;

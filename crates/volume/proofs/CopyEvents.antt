@@ -1,5 +1,5 @@
 -- The events of one copy: it is read from the origin disk, and written to its place.
-use Rattle.std.proofs.Common.{◌≡◌, inl, inr, ℕ, suc, ◌<◌, Bool, true, false, List, [], ◌∷◌, ◌++◌, Some, length, get_or, set, map, refl, ◌∙◌, ap, arith, nat_eq}
+use Rattle.std.proofs.Common.{◌≡◌, inl, inr, ℕ, suc, ◌<◌, Bool, true, false, List, [], ◌∷◌, ◌++◌, Some, length, get_or, set, map, refl, ◌∙◌, ap, arith, nat_eq, sym, subst}
 use Rattle.std.specs.Prelude.{◌&&◌, Any}
 use Rattle.std.specs.List.{position}
 use Rattle.std.proofs.lemmas.Bool.{false≢true, eqb-true}
@@ -24,12 +24,13 @@ use Rattle.volume_laws.proofs.Left.{copy_read_left, copy_write_left}
 use Rattle.snapshot.specs.Kept.{Kept, books_of as snap_books, due_of_kept}
 use Rattle.snapshot.specs.Calls.{ReadsAt, WritesAt}
 use Rattle.volume.specs.Volumed.{Volumed, books_of}
-use Rattle.volume.specs.Whole.{IsWhole, numbers_in}
+use Rattle.volume.specs.Whole.{IsWhole, IsCounted, numbers_in}
 use Rattle.volume.specs.Finding.{is_copy_of}
 use Rattle.volume.proofs.Changing.{SameDisk, StaysAttached, changed, books_within, books_is, changes}
 use Rattle.volume.proofs.Counting.{counts_same, counts_origin, counts_store, store_within, lives_same, lives_spoiled, lived}
 use Rattle.volume.proofs.Finds.{position_within, position_any}
 use Rattle.volume.proofs.Good.{IsGood, SpoiltTo, silent_good, spoilt_good}
+use Rattle.volume.proofs.MovedCounts.{counted_copies}
 
 -- a stage by its test
 pub stage_by : (stage other : Stage) → is_stage stage other ≡ true → other ≡ stage
@@ -106,17 +107,18 @@ module _ {B : Type 0} (contents : B → List ℕ) (layers : B → List Layer) (s
           chunk_is = ap (λ (x : Kept B). x.state.chunk) f;
           origin = ap (λ (x : Kept B). x.state.origin) f;
           numbers = inl (same_numbers s s' j p q r.copy.was e.copy.number r.marks r.copy.copies);
+          counted = λ counts. subst IsCounted (sym f) (counted_copies s counts s.device j q);
         } in
-        silent_good contents layers size faults done v h (CopyRead number) Done (λ a b x. x) o' k s s' within is same (ap (λ d. is_loud (layers d)) device) v.flights refl stays
+        silent_good contents layers size faults done v h (CopyRead number) Done (λ a b x. x) o' k s s' within is same (ap (λ d. is_loud (layers d)) device) (ap size device) v.flights refl stays
         (copy_read_event k (sb s) (sb s') (books_of contents layers size v) (books_of contents layers size w) h.holds e_is j p q r)
         (waits_changed k (sb s) (sb s') (books_of contents layers size v) (books_of contents layers size w) h.waits e_is (copy_read_keeps (contents v.origin) j p q (sb s) (sb s') r))
         (copy_read_left (contents v.origin) j p q (due_of_kept contents layers s) (due_of_kept contents layers s') r (copy_stage Waiting number s.copies j found p r.copy.was) (ap (λ (x : Kept B). x.state.zeroed) f))
         (record { counts = counts_same v o' k s s' v.flights within is faults faulty (ap faults device); lives = lives_same v o' k s s' v.flights within is (ap (λ (x : Kept B). x.live) f) })
         (inr (0, omega arith, counts_origin v o' k s s' v.flights within is done counted (ap done device)))
 
-    pub write_good : position (is_copy_of Read number) s.copies ≡ Some j → WritesAt contents layers j p q s s' → is_loud (layers s'.device) ≡ is_loud (layers s.device) → faults o' ≡ faults v.origin → done o' ≡ done v.origin
+    pub write_good : position (is_copy_of Read number) s.copies ≡ Some j → WritesAt contents layers j p q s s' → is_loud (layers s'.device) ≡ is_loud (layers s.device) → size s'.device ≡ size s.device → faults o' ≡ faults v.origin → done o' ≡ done v.origin
         → faults s'.device ≡ faults s.device → done s'.device ≡ next_count (done s.device) → IsGood contents layers size faults done (CopyWrite number) Done v (changed v o' k s' v.flights)
-    write_good found e loud faulty counted faulty' counted' =
+    write_good found e loud sized faulty counted faulty' counted' =
         let sb = snap_books contents layers in
         let w = changed v o' k s' v.flights in
         let r = e.event in
@@ -126,8 +128,9 @@ module _ {B : Type 0} (contents : B → List ℕ) (layers : B → List Layer) (s
           chunk_is = ap (λ (x : Kept B). x.state.chunk) f;
           origin = ap (λ (x : Kept B). x.state.origin) f;
           numbers = inl (same_numbers s s' j p q r.copy.was e.copy.number r.marks r.copy.copies);
+          counted = λ counts. subst IsCounted (sym f) (counted_copies s counts s'.device j q);
         } in
-        silent_good contents layers size faults done v h (CopyWrite number) Done (λ a b x. x) o' k s s' within is same loud v.flights refl stays
+        silent_good contents layers size faults done v h (CopyWrite number) Done (λ a b x. x) o' k s s' within is same loud sized v.flights refl stays
         (copy_write_event k (sb s) (sb s') (books_of contents layers size v) (books_of contents layers size w) h.holds e_is j p q r)
         (waits_changed k (sb s) (sb s') (books_of contents layers size v) (books_of contents layers size w) h.waits e_is (copy_write_keeps j p q (sb s) (sb s') r))
         (copy_write_left j p q (due_of_kept contents layers s) (due_of_kept contents layers s') r (ap (λ (x : Kept B). x.state.zeroed) f))
@@ -140,7 +143,7 @@ module _ {B : Type 0} (contents : B → List ℕ) (layers : B → List Layer) (s
   read_fault found t device faulty counted =
       let flights = map (refused_of (s.number ∷ [])) v.flights in
       let live = copy_lives (position_within (is_copy_of Waiting number) s.copies j found) in
-      spoilt_good contents layers size faults done v h (CopyRead number) Fault (λ a b x. x) o' k s s' within is same (ap (λ d. is_loud (layers d)) device) live (copy_some Waiting number s.copies j found) t
+      spoilt_good contents layers size faults done v h (CopyRead number) Fault (λ a b x. x) o' k s s' within is same (ap (λ d. is_loud (layers d)) device) (ap size device) live (copy_some Waiting number s.copies j found) t
       (record {
         place = k;
         snap = s;
@@ -151,13 +154,13 @@ module _ {B : Type 0} (contents : B → List ℕ) (layers : B → List Layer) (s
       (inr (0, omega arith, counts_origin v o' k s s' flights within is done counted (ap done device)))
 
   -- the snapshot's store failed
-  pub write_fault : position (is_copy_of Read number) s.copies ≡ Some j → SpoiltTo s s' → is_loud (layers s'.device) ≡ is_loud (layers s.device) → faults o' ≡ faults v.origin → done o' ≡ done v.origin
+  pub write_fault : position (is_copy_of Read number) s.copies ≡ Some j → SpoiltTo s s' → is_loud (layers s'.device) ≡ is_loud (layers s.device) → size s'.device ≡ size s.device → faults o' ≡ faults v.origin → done o' ≡ done v.origin
       → faults s'.device ≡ next_count (faults s.device) → done s'.device ≡ next_count (done s.device)
       → IsGood contents layers size faults done (CopyWrite number) Fault v (changed v o' k s' (map (refused_of (s.number ∷ [])) v.flights))
-  write_fault found t loud faulty counted faulty' counted' =
+  write_fault found t loud sized faulty counted faulty' counted' =
       let flights = map (refused_of (s.number ∷ [])) v.flights in
       let live = copy_lives (position_within (is_copy_of Read number) s.copies j found) in
-      spoilt_good contents layers size faults done v h (CopyWrite number) Fault (λ a b x. x) o' k s s' within is same loud live (copy_some Read number s.copies j found) t
+      spoilt_good contents layers size faults done v h (CopyWrite number) Fault (λ a b x. x) o' k s s' within is same loud sized live (copy_some Read number s.copies j found) t
       (record {
         place = k;
         snap = s;

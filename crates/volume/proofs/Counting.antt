@@ -1,11 +1,13 @@
 -- What devices count, and which snapshots are live, where one snapshot changes.
-use Rattle.std.proofs.Common.{◌≡◌, ℕ, suc, ◌<◌, true, false, List, ◌∷◌, length, get_or, set, map, sym, ◌∙◌, ap, arith}
+use Rattle.std.proofs.Common.{◌≡◌, ℕ, suc, ◌<◌, true, false, List, ◌∷◌, length, get_or, set, map, refl, sym, ◌∙◌, ap, arith}
 use Rattle.std.proofs.lemmas.List.{map-set, length-map, get_or-map}
 use Rattle.std.proofs.Math.Seq.{map-set_same}
 use Rattle.sector.specs.Bytes.{next_count}
 use Rattle.pending.specs.declared.flights.Flight.{Flight}
 use Rattle.snapshot.specs.Kept.{Kept}
 use Rattle.volume.specs.Volumed.{Volumed}
+use Rattle.volume.specs.Whole.{number_of_snap}
+use Rattle.volume.specs.Stepping.{KeepsAll}
 use Rattle.volume.specs.Causes.{counts_of, counted, lives_of}
 use Rattle.volume.proofs.Changing.{changed}
 
@@ -45,3 +47,19 @@ module _ {B : Type 0} (v : Volumed B) (o' : B) (k : ℕ) (s s' : Kept B) (flight
 
   pub lived : s.live ≡ true → get_or (lives_of v) k false ≡ true
   lived live = get_or-map (λ (x : Kept B). x.live) v.snaps k s false within ∙ ap (λ (x : Kept B). x.live) (sym is) ∙ live
+
+  -- what no event changes
+  pub kept_numbers : s'.number ≡ s.number → map number_of_snap (set v.snaps k s') ≡ map number_of_snap v.snaps
+  kept_numbers number = map-set_same number_of_snap v.snaps k s' s (number ∙ ap number_of_snap is)
+
+  pub kept_chunks : s'.state.chunk ≡ s.state.chunk → map (λ (x : Kept B). x.state.chunk) (set v.snaps k s') ≡ map (λ (x : Kept B). x.state.chunk) v.snaps
+  kept_chunks chunk = map-set_same (λ (x : Kept B). x.state.chunk) v.snaps k s' s (chunk ∙ ap (λ (x : Kept B). x.state.chunk) is)
+
+pub kept_changed : {B : Type 0} (size : B → ℕ) (v : Volumed B) (o' : B) (k : ℕ) (s s' : Kept B) (flights : List Flight) → k < length v.snaps → s ≡ get_or v.snaps k s → size o' ≡ size v.origin → size s'.device ≡ size s.device → s'.number ≡ s.number
+    → s'.state.chunk ≡ s.state.chunk → KeepsAll size v (changed v o' k s' flights)
+kept_changed size v o' k s s' flights within is origin store number chunk = record {
+  attached = refl;
+  numbers = kept_numbers v o' k s s' flights within is number;
+  chunks = kept_chunks v o' k s s' flights within is chunk;
+  sizes = counts_same v o' k s s' flights within is size origin store;
+}

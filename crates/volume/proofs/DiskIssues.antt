@@ -78,7 +78,8 @@ module _ {B : Type 0} (contents : B → List ℕ) (layers : B → List Layer) (s
 
   good : (reply : Reply) → IsReply number reply vb wb → HasReplied faults number reply v issued → IsOneAtMost done v issued → IsGood contents layers size faults done (Issue number) (Replied number reply) v issued
   good reply answered cause one = reply_good contents layers size faults done v issued h number place reply in_list refl refl refl refl (snaps_fit contents layers size v (size o') h same_size) refl
-      (ap (λ b. b && list_all (λ (s : Kept B). is_loud (layers s.device)) v.snaps) same_loud) answered waits cause one
+      (ap (λ b. b && list_all (λ (s : Kept B). is_loud (layers s.device)) v.snaps) same_loud)
+      (record { attached = refl; numbers = refl; chunks = refl; sizes = ap (λ n. n ∷ map (λ (s : Kept B). size s.device) v.snaps) same_size }) answered waits cause one
 
   faultless : faults o' ≡ faults v.origin → IsFaultless faults v issued
   faultless same = record { counts = ap (λ n. n ∷ map (λ (s : Kept B). faults s.device) v.snaps) same; lives = refl }

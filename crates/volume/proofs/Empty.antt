@@ -10,7 +10,7 @@ use Rattle.volume_laws.proofs.Attaching.{new_volume}
 use Rattle.volume_laws.proofs.Waiting.{waits_none}
 use Rattle.volume_laws.proofs.Quiet.{quiet}
 use Rattle.volume.specs.Volumed.{Volumed, books_of, dues_of}
-use Rattle.volume.specs.Whole.{AreNumbers, IsAttached, IsWhole}
+use Rattle.volume.specs.Whole.{AreNumbers, IsAttached, IsWhole, IsCounted}
 use Rattle.volume.proofs.Shown.{due_books}
 
 none_numbered : (most : ℕ) → AreNumbers most []
@@ -25,6 +25,7 @@ empty_whole contents layers size origin whole = record {
   holds = new_volume (contents origin) (size origin) (is_loud (layers origin)) whole;
   waits = waits_none (books_of contents layers size (empty origin)) refl;
   snaps = All-nil (IsAttached 0 (size origin) 1024);
+  counted = All-nil IsCounted;
   apart = λ i j d lt within. absurd (omega (arith, within));
   numbers = none_numbered 0;
   requests = none_numbered 0;

@@ -48,6 +48,7 @@ module _ {B : Type 0} (contents : B → List ℕ) (layers : B → List Layer) (s
     holds = t.holds;
     waits = t.waits;
     snaps = h.snaps;
+    counted = h.counted;
     apart = h.apart;
     numbers = h.numbers;
     requests = subst (AreNumbers (u.requests + 1)) (sym (flights_push u.flights f)) (record {

@@ -1,9 +1,8 @@
 -- A request's own event is exact.
-use Rattle.std.proofs.Common.{◌≡◌, ℕ, ◌+◌, ◌*◌, ◌%◌, ◌<◌, Bool, true, List, Some, length, get_or, set, sym, subst}
+use Rattle.std.proofs.Common.{◌≡◌, ℕ, ◌+◌, ◌*◌, ◌%◌, ◌<◌, Bool, true, List, Some, length, get_or}
 use Rattle.std.specs.Prelude.{◌==◌, if◌then◌else◌}
-use Rattle.std.specs.List.{All, position, remove}
+use Rattle.std.specs.List.{position, remove}
 use Rattle.std.proofs.lemmas.Bool.{eqb-true, eq-eqb}
-use Rattle.std.proofs.lemmas.List.Elements.{All-set}
 use Rattle.sector.specs.Bytes.{sectors_at, with_sectors}
 use Rattle.device.specs.Layers.{Layer, is_loud}
 use Rattle.device.specs.declared.operation.Operation.TheVariants.{Reads, Writes}
@@ -20,19 +19,17 @@ use Rattle.store.specs.Operations.{IsOneOperation}
 use Rattle.snapshot.specs.Kept.{Kept}
 use Rattle.volume.specs.Volumed.{Volumed}
 use Rattle.volume.specs.Whole.{IsWhole}
-use Rattle.volume.specs.Moved.{IsCounted}
 use Rattle.volume.specs.Exact.{IsExact}
 use Rattle.volume.proofs.MovedSnaps.{changed}
 use Rattle.volume.proofs.MovedFound.{snap_first, flight_first}
-use Rattle.volume.proofs.MovedCounts.{counted_device}
 use Rattle.volume.proofs.MovedIssues.{issue_refused, issue_origin_read, issue_origin_write, issue_store_read, issue_store_write}
-use Rattle.volume.proofs.Exactly.{loud_origin, loud_store, counts}
+use Rattle.volume.proofs.Exactly.{loud_origin, loud_store}
 
-module _ {B : Type 0} (contents : B → List ℕ) (layers : B → List Layer) (size : B → ℕ) (v : Volumed B) (h : IsWhole contents layers size v) (counted : All IsCounted v.snaps)
+module _ {B : Type 0} (contents : B → List ℕ) (layers : B → List Layer) (size : B → ℕ) (v : Volumed B) (h : IsWhole contents layers size v)
     (n j : ℕ) (f : Flight) (found : position (λ (x : Flight). x.number == n) v.flights ≡ Some j) (at : f ≡ get_or v.flights j f) where
   -- its snapshot is spoiled
   pub refused_exact : f.route ≡ Refused → IsExact contents layers (Issue n) (Replied n (Declined Invalid)) v (record v { flights = remove v.flights j })
-  refused_exact is = record { counted = counted; step = λ loud replied. issue_refused contents layers replied v n j f (flight_first n j f v.flights found at) is }
+  refused_exact is = record { step = λ loud replied. issue_refused contents layers replied v n j f (flight_first n j f v.flights found at) is }
 
   module _ (ok : Bool) (faults faults' done done' : ℕ) (reply : Reply) where
     -- at the origin disk
@@ -41,7 +38,6 @@ module _ {B : Type 0} (contents : B → List ℕ) (layers : B → List Layer) (s
           → contents o' ≡ contents v.origin → reply ≡ (if ok then Data (sectors_at (contents v.origin) f.request.range.first f.request.range.count) else Declined Io)
           → IsExact contents layers (Issue n) (Replied n reply) v (record v { origin = o'; flights = remove v.flights j })
       origin_read_exact kind one same answered = record {
-        counted = counted;
         step = λ loud replied. issue_origin_read contents layers replied v n j f (flight_first n j f v.flights found at) ok faults faults' done done' is o' kind one same reply answered;
       }
 
@@ -49,8 +45,7 @@ module _ {B : Type 0} (contents : B → List ℕ) (layers : B → List Layer) (s
           → (is_loud (layers v.origin) ≡ true → contents o' ≡ (if ok then with_sectors (contents v.origin) f.request.range.first bytes else contents v.origin)) → reply ≡ (if ok then Done else Declined Io)
           → IsExact contents layers (Issue n) (Replied n reply) v (record v { origin = o'; flights = remove v.flights j })
       origin_write_exact bytes kind one written answered = record {
-        counted = counted;
-        step = λ loud replied. issue_origin_write contents layers replied v n j f (flight_first n j f v.flights found at) ok faults faults' done done' is o' bytes kind one (written (loud_origin contents layers size v h counted loud)) reply answered;
+        step = λ loud replied. issue_origin_write contents layers replied v n j f (flight_first n j f v.flights found at) ok faults faults' done done' is o' bytes kind one (written (loud_origin contents layers size v h loud)) reply answered;
       }
 
     -- at its place on its snapshot's store
@@ -58,14 +53,10 @@ module _ {B : Type 0} (contents : B → List ℕ) (layers : B → List Layer) (s
       abbrev start : ℕ
       start = s.state.chunk * place + f.request.range.first % s.state.chunk
 
-      all_counted : All IsCounted (set v.snaps k s')
-      all_counted = All-set IsCounted v.snaps k s' (subst IsCounted (sym fields) (counted_device s (counts contents layers size v h counted n k s within here) s'.device)) counted
-
       pub store_read_exact : f.request.op ≡ ReadOp → IsOneOperation (Reads start f.request.range.count) ok (layers s.device) (layers s'.device) faults faults' done done'
           → contents s'.device ≡ contents s.device → reply ≡ (if ok then Data (sectors_at (contents s.device) start f.request.range.count) else Declined Io)
           → IsExact contents layers (Issue n) (Replied n reply) v (changed v v.origin k s' (remove v.flights j))
       store_read_exact kind one same answered = record {
-        counted = all_counted;
         step = λ loud replied. issue_store_read contents layers replied v n j f (flight_first n j f v.flights found at) ok faults faults' done done' place is number dev k s
             (snap_first contents layers size v h number k s within here (λ (x : Kept B). x.number == number) (λ x e. eqb-true x.number number e) (eq-eqb s.number number mine)) s'.device kind one same reply answered s' fields;
       }
@@ -74,8 +65,7 @@ module _ {B : Type 0} (contents : B → List ℕ) (layers : B → List Layer) (s
           → (is_loud (layers s.device) ≡ true → contents s'.device ≡ (if ok then with_sectors (contents s.device) start bytes else contents s.device)) → reply ≡ (if ok then Done else Declined Io)
           → IsExact contents layers (Issue n) (Replied n reply) v (changed v v.origin k s' (remove v.flights j))
       store_write_exact bytes kind one written answered = record {
-        counted = all_counted;
         step = λ loud replied. issue_store_write contents layers replied v n j f (flight_first n j f v.flights found at) ok faults faults' done done' place is number dev k s
             (snap_first contents layers size v h number k s within here (λ (x : Kept B). x.number == number) (λ x e. eqb-true x.number number e) (eq-eqb s.number number mine)) s'.device bytes kind one
-            (written (loud_store contents layers size v h counted n k s within here loud)) reply answered s' fields;
+            (written (loud_store contents layers size v h n k s within here loud)) reply answered s' fields;
       }

@@ -1,10 +1,9 @@
 -- Each handler's calls make its event exact: the facts of a volume that is whole, with what the calls promise.
 use Rattle.std.proofs.Common.{◌≡◌, ℕ, zero, suc, ◌+◌, ◌*◌, ◌<◌, ◌≤◌, Bool, true, false, List, [], ◌∷◌, ◌++◌, Some, None, length, get_or, set, map, take, drop, replicate, refl, sym, ◌∙◌, ap, subst, arith}
 use Rattle.std.specs.Prelude.{◌==◌, ◌&&◌, not}
-use Rattle.std.specs.List.{All, list_all, position, remove}
+use Rattle.std.specs.List.{list_all, position, remove}
 use Rattle.std.proofs.lemmas.Bool.{eqb-true, false≢true}
 use Rattle.std.proofs.lemmas.List.{length-map, get_or-map}
-use Rattle.std.proofs.lemmas.List.Elements.{All-set}
 use Rattle.sector.specs.Bytes.{with_part, with_sectors}
 use Rattle.sector.specs.declared.pair.Pair.{Pair}
 use Rattle.device.specs.Layers.{Layer, is_loud}
@@ -31,15 +30,14 @@ use Rattle.volume_laws.specs.Steps.{mark_of}
 use Rattle.snapshot.specs.Kept.{Kept, books_of as snap_books, needs_area}
 use Rattle.snapshot.specs.Calls.{ReadsAt, StaysAt, WritesAt}
 use Rattle.volume.specs.Volumed.{Volumed, is_loud_in_all}
-use Rattle.volume.specs.Whole.{IsWhole}
+use Rattle.volume.specs.Whole.{IsWhole, IsCounted}
 use Rattle.volume.specs.Finding.{is_copy_of, is_mark_of, is_trying, is_committing, is_zeroing}
-use Rattle.volume.specs.Moved.{IsCounted}
 use Rattle.volume.specs.Exact.{IsExact}
 use Rattle.volume.proofs.MovedLists.{IsFirst, first_position}
 use Rattle.volume.proofs.MovedDue.{front_lives}
 use Rattle.volume.proofs.MovedSnaps.{changed, spoilt}
 use Rattle.volume.proofs.MovedFound.{snap_first, copy_first, mark_first, mark_number}
-use Rattle.volume.proofs.MovedCounts.{counted_device, counted_copies, counted_zeroed, counted_marks, counted_tried, counted_spoilt, counted_committed}
+use Rattle.volume.proofs.MovedCounts.{front_some}
 use Rattle.volume.proofs.MovedCopies.{copy_read_done, copy_read_fault, copy_write_done, copy_write_fault}
 use Rattle.volume.proofs.MovedStores.{write_area_done, write_area_fault, zero_next_done, zero_next_fault, zero_next_lacks}
 use Rattle.volume.proofs.MovedMarks.{write_invalid_is, publish_is}
@@ -61,11 +59,7 @@ all_at test [] k x all within is = absurd (omega (arith, within))
 all_at test (y ∷ ys) zero x all within is = ap test is ∙ and_left (test y) (list_all test ys) all
 all_at test (y ∷ ys) (suc k) x all within is = all_at test ys k x (and_right (test y) (list_all test ys) all) (omega (arith, within)) is
 
-front_some : (copies : List ChunkCopy) → front_written copies ≡ true → (p : ChunkCopy) × (ps : List ChunkCopy) × (copies ≡ p ∷ ps)
-front_some [] e = absurd (false≢true e)
-front_some (p ∷ ps) e = (p, ps, refl)
-
-module _ {B : Type 0} (contents : B → List ℕ) (layers : B → List Layer) (size : B → ℕ) (v : Volumed B) (h : IsWhole contents layers size v) (counted : All IsCounted v.snaps) where
+module _ {B : Type 0} (contents : B → List ℕ) (layers : B → List Layer) (size : B → ℕ) (v : Volumed B) (h : IsWhole contents layers size v) where
   pub loud_origin : is_loud_in_all layers v ≡ true → is_loud (layers v.origin) ≡ true
   loud_origin loud = and_left (is_loud (layers v.origin)) (list_all (λ (x : Kept B). is_loud (layers x.device)) v.snaps) loud
 
@@ -74,7 +68,7 @@ module _ {B : Type 0} (contents : B → List ℕ) (layers : B → List Layer) (s
     loud_store loud = all_at (λ (x : Kept B). is_loud (layers x.device)) v.snaps k s (and_right (is_loud (layers v.origin)) (list_all (λ (x : Kept B). is_loud (layers x.device)) v.snaps) loud) within is
 
     pub counts : IsCounted s
-    counts = subst IsCounted (sym is) (counted k s within)
+    counts = subst IsCounted (sym is) (h.counted k s within)
 
     pub sectors : length (contents v.origin) ≡ 512 * s.state.origin
     sectors =
@@ -87,16 +81,12 @@ module _ {B : Type 0} (contents : B → List ℕ) (layers : B → List Layer) (s
         let at : get_or (map sb v.snaps) k (sb s) ≡ sb s = get_or-map sb v.snaps k s (sb s) within ∙ ap sb (sym is) in
         (subst (SnapHolds (contents v.origin) v.flights) at (h.holds.snaps k (sb s) (omega (arith, within, length-map v.snaps sb)))).alive live
 
-    all_counted : (s' : Kept B) → IsCounted s' → All IsCounted (set v.snaps k s')
-    all_counted s' c = All-set IsCounted v.snaps k s' c counted
-
     module _ (faults faults' done done' : ℕ) where
       -- CopyRead
       pub read_exact : (o' : B) (s' : Kept B) (j : ℕ) (p q : ChunkCopy) → position (is_copy_of Waiting n) s.copies ≡ Some j → ReadsAt contents layers (contents v.origin) j p q s s'
           → IsOneOperation (Reads (s.state.chunk * p.pair.old) (count_of s.state.chunk s.state.origin p.pair.old)) true (layers v.origin) (layers o') faults faults' done done' → contents o' ≡ contents v.origin
           → IsExact contents layers (CopyRead n) Done v (changed v o' k s' v.flights)
       read_exact o' s' j p q found e one same = record {
-        counted = all_counted s' (subst IsCounted (sym e.fields) (counted_copies s counts s.device j q));
         step = λ loud replied. copy_read_done contents layers replied v n k j s p (copy_first contents layers size v h n k s within is Waiting j found) (first_position (is_copy_of Waiting n) j p s.copies e.event.copy.was found)
             sectors faults faults' done done' o' same q s' one e.copy e.fields;
       }
@@ -105,7 +95,6 @@ module _ {B : Type 0} (contents : B → List ℕ) (layers : B → List Layer) (s
           → IsOneOperation (Reads (s.state.chunk * p.pair.old) (count_of s.state.chunk s.state.origin p.pair.old)) false (layers v.origin) (layers o') faults faults' done done' → contents o' ≡ contents v.origin
           → IsExact contents layers (CopyRead n) Fault v (changed v o' k s' (map (refused_of (s.number ∷ [])) v.flights))
       read_fault_exact o' s1 s' j p q found e gone one same = record {
-        counted = all_counted s' (subst IsCounted (sym (gone ∙ ap spoilt e.fields)) (counted_spoilt s counts));
         step = λ loud replied. copy_read_fault contents layers replied v n k j s p (copy_first contents layers size v h n k s within is Waiting j found) (first_position (is_copy_of Waiting n) j p s.copies e.was found)
             sectors faults faults' done done' o' same q s1 s' one e.fields gone;
       }
@@ -115,7 +104,6 @@ module _ {B : Type 0} (contents : B → List ℕ) (layers : B → List Layer) (s
           → IsOneOperation (Writes (s.state.chunk * p.pair.new) (count_of s.state.chunk s.state.origin p.pair.old)) true (layers s.device) (layers s'.device) faults faults' done done'
           → IsExact contents layers (CopyWrite n) Done v (changed v v.origin k s' v.flights)
       write_exact s' j p q found e one = record {
-        counted = all_counted s' (subst IsCounted (sym e.fields) (counted_copies s counts s'.device j q));
         step = λ loud replied. copy_write_done contents layers replied v n k j s p (copy_first contents layers size v h n k s within is Read j found) (first_position (is_copy_of Read n) j p s.copies e.event.copy.was found) e.event.was_read
             sectors faults faults' done done' s'.device q s' one (e.event.written (loud_store loud)) e.copy e.fields;
       }
@@ -124,7 +112,6 @@ module _ {B : Type 0} (contents : B → List ℕ) (layers : B → List Layer) (s
           → IsOneOperation (Writes (s.state.chunk * p.pair.new) (count_of s.state.chunk s.state.origin p.pair.old)) false (layers s.device) (layers s1.device) faults faults' done done' → contents s1.device ≡ contents s.device
           → IsExact contents layers (CopyWrite n) Fault v (changed v v.origin k s' (map (refused_of (s.number ∷ [])) v.flights))
       write_fault_exact s1 s' j p found at read kept gone one same = record {
-        counted = all_counted s' (subst IsCounted (sym (gone ∙ ap spoilt kept)) (counted_spoilt (record s { device = s1.device }) (counted_device s counts s1.device)));
         step = λ loud replied. copy_write_fault contents layers replied v n k j s p (copy_first contents layers size v h n k s within is Read j found) (first_position (is_copy_of Read n) j p s.copies at found) read
             sectors faults faults' done done' s1.device s1 s' one same kept gone;
       }
@@ -152,22 +139,19 @@ module _ {B : Type 0} (contents : B → List ℕ) (layers : B → List Layer) (s
             → (is_loud (layers s.device) ≡ true → contents s'.device ≡ with_sectors (contents s.device) (s.state.chunk * area_place s.state.chunk (s.state.current + 1)) (replicate (512 * s.state.chunk) 0))
             → s' ≡ record s { device = s'.device; state = record s.state { zeroed = true } } → IsExact contents layers (ZeroNext n) Done v (changed v v.origin k s' v.flights)
         zero_exact s' inside one written fields = record {
-          counted = all_counted s' (subst IsCounted (sym fields) (counted_zeroed s counts s'.device));
-          step = λ loud replied. zero_next_done contents layers replied v counted n k s zeroing_first counts zeroing_live zeroing_full zeroing_sized faults faults' done done' s'.device s' inside one (written (loud_store loud)) fields;
+          step = λ loud replied. zero_next_done contents layers replied v h.counted n k s zeroing_first counts zeroing_live zeroing_full zeroing_sized faults faults' done done' s'.device s' inside one (written (loud_store loud)) fields;
         }
 
         pub zero_fault_exact : (s1 s' : Kept B) → s.state.chunk * (area_place s.state.chunk (s.state.current + 1) + 1) ≤ s.state.size
             → IsOneOperation (Writes (s.state.chunk * area_place s.state.chunk (s.state.current + 1)) s.state.chunk) false (layers s.device) (layers s1.device) faults faults' done done'
             → contents s1.device ≡ contents s.device → s1 ≡ record s { device = s1.device } → s' ≡ spoilt s1 → IsExact contents layers (ZeroNext n) Fault v (changed v v.origin k s' (map (refused_of (s.number ∷ [])) v.flights))
         zero_fault_exact s1 s' inside one same kept gone = record {
-          counted = all_counted s' (subst IsCounted (sym (gone ∙ ap spoilt kept)) (counted_spoilt (record s { device = s1.device }) (counted_device s counts s1.device)));
-          step = λ loud replied. zero_next_fault contents layers replied v counted n k s zeroing_first counts zeroing_live zeroing_full zeroing_sized faults faults' done done' s1.device s1 s' inside one same kept gone;
+          step = λ loud replied. zero_next_fault contents layers replied v h.counted n k s zeroing_first counts zeroing_live zeroing_full zeroing_sized faults faults' done done' s1.device s1 s' inside one same kept gone;
         }
 
         pub zero_lacks_exact : (s' : Kept B) → LacksArea s.state.chunk s.state.size (s.state.current + 1) → s' ≡ spoilt s → IsExact contents layers (ZeroNext n) Done v (changed v v.origin k s' (map (refused_of (s.number ∷ [])) v.flights))
         zero_lacks_exact s' short gone = record {
-          counted = all_counted s' (subst IsCounted (sym gone) (counted_spoilt s counts));
-          step = λ loud replied. zero_next_lacks contents layers replied v counted n k s zeroing_first counts zeroing_live zeroing_full zeroing_sized faults faults' done done' s.device s' short gone;
+          step = λ loud replied. zero_next_lacks contents layers replied v h.counted n k s zeroing_first counts zeroing_live zeroing_full zeroing_sized faults faults' done done' s.device s' short gone;
         }
 
       -- WriteArea
@@ -206,15 +190,13 @@ module _ {B : Type 0} (contents : B → List ℕ) (layers : B → List Layer) (s
             let at : s' ≡ record s { device = s'.device; state = after_commit s.state 1; pairs = s.pairs ++ copy.pair ∷ []; begun = drop 1 s.begun; copies = drop 1 s.copies; marks = marks } =
             fields ∙ ap (λ (b : List Pair). record s { device = s'.device; state = after_commit s.state 1; pairs = s.pairs ++ take 1 b; begun = drop 1 s.begun; copies = drop 1 s.copies; marks = marks }) begun_is in
             record {
-              counted = all_counted s' (subst IsCounted (sym at) (counted_committed s counts committing_live s'.device (drop 1 s.begun) (drop 1 s.copies) marks copy.pair));
-              step = λ loud replied. write_area_done contents layers replied v counted n k s committing_first counts committing_live copy others copies_is begun_is faults faults' done done' s'.device s' one (written (loud_store loud)) fields;
+              step = λ loud replied. write_area_done contents layers replied v h.counted n k s committing_first counts committing_live copy others copies_is begun_is faults faults' done done' s'.device s' one (written (loud_store loud)) fields;
             }
 
         pub area_fault_exact : (s1 s' : Kept B) → IsOneOperation (Writes (s.state.chunk * area_place s.state.chunk s.state.current) s.state.chunk) false (layers s.device) (layers s1.device) faults faults' done done'
             → contents s1.device ≡ contents s.device → s1 ≡ record s { device = s1.device } → s' ≡ spoilt s1 → IsExact contents layers (WriteArea n) Fault v (changed v v.origin k s' (map (refused_of (s.number ∷ [])) v.flights))
         area_fault_exact s1 s' one same kept gone = record {
-          counted = all_counted s' (subst IsCounted (sym (gone ∙ ap spoilt kept)) (counted_spoilt (record s { device = s1.device }) (counted_device s counts s1.device)));
-          step = λ loud replied. write_area_fault contents layers replied v counted n k s committing_first counts committing_live copy others copies_is begun_is faults faults' done done' s1.device s1 s' one same kept gone;
+          step = λ loud replied. write_area_fault contents layers replied v h.counted n k s committing_first counts committing_live copy others copies_is begun_is faults faults' done done' s1.device s1 s' one same kept gone;
         }
 
       -- WriteInvalid
@@ -226,7 +208,6 @@ module _ {B : Type 0} (contents : B → List ℕ) (layers : B → List Layer) (s
             → (is_loud (layers s.device) ≡ true → contents s'.device ≡ with_sectors (contents s.device) 0 (header_bytes (512 * s.state.chunk) false s.state.chunk)) → s' ≡ record s { device = s'.device; untried = false; stale = false }
             → flights ≡ map (again_of None (is_clear_in (map (snap_books contents layers) (set v.snaps k s')))) v.flights → IsExact contents layers (WriteInvalid n) Done v (changed v v.origin k s' flights)
         tried_exact s' flights one written fields routed = record {
-          counted = all_counted s' (subst IsCounted (sym fields) (counted_tried s counts s'.device false));
           step = λ loud replied. write_invalid_is contents layers replied v n k s trying_first true s' flights faults faults' done done' s'.device one (written (loud_store loud)) fields routed;
         }
 
@@ -234,7 +215,6 @@ module _ {B : Type 0} (contents : B → List ℕ) (layers : B → List Layer) (s
             → contents s'.device ≡ contents s.device → s' ≡ record s { device = s'.device; untried = false; stale = true }
             → flights ≡ map (again_of None (is_clear_in (map (snap_books contents layers) (set v.snaps k s')))) v.flights → IsExact contents layers (WriteInvalid n) Fault v (changed v v.origin k s' flights)
         tried_fault_exact s' flights one same fields routed = record {
-          counted = all_counted s' (subst IsCounted (sym fields) (counted_tried s counts s'.device true));
           step = λ loud replied. write_invalid_is contents layers replied v n k s trying_first false s' flights faults faults' done done' s'.device one same fields routed;
         }
 
@@ -243,6 +223,5 @@ module _ {B : Type 0} (contents : B → List ℕ) (layers : B → List Layer) (s
         → flights ≡ map (again_of None (is_clear_in (map (snap_books contents layers) (set v.snaps k s')))) (map (placed_of (snap_books contents layers s')) v.flights)
         → IsExact contents layers (Publish n) Done v (changed v v.origin k s' flights)
     publish_exact s' j m flights found at fields routed = record {
-      counted = all_counted s' (subst IsCounted (sym fields) (counted_marks s counts (remove s.marks j)));
       step = λ loud replied. publish_is contents layers replied v n k s (mark_first contents layers size v h n k s within is j found) j m (mark_number contents layers size v h n k s within is j m found at) s' flights fields routed;
     }

@@ -1,7 +1,7 @@
 -- An origin write is accepted, once the copies of its chunk are started.
 use Rattle.std.proofs.Common.{◌≡◌, inl, inr, ℕ, ◌+◌, ◌*◌, ◌/◌, ◌%◌, ◌<◌, ◌≤◌, Bool, true, false, List, [], ◌∷◌, ◌++◌, None, length, get_or, map, take, drop, refl, sym, ◌∙◌, ap, subst, arith}
-use Rattle.std.specs.Prelude.{◌&&◌, ◌||◌, not, sum_by, count_by}
-use Rattle.std.specs.List.{All, list_all, list_any}
+use Rattle.std.specs.Prelude.{◌&&◌, sum_by, count_by}
+use Rattle.std.specs.List.{All, list_all}
 use Rattle.std.proofs.lemmas.Bool.{cases_Bool, MatchBool-at_true, MatchBool-at_false}
 use Rattle.std.proofs.lemmas.List.{length-map, get_or-map}
 use Rattle.std.proofs.lemmas.List.Elements.{All-map, All-nil, All-cons, All-head, All-tail}
@@ -15,7 +15,7 @@ use Rattle.pending.specs.Routes.{write_route_of}
 use Rattle.pending.specs.declared.flights.Flight.{Flight}
 use Rattle.pending.specs.declared.flights.Kind.TheVariants.{OriginWrite}
 use Rattle.volume_laws.specs.Books.{SnapBooks, Books}
-use Rattle.volume_laws.specs.Published.{chunk_of, is_clear, is_saved}
+use Rattle.volume_laws.specs.Published.{chunk_of, is_clear}
 use Rattle.volume_laws.specs.Waits.{IsSaving}
 use Rattle.volume_laws.specs.Whole.{plain_of as plain_books}
 use Rattle.submit_laws.specs.Accepting.{IsTakenIn}
@@ -23,29 +23,16 @@ use Rattle.submit_laws.proofs.Preparing.{prepared_none, saving_none}
 use Rattle.snapshot.specs.Kept.{Kept, books_of as snap_books}
 use Rattle.volume.specs.Volumed.{Volumed, books_of, piece_of, plain_of, is_loud_in_all}
 use Rattle.volume.specs.Whole.{IsWhole, count_in}
-use Rattle.volume.specs.Submitting.{unroomed, starts, overflows, is_clear_in, is_clear_of, IsSavedIn, AreSavedIn, IsAsked, IsAcceptedAs, entered_of}
+use Rattle.volume.specs.Submitting.{unroomed, starts, overflows, IsSavedIn, AreSavedIn, IsAsked, IsAcceptedAs, entered_of}
 use Rattle.volume.proofs.ByKind.{origin_write_enters}
 use Rattle.volume.proofs.Enters.{fresh_plain, whole_entered, plain_entered}
 use Rattle.volume.proofs.Roomed.{roomed_piece, roomed_sum, books_roomed, whole_roomed, starts_roomed}
 use Rattle.volume.proofs.Savings.{AreDone, done_all}
 use Rattle.volume.proofs.Shown.{shown}
-
--- as the books say
-and_swap : (a u x y : Bool) → ((a && not u) && (x && not y)) ≡ ((a && x) && not (u || y))
-and_swap true true x y = sym (false_right x)
-  where
-    false_right : (b : Bool) → (b && false) ≡ false
-    false_right true = refl
-    false_right false = refl
-and_swap true false x y = refl
-and_swap false u x y = refl
-
-pub clear_books : {B : Type 0} (contents : B → List ℕ) (layers : B → List Layer) (first : ℕ) (snaps : List (Kept B)) → is_clear_of first snaps ≡ is_clear (map (snap_books contents layers) snaps) first
-clear_books contents layers first [] = refl
-clear_books contents layers first (s ∷ snaps) =
-    let b = map (snap_books contents layers) snaps in
-    ap (λ r. is_clear_in first s && r) (clear_books contents layers first snaps)
-    ∙ and_swap (is_saved first (snap_books contents layers s)) s.untried (list_all (is_saved first) (map (snap_books contents layers) snaps)) (list_any (λ (v : SnapBooks). v.untried) (map (snap_books contents layers) snaps))
+use Rattle.volume.proofs.Keeping.{keeps_saved}
+use Rattle.volume.proofs.MovedAccepts.{origin_write_is}
+use Rattle.volume.proofs.MovedSubmits.{IsSized}
+use Rattle.volume.proofs.Submitted.{sized_all}
 
 module _ {B : Type 0} (contents : B → List ℕ) (layers : B → List Layer) (c : ℕ) where
   same_chunk : (s t : Kept B) (n m : ℕ) (fs gs : List Flight) → IsSavedIn contents layers c s t n m fs gs → t.state.chunk ≡ s.state.chunk
@@ -104,7 +91,7 @@ module _ {B : Type 0} (contents : B → List ℕ) (layers : B → List Layer) (s
 module _ {B : Type 0} (contents : B → List ℕ) (layers : B → List Layer) (size : B → ℕ) (v : Volumed B) (h : IsWhole contents layers size v) (before after : List (Kept B)) (e : map unroomed before ≡ map unroomed v.snaps) (m : ℕ) (gs : List Flight) (f : Flight)
     (at : AreSavedIn contents layers (f.request.range.first / piece_of v.snaps) before after v.copies m v.flights gs) (few : sum_by count_in v.snaps + count_by (starts (f.request.range.first / piece_of v.snaps)) v.snaps ≤ 256)
     (number : f.number ≡ v.requests + 1) (asked : IsAsked (size v.origin) (piece_of v.snaps) f.request) (room : length f.room.items ≡ room_of f.request) (kind : kind_of f.request ≡ OriginWrite)
-    (route : f.route ≡ write_route_of false None (is_clear_of f.request.range.first after)) (space : length v.flights < 64) where
+    (route : f.route ≡ write_route_of false None (is_clear (map (snap_books contents layers) after) f.request.range.first)) (space : length v.flights < 64) where
   abbrev roomy : Volumed B
   roomy = record v { snaps = before }
 
@@ -147,12 +134,15 @@ module _ {B : Type 0} (contents : B → List ℕ) (layers : B → List Layer) (s
 
   taken : IsTakenIn done.which f.number f.request (books_of contents layers size roomy) (books_of contents layers size written)
   taken = origin_write_enters contents layers size roomy saved done.which done.prepared done.whole f number (subst (λ (n : ℕ). IsAsked (size v.origin) n f.request) (sym piece_same) asked) room kind
-      (route ∙ ap (write_route_of false None) (clear_books contents layers f.request.range.first after)) saving_all
+      route saving_all
 
   pub written_whole : IsWhole contents layers size written
   written_whole =
       let len : length gs ≡ length v.flights = sym (length-map gs in_flight) ∙ ap length done.prepared.requests ∙ length-map v.flights in_flight in
       whole_entered contents layers size saved f done.whole number done.which roomy (omega (arith, space, len)) taken
+
+  sized : All (IsSized contents f.request.range.first (f.request.range.first / piece_of v.snaps)) before
+  sized = subst (λ (n : ℕ). All (IsSized contents f.request.range.first (f.request.range.first / n)) before) (roomed_piece before v.snaps e) (sized_all contents layers size roomy roomy_whole f.request.range.first)
 
   pub written_accepted : IsAcceptedAs contents layers f.request f.number v written
   written_accepted = record {
@@ -166,6 +156,8 @@ module _ {B : Type 0} (contents : B → List ℕ) (layers : B → List Layer) (s
       subst (λ (p : Plain). IsSubmitted done.which p f.number f.request (plain_of contents layers written)) (plain_roomed contents layers size v before e)
           (plain_entered contents layers size roomy written done.which f.number f.request taken (loud_roomed contents layers size v before e ∙ loud)),
     );
+    exact = λ replied. origin_write_is contents layers replied f.number f.request f refl refl v written (f.request.range.first / piece_of v.snaps) m before after gs kind e sized at route refl;
+    kept = keeps_saved contents layers v written (f.request.range.first / piece_of v.snaps) v.copies m before v.flights gs refl refl e at;
   }
 
 -- a list that was written back through a slice

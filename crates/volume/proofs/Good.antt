@@ -20,15 +20,16 @@ use Rattle.volume_laws.proofs.WaitingAgain.{waits_spoiled}
 use Rattle.volume_laws.proofs.Left.{spoil_left}
 use Rattle.snapshot.specs.Kept.{Kept, books_of as snap_books, due_of_kept}
 use Rattle.volume.specs.Volumed.{Volumed, books_of, plain_of, is_loud_in_all}
-use Rattle.volume.specs.Whole.{IsWhole, numbers_in}
+use Rattle.volume.specs.Whole.{IsWhole, IsCounted, numbers_in}
 use Rattle.volume.specs.Causes.{HasCause, IsOneAtMost}
-use Rattle.volume.specs.Stepping.{IsStepped}
+use Rattle.volume.specs.Stepping.{IsStepped, KeepsAll}
+use Rattle.volume.proofs.Counting.{kept_changed}
 use Rattle.volume.proofs.Shown.{shown, loud_books}
 use Rattle.volume.proofs.Changing.{SameDisk, StaysAttached, changed, spoils_one, whole_changed, lower_changed, loud_changed}
 
 pub record IsGood {B : Type 0} (contents : B → List ℕ) (layers : B → List Layer) (size faults done : B → ℕ) (event : Event) (outcome : Outcome) (v w : Volumed B) : Type 0 where
   pub whole : IsWhole contents layers size w
-  pub stepped : IsStepped contents layers faults done event outcome v w
+  pub stepped : IsStepped contents layers size faults done event outcome v w
 
 -- an event that spoils, or is silent, is legal by any outcome that no reply is
 abbrev pub Spoiling : Event → Outcome → Type 0
@@ -43,6 +44,7 @@ pub record SpoiltTo {B : Type 0} (s s' : Kept B) : Type 0 where
   pub origin : s'.state.origin ≡ s.state.origin
   pub copies : s'.copies ≡ []
   pub marks : s'.marks ≡ []
+  pub counted : IsCounted s → IsCounted s'
 
 pub refused_numbers : (which : List ℕ) (rs : List Flight) → map number_of_flight (map (refused_of which) rs) ≡ map number_of_flight rs
 refused_numbers which [] = refl
@@ -54,7 +56,10 @@ module _ {B : Type 0} (contents : B → List ℕ) (layers : B → List Layer) (s
   legal_by which step loud = (which, shown contents layers size w ∙ step (loud_books contents layers size v loud) ∙ ap (spoiled which) (sym (shown contents layers size v)))
 
 module _ {B : Type 0} (contents : B → List ℕ) (layers : B → List Layer) (size faults done : B → ℕ) (v : Volumed B) (h : IsWhole contents layers size v) (event : Event) (outcome : Outcome) (told : Spoiling event outcome)
-    (o' : B) (k : ℕ) (s s' : Kept B) (within : k < length v.snaps) (is : s ≡ get_or v.snaps k s) (same : SameDisk contents layers size v.origin o') (loud : is_loud (layers s'.device) ≡ is_loud (layers s.device)) where
+    (o' : B) (k : ℕ) (s s' : Kept B) (within : k < length v.snaps) (is : s ≡ get_or v.snaps k s) (same : SameDisk contents layers size v.origin o') (loud : is_loud (layers s'.device) ≡ is_loud (layers s.device)) (sized : size s'.device ≡ size s.device) where
+  kept : (flights : List Flight) → s'.number ≡ s.number → s'.state.chunk ≡ s.state.chunk → KeepsAll size v (changed v o' k s' flights)
+  kept flights number chunk = kept_changed size v o' k s s' flights within is same.sectors sized number chunk
+
   -- nothing is seen of it
   pub silent_good : (flights : List Flight) → map number_of_flight flights ≡ map number_of_flight v.flights → StaysAttached s s'
       → IsSilent (books_of contents layers size v) (books_of contents layers size (changed v o' k s' flights)) → Waits (books_of contents layers size (changed v o' k s' flights))
@@ -71,6 +76,9 @@ module _ {B : Type 0} (contents : B → List ℕ) (layers : B → List Layer) (s
           loud = loud_changed contents layers size v o' k s s' within is flights same loud;
           cause = cause;
           one = one;
+          kept = kept flights stays.number stays.chunk_is;
+          requests = refl;
+          copies = refl;
         };
       }
 
@@ -89,7 +97,7 @@ module _ {B : Type 0} (contents : B → List ℕ) (layers : B → List Layer) (s
       let spoil = spoil_event k (sb s) (sb s') (books_of contents layers size v) (books_of contents layers size w) h.holds e in
       let gone : numbers_in s' ≡ [] = ap (λ (x : List Mark). map number_of_mark x ++ map number_of_copy s'.copies) t.marks ∙ ap (map number_of_copy) t.copies in
       record {
-        whole = whole_changed contents layers size v o' k s s' within is flights h same (record { number = t.number; chunk_is = t.chunk_is; origin = t.origin; numbers = inr (inr gone) }) numbers spoil.holds
+        whole = whole_changed contents layers size v o' k s s' within is flights h same (record { number = t.number; chunk_is = t.chunk_is; origin = t.origin; numbers = inr (inr gone); counted = t.counted }) numbers spoil.holds
             (waits_spoiled k (sb s) (sb s') (books_of contents layers size v) (books_of contents layers size w) h.waits e t.untried);
         stepped = record {
           legal = λ l. told (plain_of contents layers v) (plain_of contents layers w) (legal_by contents layers size v w (s.number ∷ []) spoil.step l);
@@ -97,5 +105,8 @@ module _ {B : Type 0} (contents : B → List ℕ) (layers : B → List Layer) (s
           loud = loud_changed contents layers size v o' k s s' within is flights same loud;
           cause = cause;
           one = one;
+          kept = kept flights t.number t.chunk_is;
+          requests = refl;
+          copies = refl;
         };
       }

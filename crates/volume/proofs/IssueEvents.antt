@@ -20,6 +20,7 @@ use Rattle.volume_laws.proofs.Lists.{All-remove, map-remove}
 use Rattle.volume.specs.Volumed.{Volumed, books_of, plain_of, dues_of, piece_of, is_loud_in_all}
 use Rattle.volume.specs.Whole.{AreNumbers, IsAttached, IsWhole, number_of_snap}
 use Rattle.volume.specs.Causes.{HasReplied, IsOneAtMost}
+use Rattle.volume.specs.Stepping.{KeepsAll}
 use Rattle.volume.proofs.Shown.{shown, loud_books}
 use Rattle.volume.proofs.Changing.{SnapsFit}
 use Rattle.volume.proofs.Good.{IsGood}
@@ -33,7 +34,7 @@ fewer_numbers most rs k lt h = subst (AreNumbers most) (sym (map-remove number_o
 
 module _ {B : Type 0} (contents : B → List ℕ) (layers : B → List Layer) (size faults done : B → ℕ) (v w : Volumed B) (h : IsWhole contents layers size v) (number place : ℕ) (reply : Reply) (in_list : place < length v.flights)
     (flights : w.flights ≡ remove v.flights place) (requests : w.requests ≡ v.requests) (copies : w.copies ≡ v.copies) (attached : w.attached ≡ v.attached) (fit : SnapsFit v.copies v.attached (size w.origin) w.snaps)
-    (lefts : sum_by left_in (dues_of contents layers w) ≡ sum_by left_in (dues_of contents layers v)) (loud : is_loud_in_all layers w ≡ is_loud_in_all layers v) where
+    (lefts : sum_by left_in (dues_of contents layers w) ≡ sum_by left_in (dues_of contents layers v)) (loud : is_loud_in_all layers w ≡ is_loud_in_all layers v) (kept : KeepsAll size v w) where
   pub reply_good : IsReply number reply (books_of contents layers size v) (books_of contents layers size w) → Waits (books_of contents layers size w) → HasReplied faults number reply v w → IsOneAtMost done v w
       → IsGood contents layers size faults done (Issue number) (Replied number reply) v w
   reply_good answered waits cause one = record {
@@ -41,6 +42,7 @@ module _ {B : Type 0} (contents : B → List ℕ) (layers : B → List Layer) (s
       holds = answered.holds;
       waits = waits;
       snaps = subst (λ n. All (IsAttached n (size w.origin) (piece_of w.snaps)) w.snaps) (sym copies) fit.snaps;
+      counted = fit.counted;
       apart = fit.apart;
       numbers = subst (λ n. AreNumbers n (map number_of_snap w.snaps)) (sym attached) fit.numbers;
       requests = subst (λ n. AreNumbers n (map number_of_flight w.flights)) (sym requests) (subst (λ fs. AreNumbers v.requests (map number_of_flight fs)) (sym flights) (fewer_numbers v.requests v.flights place in_list h.requests));
@@ -54,6 +56,9 @@ module _ {B : Type 0} (contents : B → List ℕ) (layers : B → List Layer) (s
       loud = loud;
       cause = cause;
       one = one;
+      kept = kept;
+      requests = requests;
+      copies = copies;
     };
   }
 

@@ -18,7 +18,7 @@ use Rattle.volume_laws.proofs.Lists.{All-remove, map-remove}
 use Rattle.volume_laws.proofs.Waiting.{waits_none}
 use Rattle.snapshot.specs.Kept.{Kept, books_of as snap_books}
 use Rattle.volume.specs.Volumed.{Volumed, books_of, piece_of, plain_of}
-use Rattle.volume.specs.Whole.{AreNumbers, number_of_snap, count_in, SharesNone, IsAttached, IsWhole}
+use Rattle.volume.specs.Whole.{AreNumbers, number_of_snap, count_in, SharesNone, IsAttached, IsWhole, IsCounted}
 use Rattle.volume.proofs.Changing.{books_within, books_is}
 use Rattle.volume.specs.Leaving.{is_done_of, is_quiet_of, place_of_snap}
 use Rattle.std.proofs.lemmas.List.Quantifiers.{position-Some}
@@ -63,6 +63,7 @@ module _ {B : Type 0} (contents : B → List ℕ) (layers : B → List Layer) (s
         holds = (detach_event k (snap_books contents layers s) (books_of contents layers size v) (books_of contents layers size left) h.holds detaches).0;
         waits = waits_none (books_of contents layers size left) none;
         snaps = piece_left v.copies (size v.origin) (piece_of v.snaps) (remove v.snaps k) (All-remove (IsAttached v.copies (size v.origin) (piece_of v.snaps)) v.snaps k h.snaps);
+        counted = All-remove IsCounted v.snaps k h.counted;
         apart = all_pairs_remove SharesNone v.snaps k within h.apart;
         numbers = subst (AreNumbers v.attached) (sym (map-remove number_of_snap v.snaps k)) (record {
           given = All-remove (λ n. n ≤ v.attached) (map number_of_snap v.snaps) k h.numbers.given;

@@ -32,6 +32,7 @@ pub mod Reaches
 pub mod Sums
 pub mod Leaves
 pub mod Attaches
+pub mod AttachedAs
 pub mod Begins
 pub mod Savings
 pub mod Enters
@@ -39,10 +40,14 @@ pub mod ByKind
 pub mod Roomed
 pub mod Admits
 pub mod Loops
+pub mod Keeping
 pub mod Finishes
 pub mod MovedSubmits
 pub mod MovedAccepts
 pub mod Named
+pub mod Submitted
 pub mod SnapWrites
 pub mod Accepts
 pub mod Declines
+pub mod Refusals
+pub mod Relayered

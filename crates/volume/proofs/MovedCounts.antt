@@ -1,15 +1,21 @@
 -- Each call of a snapshot keeps its pairs counted.
-use Rattle.std.proofs.Common.{◌≡◌, ℕ, ◌+◌, ◌*◌, ◌<◌, Bool, true, false, List, [], ◌∷◌, ◌++◌, length, set, refl, sym, ◌∙◌, ap, subst, arith, inl, inr, eq-eqb}
-use Rattle.std.specs.Prelude.{◌==◌}
+use Rattle.std.proofs.Common.{◌≡◌, ℕ, ◌+◌, ◌*◌, ◌<◌, Bool, true, false, List, [], ◌∷◌, ◌++◌, length, map, take, drop, set, refl, sym, ◌∙◌, ap, subst, arith, inl, inr, eq-eqb}
+use Rattle.std.specs.Prelude.{◌==◌, ◌-◌}
 use Rattle.std.proofs.lemmas.Bool.{cases_eq, false≢true}
 use Rattle.std.proofs.lemmas.List.{length-append}
 use Rattle.sector.specs.declared.pair.Pair.{Pair}
+use Rattle.device.specs.Layers.{Layer}
+use Rattle.model.specs.NextPlace.{stepped}
+use Rattle.pending.specs.Copies.{pair_of}
+use Rattle.pending.specs.Due.{front_written}
 use Rattle.pending.specs.declared.copies.ChunkCopy.{ChunkCopy}
 use Rattle.pending.specs.declared.copies.Mark.{Mark}
 use Rattle.store.specs.Stored.{after_commit}
 use Rattle.store.specs.declared.state.State.{State}
+use Rattle.volume_laws.specs.Steps.{mark_of}
+use Rattle.snapshot.specs.Calls.{StartsAt}
 use Rattle.snapshot.specs.Kept.{Kept}
-use Rattle.volume.specs.Moved.{IsCounted}
+use Rattle.volume.specs.Whole.{IsCounted}
 use Rattle.volume.proofs.MovedLists.{if_true, if_false}
 use Rattle.volume.proofs.MovedDue.{unequal}
 use Rattle.volume.proofs.MovedSnaps.{spoilt}
@@ -22,6 +28,11 @@ counted_same s s' c state pairs live idle = record {
   fits = λ is. subst (λ (x : State). x.filled < 32 * x.chunk) (sym state) (c.fits (sym live ∙ is));
   idle = λ is. idle (c.idle (sym live ∙ is));
 }
+
+-- the first of some copies
+pub front_some : (copies : List ChunkCopy) → front_written copies ≡ true → (p : ChunkCopy) × (ps : List ChunkCopy) × (copies ≡ p ∷ ps)
+front_some [] e = absurd (false≢true e)
+front_some (p ∷ ps) e = (p, ps, refl)
 
 set_none : (xs : List ChunkCopy) (j : ℕ) (q : ChunkCopy) → xs ≡ [] → set xs j q ≡ []
 set_none xs j q e = ap (λ ys. set ys j q) e
@@ -73,3 +84,17 @@ module _ {B : Type 0} (s : Kept B) (c : IsCounted s) where
             subst (λ (x : State). IsCounted (record s { device = d; state = x; pairs = s.pairs ++ pair ∷ []; begun = begun; copies = copies; marks = marks })) (sym at)
             (record { some = c.some; count = one ∙ next_part s.state.current (32 * s.state.chunk) s.state.filled (length s.pairs) c.count; fits = λ e. omega (arith, c.fits live, other); idle = gone }))
       ]
+
+  -- of its first copy
+  pub counted_first : s.live ≡ true → (d : B) → front_written s.copies ≡ true → s.begun ≡ map pair_of s.copies
+      → IsCounted (record s { device = d; state = after_commit s.state 1; pairs = s.pairs ++ take 1 s.begun; begun = drop 1 s.begun; copies = drop 1 s.copies; marks = s.marks ++ map mark_of (take 1 s.copies) })
+  counted_first live d front begun =
+      let some = front_some s.copies front in
+      let marks : List Mark = s.marks ++ map mark_of (take 1 s.copies) in
+      let taken : take 1 s.begun ≡ some.0.pair ∷ [] = ap (take 1) begun ∙ ap (λ (cs : List ChunkCopy). take 1 (map pair_of cs)) some.2 in
+      subst (λ (ps : List Pair). IsCounted (record s { device = d; state = after_commit s.state 1; pairs = s.pairs ++ ps; begun = drop 1 s.begun; copies = drop 1 s.copies; marks = marks })) (sym taken)
+      (counted_committed live d (drop 1 s.begun) (drop 1 s.copies) marks some.0.pair)
+
+-- a copy was started in a live one
+pub counted_begun : {B : Type 0} (contents : B → List ℕ) (layers : B → List Layer) (s t : Kept B) (p : ChunkCopy) → s.live ≡ true → StartsAt contents layers p s t → IsCounted s → IsCounted t
+counted_begun contents layers s t p live at counts = subst IsCounted (sym at.fields) (counted_started s counts live (stepped s.state.chunk (s.next + 1)) (s.room - 1) (s.begun ++ p.pair ∷ []) (s.copies ++ p ∷ []))

@@ -21,7 +21,8 @@ use Rattle.settling.specs.Due.{needs_area, is_front_written, can_commit, can_zer
 use Rattle.settling.specs.Seen.{copying_of, going_of}
 use Rattle.snapshot.specs.Kept.{Kept, due_of_kept, needs_area as needs_area_of}
 use Rattle.volume.specs.Volumed.{Volumed, next_of}
-use Rattle.volume.specs.Moved.{held_of, moving_of, IsCounted}
+use Rattle.volume.specs.Whole.{IsCounted}
+use Rattle.volume.specs.Moved.{held_of, moving_of}
 use Rattle.volume.proofs.MovedLists.{any_seen}
 
 -- the first of a kind in two lists that are seen alike

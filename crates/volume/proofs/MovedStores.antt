@@ -34,7 +34,8 @@ use Rattle.settling.specs.Seen.{copying_of}
 use Rattle.snapshot.specs.Kept.{Kept}
 use Rattle.volume.specs.Volumed.{Volumed}
 use Rattle.volume.specs.Finding.{is_committing, is_zeroing}
-use Rattle.volume.specs.Moved.{device_of, held_of, moving_of, IsCounted}
+use Rattle.volume.specs.Whole.{IsCounted}
+use Rattle.volume.specs.Moved.{device_of, held_of, moving_of}
 use Rattle.volume.proofs.MovedLists.{IsFirst, first_by_all, if_true, if_false}
 use Rattle.volume.proofs.MovedDue.{last_slot, can_commit_same, can_zero_same}
 use Rattle.volume.proofs.MovedSnaps.{changed, spoilt, spoil_is, on_snap_is, write_is, fail_is}

@@ -1,5 +1,6 @@
 -- The snapshot that a request names.
 use Rattle.std.proofs.Common.{◌≡◌, ◌≢◌, inl, inr, ℕ, ◌+◌, ◌/◌, ◌<◌, true, false, List, [], ◌∷◌, Option, Some, None, length, get_or, map, refl, sym, ◌∙◌, ap, subst, nat_eq}
+use Rattle.std.specs.Prelude.{IfSome, IfNone}
 use Rattle.std.specs.List.{list_any}
 use Rattle.std.proofs.lemmas.Bool.{cases_Bool, true≢false, eqb-true}
 use Rattle.std.proofs.lemmas.List.Folds.{Any-from_list_any}
@@ -31,6 +32,7 @@ use Rattle.volume.specs.Leaving.{place_of_snap}
 use Rattle.volume.specs.Submitting.{lacks, IsAsked, entered_of, refusal_at, dev_refusal}
 use Rattle.volume.proofs.ByKind.{snap_read_enters, snap_write_held_enters, snap_write_placed_enters}
 use Rattle.volume.proofs.Savings.{not_lacking}
+use Rattle.volume.proofs.Finds.{position_none}
 use Rattle.volume.proofs.Leaves.{found_place}
 
 dev_at_read : (dev : Dev) (op : Op) (n : ℕ) → kind_at dev op ≡ SnapRead n → dev ≡ Snap n
@@ -94,8 +96,20 @@ is_named v items dev id k s same at free is found =
       number = ap (λ (x : Kept _). x.number) here ∙ (found_place id v.snaps k s place).1;
     }
 
+-- where a search for the snapshot of a request ends
+pub found_snap : {B : Type 0} (snaps : List (Kept B)) (dev : Dev) (number : ℕ) (found : Option ℕ) → found ≡ place_of_snap number snaps → dev ≡ Snap number → IfSome found (λ k. (k < length snaps) × ((s : Kept B) → dev ≡ Snap (get_or snaps k s).number))
+found_snap snaps dev number None e is = tt
+found_snap snaps dev number (Some k) e is = (found_within number snaps k e, λ s. is ∙ ap Snap (sym (found_place number snaps k s e).1))
+
+pub missing_snap : {B : Type 0} (snaps : List (Kept B)) (dev : Dev) (number : ℕ) (found : Option ℕ) → found ≡ place_of_snap number snaps → dev ≡ Snap number → IfNone found ((n : ℕ) → dev ≡ Snap n → list_any (λ s. nat_eq s.number n) snaps ≡ false)
+missing_snap snaps dev number (Some k) e is = tt
+missing_snap snaps dev number None e is = λ n other.
+    (let devices : Snap number ≡ Snap n = sym is ∙ other in
+    let same : number ≡ n = cc in
+    position_none (λ s. nat_eq s.number n) snaps (ap (λ (m : ℕ). place_of_snap m snaps) (sym same) ∙ sym e))
+
 -- a published chunk has its place
-place_published : (pairs : List Pair) (marks : List Mark) (c : ℕ) → is_published pairs marks c ≡ true → (place : ℕ) × (place_of pairs c ≡ Some place)
+pub place_published : (pairs : List Pair) (marks : List Mark) (c : ℕ) → is_published pairs marks c ≡ true → (place : ℕ) × (place_of pairs c ≡ Some place)
 place_published pairs marks c e = at (place_of pairs c) refl
   where
     at : (found : Option ℕ) → place_of pairs c ≡ found → (place : ℕ) × (place_of pairs c ≡ Some place)

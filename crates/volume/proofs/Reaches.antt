@@ -15,7 +15,8 @@ use Rattle.settling.specs.Rest.{IsAtRest}
 use Rattle.settling.specs.Settles.{settle, SettlesTo}
 use Rattle.snapshot.specs.Kept.{Kept}
 use Rattle.volume.specs.Volumed.{Volumed, next_of, is_loud_in_all}
-use Rattle.volume.specs.Moved.{held_of, moving_of, IsCounted}
+use Rattle.volume.specs.Whole.{IsCounted}
+use Rattle.volume.specs.Moved.{held_of, moving_of}
 use Rattle.volume.specs.Exact.{IsExact}
 use Rattle.volume.specs.Reaching.{Reaches, IsRun, IsAnswered}
 use Rattle.volume.proofs.MovedDue.{due_is}

@@ -8,7 +8,7 @@ use Rattle.volume_laws.specs.Whole.{Holds}
 use Rattle.volume_laws.specs.Waits.{Waits}
 use Rattle.snapshot.specs.Kept.{Kept, books_of as snap_books}
 use Rattle.volume.specs.Volumed.{Volumed, books_of, piece_of}
-use Rattle.volume.specs.Whole.{AreNumbers, number_of_snap, count_in, SharesNone, IsAttached, IsWhole}
+use Rattle.volume.specs.Whole.{AreNumbers, number_of_snap, count_in, SharesNone, IsAttached, IsWhole, IsCounted}
 use Rattle.volume.specs.Submitting.{unroomed, starts}
 use Rattle.volume.proofs.Sums.{sum_cons}
 
@@ -59,6 +59,8 @@ module _ {B : Type 0} (contents : B → List ℕ) (layers : B → List Layer) (s
         snaps = λ k d lt. subst (λ (n : ℕ). IsAttached v.copies (size v.origin) n (get_or snaps k d)) (sym piece)
             (seen v.copies (size v.origin) (piece_of v.snaps) (get_or snaps k d)
             (subst (IsAttached v.copies (size v.origin) (piece_of v.snaps)) (roomed_at snaps v.snaps k d e lt) (hidden v.copies (size v.origin) (piece_of v.snaps) (get_or v.snaps k d) (h.snaps k d (omega (arith, lt, len))))));
+        counted = λ k d lt. seen_counts (get_or snaps k d)
+            (subst IsCounted (roomed_at snaps v.snaps k d e lt) (hidden_counts (get_or v.snaps k d) (h.counted k d (omega (arith, lt, len)))));
         apart = λ i j d lt inside.
             (let i_in : i < length snaps = omega (arith, lt, inside) in
             let was : SharesNone (unroomed (get_or v.snaps i d)) (unroomed (get_or v.snaps j d)) = h.apart i j d lt (omega (arith, inside, len)) in
@@ -74,6 +76,12 @@ module _ {B : Type 0} (contents : B → List ℕ) (layers : B → List Layer) (s
     where
       hidden : (copies sectors chunk : ℕ) (s : Kept B) → IsAttached copies sectors chunk s → IsAttached copies sectors chunk (unroomed s)
       hidden copies sectors chunk s a = record { origin = a.origin; chunk_is = a.chunk_is; some = a.some; numbers = a.numbers }
+
+      hidden_counts : (s : Kept B) → IsCounted s → IsCounted (unroomed s)
+      hidden_counts s a = record { some = a.some; count = a.count; fits = a.fits; idle = a.idle }
+
+      seen_counts : (s : Kept B) → IsCounted (unroomed s) → IsCounted s
+      seen_counts s a = record { some = a.some; count = a.count; fits = a.fits; idle = a.idle }
 
       seen : (copies sectors chunk : ℕ) (s : Kept B) → IsAttached copies sectors chunk (unroomed s) → IsAttached copies sectors chunk s
       seen copies sectors chunk s a = record { origin = a.origin; chunk_is = a.chunk_is; some = a.some; numbers = a.numbers }

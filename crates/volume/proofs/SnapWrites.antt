@@ -1,6 +1,6 @@
 -- A write of a snapshot starts the copy of its chunk, or finds the store full.
 use Rattle.std.proofs.Common.{◌≡◌, ◌≢◌, inl, inr, ℕ, zero, suc, ◌+◌, ◌/◌, ◌<◌, ◌≤◌, Bool, true, false, List, [], ◌∷◌, ◌++◌, Some, length, get_or, set, map, refl, sym, ◌∙◌, ap, subst, arith, length-append, nat_eq, if◌then◌else◌}
-use Rattle.std.specs.Prelude.{◌&&◌, Any, sum_by, count_by}
+use Rattle.std.specs.Prelude.{◌&&◌, not, Any, Option, sum_by, count_by}
 use Rattle.std.specs.Global.{Vec}
 use Rattle.std.proofs.lemmas.Bool.{cases_Bool, true≢false, eq-eqb, MatchBool-at_true, MatchBool-at_false}
 use Rattle.std.proofs.lemmas.List.{get_or-set_same, get_or-append-add, length-set, map-set}
@@ -24,7 +24,13 @@ use Rattle.snapshot.specs.Kept.{Kept, books_of as snap_books}
 use Rattle.snapshot.specs.Calls.{StartsAt, started}
 use Rattle.volume.specs.Volumed.{Volumed, books_of, piece_of, plain_of}
 use Rattle.volume.specs.Whole.{IsWhole, count_in}
+use Rattle.plain.specs.declared.request.Reply.{Reply}
+use Rattle.settling.specs.Held.{Held as Seen, Moving}
+use Rattle.settling.specs.Submitting.{submitted}
+use Rattle.volume_laws.specs.Again.{published_place}
+use Rattle.volume.specs.Exact.{IsSubmittedAs}
 use Rattle.volume.specs.Leaving.{place_of_snap}
+use Rattle.volume.specs.Moved.{moving_of}
 use Rattle.volume.specs.Submitting.{lacks, is_full_of, starts, overflows, spoilt_of, unroomed, IsSavedIn, IsAsked, IsAcceptedAs, IsFoundFull, entered_of}
 use Rattle.volume.proofs.Begins.{whole_begun, numbers_pushed}
 use Rattle.volume.proofs.ByKind.{snap_write_held_enters}
@@ -36,6 +42,21 @@ use Rattle.volume.proofs.Roomed.{roomed_piece, roomed_sum, whole_roomed}
 use Rattle.volume.proofs.Savings.{neither, refused_numbers}
 use Rattle.volume.proofs.Shown.{shown, loud_books}
 use Rattle.volume.proofs.Sums.{count_cons}
+use Rattle.volume.proofs.Keeping.{keeps_begun}
+use Rattle.volume.proofs.MovedAccepts.{snap_write_held_is, unroomed_seen}
+use Rattle.volume.proofs.MovedLists.{IsFirst}
+use Rattle.volume.proofs.MovedSubmits.{IsSized, with_copy_is}
+use Rattle.volume.proofs.Submitted.{lacking_unpublished, named_first, sized_at}
+use Rattle.volume.proofs.MovedCounts.{counted_begun, counted_spoilt}
+
+and_first : (a b : Bool) → (a && b) ≡ true → a ≡ true
+and_first true b e = refl
+and_first false b e = absurd (true≢false (sym e))
+
+not_full : (a b : Bool) → (a && not b) ≡ true → b ≡ false
+not_full true true e = absurd (true≢false (sym e))
+not_full true false e = refl
+not_full false b e = absurd (true≢false (sym e))
 
 -- one of them at least
 count_some : {X : Type 0} (p : X → Bool) (xs : List X) (k : ℕ) (d : X) → k < length xs → p (get_or xs k d) ≡ true → 0 < count_by p xs
@@ -72,6 +93,13 @@ module _ {B : Type 0} (contents : B → List ℕ) (layers : B → List Layer) (s
   chunk_roomy : piece_of v.snaps ≡ s1.state.chunk
   chunk_roomy = sym (ap (λ (x : Kept B). x.state.chunk) (e1 ∙ ap unroomed n.is) ∙ (h.snaps k s n.within).chunk_is)
 
+  -- it is seen as the same, and the snapshot is the first with its number
+  moving_roomed : (replied : Option Reply) → moving_of contents layers replied v ≡ moving_of contents layers replied roomy
+  moving_roomed replied = ap (λ (hs : List Seen). let m : Moving = record (moving_of contents layers replied v) { snaps = hs } in m) (sym (unroomed_seen contents layers (set v.snaps k s1) v.snaps one_roomed))
+
+  first_roomy : IsFirst (λ (x : Kept B). nat_eq x.number id) k s1 (set v.snaps k s1)
+  first_roomy = named_first contents layers size roomy roomy_whole id k s1 (record { within = within_roomy; is = is_roomy; live = live_roomy; number = number_roomy })
+
   module _ (f : Flight) (number : f.number ≡ v.requests + 1) (asked : IsAsked (size v.origin) (piece_of v.snaps) f.request) (room : length f.room.items ≡ room_of f.request) (kind : kind_of f.request ≡ SnapWrite id) (route : f.route ≡ Held)
       (space : length v.flights < 64) (few : sum_by count_in v.snaps + count_by (λ x. nat_eq x.number id && starts (f.request.range.first / piece_of v.snaps) x) v.snaps ≤ 256)
       (t : Kept B) (buffer : Vec ℕ) (begins : starts (f.request.range.first / piece_of v.snaps) s1 ≡ true) (at : StartsAt contents layers (started (v.copies + 1) (f.request.range.first / piece_of v.snaps) s1.next buffer) s1 t) where
@@ -99,7 +127,7 @@ module _ {B : Type 0} (contents : B → List ℕ) (layers : B → List Layer) (s
 
     whole_copying : IsWhole contents layers size copying
     whole_copying = whole_begun contents layers size roomy k s1 t within_roomy is_roomy roomy_whole (ap (λ (x : Kept B). x.number) at.fields) (ap (λ (x : Kept B). x.state.chunk) at.fields) (ap (λ (x : Kept B). x.state.origin) at.fields)
-        (numbers_pushed s1 t copy (ap (λ (x : Kept B). x.marks) at.fields) (ap (λ (x : Kept B). x.copies) at.fields)) few_copies prepared_copying.holds prepared_copying.waits
+        (numbers_pushed s1 t copy (ap (λ (x : Kept B). x.marks) at.fields) (ap (λ (x : Kept B). x.copies) at.fields)) (λ counts. counted_begun contents layers s1 t copy live_roomy at counts) few_copies prepared_copying.holds prepared_copying.waits
 
     piece_copying : piece_of (set (set v.snaps k s1) k t) ≡ piece_of v.snaps
     piece_copying = piece_set (set v.snaps k s1) k s1 t is_roomy (ap (λ (x : Kept B). x.state.chunk) at.fields) ∙ roomed_piece (set v.snaps k s1) v.snaps one_roomed
@@ -121,6 +149,21 @@ module _ {B : Type 0} (contents : B → List ℕ) (layers : B → List Layer) (s
     pub held_whole : IsWhole contents layers size (entered_of f copying)
     held_whole = whole_entered contents layers size copying f whole_copying number [] roomy space taken
 
+    lacking : lacks (f.request.range.first / piece_of v.snaps) s1 ≡ true
+    lacking = and_first (lacks (f.request.range.first / piece_of v.snaps) s1) (not (is_full_of s1)) begins
+
+    free : is_full_of s1 ≡ false
+    free = not_full (lacks (f.request.range.first / piece_of v.snaps) s1) (is_full_of s1) begins
+
+    held_submitted : IsSubmittedAs contents layers f.request f.number v (entered_of f copying)
+    held_submitted replied =
+        let c : ℕ = f.request.range.first / piece_of v.snaps in
+        let chunk : f.request.range.first / s1.state.chunk ≡ c = ap (λ (x : ℕ). f.request.range.first / x) (sym chunk_roomy) in
+        let sized : IsSized contents f.request.range.first c s1 = record { chunk_is = chunk; sized = (sized_at contents layers size roomy roomy_whole k s1 within_roomy is_roomy f.request.range.first).sized } in
+        ap (submitted f.number f.request) (moving_roomed replied)
+        ∙ snap_write_held_is contents layers replied f.number f.request f refl refl roomy (entered_of f copying) id k s1 first_roomy c t kind
+        (ap (published_place s1.pairs s1.marks) chunk ∙ lacking_unpublished c s1 lacking) sized lacking free (sym (with_copy_is contents layers f.request.range.first c s1 t v.copies buffer chunk at)) route refl
+
     pub held_accepted : IsAcceptedAs contents layers f.request f.number v (entered_of f copying)
     held_accepted = record {
       next = number;
@@ -134,6 +177,8 @@ module _ {B : Type 0} (contents : B → List ℕ) (layers : B → List Layer) (s
         subst (λ (p : Plain). IsSubmitted [] p f.number f.request (plain_of contents layers (entered_of f copying))) (plain_roomed contents layers size v (set v.snaps k s1) one_roomed)
             (plain_entered contents layers size roomy (entered_of f copying) [] f.number f.request taken (loud_roomed contents layers size v (set v.snaps k s1) one_roomed ∙ loud)),
       );
+      exact = held_submitted;
+      kept = keeps_begun contents layers v (entered_of f copying) k (set v.snaps k s1) s1 t copy refl refl refl one_roomed is_roomy at;
     }
 
   -- its store is full
@@ -148,7 +193,7 @@ module _ {B : Type 0} (contents : B → List ℕ) (layers : B → List Layer) (s
 
   pub filled_whole : IsWhole contents layers size filled
   filled_whole = whole_changed contents layers size roomy v.origin k s1 (spoilt_of s1) within_roomy is_roomy (map (refused_of (s1.number ∷ [])) v.flights) roomy_whole (same_disk contents layers size v.origin)
-      (record { number = refl; chunk_is = refl; origin = refl; numbers = inr (inr refl) }) (refused_numbers (s1.number ∷ []) v.flights) prepared_filled.holds prepared_filled.waits
+      (record { number = refl; chunk_is = refl; origin = refl; numbers = inr (inr refl); counted = λ counts. counted_spoilt s1 counts }) (refused_numbers (s1.number ∷ []) v.flights) prepared_filled.holds prepared_filled.waits
 
   pub found_full : (c : ℕ) → overflows c s1 ≡ true → place_of_snap id v.snaps ≡ Some k → IsFoundFull contents layers id c v filled
   found_full c over found = record {

@@ -4,8 +4,9 @@ use Rattle.device.specs.Layers.{Layer}
 use Rattle.pending.specs.declared.copies.ChunkCopy.{ChunkCopy}
 use Rattle.snapshot.specs.Kept.{Kept}
 use Rattle.volume.specs.Volumed.{Volumed, piece_of}
-use Rattle.volume.specs.Whole.{IsAttached, IsWhole}
+use Rattle.volume.specs.Whole.{IsAttached, IsWhole, IsCounted}
 use Rattle.volume.proofs.Good.{SpoiltTo}
+use Rattle.volume.proofs.MovedCounts.{counted_device, counted_spoilt}
 
 -- a snapshot as a spoil leaves it
 abbrev pub spoilt : {B : Type 0} → Kept B → Kept B
@@ -22,6 +23,7 @@ spoilt_copies s u s' copies first then = (
     origin = ap (λ (x : Kept _). x.state.origin) then ∙ ap (λ (x : Kept _). x.state.origin) first;
     copies = ap (λ (x : Kept _). x.copies) then;
     marks = ap (λ (x : Kept _). x.marks) then;
+    counted = λ counts. subst IsCounted (sym (then ∙ ap spoilt first)) (counted_spoilt s counts);
   },
   ap (λ (x : Kept _). x.device) then ∙ ap (λ (x : Kept _). x.device) first,
 )
@@ -37,6 +39,7 @@ spoilt_device s u s' d first then = (
     origin = ap (λ (x : Kept _). x.state.origin) then ∙ ap (λ (x : Kept _). x.state.origin) first;
     copies = ap (λ (x : Kept _). x.copies) then;
     marks = ap (λ (x : Kept _). x.marks) then;
+    counted = λ counts. subst IsCounted (sym (then ∙ ap spoilt first)) (counted_spoilt (record s { device = d }) (counted_device s counts d));
   },
   ap (λ (x : Kept _). x.device) then ∙ ap (λ (x : Kept _). x.device) first,
 )

@@ -1,5 +1,5 @@
 -- The events of one store: an area is zeroed, and the first copy is committed.
-use Rattle.std.proofs.Common.{◌≡◌, inl, inr, ℕ, suc, ◌+◌, ◌*◌, ◌<◌, Bool, true, false, List, [], ◌∷◌, ◌++◌, length, get_or, map, take, drop, refl, ◌∙◌, ap, arith, nat_eq, eq-eqb, append_assoc}
+use Rattle.std.proofs.Common.{◌≡◌, inl, inr, ℕ, suc, ◌+◌, ◌*◌, ◌<◌, Bool, true, false, List, [], ◌∷◌, ◌++◌, length, get_or, map, take, drop, refl, ◌∙◌, ap, arith, nat_eq, eq-eqb, append_assoc, sym, subst}
 use Rattle.std.specs.Prelude.{◌&&◌, not, if◌then◌else◌}
 use Rattle.std.specs.List.{All}
 use Rattle.std.proofs.lemmas.Bool.{false≢true, eqb-true}
@@ -25,12 +25,13 @@ use Rattle.volume_laws.proofs.Waiting.{waits_changed}
 use Rattle.volume_laws.proofs.Left.{zero_left, commit_left}
 use Rattle.snapshot.specs.Kept.{Kept, books_of as snap_books, due_of_kept, needs_area}
 use Rattle.volume.specs.Volumed.{Volumed, books_of}
-use Rattle.volume.specs.Whole.{IsWhole, numbers_in}
+use Rattle.volume.specs.Whole.{IsWhole, IsCounted, numbers_in}
 use Rattle.volume.specs.Finding.{is_committing, is_zeroing}
 use Rattle.volume.proofs.Changing.{SameDisk, same_disk, StaysAttached, changed, books_within, books_is, changes}
 use Rattle.volume.proofs.Counting.{counts_same, counts_store, store_within, lives_same, lives_spoiled, lived}
 use Rattle.volume.proofs.CopyEvents.{stage_by, both_left, both_right}
 use Rattle.volume.proofs.Good.{IsGood, SpoiltTo, silent_good, spoilt_good}
+use Rattle.volume.proofs.MovedCounts.{counted_zeroed, counted_first}
 
 -- the first copy is written
 pub first_some : (copies : List ChunkCopy) → front_written copies ≡ true → 0 < length copies
@@ -118,8 +119,8 @@ module _ {B : Type 0} (contents : B → List ℕ) (layers : B → List Layer) (s
   holds_live live = (snap_holds (books_of contents layers size v) k (snap_books contents layers s) h.holds sb_in sb_is).alive live
 
   pub zero_good : is_zeroing number s ≡ true → (d : B) → s' ≡ record s { device = d; state = record s.state { zeroed = true } } → ZeroesArea (s.state.current + 1) (snap_books contents layers s) (snap_books contents layers s')
-      → is_loud (layers d) ≡ is_loud (layers s.device) → faults d ≡ faults s.device → done d ≡ next_count (done s.device) → IsGood contents layers size faults done (ZeroNext number) Done v (changed v v.origin k s' v.flights)
-  zero_good found d f r loud faulty counted =
+      → is_loud (layers d) ≡ is_loud (layers s.device) → size d ≡ size s.device → faults d ≡ faults s.device → done d ≡ next_count (done s.device) → IsGood contents layers size faults done (ZeroNext number) Done v (changed v v.origin k s' v.flights)
+  zero_good found d f r loud sized faulty counted =
       let sb = snap_books contents layers in
       let w = changed v v.origin k s' v.flights in
       let live = front_live (zeroing_front number s found) in
@@ -129,8 +130,9 @@ module _ {B : Type 0} (contents : B → List ℕ) (layers : B → List Layer) (s
         chunk_is = ap (λ (x : Kept B). x.state.chunk) f;
         origin = ap (λ (x : Kept B). x.state.origin) f;
         numbers = inl (ap (λ (x : Kept B). numbers_in x) f);
+        counted = λ counts. subst IsCounted (sym f) (counted_zeroed s counts d);
       } in
-      silent_good contents layers size faults done v h (ZeroNext number) Done (λ a b x. x) v.origin k s s' within is disk (ap (λ x. is_loud (layers x)) device ∙ loud) v.flights refl stays
+      silent_good contents layers size faults done v h (ZeroNext number) Done (λ a b x. x) v.origin k s s' within is disk (ap (λ x. is_loud (layers x)) device ∙ loud) (ap size device ∙ sized) v.flights refl stays
       (zero_event k (sb s) (sb s') (books_of contents layers size v) (books_of contents layers size w) h.holds e_is (s.state.current + 1) live r)
       (waits_changed k (sb s) (sb s') (books_of contents layers size v) (books_of contents layers size w) h.waits e_is (zero_keeps (s.state.current + 1) (sb s) (sb s') r))
       (zero_left (s.state.current + 1) (due_of_kept contents layers s) (due_of_kept contents layers s') r live (zeroing_needs number s found) (ap (λ (x : Kept B). x.state.zeroed) f))
@@ -138,12 +140,12 @@ module _ {B : Type 0} (contents : B → List ℕ) (layers : B → List Layer) (s
       (inr (suc k, store_within v v.origin k s s' v.flights within is done, counts_store v v.origin k s s' v.flights within is done refl (ap done device ∙ counted)))
 
   -- the store failed
-  pub zero_fault : is_zeroing number s ≡ true → SpoiltTo s s' → is_loud (layers s'.device) ≡ is_loud (layers s.device) → faults s'.device ≡ next_count (faults s.device) → done s'.device ≡ next_count (done s.device)
+  pub zero_fault : is_zeroing number s ≡ true → SpoiltTo s s' → is_loud (layers s'.device) ≡ is_loud (layers s.device) → size s'.device ≡ size s.device → faults s'.device ≡ next_count (faults s.device) → done s'.device ≡ next_count (done s.device)
       → IsGood contents layers size faults done (ZeroNext number) Fault v (changed v v.origin k s' (map (refused_of (s.number ∷ [])) v.flights))
-  zero_fault found t loud faulty counted =
+  zero_fault found t loud sized faulty counted =
       let flights = map (refused_of (s.number ∷ [])) v.flights in
       let live = front_live (zeroing_front number s found) in
-      spoilt_good contents layers size faults done v h (ZeroNext number) Fault (λ a b x. x) v.origin k s s' within is disk loud live (first_some s.copies (zeroing_front number s found)) t
+      spoilt_good contents layers size faults done v h (ZeroNext number) Fault (λ a b x. x) v.origin k s s' within is disk loud sized live (first_some s.copies (zeroing_front number s found)) t
       (record {
         place = k;
         snap = s;
@@ -159,7 +161,7 @@ module _ {B : Type 0} (contents : B → List ℕ) (layers : B → List Layer) (s
   zero_lacks found t device lacks =
       let flights = map (refused_of (s.number ∷ [])) v.flights in
       let live = front_live (zeroing_front number s found) in
-      spoilt_good contents layers size faults done v h (ZeroNext number) Done (λ a b x. x) v.origin k s s' within is disk (ap (λ x. is_loud (layers x)) device) live (first_some s.copies (zeroing_front number s found)) t
+      spoilt_good contents layers size faults done v h (ZeroNext number) Done (λ a b x. x) v.origin k s s' within is disk (ap (λ x. is_loud (layers x)) device) (ap size device) live (first_some s.copies (zeroing_front number s found)) t
       (inr (record {
         place = k;
         snap = s;
@@ -174,8 +176,8 @@ module _ {B : Type 0} (contents : B → List ℕ) (layers : B → List Layer) (s
   pub commit_good : is_committing number s ≡ true → (d : B)
       → s' ≡ record s { device = d; state = after_commit s.state 1; pairs = s.pairs ++ take 1 s.begun; begun = drop 1 s.begun; copies = drop 1 s.copies; marks = s.marks ++ map mark_of (take 1 s.copies) }
       → Commits 1 s.state.current (snap_books contents layers s) (snap_books contents layers s')
-      → is_loud (layers d) ≡ is_loud (layers s.device) → faults d ≡ faults s.device → done d ≡ next_count (done s.device) → IsGood contents layers size faults done (WriteArea number) Done v (changed v v.origin k s' v.flights)
-  commit_good found d f r loud faulty counted =
+      → is_loud (layers d) ≡ is_loud (layers s.device) → size d ≡ size s.device → faults d ≡ faults s.device → done d ≡ next_count (done s.device) → IsGood contents layers size faults done (WriteArea number) Done v (changed v v.origin k s' v.flights)
+  commit_good found d f r loud sized faulty counted =
       let sb = snap_books contents layers in
       let w = changed v v.origin k s' v.flights in
       let live = front_live (committing_front number s found) in
@@ -186,8 +188,9 @@ module _ {B : Type 0} (contents : B → List ℕ) (layers : B → List Layer) (s
         chunk_is = ap (λ (x : Kept B). x.state.chunk) f ∙ sizes.0;
         origin = ap (λ (x : Kept B). x.state.origin) f ∙ sizes.1;
         numbers = inl (ap (λ (x : Kept B). numbers_in x) f ∙ commit_numbers s.marks s.copies);
+        counted = λ counts. subst IsCounted (sym f) (counted_first s counts live d (committing_front number s found) (holds_live live).agree);
       } in
-      silent_good contents layers size faults done v h (WriteArea number) Done (λ a b x. x) v.origin k s s' within is disk (ap (λ x. is_loud (layers x)) device ∙ loud) v.flights refl stays
+      silent_good contents layers size faults done v h (WriteArea number) Done (λ a b x. x) v.origin k s s' within is disk (ap (λ x. is_loud (layers x)) device ∙ loud) (ap size device ∙ sized) v.flights refl stays
       (commit_event k (sb s) (sb s') (books_of contents layers size v) (books_of contents layers size w) h.holds e_is 1 s.state.current live r)
       (waits_changed k (sb s) (sb s') (books_of contents layers size v) (books_of contents layers size w) h.waits e_is (commit_keeps (contents v.origin) v.flights 1 s.state.current (sb s) (sb s') (holds_live live) r))
       (commit_left 1 s.state.current (due_of_kept contents layers s) (due_of_kept contents layers s') r (omega arith))
@@ -195,12 +198,12 @@ module _ {B : Type 0} (contents : B → List ℕ) (layers : B → List Layer) (s
       (inr (suc k, store_within v v.origin k s s' v.flights within is done, counts_store v v.origin k s s' v.flights within is done refl (ap done device ∙ counted)))
 
   -- the store failed
-  pub commit_fault : is_committing number s ≡ true → SpoiltTo s s' → is_loud (layers s'.device) ≡ is_loud (layers s.device) → faults s'.device ≡ next_count (faults s.device) → done s'.device ≡ next_count (done s.device)
+  pub commit_fault : is_committing number s ≡ true → SpoiltTo s s' → is_loud (layers s'.device) ≡ is_loud (layers s.device) → size s'.device ≡ size s.device → faults s'.device ≡ next_count (faults s.device) → done s'.device ≡ next_count (done s.device)
       → IsGood contents layers size faults done (WriteArea number) Fault v (changed v v.origin k s' (map (refused_of (s.number ∷ [])) v.flights))
-  commit_fault found t loud faulty counted =
+  commit_fault found t loud sized faulty counted =
       let flights = map (refused_of (s.number ∷ [])) v.flights in
       let live = front_live (committing_front number s found) in
-      spoilt_good contents layers size faults done v h (WriteArea number) Fault (λ a b x. x) v.origin k s s' within is disk loud live (first_some s.copies (committing_front number s found)) t
+      spoilt_good contents layers size faults done v h (WriteArea number) Fault (λ a b x. x) v.origin k s s' within is disk loud sized live (first_some s.copies (committing_front number s found)) t
       (record {
         place = k;
         snap = s;

@@ -39,15 +39,16 @@ use Rattle.volume_laws.proofs.Issuing.{io_snap_read_event, io_snap_write_event, 
 use Rattle.volume_laws.proofs.IssuingWrites.{snap_write_event}
 use Rattle.snapshot.specs.Kept.{Kept, books_of as snap_books, due_of_kept}
 use Rattle.volume.specs.Volumed.{Volumed, books_of, dues_of}
-use Rattle.volume.specs.Whole.{IsWhole, numbers_in}
+use Rattle.volume.specs.Whole.{IsWhole, IsCounted, numbers_in}
 use Rattle.volume.specs.Causes.{HasReplied, IsFaultless, FailsAlone, GoesTo}
 use Rattle.std.proofs.lemmas.List.Folds.{list_any-from_Any}
 use Rattle.volume.proofs.Finds.{position_within, any_of}
 use Rattle.volume.proofs.Changing.{same_disk, StaysAttached, changed, books_within, books_is, changes, snaps_changed, snaps_fit, loud_changed}
-use Rattle.volume.proofs.Counting.{counts_same, counts_store, store_within, lives_same}
+use Rattle.volume.proofs.Counting.{counts_same, counts_store, store_within, lives_same, kept_changed}
 use Rattle.volume.proofs.Good.{IsGood}
 use Rattle.volume.proofs.IssueEvents.{reply_good}
 use Rattle.volume.proofs.DiskIssues.{read_kinds, write_kinds}
+use Rattle.volume.proofs.MovedCounts.{counted_device}
 
 store_ne_refused : (place : ℕ) → Store place ≢ Refused
 store_ne_refused place c = cc
@@ -106,7 +107,7 @@ module _ {B : Type 0} (contents : B → List ℕ) (layers : B → List Layer) (s
 
   -- it is answered Invalid
   pub refused_good : r.route ≡ Refused → IsGood contents layers size faults done (Issue number) (Replied number (IsRefused IsInvalid)) v (record v { flights = remove v.flights place })
-  refused_good route = reply_good contents layers size faults done v w h number place (IsRefused IsInvalid) in_list refl refl refl refl (snaps_fit contents layers size v (size v.origin) h refl) refl refl (by r.request.op refl)
+  refused_good route = reply_good contents layers size faults done v w h number place (IsRefused IsInvalid) in_list refl refl refl refl (snaps_fit contents layers size v (size v.origin) h refl) refl refl (record { attached = refl; numbers = refl; chunks = refl; sizes = refl }) (by r.request.op refl)
       (waits_out place vb wb h.waits in_list refl refl refl) (record { counts = refl; lives = refl }) (inl refl)
     where
       w : Volumed B
@@ -163,7 +164,7 @@ module _ {B : Type 0} (contents : B → List ℕ) (layers : B → List Layer) (s
     pub write_part : (bytes : List ℕ) → r.request.op ≡ Write bytes → r.request.range.first % s.state.chunk + r.request.range.count ≤ s.state.chunk
     write_part bytes op = piece_part s.state.chunk r.request.range.first r.request.range.count (routed (inr (snap_writes r.request.dev r.request.op s.number bytes dev op))).piece.within
 
-    module _ (s' : Kept B) (d : B) (f : s' ≡ record s { device = d }) (loud : is_loud (layers d) ≡ is_loud (layers s.device)) (more : done d ≡ next_count (done s.device)) where
+    module _ (s' : Kept B) (d : B) (f : s' ≡ record s { device = d }) (loud : is_loud (layers d) ≡ is_loud (layers s.device)) (sized : size d ≡ size s.device) (more : done d ≡ next_count (done s.device)) where
       abbrev issued : Volumed B
       issued = changed v v.origin k s' (remove v.flights place)
 
@@ -180,7 +181,7 @@ module _ {B : Type 0} (contents : B → List ℕ) (layers : B → List Layer) (s
       loud_now = ap (λ x. is_loud (layers x)) device ∙ loud
 
       stays : StaysAttached s s'
-      stays = record { number = ap (λ (x : Kept B). x.number) f; chunk_is = ap (λ (x : Kept B). x.state.chunk) f; origin = ap (λ (x : Kept B). x.state.origin) f; numbers = inl (ap (λ (x : Kept B). numbers_in x) f) }
+      stays = record { number = ap (λ (x : Kept B). x.number) f; chunk_is = ap (λ (x : Kept B). x.state.chunk) f; origin = ap (λ (x : Kept B). x.state.origin) f; numbers = inl (ap (λ (x : Kept B). numbers_in x) f); counted = λ counts. subst IsCounted (sym f) (counted_device s counts d) }
 
       keeps : KeepsWaiting (snap_books contents layers s) (snap_books contents layers s')
       keeps = subst (λ (x : Kept B). KeepsWaiting (snap_books contents layers s) (snap_books contents layers x)) (sym f)
@@ -205,7 +206,8 @@ module _ {B : Type 0} (contents : B → List ℕ) (layers : B → List Layer) (s
       good : (reply : Reply) → IsReply number reply vb wb → HasReplied faults number reply v issued → IsGood contents layers size faults done (Issue number) (Replied number reply) v issued
       good reply answered cause = reply_good contents layers size faults done v issued h number place reply in_list refl refl refl refl
           (snaps_changed contents layers size v v.origin k s s' within is h (same_disk contents layers size v.origin) stays) lefts
-          (loud_changed contents layers size v v.origin k s s' within is (remove v.flights place) (same_disk contents layers size v.origin) loud_now) answered waits cause
+          (loud_changed contents layers size v v.origin k s s' within is (remove v.flights place) (same_disk contents layers size v.origin) loud_now)
+          (kept_changed size v v.origin k s s' (remove v.flights place) within is refl (ap size device ∙ sized) stays.number stays.chunk_is) answered waits cause
           (inr (suc k, store_within v v.origin k s s' (remove v.flights place) within is done, counts_store v v.origin k s s' (remove v.flights place) within is done refl (ap done device ∙ more)))
 
       faultless : faults d ≡ faults s.device → IsFaultless faults v issued

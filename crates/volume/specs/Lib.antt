@@ -8,4 +8,6 @@ pub mod Exact
 pub mod Reaching
 pub mod Leaving
 pub mod Taking
+pub mod Attached
 pub mod Submitting
+pub mod Layering

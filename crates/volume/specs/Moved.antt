@@ -1,6 +1,6 @@
 -- A volume as the event machine that its events step: the same devices, snapshots, copies and requests, without the
 -- buffers' room. This project's own.
-use Rattle.std.specs.Prelude.{ℕ, ◌+◌, ◌*◌, ◌<◌, ◌≡◌, true, false, List, [], length, Option, map}
+use Rattle.std.specs.Prelude.{ℕ, List, Option, map}
 use Rattle.device.specs.Layers.{Layer}
 use Rattle.plain.specs.declared.request.Reply.{Reply}
 use Rattle.settling.specs.Devices.{Device}
@@ -28,11 +28,3 @@ moving_of contents layers replied v = record {
   replied = replied;
   started = v.copies;
 }
-
--- A snapshot's committed pairs fill the areas below the current one and its first slots; while it is live the current area
--- has an empty slot. One that is not live has no copies.
-pub record IsCounted {B : Type 0} (s : Kept B) : Type 0 where
-  pub some : 0 < s.state.chunk
-  pub count : length s.pairs ≡ s.state.current * (32 * s.state.chunk) + s.state.filled
-  pub fits : s.live ≡ true → s.state.filled < 32 * s.state.chunk
-  pub idle : s.live ≡ false → s.copies ≡ []

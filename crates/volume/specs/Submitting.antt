@@ -2,7 +2,7 @@
 -- waits for a copy that is under way twice, are this project's own; that a full store makes its snapshot invalid is the
 -- kernel's rule, of its admin-guide page on snapshots.
 use Rattle.std.specs.Prelude.{◌≡◌, ◌≢◌, ◌⊎◌, ◌==◌, ◌&&◌, ◌||◌, not, nat_lt, nat_le, ℕ, ◌+◌, ◌*◌, ◌/◌, ◌%◌, ◌<◌, ◌≤◌, Bool, true, false, List, [], ◌∷◌, ◌++◌, length, map, filter, sum_by, count_by, MatchBool, Option, Some, None, if◌then◌else◌, slice_index_or, slice_set}
-use Rattle.std.specs.List.{All, list_any, list_all}
+use Rattle.std.specs.List.{All, list_any}
 use Rattle.std.specs.Option.{is_some}
 use Rattle.std.specs.Global.{Vec}
 use Rattle.sector.specs.declared.range.Range.{Range}
@@ -25,9 +25,11 @@ use Rattle.snapshot.specs.Calls.{StartsAt, started}
 use Rattle.volume.specs.Leaving.{place_of_snap}
 use Rattle.pending.specs.declared.flights.Route.{Route}
 use Rattle.plain.specs.Legal.{IsSubmitted, Spoils}
-use Rattle.volume_laws.specs.Published.{is_published, IsPiece}
+use Rattle.volume_laws.specs.Published.{IsPiece}
 use Rattle.volume.specs.Volumed.{Volumed, piece_of, plain_of, is_loud_in_all}
 use Rattle.volume.specs.Whole.{count_in, number_of_snap}
+use Rattle.volume.specs.Exact.{IsSubmittedAs}
+use Rattle.volume.specs.Stepping.{KeepsDevices}
 
 -- a live snapshot has neither a chunk nor a copy of it under way
 abbrev pub lacks : {B : Type 0} → ℕ → Kept B → Bool
@@ -37,10 +39,11 @@ lacks c s = s.live && not (is_some (place_of s.pairs c)) && not (list_any (λ p.
 abbrev pub is_full_of : {B : Type 0} → Kept B → Bool
 is_full_of s = nat_lt s.state.size (s.state.chunk * (s.next + 1))
 
--- it starts a copy of the chunk, or is found full
+-- it lacks a copy of the chunk, and its store has a place for it
 abbrev pub starts : {B : Type 0} → ℕ → Kept B → Bool
 starts c s = lacks c s && not (is_full_of s)
 
+-- it lacks one, and its store has no place for it
 abbrev pub overflows : {B : Type 0} → ℕ → Kept B → Bool
 overflows c s = lacks c s && is_full_of s
 
@@ -105,7 +108,8 @@ starting OriginWrite c snaps = count_by (starts c) snaps
 starting (SnapRead number) c snaps = 0
 starting (SnapWrite number) c snaps = count_by (λ s. (s.number == number) && starts c s) snaps
 
--- one request too many, or one copy, with so many new ones
+-- One request too many, or one copy, with so many new ones. A request starts one copy in each snapshot at most, and so eight:
+-- with more than 2^64 - 9 numbers of copies given, one may be past the last.
 abbrev pub are_too_many : {B : Type 0} → ℕ → Volumed B → Bool
 are_too_many new v = nat_le 64 (length v.flights) || nat_le 18_446_744_073_709_551_615 v.requests || nat_lt 256 (sum_by count_in v.snaps + new) || nat_lt 18_446_744_073_709_551_607 v.copies
 
@@ -121,14 +125,6 @@ submit_refusal size request v =
     first_of_two (dev_refusal request.dev v.snaps)
     (first_of_two (range_refusal (piece_of v.snaps) (size v.origin) request.range)
     (limit_refusal (starting (kind_of request) (request.range.first / piece_of v.snaps) v.snaps) v))
-
--- whether an origin write at this sector may go to the origin disk: each live snapshot has published the chunk, and no
--- invalid mark is untried
-abbrev pub is_clear_in : {B : Type 0} → ℕ → Kept B → Bool
-is_clear_in first s = (not s.live || is_published s.pairs s.marks (first / s.state.chunk)) && not s.untried
-
-abbrev pub is_clear_of : {B : Type 0} → ℕ → List (Kept B) → Bool
-is_clear_of first snaps = list_all (is_clear_in first) snaps
 
 -- a request is in flight, under the next number
 abbrev pub entered_of : {B : Type 0} → Flight → Volumed B → Volumed B
@@ -159,6 +155,8 @@ pub record IsAcceptedAs {B : Type 0} (contents : B → List ℕ) (layers : B →
   pub fresh : All (λ r. r.number ≢ number) (plain_of contents layers old).requests
   pub loud : is_loud_in_all layers new ≡ is_loud_in_all layers old
   pub legal : is_loud_in_all layers old ≡ true → (which : List ℕ) × IsSubmitted which (plain_of contents layers old) number request (plain_of contents layers new)
+  pub exact : IsSubmittedAs contents layers request number old new
+  pub kept : KeepsDevices old new
 
 -- nothing but room for copies was made
 pub record SameButRoom {B : Type 0} (old new : Volumed B) : Type 0 where

@@ -1,5 +1,5 @@
 -- What a volume keeps true.
-use Rattle.std.specs.Prelude.{◌≡◌, ◌≢◌, ℕ, ◌<◌, ◌≤◌, List, ◌++◌, length, map, AllPairs, sum_by}
+use Rattle.std.specs.Prelude.{◌≡◌, ◌≢◌, ℕ, ◌+◌, ◌*◌, ◌<◌, ◌≤◌, true, false, List, [], ◌++◌, length, map, AllPairs, sum_by}
 use Rattle.std.specs.List.{All}
 use Rattle.device.specs.Layers.{Layer}
 use Rattle.pending.specs.Due.{number_of_copy, number_of_mark, number_of_flight}
@@ -35,10 +35,19 @@ pub record IsAttached {B : Type 0} (copies sectors chunk : ℕ) (s : Kept B) : T
   pub some : 0 < s.state.chunk
   pub numbers : AreNumbers copies (numbers_in s)
 
+-- A snapshot's committed pairs fill the areas below the current one and its first slots; while it is live the current area
+-- has an empty slot. One that is not live has no copies.
+pub record IsCounted {B : Type 0} (s : Kept B) : Type 0 where
+  pub some : 0 < s.state.chunk
+  pub count : length s.pairs ≡ s.state.current * (32 * s.state.chunk) + s.state.filled
+  pub fits : s.live ≡ true → s.state.filled < 32 * s.state.chunk
+  pub idle : s.live ≡ false → s.copies ≡ []
+
 pub record IsWhole {B : Type 0} (contents : B → List ℕ) (layers : B → List Layer) (size : B → ℕ) (v : Volumed B) : Type 0 where
   pub holds : Holds (books_of contents layers size v)
   pub waits : Waits (books_of contents layers size v)
   pub snaps : All (IsAttached v.copies (size v.origin) (piece_of v.snaps)) v.snaps
+  pub counted : All IsCounted v.snaps
   pub apart : AllPairs SharesNone v.snaps
   pub numbers : AreNumbers v.attached (map number_of_snap v.snaps)
   pub requests : AreNumbers v.requests (map number_of_flight v.flights)

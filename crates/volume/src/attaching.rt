@@ -1,6 +1,6 @@
 // A snapshot is taken.
-ghost use Rattle.std.specs.Prelude.{◌≡◌, ◌⊎◌, ℕ, ◌+◌, ◌*◌, List, [], ◌∷◌, ◌++◌, length, Option, Some, None, IfOk, IfErr, OnErr, Ok, Err, true, false, IsTrue};
-ghost use Rattle.sector.specs.declared.refusal.Refusal.TheVariants.{Io as IoRefusal};
+ghost use Rattle.std.specs.Prelude.{◌≡◌, ◌≢◌, ◌⊎◌, ◌&&◌, MatchResult, ℕ, ◌+◌, ◌*◌, List, [], ◌∷◌, ◌++◌, length, Option, Some, None, IfOk, IfErr, OnErr, Ok, Err, true, false, IsTrue};
+ghost use Rattle.sector.specs.declared.refusal.Refusal.TheVariants.{Io as IoRefusal, NoMemory};
 ghost use Rattle.device.specs.Layers.{is_loud};
 ghost use Rattle.plain.specs.Legal.{IsTaken};
 ghost use Rattle.snapshot.specs.Opened.{IsBack};
@@ -8,6 +8,10 @@ ghost use Rattle.snapshot.specs.Opening.{shown_array};
 ghost use Rattle.snapshot.specs.Kept.{Kept};
 ghost use Rattle.volume.specs.Volumed.{Volumed, plain_of, is_loud_in_all};
 ghost use Rattle.volume.specs.Taking.{attach_refusal, wanted_of, IsNotTaken};
+ghost use Rattle.volume.specs.Attached.{store_of, volume_in, IsAttachedAs, IsGained};
+ghost use Rattle.volume.specs.Leaving.{is_quiet_of};
+ghost use Rattle.settling.specs.Attaching.{attached as attached_by, refused_attach};
+ghost use Rattle.store.specs.Reading.{AreRead};
 
 use crate::{MAX_SNAPSHOTS, Volume};
 use chunk::is_chunk_size;
@@ -63,6 +67,12 @@ impl<B: Block> Volume<B> {
         ensures admitted { IfOk result (λ _. attach_refusal store.stale chunk self.old ≡ None) }
         ensures taken { IfOk result (λ number. is_loud_in_all B.layers self.old ≡ true → is_loud (B.layers store.device) ≡ true → IsTaken (plain_of B.contents B.layers self.old) number (shown_array (B.contents self.old.origin) (B.contents store.device)) (plain_of B.contents B.layers self.new)) }
         ensures refused { IfErr result (λ e. IsNotTaken store.stale chunk (B.size self.old.origin) (B.size store.device) (B.contents store.device) self.old e.0) }
+        ensures gained { IfOk result (λ number. IsGained B.layers B.size number store self.old self.new) }
+        ensures exact { IfOk result (λ number. is_loud_in_all B.layers self.old ≡ true → is_loud (B.layers store.device) ≡ true → IsAttachedAs B.contents B.layers number chunk store self.old self.new) }
+        ensures back { IfErr result (λ e. e.0 ≢ NoMemory → is_quiet_of self.old ≡ true → is_loud_in_all B.layers self.old ≡ true → is_loud (B.layers store.device) ≡ true → attached_by (self.old.attached + 1) chunk (store_of B.contents B.layers store) (volume_in B.contents B.layers self.old) ≡ refused_attach e.0 (store_of B.contents B.layers e.1) (volume_in B.contents B.layers self.old)) }
+        ensures starved { IfErr result (λ e. e.0 ≡ NoMemory → (B.contents e.1.device ≡ B.contents store.device) × AreRead (B.layers store.device) (B.layers e.1.device)) }
+        ensures size { IfErr result (λ e. B.size e.1.device ≡ B.size store.device) }
+        ensures loud { MatchResult result (λ _. is_loud_in_all B.layers self.new ≡ (is_loud_in_all B.layers self.old && is_loud (B.layers store.device))) (λ e. is_loud (B.layers e.1.device) ≡ is_loud (B.layers store.device)) }
         ensures same { OnErr result (self.new ≡ self.old) }
         ensures stale { IfErr result (λ e. e.1.stale ≡ store.stale) }
     {

@@ -8,18 +8,12 @@ ghost use Rattle.snapshot.specs.Kept.{Kept};
 ghost use Rattle.volume.specs.Leaving.{IsWithout, close_refusal, detach_refusal, is_done_of, is_quiet_of, place_of_snap, usage_of};
 
 use crate::Volume;
+use crate::finding::snap_at;
 use chunk_alloc::Usage;
 use device::Block;
 use plain::SnapId;
 use sector::Refusal;
 use snapshot::{Snapshot, StoreDev};
-
-/// The place of the snapshot with this number.
-pub fn snap_at<B: Block>(snaps: &[Snapshot<B>], number: SnapId) -> Option<usize>
-    ensures { result ≡ place_of_snap number snaps.now }
-{
-    snaps.iter().position(|s| s.number() == number)
-}
 
 /// Whether a snapshot has neither a copy that is not published, nor an invalid mark that is untried.
 pub fn is_done<B: Block>(snap: &Snapshot<B>) -> bool

@@ -10,7 +10,7 @@ use pending::{Flight, Stage, first_copy, first_publishable, first_routed, front_
 use plain::{CopyId, Event, SnapId};
 use snapshot::Snapshot;
 
-// The number of the first snapshot whose store's header is to be marked invalid.
+/// The number of the first snapshot whose store's header is to be marked invalid.
 fn first_untried<B: Block>(snaps: &[Snapshot<B>]) -> Option<SnapId>
     ensures { result ≡ first_by is_untried snap_number (map (due_of_kept B.contents B.layers) snaps.now) }
 {
@@ -22,7 +22,7 @@ fn first_untried<B: Block>(snaps: &[Snapshot<B>]) -> Option<SnapId>
     None
 }
 
-// The number of the first snapshot whose first copy can be committed.
+/// The number of the first snapshot whose first copy can be committed.
 fn first_committing<B: Block>(snaps: &[Snapshot<B>]) -> Option<SnapId>
     ensures { result ≡ first_by can_commit snap_number (map (due_of_kept B.contents B.layers) snaps.now) }
 {
@@ -34,7 +34,7 @@ fn first_committing<B: Block>(snaps: &[Snapshot<B>]) -> Option<SnapId>
     None
 }
 
-// The number of the first snapshot that needs its next area zeroed for its first copy.
+/// The number of the first snapshot that needs its next area zeroed for its first copy.
 fn first_zeroing<B: Block>(snaps: &[Snapshot<B>]) -> Option<SnapId>
     ensures { result ≡ first_by can_zero snap_number (map (due_of_kept B.contents B.layers) snaps.now) }
 {
@@ -46,7 +46,7 @@ fn first_zeroing<B: Block>(snaps: &[Snapshot<B>]) -> Option<SnapId>
     None
 }
 
-// The least number of a copy at a stage, of each snapshot's first.
+/// The least number of a copy at a stage, of each snapshot's first.
 fn least_copy<B: Block>(snaps: &[Snapshot<B>], stage: Stage) -> Option<CopyId>
     ensures { result ≡ least_of (copy_of stage) (map (due_of_kept B.contents B.layers) snaps.now) }
 {
@@ -57,7 +57,7 @@ fn least_copy<B: Block>(snaps: &[Snapshot<B>], stage: Stage) -> Option<CopyId>
     found
 }
 
-// The least number of a mark that can be taken away, of each snapshot's first.
+/// The least number of a mark that can be taken away, of each snapshot's first.
 fn least_mark<B: Block>(snaps: &[Snapshot<B>], flights: &[Flight]) -> Option<CopyId>
     requires { All (λ s. 0 < s.state.chunk) snaps.now }
     ensures { result ≡ least_of (publishable_of flights.now) (map (due_of_kept B.contents B.layers) snaps.now) }
@@ -72,7 +72,7 @@ fn least_mark<B: Block>(snaps: &[Snapshot<B>], flights: &[Flight]) -> Option<Cop
     found
 }
 
-// The event of a volume's snapshots that is due first, or the first request that goes somewhere.
+/// The event of a volume's snapshots that is due first, or the first request that goes somewhere.
 pub(crate) fn first_due<B: Block>(snaps: &[Snapshot<B>], flights: &[Flight]) -> Option<Event>
     requires { All (λ s. 0 < s.state.chunk) snaps.now }
     ensures { result ≡ due_of (map (due_of_kept B.contents B.layers) snaps.now) flights.now }

@@ -2,6 +2,7 @@
 ghost use Rattle.std.specs.Prelude.{◌≡◌, ◌<◌, false, length, IfNone, IfSome, slice_index_or, Some, true};
 ghost use Rattle.std.specs.List.{All, list_any, position};
 ghost use Rattle.snapshot.specs.Kept.{Kept};
+ghost use Rattle.volume.specs.Leaving.{place_of_snap};
 ghost use Rattle.volume.specs.Finding.{has_copy_at, has_mark_at, is_committing, is_copy_of, is_mark_of, is_trying, is_zeroing};
 
 use device::Block;
@@ -9,7 +10,14 @@ use pending::{Flight, Stage, copy_at, front_written, publishable_at};
 use plain::{CopyId, SnapId};
 use snapshot::Snapshot;
 
-// The place of the first snapshot with this number whose store's header is to be marked invalid.
+/// The place of the snapshot with this number.
+pub(crate) fn snap_at<B: Block>(snaps: &[Snapshot<B>], number: SnapId) -> Option<usize>
+    ensures { result ≡ place_of_snap number snaps.now }
+{
+    snaps.iter().position(|s| s.number() == number)
+}
+
+/// The place of the first snapshot with this number whose store's header is to be marked invalid.
 pub(crate) fn trying_at<B: Block>(snaps: &[Snapshot<B>], number: SnapId) -> Option<usize>
     ensures found { IfSome result (λ k. (k < length snaps.now) × ((s : Kept B) → is_trying number (slice_index_or snaps.now k s) ≡ true)) }
     ensures none { IfNone result (list_any (is_trying number) snaps.now ≡ false) }
@@ -22,7 +30,7 @@ pub(crate) fn trying_at<B: Block>(snaps: &[Snapshot<B>], number: SnapId) -> Opti
     None
 }
 
-// The place of the first snapshot with this number whose first copy can be committed.
+/// The place of the first snapshot with this number whose first copy can be committed.
 pub(crate) fn committing_at<B: Block>(snaps: &[Snapshot<B>], number: SnapId) -> Option<usize>
     ensures found { IfSome result (λ k. (k < length snaps.now) × ((s : Kept B) → is_committing number (slice_index_or snaps.now k s) ≡ true)) }
     ensures none { IfNone result (list_any (is_committing number) snaps.now ≡ false) }
@@ -35,7 +43,7 @@ pub(crate) fn committing_at<B: Block>(snaps: &[Snapshot<B>], number: SnapId) -> 
     None
 }
 
-// The place of the first snapshot with this number that needs its next area zeroed for its first copy.
+/// The place of the first snapshot with this number that needs its next area zeroed for its first copy.
 pub(crate) fn zeroing_at<B: Block>(snaps: &[Snapshot<B>], number: SnapId) -> Option<usize>
     ensures found { IfSome result (λ k. (k < length snaps.now) × ((s : Kept B) → is_zeroing number (slice_index_or snaps.now k s) ≡ true)) }
     ensures none { IfNone result (list_any (is_zeroing number) snaps.now ≡ false) }
@@ -48,7 +56,7 @@ pub(crate) fn zeroing_at<B: Block>(snaps: &[Snapshot<B>], number: SnapId) -> Opt
     None
 }
 
-// The place of the first snapshot that has a copy with this number at this stage, and the copy's place in it.
+/// The place of the first snapshot that has a copy with this number at this stage, and the copy's place in it.
 pub(crate) fn find_copy<B: Block>(
     snaps: &[Snapshot<B>],
     stage: Stage,
@@ -66,8 +74,8 @@ pub(crate) fn find_copy<B: Block>(
     None
 }
 
-// The place of the first snapshot that has a mark with this number whose chunk no request reads from the origin disk, and
-// the mark's place in it.
+/// The place of the first snapshot that has a mark with this number whose chunk no request reads from the origin disk, and
+/// the mark's place in it.
 pub(crate) fn find_mark<B: Block>(
     snaps: &[Snapshot<B>],
     flights: &[Flight],

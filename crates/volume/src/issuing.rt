@@ -1,6 +1,6 @@
 // Issue: the one read or write of a request's route, and its reply.
 ghost use Rattle.std.specs.Prelude.{◌≡◌, ◌==◌, ◌<◌, ℕ, false, length, IfNone, IfOk, IfSome, MatchOption, OnErr, Some, is_ok, slice_index_or};
-ghost use Rattle.std.specs.List.{All, list_any, position};
+ghost use Rattle.std.specs.List.{list_any, position};
 ghost use Rattle.plain.specs.declared.event.Event.TheVariants.{Issue};
 ghost use Rattle.plain.specs.declared.request.Dev.TheVariants.{Snap};
 ghost use Rattle.pending.specs.declared.flights.Flight.{Flight};
@@ -11,29 +11,16 @@ ghost use Rattle.snapshot.specs.Kept.{Kept};
 ghost use Rattle.volume.specs.Volumed.{dues_of};
 ghost use Rattle.volume.specs.Stepping.{IsStepped};
 ghost use Rattle.volume.specs.Exact.{IsExact};
-ghost use Rattle.volume.specs.Moved.{IsCounted};
 
 use crate::Volume;
+use crate::finding::snap_at;
 use device::{Block, Io};
 use pending::{Flight, Route, flight_at};
 use plain::{Dev, Failure, NotDue, Op, Outcome, Reply, ReqId, Request, SnapId};
 use sector::{Buf, Chunk};
 use snapshot::Snapshot;
 
-// The place of the snapshot with this number.
-pub(crate) fn snap_at<B: Block>(snaps: &[Snapshot<B>], number: SnapId) -> Option<usize>
-    ensures found { IfSome result (λ k. (k < length snaps.now) × ((s : Kept B) → (slice_index_or snaps.now k s).number ≡ number)) }
-    ensures none { IfNone result (list_any (λ s. s.number == number) snaps.now ≡ false) }
-{
-    for (place, s) in snaps.iter().enumerate() {
-        if s.number() == number {
-            return Some(place);
-        }
-    }
-    None
-}
-
-// The place of the snapshot that a request is of.
+/// The place of the snapshot that a request is of.
 fn holder_at<B: Block>(snaps: &[Snapshot<B>], dev: Dev) -> Option<usize>
     ensures found { IfSome result (λ k. (k < length snaps.now) × ((s : Kept B) → dev ≡ Snap (slice_index_or snaps.now k s).number)) }
     ensures none { IfNone result ((n : ℕ) → dev ≡ Snap n → list_any (λ s. s.number == n) snaps.now ≡ false) }
@@ -44,7 +31,7 @@ fn holder_at<B: Block>(snaps: &[Snapshot<B>], dev: Dev) -> Option<usize>
     }
 }
 
-// The place and the route of the first request with this number.
+/// The place and the route of the first request with this number.
 fn going(flights: &[Flight], number: ReqId) -> Option<(usize, Route)>
     ensures found { IfSome result (λ p. (position (λ f. f.number == number) flights.now ≡ Some p.0) × ((f : Flight) → (slice_index_or flights.now p.0 f).route ≡ p.1)) }
     ensures due { MatchOption result (is_issued number flights.now ≡ false) (λ p. is_issued number flights.now ≡ goes_somewhere p.1) }
@@ -56,12 +43,12 @@ fn going(flights: &[Flight], number: ReqId) -> Option<(usize, Route)>
 }
 
 impl<B: Block> Volume<B> {
-    // Issues a request at the origin disk.
+    /// Issues a request at the origin disk.
     fn issue_disk(&mut self, number: ReqId, place: usize) -> Outcome
         requires found { position (λ f. f.number == number) self.old.flights ≡ Some place }
         requires route { (f : Flight) → (slice_index_or self.old.flights place f).route ≡ Origin }
-        ensures step { IsStepped B.contents B.layers B.fault_count B.done_count (Issue number) result self.old self.new }
-        ensures exact { All IsCounted self.old.snaps → IsExact B.contents B.layers (Issue number) result self.old self.new }
+        ensures step { IsStepped B.contents B.layers B.size B.fault_count B.done_count (Issue number) result self.old self.new }
+        ensures exact { IsExact B.contents B.layers (Issue number) result self.old self.new }
     {
         let flight = self.flights.remove(place);
         let Flight {
@@ -83,23 +70,23 @@ impl<B: Block> Volume<B> {
         }
     }
 
-    // Answers a request of a spoiled snapshot, without an operation.
+    /// Answers a request of a spoiled snapshot, without an operation.
     fn issue_refused(&mut self, number: ReqId, place: usize) -> Outcome
         requires found { position (λ f. f.number == number) self.old.flights ≡ Some place }
         requires route { (f : Flight) → (slice_index_or self.old.flights place f).route ≡ Refused }
-        ensures step { IsStepped B.contents B.layers B.fault_count B.done_count (Issue number) result self.old self.new }
-        ensures exact { All IsCounted self.old.snaps → IsExact B.contents B.layers (Issue number) result self.old self.new }
+        ensures step { IsStepped B.contents B.layers B.size B.fault_count B.done_count (Issue number) result self.old self.new }
+        ensures exact { IsExact B.contents B.layers (Issue number) result self.old self.new }
     {
         let _ = self.flights.remove(place);
         Outcome::Reply(number, Reply::Refused(Failure::Invalid))
     }
 
-    // Issues a request of a snapshot at its chunk's place on the snapshot's store.
+    /// Issues a request of a snapshot at its chunk's place on the snapshot's store.
     fn issue_store(&mut self, number: ReqId, place: usize, at: Chunk) -> Outcome
         requires found { position (λ f. f.number == number) self.old.flights ≡ Some place }
         requires route { (f : Flight) → (slice_index_or self.old.flights place f).route ≡ Store at }
-        ensures step { IsStepped B.contents B.layers B.fault_count B.done_count (Issue number) result self.old self.new }
-        ensures exact { All IsCounted self.old.snaps → IsExact B.contents B.layers (Issue number) result self.old self.new }
+        ensures step { IsStepped B.contents B.layers B.size B.fault_count B.done_count (Issue number) result self.old self.new }
+        ensures exact { IsExact B.contents B.layers (Issue number) result self.old self.new }
     {
         let flight = self.flights.remove(place);
         let Flight {
@@ -127,11 +114,11 @@ impl<B: Block> Volume<B> {
         }
     }
 
-    // Issues a request that goes somewhere: the one read or write of its route, and its reply. Where the device fails, the
-    // reply is Io, and nothing else changes.
+    /// Issues a request that goes somewhere: the one read or write of its route, and its reply. Where the device fails, the
+    /// reply is Io, and nothing else changes.
     pub(crate) fn issue(&mut self, number: ReqId) -> Result<Outcome, NotDue>
-        ensures step { IfOk result (λ outcome. IsStepped B.contents B.layers B.fault_count B.done_count (Issue number) outcome self.old self.new) }
-        ensures exact { IfOk result (λ outcome. All IsCounted self.old.snaps → IsExact B.contents B.layers (Issue number) outcome self.old self.new) }
+        ensures step { IfOk result (λ outcome. IsStepped B.contents B.layers B.size B.fault_count B.done_count (Issue number) outcome self.old self.new) }
+        ensures exact { IfOk result (λ outcome. IsExact B.contents B.layers (Issue number) outcome self.old self.new) }
         ensures due { is_ok result ≡ is_due (dues_of B.contents B.layers self.old) self.old.flights (Issue number) }
         ensures same { OnErr result (self.new ≡ self.old) }
     {

@@ -2,9 +2,14 @@
 //! one operation of one device, and which either changes nothing that is seen, or spoils the one snapshot whose device
 //! failed, or answers the one request that it names.
 //!
-//! It stands on `snapshot`, on `pending`, whose lists it holds, and on `volume_laws`, which has the laws of every event.
+//! It stands on `snapshot` (the snapshots, each with its store), on `pending` (copies, marks and requests in flight), on
+//! `volume_laws` and `submit_laws` (the laws of every event and of every request), and on `settling` (the event machine).
+//! Words of its contracts are those of `plain` (the machine that all layers above see), `sector`, `device`, `chunk`, `model`,
+//! `cow_header`, `store`, `chunk_alloc` and `settled`.
+//!
 //! It promises that its devices' own bytes stand for one plain machine, of which every call is a step, and of each event
-//! when it is due, that a whole number falls with it, and what made it fail.
+//! when it is due, that a whole number falls with it, and what made it fail. Where no device drops writes, each event is
+//! exactly the event machine's, and so is each request that is accepted or found invalid, whatever is in flight.
 #![tactic(auto)]
 
 mod attaching;
@@ -12,6 +17,7 @@ mod closing;
 mod due;
 mod finding;
 mod issuing;
+mod layering;
 mod machine;
 mod routing;
 mod step;

@@ -10,7 +10,7 @@ use pending::{Flight, Route, again_route, placed_route, request_kind, write_rout
 use sector::Chunk;
 use snapshot::Snapshot;
 
-// Whether a snapshot has published the chunk of this sector of the origin, if it is live.
+/// Whether a snapshot has published the chunk of this sector of the origin, if it is live.
 fn is_saved<B: Block>(snap: &Snapshot<B>, first: u64) -> bool
     requires { 0 < snap.now.state.chunk }
     ensures { result ≡ is_saved_in first (books_of B.contents B.layers snap.now) }
@@ -18,7 +18,7 @@ fn is_saved<B: Block>(snap: &Snapshot<B>, first: u64) -> bool
     !snap.is_live() || snap.is_published(first / snap.chunk() as u64)
 }
 
-// Whether every live snapshot has published the chunk of this sector of the origin.
+/// Whether every live snapshot has published the chunk of this sector of the origin.
 fn are_saved<B: Block>(snaps: &[Snapshot<B>], first: u64) -> bool
     requires { All (λ s. 0 < s.state.chunk) snaps.now }
     ensures { result ≡ list_all (is_saved_in first) (map (books_of B.contents B.layers) snaps.now) }
@@ -31,7 +31,7 @@ fn are_saved<B: Block>(snaps: &[Snapshot<B>], first: u64) -> bool
     true
 }
 
-// Whether the header of some spoiled snapshot's store is to be marked invalid.
+/// Whether the header of some spoiled snapshot's store is to be marked invalid.
 fn is_any_untried<B: Block>(snaps: &[Snapshot<B>]) -> bool
     ensures { result ≡ list_any (λ s. s.untried) (map (books_of B.contents B.layers) snaps.now) }
 {
@@ -43,7 +43,7 @@ fn is_any_untried<B: Block>(snaps: &[Snapshot<B>]) -> bool
     false
 }
 
-// Whether an origin write at this sector may go to the origin disk.
+/// Whether an origin write at this sector may go to the origin disk.
 pub(crate) fn is_clear<B: Block>(snaps: &[Snapshot<B>], first: u64) -> bool
     requires { All (λ s. 0 < s.state.chunk) snaps.now }
     ensures { result ≡ is_clear_in (map (books_of B.contents B.layers) snaps.now) first }
@@ -51,7 +51,7 @@ pub(crate) fn is_clear<B: Block>(snaps: &[Snapshot<B>], first: u64) -> bool
     are_saved(snaps, first) && !is_any_untried(snaps)
 }
 
-// The route of a request after held origin writes were routed again.
+/// The route of a request after held origin writes were routed again.
 fn again_for<B: Block>(snaps: &[Snapshot<B>], flight: &Flight) -> Route
     requires { All (λ s. 0 < s.state.chunk) snaps.now }
     ensures { result ≡ (again_of None (is_clear_in (map (books_of B.contents B.layers) snaps.now)) flight.now).route }
@@ -60,7 +60,7 @@ fn again_for<B: Block>(snaps: &[Snapshot<B>], flight: &Flight) -> Route
     again_route(request_kind(&flight.request), flight.route, new)
 }
 
-// Routes the held origin writes again.
+/// Routes the held origin writes again.
 pub(crate) fn route_again<B: Block>(snaps: &[Snapshot<B>], flights: &mut Vec<Flight>)
     requires { All (λ s. 0 < s.state.chunk) snaps.now }
     ensures { flights.new.items ≡ map (again_of None (is_clear_in (map (books_of B.contents B.layers) snaps.now))) flights.old.items }
@@ -77,7 +77,7 @@ fn route_all_again<B: Block>(snaps: &[Snapshot<B>], flights: &mut [Flight])
     }
 }
 
-// The place of a chunk of the origin, where the snapshot has published it.
+/// The place of a chunk of the origin, where the snapshot has published it.
 fn published_place<B: Block>(snap: &Snapshot<B>, chunk: Chunk) -> Option<Chunk>
     ensures { result ≡ place_if_published snap.now.pairs snap.now.marks chunk }
 {
@@ -88,7 +88,7 @@ fn published_place<B: Block>(snap: &Snapshot<B>, chunk: Chunk) -> Option<Chunk>
     }
 }
 
-// Routes the held writes of a snapshot again, each to its chunk's place if that is published.
+/// Routes the held writes of a snapshot again, each to its chunk's place if that is published.
 pub(crate) fn route_placed<B: Block>(snap: &Snapshot<B>, flights: &mut Vec<Flight>)
     requires { 0 < snap.now.state.chunk }
     ensures { flights.new.items ≡ map (placed_of (books_of B.contents B.layers snap.now)) flights.old.items }

@@ -4,20 +4,18 @@ ghost use Rattle.plain.specs.Legal.{IsLegalStep};
 ghost use Rattle.volume_laws.specs.Due.{is_due};
 ghost use Rattle.volume.specs.Volumed.{dues_of, is_loud_in_all, left_in_all, next_of, plain_of};
 ghost use Rattle.volume.specs.Causes.{HasCause, IsOneAtMost};
-ghost use Rattle.volume.specs.Stepping.{IsStepped};
+ghost use Rattle.volume.specs.Stepping.{IsStepped, KeepsAll};
 ghost use Rattle.volume.specs.Exact.{IsExact};
-ghost use Rattle.volume.specs.Moved.{IsCounted};
-ghost use Rattle.std.specs.List.{All};
 
 use crate::Volume;
 use device::Block;
 use plain::{Event, NotDue, Outcome};
 
 impl<B: Block> Volume<B> {
-    // Does an event by its kind. None of a merge is due here.
+    /// Does an event by its kind. None of a merge is due here.
     fn step_by_kind(&mut self, event: Event) -> Result<Outcome, NotDue>
-        ensures step { IfOk result (λ outcome. IsStepped B.contents B.layers B.fault_count B.done_count event outcome self.old self.new) }
-        ensures exact { IfOk result (λ outcome. All IsCounted self.old.snaps → IsExact B.contents B.layers event outcome self.old self.new) }
+        ensures step { IfOk result (λ outcome. IsStepped B.contents B.layers B.size B.fault_count B.done_count event outcome self.old self.new) }
+        ensures exact { IfOk result (λ outcome. IsExact B.contents B.layers event outcome self.old self.new) }
         ensures due { is_ok result ≡ is_due (dues_of B.contents B.layers self.old) self.old.flights event }
         ensures same { OnErr result (self.new ≡ self.old) }
     {
@@ -44,13 +42,15 @@ impl<B: Block> Volume<B> {
     /// device failed. Where it is not due, nothing changes at all.
     pub fn step(&mut self, event: Event) -> Result<Outcome, NotDue>
         ensures legal { IfOk result (λ outcome. is_loud_in_all B.layers self.old ≡ true → IsLegalStep (plain_of B.contents B.layers self.old) event outcome (plain_of B.contents B.layers self.new)) }
-        ensures exact { IfOk result (λ outcome. All IsCounted self.old.snaps → IsExact B.contents B.layers event outcome self.old self.new) }
+        ensures exact { IfOk result (λ outcome. IsExact B.contents B.layers event outcome self.old self.new) }
         ensures due { is_ok result ≡ is_due (dues_of B.contents B.layers self.old) self.old.flights event }
         ensures first { next_of B.contents B.layers self.old ≡ Some event → IsOk result }
         ensures lower { OnOk result (left_in_all B.contents B.layers self.new < left_in_all B.contents B.layers self.old) }
         ensures loud { is_loud_in_all B.layers self.new ≡ is_loud_in_all B.layers self.old }
         ensures cause { IfOk result (λ outcome. HasCause B.fault_count event outcome self.old self.new) }
         ensures one { OnOk result (IsOneAtMost B.done_count self.old self.new) }
+        ensures kept { OnOk result (KeepsAll B.size self.old self.new) }
+        ensures counts { OnOk result ((self.new.requests ≡ self.old.requests) × (self.new.copies ≡ self.old.copies)) }
         ensures same { OnErr result (self.new ≡ self.old) }
     {
         let _ = &self.flights;

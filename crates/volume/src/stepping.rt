@@ -8,8 +8,6 @@ ghost use Rattle.snapshot.specs.Kept.{books_of};
 ghost use Rattle.volume.specs.Volumed.{dues_of};
 ghost use Rattle.volume.specs.Stepping.{IsStepped};
 ghost use Rattle.volume.specs.Exact.{IsExact};
-ghost use Rattle.volume.specs.Moved.{IsCounted};
-ghost use Rattle.std.specs.List.{All};
 
 use crate::Volume;
 use crate::finding::{committing_at, find_copy, find_mark, trying_at, zeroing_at};
@@ -19,7 +17,7 @@ use pending::{Flight, Stage, refuse};
 use plain::{CopyId, NotDue, Outcome, SnapId};
 use snapshot::Snapshot;
 
-// Spoils a snapshot whose device failed, and refuses its requests.
+/// Spoils a snapshot whose device failed, and refuses its requests.
 fn spoil<B: Block>(snap: &mut Snapshot<B>, flights: &mut Vec<Flight>)
     requires { snap.old.live ≡ true }
     ensures fields { snap.new ≡ record snap.old { live = false; untried = true; state = record snap.old.state { copying = false }; begun = []; copies = []; marks = [] } }
@@ -31,10 +29,10 @@ fn spoil<B: Block>(snap: &mut Snapshot<B>, flights: &mut Vec<Flight>)
 }
 
 impl<B: Block> Volume<B> {
-    // Reads a copy's chunk from the origin disk. Where that fails, the copy's snapshot is spoiled.
+    /// Reads a copy's chunk from the origin disk. Where that fails, the copy's snapshot is spoiled.
     pub(crate) fn copy_read(&mut self, number: CopyId) -> Result<Outcome, NotDue>
-        ensures step { IfOk result (λ outcome. IsStepped B.contents B.layers B.fault_count B.done_count (CopyRead number) outcome self.old self.new) }
-        ensures exact { IfOk result (λ outcome. All IsCounted self.old.snaps → IsExact B.contents B.layers (CopyRead number) outcome self.old self.new) }
+        ensures step { IfOk result (λ outcome. IsStepped B.contents B.layers B.size B.fault_count B.done_count (CopyRead number) outcome self.old self.new) }
+        ensures exact { IfOk result (λ outcome. IsExact B.contents B.layers (CopyRead number) outcome self.old self.new) }
         ensures due { is_ok result ≡ is_due (dues_of B.contents B.layers self.old) self.old.flights (CopyRead number) }
         ensures same { OnErr result (self.new ≡ self.old) }
     {
@@ -53,10 +51,10 @@ impl<B: Block> Volume<B> {
         }
     }
 
-    // Writes a copy that was read to its place. Where that fails, its snapshot is spoiled.
+    /// Writes a copy that was read to its place. Where that fails, its snapshot is spoiled.
     pub(crate) fn copy_write(&mut self, number: CopyId) -> Result<Outcome, NotDue>
-        ensures step { IfOk result (λ outcome. IsStepped B.contents B.layers B.fault_count B.done_count (CopyWrite number) outcome self.old self.new) }
-        ensures exact { IfOk result (λ outcome. All IsCounted self.old.snaps → IsExact B.contents B.layers (CopyWrite number) outcome self.old self.new) }
+        ensures step { IfOk result (λ outcome. IsStepped B.contents B.layers B.size B.fault_count B.done_count (CopyWrite number) outcome self.old self.new) }
+        ensures exact { IfOk result (λ outcome. IsExact B.contents B.layers (CopyWrite number) outcome self.old self.new) }
         ensures due { is_ok result ≡ is_due (dues_of B.contents B.layers self.old) self.old.flights (CopyWrite number) }
         ensures same { OnErr result (self.new ≡ self.old) }
     {
@@ -75,11 +73,11 @@ impl<B: Block> Volume<B> {
         }
     }
 
-    // Zeroes the area after the current one of a snapshot's store. Where that fails, or the store has no room for it, the
-    // snapshot is spoiled; want of room is no fault.
+    /// Zeroes the area after the current one of a snapshot's store. Where that fails, or the store has no room for it, the
+    /// snapshot is spoiled; want of room is no fault.
     pub(crate) fn zero_next(&mut self, number: SnapId) -> Result<Outcome, NotDue>
-        ensures step { IfOk result (λ outcome. IsStepped B.contents B.layers B.fault_count B.done_count (ZeroNext number) outcome self.old self.new) }
-        ensures exact { IfOk result (λ outcome. All IsCounted self.old.snaps → IsExact B.contents B.layers (ZeroNext number) outcome self.old self.new) }
+        ensures step { IfOk result (λ outcome. IsStepped B.contents B.layers B.size B.fault_count B.done_count (ZeroNext number) outcome self.old self.new) }
+        ensures exact { IfOk result (λ outcome. IsExact B.contents B.layers (ZeroNext number) outcome self.old self.new) }
         ensures due { is_ok result ≡ is_due (dues_of B.contents B.layers self.old) self.old.flights (ZeroNext number) }
         ensures same { OnErr result (self.new ≡ self.old) }
     {
@@ -102,10 +100,10 @@ impl<B: Block> Volume<B> {
         }
     }
 
-    // Commits the first copy of a snapshot. Where that fails, the snapshot is spoiled.
+    /// Commits the first copy of a snapshot. Where that fails, the snapshot is spoiled.
     pub(crate) fn write_area(&mut self, number: SnapId) -> Result<Outcome, NotDue>
-        ensures step { IfOk result (λ outcome. IsStepped B.contents B.layers B.fault_count B.done_count (WriteArea number) outcome self.old self.new) }
-        ensures exact { IfOk result (λ outcome. All IsCounted self.old.snaps → IsExact B.contents B.layers (WriteArea number) outcome self.old self.new) }
+        ensures step { IfOk result (λ outcome. IsStepped B.contents B.layers B.size B.fault_count B.done_count (WriteArea number) outcome self.old self.new) }
+        ensures exact { IfOk result (λ outcome. IsExact B.contents B.layers (WriteArea number) outcome self.old self.new) }
         ensures due { is_ok result ≡ is_due (dues_of B.contents B.layers self.old) self.old.flights (WriteArea number) }
         ensures same { OnErr result (self.new ≡ self.old) }
     {
@@ -124,11 +122,11 @@ impl<B: Block> Volume<B> {
         }
     }
 
-    // Publishes a committed copy: its mark is taken away, its snapshot's held writes of the chunk go to its place, and
-    // held origin writes are routed again.
+    /// Publishes a committed copy: its mark is taken away, its snapshot's held writes of the chunk go to its place, and
+    /// held origin writes are routed again.
     pub(crate) fn publish(&mut self, number: CopyId) -> Result<Outcome, NotDue>
-        ensures step { IfOk result (λ outcome. IsStepped B.contents B.layers B.fault_count B.done_count (Publish number) outcome self.old self.new) }
-        ensures exact { IfOk result (λ outcome. All IsCounted self.old.snaps → IsExact B.contents B.layers (Publish number) outcome self.old self.new) }
+        ensures step { IfOk result (λ outcome. IsStepped B.contents B.layers B.size B.fault_count B.done_count (Publish number) outcome self.old self.new) }
+        ensures exact { IfOk result (λ outcome. IsExact B.contents B.layers (Publish number) outcome self.old self.new) }
         ensures due { is_ok result ≡ is_due (dues_of B.contents B.layers self.old) self.old.flights (Publish number) }
         ensures same { OnErr result (self.new ≡ self.old) }
     {
@@ -144,11 +142,11 @@ impl<B: Block> Volume<B> {
         }
     }
 
-    // Marks the header of a spoiled snapshot's store invalid, and routes held origin writes again. Where that fails, the
-    // store is stale, and nothing else is changed.
+    /// Marks the header of a spoiled snapshot's store invalid, and routes held origin writes again. Where that fails, the
+    /// store is stale, and nothing else is changed.
     pub(crate) fn write_invalid(&mut self, number: SnapId) -> Result<Outcome, NotDue>
-        ensures step { IfOk result (λ outcome. IsStepped B.contents B.layers B.fault_count B.done_count (WriteInvalid number) outcome self.old self.new) }
-        ensures exact { IfOk result (λ outcome. All IsCounted self.old.snaps → IsExact B.contents B.layers (WriteInvalid number) outcome self.old self.new) }
+        ensures step { IfOk result (λ outcome. IsStepped B.contents B.layers B.size B.fault_count B.done_count (WriteInvalid number) outcome self.old self.new) }
+        ensures exact { IfOk result (λ outcome. IsExact B.contents B.layers (WriteInvalid number) outcome self.old self.new) }
         ensures due { is_ok result ≡ is_due (dues_of B.contents B.layers self.old) self.old.flights (WriteInvalid number) }
         ensures same { OnErr result (self.new ≡ self.old) }
     {

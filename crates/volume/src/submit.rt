@@ -1,6 +1,13 @@
 // A request is accepted or refused.
-ghost use Rattle.std.specs.Prelude.{◌≡◌, ◌*◌, ℕ, List, length, None, IfOk, IfErr};
+ghost use Rattle.std.specs.Prelude.{◌≡◌, ◌≢◌, ◌*◌, ℕ, List, length, Option, Some, None, IfOk, IfErr};
+ghost use Rattle.sector.specs.declared.refusal.Refusal.TheVariants.{Invalid};
+ghost use Rattle.plain.specs.declared.request.Failure.TheVariants.{Invalid as IsInvalid};
+ghost use Rattle.plain.specs.declared.request.Reply.{Reply};
+ghost use Rattle.plain.specs.declared.request.Reply.TheVariants.{Refused};
+ghost use Rattle.settling.specs.Submitting.{submitted};
+ghost use Rattle.volume.specs.Moved.{moving_of};
 ghost use Rattle.plain.specs.declared.request.Op.TheVariants.{Write};
+ghost use Rattle.volume.specs.Stepping.{KeepsAll, KeepsDevices};
 ghost use Rattle.volume.specs.Submitting.{submit_refusal, IsAcceptedAs, IsRefusedAs};
 
 use crate::Volume;
@@ -24,9 +31,15 @@ impl<B: Block> Volume<B> {
     pub fn submit(&mut self, alloc: Global, request: Request) -> Result<ReqId, Refusal>
         requires bytes { (bytes : List ℕ) → request.op ≡ Write bytes → length bytes ≡ 512 * request.range.count }
         ensures ok { IfOk result (λ number. IsAcceptedAs B.contents B.layers request number self.old self.new) }
+        ensures kept { KeepsAll B.size self.old self.new }
+        ensures untouched { KeepsDevices self.old self.new }
         ensures admitted { IfOk result (λ _. submit_refusal B.size request self.old ≡ None) }
+        ensures exact { IfOk result (λ number. (replied : Option Reply) → submitted number request (moving_of B.contents B.layers replied self.old) ≡ moving_of B.contents B.layers replied self.new) }
         ensures refused { IfErr result (λ refusal. IsRefusedAs B.contents B.layers B.size request refusal self.old self.new) }
+        ensures declined { IfErr result (λ refusal. refusal ≡ Invalid → (number : ℕ) (replied : Option Reply) → submitted number request (moving_of B.contents B.layers replied self.old) ≡ moving_of B.contents B.layers (Some (Refused IsInvalid)) self.new) }
+        ensures starved { IfErr result (λ refusal. refusal ≢ Invalid → (replied : Option Reply) → moving_of B.contents B.layers replied self.new ≡ moving_of B.contents B.layers replied self.old) }
     {
+        let _ = &self.flights;
         match self.submit_refused(&request) {
             Some(refusal) => return Err(refusal),
             None => {}

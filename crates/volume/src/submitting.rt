@@ -11,17 +11,18 @@ ghost use Rattle.submit_laws.specs.Accepting.{IsTakenIn};
 ghost use Rattle.snapshot.specs.Kept.{Kept};
 ghost use Rattle.volume.specs.Volumed.{books_of, piece_of};
 ghost use Rattle.volume.specs.Whole.{count_in, IsWhole};
-ghost use Rattle.volume.specs.Submitting.{lacks, starts, unroomed, starting as starting_of, are_too_many, is_piece_of, dev_refusal, submit_refusal, is_clear_of, HasRoomFor, HaveRooms, IsSavedIn, AreSavedIn, entered_of, IsEntered, IsAsked, IsAcceptedAs, SameButRoom};
+ghost use Rattle.volume.specs.Submitting.{lacks, starts, unroomed, starting as starting_of, are_too_many, is_piece_of, dev_refusal, submit_refusal, HasRoomFor, HaveRooms, IsSavedIn, AreSavedIn, entered_of, IsEntered, IsAsked, IsAcceptedAs, SameButRoom};
 
 use crate::Volume;
-use crate::closing::snap_at;
+use crate::finding::snap_at;
+use crate::routing::is_clear;
 use device::Block;
 use pending::{
     Flight, Kind, MAX_COPIES, MAX_REQUESTS, Route, has_copy, refuse, request_kind, sectors_of,
     write_route,
 };
 use plain::{Dev, ReqId, Request, SnapId};
-use sector::{Chunk, Range, Refusal, Sector};
+use sector::{Chunk, Range, Refusal};
 use snapshot::Snapshot;
 use std::alloc::Global;
 
@@ -130,23 +131,6 @@ fn save_in_all<B: Block>(
         given = save_in(&mut snaps[k], flights, given, chunk, room);
     }
     given
-}
-
-/// Whether an origin write at this sector may go to the origin disk: each live snapshot has published the chunk, and no
-/// invalid mark is untried.
-fn is_clear<B: Block>(snaps: &[Snapshot<B>], first: Sector) -> bool
-    requires { All (λ s. 0 < s.state.chunk) snaps.now }
-    ensures { result ≡ is_clear_of first snaps.now }
-{
-    for snap in snaps {
-        if snap.is_untried() {
-            return false;
-        }
-        if snap.is_live() && !snap.is_published(first / snap.chunk() as u64) {
-            return false;
-        }
-    }
-    true
 }
 
 /// How many copies are pending.

@@ -10,7 +10,7 @@ ghost use Rattle.volume.specs.Leaving.{place_of_snap};
 ghost use Rattle.volume.specs.Submitting.{lacks, starts, dev_refusal, IsAsked, IsAcceptedAs, SameButRoom, IsFoundFull};
 
 use crate::Volume;
-use crate::closing::snap_at;
+use crate::finding::snap_at;
 use crate::submitting::{is_lacking, save_in, take_room};
 use device::Block;
 use pending::{Flight, Route, read_route, sectors_of};

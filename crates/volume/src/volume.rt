@@ -1,5 +1,10 @@
 // A volume, and what callers ask of it.
-ghost use Rattle.std.specs.Prelude.{◌≡◌, [], IfErr, IfNone, IfOk, length};
+ghost use Rattle.std.specs.Prelude.{◌≡◌, ◌≤◌, [], IfErr, IfNone, IfOk, Option, length, true};
+ghost use Rattle.chunk.specs.Sizes.{is_chunk};
+ghost use Rattle.std.specs.List.{All};
+ghost use Rattle.plain.specs.declared.request.Reply.{Reply};
+ghost use Rattle.settling.specs.Due.{due as due_in};
+ghost use Rattle.volume.specs.Moved.{moving_of};
 ghost use Rattle.sector.specs.declared.refusal.Refusal.TheVariants.{NoMemory};
 ghost use Rattle.volume_laws.specs.Waits.{IsQuiet};
 ghost use Rattle.volume.specs.Volumed.{books_of, next_of, piece_of};
@@ -74,9 +79,10 @@ impl<B: Block> Volume<B> {
         &self.origin
     }
 
-    /// How many snapshots there are.
+    /// How many snapshots there are: eight at most.
     pub fn len(&self) -> usize
-        ensures { result ≡ length self.now.snaps }
+        ensures len { result ≡ length self.now.snaps }
+        ensures few { result ≤ 8 }
     {
         self.snaps.len()
     }
@@ -84,7 +90,9 @@ impl<B: Block> Volume<B> {
     /// The sectors of a piece: of a chunk of the snapshots, or of the largest chunk where there is none. A request lies
     /// inside one piece.
     pub fn piece(&self) -> u32
-        ensures { result ≡ piece_of self.now.snaps }
+        ensures piece { result ≡ piece_of self.now.snaps }
+        ensures same { All (λ s. s.state.chunk ≡ result) self.now.snaps }
+        ensures allowed { is_chunk result ≡ true }
     {
         match self.snaps.as_slice() {
             [] => LARGEST_PIECE,
@@ -96,6 +104,7 @@ impl<B: Block> Volume<B> {
     /// flight, and no copy, publication or mark of a spoiled store is left to do.
     pub fn due(&self) -> Option<Event>
         ensures event { result ≡ next_of B.contents B.layers self.now }
+        ensures machine { (replied : Option Reply) → due_in (moving_of B.contents B.layers replied self.now) ≡ result }
         ensures quiet { IfNone result (IsQuiet (books_of B.contents B.layers B.size self.now)) }
     {
         first_due(&self.snaps, &self.flights)

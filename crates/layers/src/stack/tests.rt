@@ -1,6 +1,8 @@
 // What the kernel's flakey, dust and error targets do, on stacks over disks of eight sectors.
-ghost use Rattle.std.specs.Prelude.{◌≡◌, ◌<◌, IfOk};
-ghost use Rattle.layers.specs.Stack.{stack_size};
+ghost use Rattle.std.specs.Prelude.{◌≡◌, ◌<◌, ◌*◌, length, IfOk, IsTrue};
+ghost use Rattle.sector.specs.Bytes.{sectors_at};
+ghost use Rattle.layers.specs.Stack.{stack_size, stack_layers, stack_contents};
+ghost use Rattle.layers.specs.Windows.{raw_of};
 
 use super::*;
 use crate::{Answer, Features, Layered, Message};
@@ -73,6 +75,22 @@ fn reads(stack: &mut Stack, sector: u64) -> Option<u8>
         Ok(()) => out.first().copied(),
         Err(_) => None,
     }
+}
+
+// Copies sectors of the disk at the bottom, past all layers, where there is one that has them, and says whether there is.
+#[tactic(auto, using(crate::specs::Beneath::stack_raw))]
+fn saves(stack: &Stack, range: Range, out: &mut [u8]) -> bool
+    requires { length out.old ≡ 512 * range.count }
+    ensures { IsTrue result → out.new ≡ sectors_at (raw_of (stack_layers stack.now) (stack_contents stack.now)) range.first range.count }
+{
+    let Some(disk) = stack.disk() else {
+        return false;
+    };
+    if disk.sectors() < range.first + range.count as u64 {
+        return false;
+    }
+    disk.raw(range, out);
+    true
 }
 
 #[test]
@@ -282,7 +300,7 @@ fn an_error_layer_fails_everything(rt: HostRuntime) -> Result<(), Fail> {
     assert!(rt; !writes(&mut stack, 0, 1));
     assert_eq!(rt; stack.flush(), Err(Io));
     assert_eq!(rt; (stack.sectors(), stack.faults(), stack.done()), (8, 3, 3));
-    assert!(rt; stack.disk().is_none() && stack.disk_mut().is_none());
+    assert!(rt; stack.disk().is_none());
     assert!(rt; stack.into_below().is_none());
     Ok(())
 }
@@ -300,7 +318,6 @@ fn a_loss_reaches_the_disk_under_layers(rt: HostRuntime) -> Result<(), Fail> {
         panic!(rt; "no disk");
     };
     assert_eq!(rt; bottom.done(), 4);
-    assert!(rt; stack.disk_mut().is_some());
     Ok(())
 }
 
@@ -311,5 +328,39 @@ fn loaded_sectors_are_there_after_a_loss(rt: HostRuntime) -> Result<(), Fail> {
     stack.lose();
     assert_eq!(rt; reads(&mut stack, 6), Some(5));
     assert_eq!(rt; reads(&mut stack, 7), Some(0));
+    Ok(())
+}
+
+#[test]
+fn sectors_beside_a_window_stay(rt: HostRuntime) -> Result<(), Fail> {
+    let mut bytes = [0; 4096];
+    for (sector, byte) in bytes.chunks_mut(512).zip(1..9u8) {
+        sector.fill(byte);
+    }
+    let mut disk = MemDisk::new(rt.alloc(), 8)?;
+    disk.load(Range::new(0, 8, 8)?, &bytes);
+    let bottom = Stack::Disk(disk);
+    let flakey = Flakey::new(5, 2, 1, 1, RELIABLE);
+    let Ok(middle) = bottom.under_flakey(rt.alloc(), flakey) else {
+        panic!(rt; "no memory");
+    };
+    let Ok(mut stack) = middle.under_dust(rt.alloc(), Dust::new(rt.alloc(), 3, 512)) else {
+        panic!(rt; "no memory");
+    };
+    assert_eq!(rt; stack.sectors(), 3);
+    stack.write(Range::new(1, 1, 3)?, &[99; 512])?;
+    stack.flush()?;
+    let mut out = [0; 4096];
+    assert!(rt; saves(&stack, Range::new(0, 8, 8)?, &mut out));
+    for (sector, byte) in [1, 2, 3, 99, 5, 6, 7, 8].iter().enumerate() {
+        assert_eq!(rt; out[512 * sector], *byte, "sector {sector}");
+    }
+    let Some(middle) = stack.into_below() else {
+        panic!(rt; "nothing below");
+    };
+    let Some(bottom) = middle.into_below() else {
+        panic!(rt; "nothing below");
+    };
+    assert_eq!(rt; bottom.sectors(), 8);
     Ok(())
 }

@@ -2,6 +2,8 @@ use Rattle.std.proofs.Common.{inl, inr, ◌∙◌, Ok, ap, sym, subst, arith}
 use Rattle.sector.specs.declared.refusal.Refusal.{Refusal}
 use Rattle.cow_header.specs.declared.found.Found.TheVariants.{Header}
 use Rattle.store.specs.Opening.{IsRefused}
+use Rattle.store.specs.Reading.{read_pairs, reading}
+use Rattle.store.proofs.FirstReads.{header_read, ended_after, starved_after}
 use Rattle.store.proofs.opening.open.Goals as goal
 
 pub returns-in-Ok-open_written-clause-opened : goal.returns-in-Ok-open_written-clause-opened
@@ -37,3 +39,36 @@ returns-in-Err-open_written-clause-refused g c =
         | inr (damaged, not) ↦ subst P (sym damaged) (c.in-Header.chunk, c.in-Ok.ensures.found.1 ∙ ap Ok c.in-Header.is, omega arith, rw (c.in-Ok.ensures.contents, c.in-Ok.ensures.size) at not)
       ]
     ]
+
+pub returns-in-Err-open_fresh-clause-layers : goal.returns-in-Err-open_fresh-clause-layers
+returns-in-Err-open_fresh-clause-layers g c =
+    let r = reading c.args.chunk (g.B.Block.size c.args.device) (g.B.Block.contents c.args.device) (g.B.Block.layers c.args.device) in
+    let one = c.in-Ok.ensures.one in
+    let back = ap g.B.Block.layers c.in-Err-open_fresh.ensures.refused.1 in
+    starved_after r (g.B.Block.layers c.args.device) (g.B.Block.layers c.in-Err-open_fresh.refused.1) (back ∙ one) c.in-Err-open_fresh.refused.0 c.in-Err-open_fresh.ensures.refused.0
+
+pub returns-in-Ok-open_written-clause-layers : goal.returns-in-Ok-open_written-clause-layers
+returns-in-Ok-open_written-clause-layers g c =
+    let total = g.B.Block.size c.args.device in
+    let bytes = g.B.Block.contents c.args.device in
+    let old = g.B.Block.layers c.args.device in
+    let mid = g.B.Block.layers c.read_header.new.device in
+    let chunk = c.in-Header.chunk in
+    let size = c.in-Ok.ensures.size in
+    let sectors = c.sectors-in-Header.ensures in
+    header_read c.args.chunk total bytes (reading c.args.chunk total bytes old) c.in-Ok.found mid (c.in-Ok.ensures.says c.args.chunk) chunk c.in-Header.is (omega arith)
+    ∙ rw (c.in-Ok.ensures.contents, c.in-Ok.ensures.size) at c.in-Ok-open_written.ensures.layers
+
+pub returns-in-Err-open_written-clause-layers : goal.returns-in-Err-open_written-clause-layers
+returns-in-Err-open_written-clause-layers g c =
+    let total = g.B.Block.size c.args.device in
+    let bytes = g.B.Block.contents c.args.device in
+    let old = g.B.Block.layers c.args.device in
+    let mid = g.B.Block.layers c.read_header.new.device in
+    let chunk = c.in-Header.chunk in
+    let size = c.in-Ok.ensures.size in
+    let sectors = c.sectors-in-Header.ensures in
+    ended_after (reading c.args.chunk total bytes old) (read_pairs c.in-Header.chunk (g.B.Block.size c.args.device) (g.B.Block.contents c.args.device) (g.B.Block.layers c.read_header.new.device)) c.in-Err-open_written.refused.0 old mid (g.B.Block.layers c.in-Err-open_written.refused.1)
+    (header_read c.args.chunk total bytes (reading c.args.chunk total bytes old) c.in-Ok.found mid (c.in-Ok.ensures.says c.args.chunk) chunk c.in-Header.is (omega arith))
+    c.in-Ok.ensures.one
+    (rw (c.in-Ok.ensures.contents, c.in-Ok.ensures.size) at c.in-Err-open_written.ensures.layers)

@@ -1,9 +1,9 @@
-use Rattle.std.proofs.Common.{◌≡◌, inl, inr, ℕ, ◌+◌, ◌-◌, ◌*◌, ◌<◌, ◌∙◌, List, [], length, arith, ap, refl, sym, subst, map, true, false}
+use Rattle.std.proofs.Common.{◌≡◌, inl, inr, ℕ, ◌+◌, ◌-◌, ◌*◌, ◌/◌, ◌<◌, ◌∙◌, List, [], length, arith, ap, refl, sym, subst, map, true, false}
 use Rattle.std.proofs.lemmas.List.{nil_from_length}
 use Rattle.std.specs.Prelude.{AllPairs}
 use Rattle.std.specs.List.{All}
 use Rattle.sector.specs.declared.pair.Pair.{Pair}
-use Rattle.model.specs.Pairs.{IsApart, IsInside}
+use Rattle.model.specs.Pairs.{pairs_of, IsApart, IsInside}
 use Rattle.chunk_alloc.specs.Greatest.{IsGreatest}
 use Rattle.exception_arena.specs.declared.begun.Begun.{Begun}
 use Rattle.exception_arena.specs.Pending.{pairs}
@@ -12,6 +12,7 @@ use Rattle.store.specs.Stored.{AreGiven, new_of}
 use Rattle.store.specs.declared.state.State.{State}
 use Rattle.store.specs.Loaded.{IsRead, IsCleared}
 use Rattle.store.proofs.Opened.{front_loaded, stored_loaded, formed_loaded, greatest_inside, refused_formed}
+use Rattle.store.proofs.AreaReads.{areas_are_read}
 use Rattle.store.proofs.Given.{given_loaded}
 use Rattle.store.proofs.opening.open_written.Goals as goal
 
@@ -135,3 +136,13 @@ returns-clause-tail g c =
     let there : IsRead c.args.chunk c.sectors-size.result bytes current ps area = subst (λ (n : ℕ). IsRead c.args.chunk n bytes current ps area) (sym size) read in
     let held : committed c.in-Ok-hold_formed.exceptions ≡ ps = c.in-Ok-hold_formed.ensures.committed ∙ c.as_slice.ensures.value in
     rw read.here at c.clear_load-left.ensures.tail
+
+pub returns-in-Err-hold_formed-clause-layers : goal.returns-in-Err-hold_formed-clause-layers
+returns-in-Err-hold_formed-clause-layers g c =
+    let size = g.B.Block.size c.args.device in
+    let bytes = g.B.Block.contents c.args.device in
+    let all = rw c.in-Ok.ensures.chunk at c.in-Ok-read_areas.ensures.layers in
+    elim c.in-Err-hold_formed.ensures.refused [
+      | inl memory ↦ inl (memory, areas_are_read c.args.chunk size 0 (length (pairs_of c.args.chunk bytes) / (32 * c.args.chunk) + 1) (g.B.Block.layers c.args.device) (g.B.Block.layers c.read_areas.new.device) all)
+      | inr damaged ↦ inr (inr (damaged.0, all))
+    ]

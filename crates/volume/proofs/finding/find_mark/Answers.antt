@@ -14,5 +14,5 @@ loop-place-preserved g c =
     let none = position_none (is_mark_of s c.args.flights.now c.args.number) s.marks
     (ap (position (is_mark_of s c.args.flights.now c.args.number)) (sym c.marks.ensures)
     ∙ ap (λ n. position (λ (m : Mark). nat_eq m.number c.args.number && is_publishable n s.state.chunk c.args.flights.now m) c.marks.result.now) (sym c.number.ensures)
-    ∙ ap (λ n. position (λ (m : Mark). nat_eq m.number c.args.number && is_publishable c.number.result n c.args.flights.now m) c.marks.result.now) (sym c.chunk.ensures) ∙ sym c.in-None.ensures) in
+    ∙ ap (λ n. position (λ (m : Mark). nat_eq m.number c.args.number && is_publishable c.number.result n c.args.flights.now m) c.marks.result.now) (sym c.chunk.ensures.is) ∙ sym c.in-None.ensures) in
     c.loop-place.invariant ∙ any_fails (has_mark_at c.args.flights.now c.args.number) c.args.snaps.now c.loop-place.place s c.loop-place-test.true (ap (has_mark_at c.args.flights.now c.args.number) (sym c.index-snaps-place.is) ∙ none)

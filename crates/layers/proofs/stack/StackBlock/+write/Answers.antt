@@ -64,7 +64,7 @@ returns-in-Ok-clause-layers t c =
     let size : stack_size c.write-in-Pass.new.self ≡ stack_size c.in-Flakey.below.value = c.in-Ok.ensures.size ∙ ap stack_size c.deref_mut.ensures.value in
     let whole = stack_whole c.write-in-Pass.new.self ∙ ap (λ n. 512 * n) size in
     let now = beside_through (stack_contents c.write-in-Pass.new.self) (stack_contents c.in-Flakey.below.value) _ c.in-Flakey.flakey.offset _ c.args.range.first c.args.range.count c.shifted.result.first c.shifted.result.count (stack_size c.in-Flakey.below.value)
-      (ap stack_contents c.deref_mut.ensures.value) c.shifted.ensures.first c.shifted.ensures.count whole (stack_whole c.in-Flakey.below.value) c.in-Ok.ensures.rest inside in
+    (ap stack_contents c.deref_mut.ensures.value) c.shifted.ensures.first c.shifted.ensures.count whole (stack_whole c.in-Flakey.below.value) c.in-Ok.ensures.rest inside in
     layers_through_flakey c.args.self.now c.write-in-Pass.new.self c.deref_mut.result.now c.args.range.first c.args.range.count c.shifted.result.first c.shifted.result.count c.in-Flakey.is c.deref_mut.ensures.value c.shifted.ensures.first c.shifted.ensures.count
     (sym c.fate.ensures ∙ c.in-Pass.is) c.in-Ok.ensures.size now c.in-Ok.ensures.layers
 
@@ -74,6 +74,6 @@ returns-in-Ok-write-clause-layers t c =
     let size : stack_size c.write-in-Dust.new.self ≡ stack_size c.in-Dust.below.value = c.in-Ok-write.ensures.size ∙ ap stack_size c.deref_mut-in-Dust.ensures.value in
     let whole = stack_whole c.write-in-Dust.new.self ∙ ap (λ n. 512 * n) size in
     let now = beside_through (stack_contents c.write-in-Dust.new.self) (stack_contents c.in-Dust.below.value) _ 0 _ c.args.range.first c.args.range.count c.args.range.first c.args.range.count (stack_size c.in-Dust.below.value)
-      (ap stack_contents c.deref_mut-in-Dust.ensures.value) (omega arith) refl whole (stack_whole c.in-Dust.below.value) c.in-Ok-write.ensures.rest inside in
+    (ap stack_contents c.deref_mut-in-Dust.ensures.value) (omega arith) refl whole (stack_whole c.in-Dust.below.value) c.in-Ok-write.ensures.rest inside in
     layers_through_dust c.args.self.now c.write-in-Dust.new.self c.deref_mut-in-Dust.result.now c.written.new.self c.args.range.first c.args.range.count c.in-Dust.is c.deref_mut-in-Dust.ensures.value
     c.written.ensures.layer c.written.ensures.rest.0 (sym c.in-Ok-write.ensures.answer) c.in-Ok-write.ensures.size now c.in-Ok-write.ensures.layers

@@ -1,16 +1,26 @@
 -- The snapshot that was opened is the last one.
-use Rattle.std.proofs.Common.{◌≡◌, ◌*◌, ◌+◌, ◌<◌, ℕ, List, [], ◌∷◌, ◌++◌, length, inr, sym, ◌∙◌, ap, subst, arith}
-use Rattle.std.specs.Prelude.{Option}
+use Rattle.std.proofs.Common.{◌≡◌, ◌*◌, ◌+◌, ◌<◌, ◌≤◌, ℕ, List, [], ◌∷◌, ◌++◌, length, inr, refl, sym, ◌∙◌, ap, subst, arith, true, false}
+use Rattle.std.specs.Prelude.{Option, Some, None}
 use Rattle.volume_laws.specs.Steps.{IsNewSnap}
 use Rattle.snapshot.specs.Kept.{Kept, books_of as snap_books}
 use Rattle.snapshot.specs.Opening.{IsWanted, IsOpenRefused, shown_array}
 use Rattle.snapshot.proofs.Openings.{opened_origin}
 use Rattle.volume.specs.Volumed.{Volumed}
-use Rattle.volume.specs.Whole.{numbers_in}
+use Rattle.volume.specs.Whole.{IsCounted, numbers_in}
 use Rattle.volume.specs.Leaving.{is_quiet_of}
-use Rattle.volume.specs.Taking.{wanted_of}
+use Rattle.volume.specs.Taking.{wanted_of, attach_refusal}
 use Rattle.volume.proofs.Leaves.{quiet_none}
 use Rattle.volume.proofs.Attaches.{taking_none, whole_taken, plain_taken_as}
+use Rattle.chunk.proofs.Limits.{is_chunk-some}
+use Rattle.device.specs.Layers.{is_loud}
+use Rattle.snapshot.specs.Attaching.{AreSized}
+use Rattle.settling.specs.Attaching.{Store, with_tried, attached, open_store, done, refuse, refused_attach}
+use Rattle.settling.specs.Devices.{Device}
+use Rattle.settling.proofs.Attaching.{size_of}
+use Rattle.sector.specs.declared.refusal.Refusal.{Refusal}
+use Rattle.volume.specs.Moved.{device_of}
+use Rattle.volume.specs.Attached.{store_of, volume_in, IsAttachedAs}
+use Rattle.volume.proofs.AttachedAs.{number_left, refused_before, no_memory, admitted, count_in, sized, resting, attached_is, back_is, unzeroed_of, loud_taken_as}
 use Rattle.volume.proofs.volume.Volume.attach.Goals as goal
 
 pub push_reserved-requires : goal.push_reserved-requires
@@ -31,7 +41,9 @@ invariant_of-self-in-Ok-open_snapshot g c =
     let origin : s.state.origin ≡ g.B.Block.size v.origin = ap (λ (x : Kept g.row.B.Denot). x.state.origin) o.fields ∙ opened_origin c.args.chunk c.sectors.result (g.B.Block.size c.args.store.device) (g.B.Block.contents c.args.store.device) o.loaded s.pairs o.opened ∙ c.sectors.ensures in
     let wanted : IsWanted (wanted_of v.snaps) s.state.chunk = subst (λ (w : Option ℕ). IsWanted w s.state.chunk) (c.wanted.ensures ∙ ap wanted_of c.reserve.ensures.items) c.in-Ok-open_snapshot.ensures.wanted in
     let idle : numbers_in s ≡ [] = ap (λ (x : Kept g.row.B.Denot). numbers_in x) o.fields in
-    rw (c.push_reserved.ensures.items, c.reserve.ensures.items) (whole_taken g.B.Block.contents g.B.Block.layers g.B.Block.size v s none c.self.invariant number new room origin wanted idle)
+    let copies : s.copies ≡ [] = ap (λ (x : Kept g.row.B.Denot). x.copies) o.fields in
+    let counts : IsCounted s = record { some = new.text.some; count = c.in-Ok-open_snapshot.ensures.counted; fits = λ _. c.in-Ok-open_snapshot.ensures.unfilled; idle = λ _. copies } in
+    rw (c.push_reserved.ensures.items, c.reserve.ensures.items) (whole_taken g.B.Block.contents g.B.Block.layers g.B.Block.size v s none c.self.invariant number new room origin wanted idle counts)
 
 pub returns-in-Ok-open_snapshot-clause-taken : goal.returns-in-Ok-open_snapshot-clause-taken
 returns-in-Ok-open_snapshot-clause-taken g c = λ _ loud.
@@ -56,3 +68,84 @@ returns-in-Err-open_snapshot-clause-refused g c =
           (subst (λ (n : ℕ). IsOpenRefused c.args.chunk (wanted_of c.args.self.now.snaps) n (g.B.Block.size c.args.store.device) (g.B.Block.contents c.args.store.device) c.in-Err-open_snapshot.refused.0) sectors
           (subst (λ (w : Option ℕ). IsOpenRefused c.args.chunk w c.sectors.result (g.B.Block.size c.args.store.device) (g.B.Block.contents c.args.store.device) c.in-Err-open_snapshot.refused.0) (c.wanted.ensures ∙ ap wanted_of c.reserve.ensures.items ∙ ap (λ (x : Volumed g.row.B.Denot). wanted_of x.snaps) c.self.view_is) c.in-Err-open_snapshot.ensures.refused)),
     )
+
+pub returns-in-Ok-open_snapshot-clause-gained : goal.returns-in-Ok-open_snapshot-clause-gained
+returns-in-Ok-open_snapshot-clause-gained g c =
+    let s : Kept g.row.B.Denot = c.in-Ok-open_snapshot.snap in
+    let o = c.in-Ok-open_snapshot.ensures.opened in
+    let pushed = c.push_reserved.ensures.items ∙ ap (λ (x : List (Kept g.row.B.Denot)). x ++ s ∷ []) c.reserve.ensures.items in
+    rw (← c.self.view_is) (record {
+      snap = c.in-Ok-open_snapshot.snap;
+      becomes = rw pushed refl;
+      number_is = ap (λ (x : Kept g.row.B.Denot). x.number) o.fields;
+      live = ap (λ (x : Kept g.row.B.Denot). x.live) o.fields;
+      stale = ap (λ (x : Kept g.row.B.Denot). x.stale) o.fields;
+      untried = ap (λ (x : Kept g.row.B.Denot). x.untried) o.fields;
+      copies = ap (λ (x : Kept g.row.B.Denot). x.copies) o.fields;
+      marks = ap (λ (x : Kept g.row.B.Denot). x.marks) o.fields;
+      sizes = c.in-Ok-open_snapshot.ensures.size;
+      loud = c.in-Ok-open_snapshot.ensures.loud;
+    })
+
+pub returns-in-Ok-open_snapshot-clause-exact : goal.returns-in-Ok-open_snapshot-clause-exact
+returns-in-Ok-open_snapshot-clause-exact g c = λ _ loud.
+    let v : Volumed g.row.B.Denot = record { origin = c.self.inside.origin; snaps = c.self.inside.snaps.items; flights = c.self.inside.flights.items; requests = c.self.inside.requests; copies = c.self.inside.copies; attached = c.self.inside.attached } in
+    let s : Kept g.row.B.Denot = c.in-Ok-open_snapshot.snap in
+    let contents = g.B.Block.contents in
+    let layers = g.B.Block.layers in
+    let e = c.in-Ok-open_snapshot.ensures in
+    let o = c.in-Ok-open_snapshot.ensures.opened in
+    let device = c.args.store.device in
+    let none : attach_refusal c.args.store.stale c.args.chunk v ≡ None = ap (attach_refusal c.args.store.stale c.args.chunk) c.self.view_is ∙ sym c.in-None.ensures in
+    let few : c.self.inside.attached ≤ 4294967295 = omega (arith, c.self.ranges) in
+    let goes = admitted c.args.store.stale (is_quiet_of v) (length v.snaps) v.attached c.args.chunk (store_of g.B.Block.contents g.B.Block.layers c.args.store) (volume_in g.B.Block.contents g.B.Block.layers v) few refl (count_in g.B.Block.contents g.B.Block.layers v) none in
+    let size : c.sectors.result ≡ g.B.Block.size v.origin = c.sectors.ensures in
+    let sectors = g.B.Block.size v.origin in
+    let wanted : c.wanted.result ≡ wanted_of v.snaps = c.wanted.ensures ∙ ap wanted_of c.reserve.ensures.items in
+    let snaps = (volume_in g.B.Block.contents g.B.Block.layers v).snaps in
+    let fits : AreSized c.wanted.result (volume_in g.B.Block.contents g.B.Block.layers v).snaps = subst (λ (w : Option ℕ). AreSized w (volume_in g.B.Block.contents g.B.Block.layers v).snaps) (sym wanted) (sized g.B.Block.contents g.B.Block.layers v.copies (g.B.Block.size v.origin) v.snaps c.self.invariant.snaps) in
+    let opens : open_store (volume_in g.B.Block.contents g.B.Block.layers v).snaps (g.B.Block.size v.origin) c.args.chunk (device_of g.B.Block.contents g.B.Block.layers c.args.store.device) ≡ done s.state.chunk (device_of g.B.Block.contents g.B.Block.layers s.device) =
+    ap (λ n. open_store (volume_in g.B.Block.contents g.B.Block.layers v).snaps n c.args.chunk (device_of g.B.Block.contents g.B.Block.layers c.args.store.device)) (sym size) ∙ e.exact loud (volume_in g.B.Block.contents g.B.Block.layers v).snaps fits in
+    let number : s.number ≡ v.attached + 1 = ap (λ (x : Kept g.row.B.Denot). x.number) o.fields in
+    let new : IsNewSnap (g.B.Block.contents v.origin) (snap_books g.B.Block.contents g.B.Block.layers s) = e.new (g.B.Block.contents v.origin) (g.met.B.Block.whole v.origin ∙ ap (λ n. 512 * n) (sym c.sectors.ensures)) in
+    let pushed = c.push_reserved.ensures.items ∙ ap (λ (x : List (Kept g.row.B.Denot)). x ++ s ∷ []) c.reserve.ensures.items in
+    let unzeroed : s.state.zeroed ≡ false = unzeroed_of g.B.Block.contents g.B.Block.layers (v.attached + 1) c.args.chunk c.sectors.result (g.B.Block.size c.args.store.device) c.args.store.device s o in
+    let here = resting g.B.Block.contents g.B.Block.layers (g.B.Block.size v.origin) (g.B.Block.size c.args.store.device) c.args.chunk (g.B.Block.contents v.origin) (device_of g.B.Block.contents g.B.Block.layers c.args.store.device) (volume_in g.B.Block.contents g.B.Block.layers v).snaps s
+    (g.met.B.Block.small v.origin) (g.met.B.Block.small c.args.store.device) (is_chunk-some c.args.chunk goes.0) (g.met.B.Block.whole c.args.store.device) opens (e.loud ∙ loud) new o.next unzeroed in
+    rw (← c.self.view_is) (attached_is g.B.Block.contents g.B.Block.layers v (v.attached + 1) (g.B.Block.size v.origin) c.args.chunk c.args.store s c.push_reserved.new.self.items (g.met.B.Block.whole v.origin) goes.2 opens number
+    (ap (λ (x : Kept g.row.B.Denot). x.live) o.fields) (ap (λ (x : Kept g.row.B.Denot). x.stale) o.fields) here pushed)
+
+pub returns-in-Err-open_snapshot-clause-back : goal.returns-in-Err-open_snapshot-clause-back
+returns-in-Err-open_snapshot-clause-back g c = λ some quiet _ loud.
+    let v : Volumed g.row.B.Denot = record { origin = c.self.inside.origin; snaps = c.self.inside.snaps.items; flights = c.self.inside.flights.items; requests = c.self.inside.requests; copies = c.self.inside.copies; attached = c.self.inside.attached } in
+    let e = c.in-Err-open_snapshot.ensures in
+    let none : attach_refusal c.args.store.stale c.args.chunk v ≡ None = ap (attach_refusal c.args.store.stale c.args.chunk) c.self.view_is ∙ sym c.in-None.ensures in
+    let few : c.self.inside.attached ≤ 4294967295 = omega (arith, c.self.ranges) in
+    let goes = admitted c.args.store.stale (is_quiet_of v) (length v.snaps) v.attached c.args.chunk (store_of g.B.Block.contents g.B.Block.layers c.args.store) (volume_in g.B.Block.contents g.B.Block.layers v) few refl (count_in g.B.Block.contents g.B.Block.layers v) none in
+    let wanted : c.wanted.result ≡ wanted_of v.snaps = c.wanted.ensures ∙ ap wanted_of c.reserve.ensures.items in
+    let fits : AreSized c.wanted.result (volume_in g.B.Block.contents g.B.Block.layers v).snaps = subst (λ (w : Option ℕ). AreSized w (volume_in g.B.Block.contents g.B.Block.layers v).snaps) (sym wanted) (sized g.B.Block.contents g.B.Block.layers v.copies (g.B.Block.size v.origin) v.snaps c.self.invariant.snaps) in
+    let opens = e.given_back some loud (volume_in g.B.Block.contents g.B.Block.layers v).snaps fits in
+    rw (← c.self.view_is) (back_is g.B.Block.contents g.B.Block.layers v (v.attached + 1) c.sectors.result c.args.chunk c.args.store c.in-Err-open_snapshot.refused.1 c.in-Err-open_snapshot.refused.0 (g.met.B.Block.whole v.origin ∙ ap (λ n. 512 * n) (sym c.sectors.ensures)) goes.2 opens (e.stale ∙ goes.1))
+
+pub returns-in-Some-clause-back : goal.returns-in-Some-clause-back
+returns-in-Some-clause-back g c = λ _ quiet _ _.
+    let v : Volumed g.row.B.Denot = record { origin = c.self.inside.origin; snaps = c.self.inside.snaps.items; flights = c.self.inside.flights.items; requests = c.self.inside.requests; copies = c.self.inside.copies; attached = c.self.inside.attached } in
+    let few : c.self.inside.attached ≤ 4294967295 = omega (arith, c.self.ranges) in
+    let why : attach_refusal c.args.store.stale c.args.chunk v ≡ Some c.in-Some.refusal = ap (attach_refusal c.args.store.stale c.args.chunk) c.self.view_is ∙ sym c.in-Some.ensures in
+    let calm : is_quiet_of v ≡ true = ap is_quiet_of c.self.view_is ∙ quiet in
+    rw (← c.self.view_is) (refused_before c.args.store.stale (is_quiet_of v) (length v.snaps) v.attached c.args.chunk (store_of g.B.Block.contents g.B.Block.layers c.args.store) (volume_in g.B.Block.contents g.B.Block.layers v) c.in-Some.refusal few calm refl (count_in g.B.Block.contents g.B.Block.layers v) why)
+
+pub overflow_add-number : goal.overflow_add-number
+overflow_add-number g c =
+    let v : Volumed g.row.B.Denot = record { origin = c.self.inside.origin; snaps = c.self.inside.snaps.items; flights = c.self.inside.flights.items; requests = c.self.inside.requests; copies = c.self.inside.copies; attached = c.self.inside.attached } in
+    let few : c.self.inside.attached ≤ 4294967295 = omega (arith, c.self.ranges) in
+    let none : attach_refusal c.args.store.stale c.args.chunk v ≡ None = ap (attach_refusal c.args.store.stale c.args.chunk) c.self.view_is ∙ sym c.in-None.ensures in
+    let left = number_left c.args.store.stale (is_quiet_of v) (length v.snaps) v.attached c.args.chunk few none in
+    omega (arith, left)
+
+pub returns-in-Ok-open_snapshot-clause-loud : goal.returns-in-Ok-open_snapshot-clause-loud
+returns-in-Ok-open_snapshot-clause-loud g c =
+    let v : Volumed g.row.B.Denot = record { origin = c.self.inside.origin; snaps = c.self.inside.snaps.items; flights = c.self.inside.flights.items; requests = c.self.inside.requests; copies = c.self.inside.copies; attached = c.self.inside.attached } in
+    let s : Kept g.row.B.Denot = c.in-Ok-open_snapshot.snap in
+    let pushed = c.push_reserved.ensures.items ∙ ap (λ (x : List (Kept g.row.B.Denot)). x ++ s ∷ []) c.reserve.ensures.items in
+    rw (← c.self.view_is) (loud_taken_as g.B.Block.contents g.B.Block.layers v (v.attached + 1) c.args.store.device s c.push_reserved.new.self.items pushed c.in-Ok-open_snapshot.ensures.loud)

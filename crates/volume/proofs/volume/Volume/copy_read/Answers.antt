@@ -99,7 +99,7 @@ returns-in-Ok-clause-exact g c =
     let found : position (is_copy_of Waiting c.args.number) s.copies ≡ Some j = copy_found Waiting c.args.number k j v.snaps.items c.deref.result.now s c.deref.ensures.value c.index_mut-snap.ensures.value (c.in-Some.ensures.found.1 s) in
     let r = c.in-Ok.ensures.read in
     let op = c.in-Ok.ensures.operation r.0 r.2.event.copy.was in
-    rw (← c.self.view_is) (λ counted. read_exact g.B.Block.contents g.B.Block.layers g.B.Block.size _ c.self.invariant counted c.args.number k s within c.index_mut-snap.ensures.value _ _ _ _ c.read_copy.new.origin c.read_copy.new.self j r.0 r.1 found r.2 op c.read_copy.ensures.contents)
+    rw (← c.self.view_is) (read_exact g.B.Block.contents g.B.Block.layers g.B.Block.size _ c.self.invariant c.args.number k s within c.index_mut-snap.ensures.value _ _ _ _ c.read_copy.new.origin c.read_copy.new.self j r.0 r.1 found r.2 op c.read_copy.ensures.contents)
 
 pub returns-in-Ok-clause-due : goal.returns-in-Ok-clause-due
 returns-in-Ok-clause-due g c =
@@ -140,7 +140,7 @@ returns-in-Err-clause-exact g c =
     let it = copy_is Waiting c.args.number s.copies j found in
     let op = c.in-Err.ensures.operation it.0 it.1 in
     let flights : c.spoil.new.flights.items ≡ map (refused_of (s.number ∷ [])) v.flights.items = c.spoil.ensures.flights ∙ ap (λ n. map (refused_of (n ∷ [])) v.flights.items) (ap (λ (x : Kept _). x.number) r.2.fields) in
-    rw (← c.self.view_is, flights) (λ counted. read_fault_exact g.B.Block.contents g.B.Block.layers g.B.Block.size _ c.self.invariant counted c.args.number k s within c.index_mut-snap.ensures.value _ _ _ _ c.read_copy.new.origin c.read_copy.new.self c.spoil.new.snap j r.0 r.1 found r.2 c.spoil.ensures.fields (c.in-Err.ensures.operation r.0 r.2.was) c.read_copy.ensures.contents)
+    rw (← c.self.view_is, flights) (read_fault_exact g.B.Block.contents g.B.Block.layers g.B.Block.size _ c.self.invariant c.args.number k s within c.index_mut-snap.ensures.value _ _ _ _ c.read_copy.new.origin c.read_copy.new.self c.spoil.new.snap j r.0 r.1 found r.2 c.spoil.ensures.fields (c.in-Err.ensures.operation r.0 r.2.was) c.read_copy.ensures.contents)
 
 pub returns-in-Err-clause-due : goal.returns-in-Err-clause-due
 returns-in-Err-clause-due g c =

@@ -58,7 +58,7 @@ invariant_of-self g c =
     let same = same_disk g.B.Block.contents g.B.Block.layers g.B.Block.size v.origin in
     let r = c.in-Ok.ensures.wrote in
     let op = c.in-Ok.ensures.operation r.0 r.2.event.copy.was in
-    let good = write_good g.B.Block.contents g.B.Block.layers g.B.Block.size g.B.Block.fault_count g.B.Block.done_count _ c.self.invariant c.args.number v.origin k s c.write_copy.new.self j within c.index_mut-snap.ensures.value same r.0 r.1 found r.2 c.write_copy.ensures.loud refl refl op.faulty op.counted in
+    let good = write_good g.B.Block.contents g.B.Block.layers g.B.Block.size g.B.Block.fault_count g.B.Block.done_count _ c.self.invariant c.args.number v.origin k s c.write_copy.new.self j within c.index_mut-snap.ensures.value same r.0 r.1 found r.2 c.write_copy.ensures.loud c.write_copy.ensures.size refl refl op.faulty op.counted in
     good.whole
 
 pub spoil-requires : goal.spoil-requires
@@ -84,7 +84,7 @@ invariant_of-self-in-Err g c =
     let it = copy_is Read c.args.number s.copies j found in
     let op = c.in-Err.ensures.operation it.0 it.1 in
     let t = spoilt_device s c.write_copy.new.self c.spoil.new.snap c.write_copy.new.self.device c.in-Err.ensures.kept c.spoil.ensures.fields in
-    let good = write_fault g.B.Block.contents g.B.Block.layers g.B.Block.size g.B.Block.fault_count g.B.Block.done_count _ c.self.invariant c.args.number v.origin k s c.spoil.new.snap j within c.index_mut-snap.ensures.value same found t.0 (ap (λ d. is_loud (g.B.Block.layers d)) t.1 ∙ c.write_copy.ensures.loud) refl refl (ap g.B.Block.fault_count t.1 ∙ op.faulty) (ap g.B.Block.done_count t.1 ∙ op.counted) in
+    let good = write_fault g.B.Block.contents g.B.Block.layers g.B.Block.size g.B.Block.fault_count g.B.Block.done_count _ c.self.invariant c.args.number v.origin k s c.spoil.new.snap j within c.index_mut-snap.ensures.value same found t.0 (ap (λ d. is_loud (g.B.Block.layers d)) t.1 ∙ c.write_copy.ensures.loud) (ap g.B.Block.size t.1 ∙ c.write_copy.ensures.size) refl refl (ap g.B.Block.fault_count t.1 ∙ op.faulty) (ap g.B.Block.done_count t.1 ∙ op.counted) in
     let flights : c.spoil.new.flights.items ≡ map (refused_of (s.number ∷ [])) v.flights.items = c.spoil.ensures.flights ∙ ap (λ n. map (refused_of (n ∷ [])) v.flights.items) (ap (λ (x : Kept _). x.number) c.in-Err.ensures.kept) in
     rw flights good.whole
 
@@ -99,7 +99,7 @@ returns-in-Ok-clause-step g c =
     let same = same_disk g.B.Block.contents g.B.Block.layers g.B.Block.size v.origin in
     let r = c.in-Ok.ensures.wrote in
     let op = c.in-Ok.ensures.operation r.0 r.2.event.copy.was in
-    let good = write_good g.B.Block.contents g.B.Block.layers g.B.Block.size g.B.Block.fault_count g.B.Block.done_count _ c.self.invariant c.args.number v.origin k s c.write_copy.new.self j within c.index_mut-snap.ensures.value same r.0 r.1 found r.2 c.write_copy.ensures.loud refl refl op.faulty op.counted in
+    let good = write_good g.B.Block.contents g.B.Block.layers g.B.Block.size g.B.Block.fault_count g.B.Block.done_count _ c.self.invariant c.args.number v.origin k s c.write_copy.new.self j within c.index_mut-snap.ensures.value same r.0 r.1 found r.2 c.write_copy.ensures.loud c.write_copy.ensures.size refl refl op.faulty op.counted in
     rw (← c.self.view_is) good.stepped
 
 pub returns-in-Ok-clause-exact : goal.returns-in-Ok-clause-exact
@@ -112,7 +112,7 @@ returns-in-Ok-clause-exact g c =
     let found : position (is_copy_of Read c.args.number) s.copies ≡ Some j = copy_found Read c.args.number k j v.snaps.items c.deref.result.now s c.deref.ensures.value c.index_mut-snap.ensures.value (c.in-Some.ensures.found.1 s) in
     let r = c.in-Ok.ensures.wrote in
     let op = c.in-Ok.ensures.operation r.0 r.2.event.copy.was in
-    rw (← c.self.view_is) (λ counted. write_exact g.B.Block.contents g.B.Block.layers g.B.Block.size _ c.self.invariant counted c.args.number k s within c.index_mut-snap.ensures.value _ _ _ _ c.write_copy.new.self j r.0 r.1 found r.2 op)
+    rw (← c.self.view_is) (write_exact g.B.Block.contents g.B.Block.layers g.B.Block.size _ c.self.invariant c.args.number k s within c.index_mut-snap.ensures.value _ _ _ _ c.write_copy.new.self j r.0 r.1 found r.2 op)
 
 pub returns-in-Ok-clause-due : goal.returns-in-Ok-clause-due
 returns-in-Ok-clause-due g c =
@@ -136,7 +136,7 @@ returns-in-Err-clause-step g c =
     let it = copy_is Read c.args.number s.copies j found in
     let op = c.in-Err.ensures.operation it.0 it.1 in
     let t = spoilt_device s c.write_copy.new.self c.spoil.new.snap c.write_copy.new.self.device c.in-Err.ensures.kept c.spoil.ensures.fields in
-    let good = write_fault g.B.Block.contents g.B.Block.layers g.B.Block.size g.B.Block.fault_count g.B.Block.done_count _ c.self.invariant c.args.number v.origin k s c.spoil.new.snap j within c.index_mut-snap.ensures.value same found t.0 (ap (λ d. is_loud (g.B.Block.layers d)) t.1 ∙ c.write_copy.ensures.loud) refl refl (ap g.B.Block.fault_count t.1 ∙ op.faulty) (ap g.B.Block.done_count t.1 ∙ op.counted) in
+    let good = write_fault g.B.Block.contents g.B.Block.layers g.B.Block.size g.B.Block.fault_count g.B.Block.done_count _ c.self.invariant c.args.number v.origin k s c.spoil.new.snap j within c.index_mut-snap.ensures.value same found t.0 (ap (λ d. is_loud (g.B.Block.layers d)) t.1 ∙ c.write_copy.ensures.loud) (ap g.B.Block.size t.1 ∙ c.write_copy.ensures.size) refl refl (ap g.B.Block.fault_count t.1 ∙ op.faulty) (ap g.B.Block.done_count t.1 ∙ op.counted) in
     let flights : c.spoil.new.flights.items ≡ map (refused_of (s.number ∷ [])) v.flights.items = c.spoil.ensures.flights ∙ ap (λ n. map (refused_of (n ∷ [])) v.flights.items) (ap (λ (x : Kept _). x.number) c.in-Err.ensures.kept) in
     rw (← c.self.view_is, flights) good.stepped
 
@@ -151,7 +151,7 @@ returns-in-Err-clause-exact g c =
     let it = copy_is Read c.args.number s.copies j found in
     let op = c.in-Err.ensures.operation it.0 it.1 in
     let flights : c.spoil.new.flights.items ≡ map (refused_of (s.number ∷ [])) v.flights.items = c.spoil.ensures.flights ∙ ap (λ n. map (refused_of (n ∷ [])) v.flights.items) (ap (λ (x : Kept _). x.number) c.in-Err.ensures.kept) in
-    rw (← c.self.view_is, flights) (λ counted. write_fault_exact g.B.Block.contents g.B.Block.layers g.B.Block.size _ c.self.invariant counted c.args.number k s within c.index_mut-snap.ensures.value _ _ _ _ c.write_copy.new.self c.spoil.new.snap j it.0 found it.1 (copy_stage Read c.args.number s.copies j found it.0 it.1) c.in-Err.ensures.kept c.spoil.ensures.fields op c.in-Err.ensures.same)
+    rw (← c.self.view_is, flights) (write_fault_exact g.B.Block.contents g.B.Block.layers g.B.Block.size _ c.self.invariant c.args.number k s within c.index_mut-snap.ensures.value _ _ _ _ c.write_copy.new.self c.spoil.new.snap j it.0 found it.1 (copy_stage Read c.args.number s.copies j found it.0 it.1) c.in-Err.ensures.kept c.spoil.ensures.fields op c.in-Err.ensures.same)
 
 pub returns-in-Err-clause-due : goal.returns-in-Err-clause-due
 returns-in-Err-clause-due g c =

@@ -62,7 +62,7 @@ returns-in-Ok-clause-exact g c =
     let route : r.route ≡ Origin = ap (λ (x : Flight). x.route) was ∙ ap (λ (x : Volumed _). (get_or x.flights c.args.place r).route) c.self.view_is ∙ c.requires.route r in
     let bytes : c.from_vec.result ≡ c.read.new.out = c.from_vec.ensures ∙ with_items_is r.room c.read.new.out (omega (arith, c.read.auto.out, c.as_mut_slice.ensures.len)) in
     let one : IsOneOperation (Reads r.request.range.first r.request.range.count) true (g.B.Block.layers v.origin) (g.B.Block.layers c.read.new.self) (g.B.Block.fault_count v.origin) (g.B.Block.fault_count c.read.new.self) (g.B.Block.done_count v.origin) (g.B.Block.done_count c.read.new.self) = record { answer = c.in-Ok.ensures.answer; layers = c.read.ensures.layers; loud = c.read.ensures.loud; faulty = c.in-Ok.ensures.faults; counted = c.read.ensures.done } in
-    rw (← c.self.view_is, c.remove-flight.ensures.items) (λ counted. origin_read_exact g.B.Block.contents g.B.Block.layers g.B.Block.size _ c.self.invariant counted c.args.number c.args.place r found was true _ _ _ _ _ route c.read.new.self c.in-Read.is one c.read.ensures.contents (ap Data (bytes ∙ c.in-Ok.ensures.data)))
+    rw (← c.self.view_is, c.remove-flight.ensures.items) (origin_read_exact g.B.Block.contents g.B.Block.layers g.B.Block.size _ c.self.invariant c.args.number c.args.place r found was true _ _ _ _ _ route c.read.new.self c.in-Read.is one c.read.ensures.contents (ap Data (bytes ∙ c.in-Ok.ensures.data)))
 
 pub invariant_of-self-in-Read : goal.invariant_of-self-in-Read
 invariant_of-self-in-Read g c =
@@ -95,7 +95,7 @@ returns-in-Read-clause-exact g c =
     let was : r ≡ get_or v.flights.items c.args.place r = c.remove-flight.ensures.value in
     let route : r.route ≡ Origin = ap (λ (x : Flight). x.route) was ∙ ap (λ (x : Volumed _). (get_or x.flights c.args.place r).route) c.self.view_is ∙ c.requires.route r in
     let one : IsOneOperation (Reads r.request.range.first r.request.range.count) false (g.B.Block.layers v.origin) (g.B.Block.layers c.read.new.self) (g.B.Block.fault_count v.origin) (g.B.Block.fault_count c.read.new.self) (g.B.Block.done_count v.origin) (g.B.Block.done_count c.read.new.self) = record { answer = c.in-Err.ensures.answer; layers = c.read.ensures.layers; loud = c.read.ensures.loud; faulty = c.in-Err.ensures.faults; counted = c.read.ensures.done } in
-    rw (← c.self.view_is, c.remove-flight.ensures.items) (λ counted. origin_read_exact g.B.Block.contents g.B.Block.layers g.B.Block.size _ c.self.invariant counted c.args.number c.args.place r found was false _ _ _ _ _ route c.read.new.self c.in-Read.is one c.read.ensures.contents refl)
+    rw (← c.self.view_is, c.remove-flight.ensures.items) (origin_read_exact g.B.Block.contents g.B.Block.layers g.B.Block.size _ c.self.invariant c.args.number c.args.place r found was false _ _ _ _ _ route c.read.new.self c.in-Read.is one c.read.ensures.contents refl)
 
 pub write-requires-clause-some : goal.write-requires-clause-some
 write-requires-clause-some g c =
@@ -162,7 +162,7 @@ returns-in-Ok-write-clause-exact g c =
     let was : r ≡ get_or v.flights.items c.args.place r = c.remove-flight.ensures.value in
     let route : r.route ≡ Origin = ap (λ (x : Flight). x.route) was ∙ ap (λ (x : Volumed _). (get_or x.flights c.args.place r).route) c.self.view_is ∙ c.requires.route r in
     let one : IsOneOperation (Writes r.request.range.first r.request.range.count) true (g.B.Block.layers v.origin) (g.B.Block.layers c.write.new.self) (g.B.Block.fault_count v.origin) (g.B.Block.fault_count c.write.new.self) (g.B.Block.done_count v.origin) (g.B.Block.done_count c.write.new.self) = record { answer = c.in-Ok-write.ensures.answer; layers = c.write.ensures.layers; loud = c.write.ensures.loud; faulty = c.in-Ok-write.ensures.faults; counted = c.write.ensures.done } in
-    rw (← c.self.view_is, c.remove-flight.ensures.items) (λ counted. origin_write_exact g.B.Block.contents g.B.Block.layers g.B.Block.size _ c.self.invariant counted c.args.number c.args.place r found was true _ _ _ _ _ route c.write.new.self c.in-Write.bytes c.in-Write.is one (λ l. c.in-Ok-write.ensures.written l ∙ ap (with_sectors (g.B.Block.contents v.origin) r.request.range.first) c.as_slice.ensures) refl)
+    rw (← c.self.view_is, c.remove-flight.ensures.items) (origin_write_exact g.B.Block.contents g.B.Block.layers g.B.Block.size _ c.self.invariant c.args.number c.args.place r found was true _ _ _ _ _ route c.write.new.self c.in-Write.bytes c.in-Write.is one (λ l. c.in-Ok-write.ensures.written l ∙ ap (with_sectors (g.B.Block.contents v.origin) r.request.range.first) c.as_slice.ensures) refl)
 
 pub invariant_of-self-in-Write : goal.invariant_of-self-in-Write
 invariant_of-self-in-Write g c =
@@ -195,4 +195,4 @@ returns-clause-exact g c =
     let was : r ≡ get_or v.flights.items c.args.place r = c.remove-flight.ensures.value in
     let route : r.route ≡ Origin = ap (λ (x : Flight). x.route) was ∙ ap (λ (x : Volumed _). (get_or x.flights c.args.place r).route) c.self.view_is ∙ c.requires.route r in
     let one : IsOneOperation (Writes r.request.range.first r.request.range.count) false (g.B.Block.layers v.origin) (g.B.Block.layers c.write.new.self) (g.B.Block.fault_count v.origin) (g.B.Block.fault_count c.write.new.self) (g.B.Block.done_count v.origin) (g.B.Block.done_count c.write.new.self) = record { answer = c.in-Err-write.ensures.answer; layers = c.write.ensures.layers; loud = c.write.ensures.loud; faulty = c.in-Err-write.ensures.faults; counted = c.write.ensures.done } in
-    rw (← c.self.view_is, c.remove-flight.ensures.items) (λ counted. origin_write_exact g.B.Block.contents g.B.Block.layers g.B.Block.size _ c.self.invariant counted c.args.number c.args.place r found was false _ _ _ _ _ route c.write.new.self c.in-Write.bytes c.in-Write.is one (λ l. c.in-Err-write.ensures.err) refl)
+    rw (← c.self.view_is, c.remove-flight.ensures.items) (origin_write_exact g.B.Block.contents g.B.Block.layers g.B.Block.size _ c.self.invariant c.args.number c.args.place r found was false _ _ _ _ _ route c.write.new.self c.in-Write.bytes c.in-Write.is one (λ l. c.in-Err-write.ensures.err) refl)

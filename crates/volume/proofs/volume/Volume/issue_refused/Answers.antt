@@ -35,4 +35,4 @@ returns-clause-exact g c =
     let found : position (λ (f : Flight). nat_eq f.number c.args.number) v.flights.items ≡ Some c.args.place = ap (λ (x : Volumed _). position (λ (f : Flight). nat_eq f.number c.args.number) x.flights) c.self.view_is ∙ c.requires.found in
     let was : r ≡ get_or v.flights.items c.args.place r = c.remove.ensures.value in
     let route : r.route ≡ Refused = ap (λ (x : Flight). x.route) was ∙ ap (λ (x : Volumed _). (get_or x.flights c.args.place r).route) c.self.view_is ∙ c.requires.route r in
-    rw (← c.self.view_is, c.remove.ensures.items) (λ counted. refused_exact g.B.Block.contents g.B.Block.layers g.B.Block.size _ c.self.invariant counted c.args.number c.args.place r found was route)
+    rw (← c.self.view_is, c.remove.ensures.items) (refused_exact g.B.Block.contents g.B.Block.layers g.B.Block.size _ c.self.invariant c.args.number c.args.place r found was route)

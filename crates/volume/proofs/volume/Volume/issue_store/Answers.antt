@@ -49,7 +49,7 @@ nonzero_rem-first g c =
     let is = c.index_mut-snap.ensures.value in
     let dev : r.request.dev ≡ Snap s.number = c.in-Some.ensures.found.1 s ∙ ap (λ (x : Kept _). Snap x.number) (ap (λ xs. get_or xs k s) c.deref.ensures.value ∙ sym is) in
     let some : 0 < s.state.chunk = subst (λ (x : Kept _). 0 < x.state.chunk) (sym is) (chunks_all g.B.Block.contents g.B.Block.layers g.B.Block.size _ c.self.invariant k s within) in
-    omega (arith, some, c.chunk.ensures)
+    omega (arith, some, c.chunk.ensures.is)
 
 pub overflow_cast-first-2 : goal.overflow_cast-first-2
 overflow_cast-first-2 g c =
@@ -65,7 +65,7 @@ overflow_cast-first-2 g c =
     let is = c.index_mut-snap.ensures.value in
     let dev : r.request.dev ≡ Snap s.number = c.in-Some.ensures.found.1 s ∙ ap (λ (x : Kept _). Snap x.number) (ap (λ xs. get_or xs k s) c.deref.ensures.value ∙ sym is) in
     let some : 0 < s.state.chunk = subst (λ (x : Kept _). 0 < x.state.chunk) (sym is) (chunks_all g.B.Block.contents g.B.Block.layers g.B.Block.size _ c.self.invariant k s within) in
-    let pos : 0 < c.chunk.result = omega (arith, some, c.chunk.ensures) in
+    let pos : 0 < c.chunk.result = omega (arith, some, c.chunk.ensures.is) in
     let lt = mod-lt r.request.range.first pos in
     let top = c.chunk.type_inv in
     let less : r.request.range.first % c.chunk.result < 2 ^ 32 = omega (arith, lt, top) in
@@ -110,7 +110,7 @@ read_at-requires-clause-part g c =
     let within : k < length v.snaps.items = omega (arith, c.in-Some.ensures.found.0, ap length c.deref.ensures.value) in
     let is = c.index_mut-snap.ensures.value in
     let dev : r.request.dev ≡ Snap s.number = c.in-Some.ensures.found.1 s ∙ ap (λ (x : Kept _). Snap x.number) (ap (λ xs. get_or xs k s) c.deref.ensures.value ∙ sym is) in
-    rw c.chunk.ensures (read_part g.B.Block.contents g.B.Block.layers g.B.Block.size g.B.Block.fault_count g.B.Block.done_count _ c.self.invariant c.args.number c.args.place r found was c.args.at k s route within is dev c.in-Read.is)
+    rw c.chunk.ensures.is (read_part g.B.Block.contents g.B.Block.layers g.B.Block.size g.B.Block.fault_count g.B.Block.done_count _ c.self.invariant c.args.number c.args.place r found was c.args.at k s route within is dev c.in-Read.is)
 
 pub read_at-requires-clause-room : goal.read_at-requires-clause-room
 read_at-requires-clause-room g c =
@@ -137,8 +137,8 @@ invariant_of-self g c =
     let is = c.index_mut-snap.ensures.value in
     let dev : r.request.dev ≡ Snap s.number = c.in-Some.ensures.found.1 s ∙ ap (λ (x : Kept _). Snap x.number) (ap (λ xs. get_or xs k s) c.deref.ensures.value ∙ sym is) in
     let bytes : c.from_vec.result ≡ c.read_at.new.out = c.from_vec.ensures ∙ with_items_is r.room c.read_at.new.out (omega (arith, c.read_at.auto.out, c.as_mut_slice.ensures.len)) in
-    let read = bytes ∙ c.in-Ok.ensures.data ∙ ap (λ n. sectors_at (g.B.Block.contents s.device) (s.state.chunk * c.args.at + r.request.range.first % n) r.request.range.count) c.chunk.ensures in
-    let good = store_read g.B.Block.contents g.B.Block.layers g.B.Block.size g.B.Block.fault_count g.B.Block.done_count _ c.self.invariant c.args.number c.args.place r found was c.args.at k s route within is dev c.read_at.new.self c.read_at.new.self.device c.read_at.ensures.fields c.read_at.ensures.loud c.in-Ok.ensures.operation.counted c.in-Read.is c.from_vec.result c.read_at.ensures.same read c.in-Ok.ensures.operation.faulty in
+    let read = bytes ∙ c.in-Ok.ensures.data ∙ ap (λ n. sectors_at (g.B.Block.contents s.device) (s.state.chunk * c.args.at + r.request.range.first % n) r.request.range.count) c.chunk.ensures.is in
+    let good = store_read g.B.Block.contents g.B.Block.layers g.B.Block.size g.B.Block.fault_count g.B.Block.done_count _ c.self.invariant c.args.number c.args.place r found was c.args.at k s route within is dev c.read_at.new.self c.read_at.new.self.device c.read_at.ensures.fields c.read_at.ensures.loud c.read_at.ensures.size c.in-Ok.ensures.operation.counted c.in-Read.is c.from_vec.result c.read_at.ensures.same read c.in-Ok.ensures.operation.faulty in
     rw c.remove-flight.ensures.items good.whole
 
 pub returns-in-Ok-clause-step : goal.returns-in-Ok-clause-step
@@ -155,8 +155,8 @@ returns-in-Ok-clause-step g c =
     let is = c.index_mut-snap.ensures.value in
     let dev : r.request.dev ≡ Snap s.number = c.in-Some.ensures.found.1 s ∙ ap (λ (x : Kept _). Snap x.number) (ap (λ xs. get_or xs k s) c.deref.ensures.value ∙ sym is) in
     let bytes : c.from_vec.result ≡ c.read_at.new.out = c.from_vec.ensures ∙ with_items_is r.room c.read_at.new.out (omega (arith, c.read_at.auto.out, c.as_mut_slice.ensures.len)) in
-    let read = bytes ∙ c.in-Ok.ensures.data ∙ ap (λ n. sectors_at (g.B.Block.contents s.device) (s.state.chunk * c.args.at + r.request.range.first % n) r.request.range.count) c.chunk.ensures in
-    let good = store_read g.B.Block.contents g.B.Block.layers g.B.Block.size g.B.Block.fault_count g.B.Block.done_count _ c.self.invariant c.args.number c.args.place r found was c.args.at k s route within is dev c.read_at.new.self c.read_at.new.self.device c.read_at.ensures.fields c.read_at.ensures.loud c.in-Ok.ensures.operation.counted c.in-Read.is c.from_vec.result c.read_at.ensures.same read c.in-Ok.ensures.operation.faulty in
+    let read = bytes ∙ c.in-Ok.ensures.data ∙ ap (λ n. sectors_at (g.B.Block.contents s.device) (s.state.chunk * c.args.at + r.request.range.first % n) r.request.range.count) c.chunk.ensures.is in
+    let good = store_read g.B.Block.contents g.B.Block.layers g.B.Block.size g.B.Block.fault_count g.B.Block.done_count _ c.self.invariant c.args.number c.args.place r found was c.args.at k s route within is dev c.read_at.new.self c.read_at.new.self.device c.read_at.ensures.fields c.read_at.ensures.loud c.read_at.ensures.size c.in-Ok.ensures.operation.counted c.in-Read.is c.from_vec.result c.read_at.ensures.same read c.in-Ok.ensures.operation.faulty in
     rw (← c.self.view_is, c.remove-flight.ensures.items) good.stepped
 
 pub returns-in-Ok-clause-exact : goal.returns-in-Ok-clause-exact
@@ -173,9 +173,9 @@ returns-in-Ok-clause-exact g c =
     let is = c.index_mut-snap.ensures.value in
     let dev : r.request.dev ≡ Snap s.number = c.in-Some.ensures.found.1 s ∙ ap (λ (x : Kept _). Snap x.number) (ap (λ xs. get_or xs k s) c.deref.ensures.value ∙ sym is) in
     let bytes : c.from_vec.result ≡ c.read_at.new.out = c.from_vec.ensures ∙ with_items_is r.room c.read_at.new.out (omega (arith, c.read_at.auto.out, c.as_mut_slice.ensures.len)) in
-    let read = bytes ∙ c.in-Ok.ensures.data ∙ ap (λ n. sectors_at (g.B.Block.contents s.device) (s.state.chunk * c.args.at + r.request.range.first % n) r.request.range.count) c.chunk.ensures in
-    let one = subst (λ n. IsOneOperation (Reads (s.state.chunk * c.args.at + r.request.range.first % n) r.request.range.count) true (g.B.Block.layers s.device) (g.B.Block.layers c.read_at.new.self.device) (g.B.Block.fault_count s.device) (g.B.Block.fault_count c.read_at.new.self.device) (g.B.Block.done_count s.device) (g.B.Block.done_count c.read_at.new.self.device)) c.chunk.ensures c.in-Ok.ensures.operation in
-    rw (← c.self.view_is, c.remove-flight.ensures.items) (λ counted. store_read_exact g.B.Block.contents g.B.Block.layers g.B.Block.size _ c.self.invariant counted c.args.number c.args.place r found was true _ _ _ _ _ c.args.at s.number k route dev s c.read_at.new.self within is refl c.read_at.ensures.fields c.in-Read.is one c.read_at.ensures.same (ap Data read))
+    let read = bytes ∙ c.in-Ok.ensures.data ∙ ap (λ n. sectors_at (g.B.Block.contents s.device) (s.state.chunk * c.args.at + r.request.range.first % n) r.request.range.count) c.chunk.ensures.is in
+    let one = subst (λ n. IsOneOperation (Reads (s.state.chunk * c.args.at + r.request.range.first % n) r.request.range.count) true (g.B.Block.layers s.device) (g.B.Block.layers c.read_at.new.self.device) (g.B.Block.fault_count s.device) (g.B.Block.fault_count c.read_at.new.self.device) (g.B.Block.done_count s.device) (g.B.Block.done_count c.read_at.new.self.device)) c.chunk.ensures.is c.in-Ok.ensures.operation in
+    rw (← c.self.view_is, c.remove-flight.ensures.items) (store_read_exact g.B.Block.contents g.B.Block.layers g.B.Block.size _ c.self.invariant c.args.number c.args.place r found was true _ _ _ _ _ c.args.at s.number k route dev s c.read_at.new.self within is refl c.read_at.ensures.fields c.in-Read.is one c.read_at.ensures.same (ap Data read))
 
 pub invariant_of-self-in-Read : goal.invariant_of-self-in-Read
 invariant_of-self-in-Read g c =
@@ -190,7 +190,7 @@ invariant_of-self-in-Read g c =
     let within : k < length v.snaps.items = omega (arith, c.in-Some.ensures.found.0, ap length c.deref.ensures.value) in
     let is = c.index_mut-snap.ensures.value in
     let dev : r.request.dev ≡ Snap s.number = c.in-Some.ensures.found.1 s ∙ ap (λ (x : Kept _). Snap x.number) (ap (λ xs. get_or xs k s) c.deref.ensures.value ∙ sym is) in
-    let good = store_read_io g.B.Block.contents g.B.Block.layers g.B.Block.size g.B.Block.fault_count g.B.Block.done_count _ c.self.invariant c.args.number c.args.place r found was c.args.at k s route within is dev c.read_at.new.self c.read_at.new.self.device c.read_at.ensures.fields c.read_at.ensures.loud c.in-Err.ensures.operation.counted c.in-Read.is c.read_at.ensures.same c.in-Err.ensures.operation.faulty in
+    let good = store_read_io g.B.Block.contents g.B.Block.layers g.B.Block.size g.B.Block.fault_count g.B.Block.done_count _ c.self.invariant c.args.number c.args.place r found was c.args.at k s route within is dev c.read_at.new.self c.read_at.new.self.device c.read_at.ensures.fields c.read_at.ensures.loud c.read_at.ensures.size c.in-Err.ensures.operation.counted c.in-Read.is c.read_at.ensures.same c.in-Err.ensures.operation.faulty in
     rw c.remove-flight.ensures.items good.whole
 
 pub returns-in-Read-clause-step : goal.returns-in-Read-clause-step
@@ -206,7 +206,7 @@ returns-in-Read-clause-step g c =
     let within : k < length v.snaps.items = omega (arith, c.in-Some.ensures.found.0, ap length c.deref.ensures.value) in
     let is = c.index_mut-snap.ensures.value in
     let dev : r.request.dev ≡ Snap s.number = c.in-Some.ensures.found.1 s ∙ ap (λ (x : Kept _). Snap x.number) (ap (λ xs. get_or xs k s) c.deref.ensures.value ∙ sym is) in
-    let good = store_read_io g.B.Block.contents g.B.Block.layers g.B.Block.size g.B.Block.fault_count g.B.Block.done_count _ c.self.invariant c.args.number c.args.place r found was c.args.at k s route within is dev c.read_at.new.self c.read_at.new.self.device c.read_at.ensures.fields c.read_at.ensures.loud c.in-Err.ensures.operation.counted c.in-Read.is c.read_at.ensures.same c.in-Err.ensures.operation.faulty in
+    let good = store_read_io g.B.Block.contents g.B.Block.layers g.B.Block.size g.B.Block.fault_count g.B.Block.done_count _ c.self.invariant c.args.number c.args.place r found was c.args.at k s route within is dev c.read_at.new.self c.read_at.new.self.device c.read_at.ensures.fields c.read_at.ensures.loud c.read_at.ensures.size c.in-Err.ensures.operation.counted c.in-Read.is c.read_at.ensures.same c.in-Err.ensures.operation.faulty in
     rw (← c.self.view_is, c.remove-flight.ensures.items) good.stepped
 
 pub returns-in-Read-clause-exact : goal.returns-in-Read-clause-exact
@@ -222,8 +222,8 @@ returns-in-Read-clause-exact g c =
     let within : k < length v.snaps.items = omega (arith, c.in-Some.ensures.found.0, ap length c.deref.ensures.value) in
     let is = c.index_mut-snap.ensures.value in
     let dev : r.request.dev ≡ Snap s.number = c.in-Some.ensures.found.1 s ∙ ap (λ (x : Kept _). Snap x.number) (ap (λ xs. get_or xs k s) c.deref.ensures.value ∙ sym is) in
-    let one = subst (λ n. IsOneOperation (Reads (s.state.chunk * c.args.at + r.request.range.first % n) r.request.range.count) false (g.B.Block.layers s.device) (g.B.Block.layers c.read_at.new.self.device) (g.B.Block.fault_count s.device) (g.B.Block.fault_count c.read_at.new.self.device) (g.B.Block.done_count s.device) (g.B.Block.done_count c.read_at.new.self.device)) c.chunk.ensures c.in-Err.ensures.operation in
-    rw (← c.self.view_is, c.remove-flight.ensures.items) (λ counted. store_read_exact g.B.Block.contents g.B.Block.layers g.B.Block.size _ c.self.invariant counted c.args.number c.args.place r found was false _ _ _ _ _ c.args.at s.number k route dev s c.read_at.new.self within is refl c.read_at.ensures.fields c.in-Read.is one c.read_at.ensures.same refl)
+    let one = subst (λ n. IsOneOperation (Reads (s.state.chunk * c.args.at + r.request.range.first % n) r.request.range.count) false (g.B.Block.layers s.device) (g.B.Block.layers c.read_at.new.self.device) (g.B.Block.fault_count s.device) (g.B.Block.fault_count c.read_at.new.self.device) (g.B.Block.done_count s.device) (g.B.Block.done_count c.read_at.new.self.device)) c.chunk.ensures.is c.in-Err.ensures.operation in
+    rw (← c.self.view_is, c.remove-flight.ensures.items) (store_read_exact g.B.Block.contents g.B.Block.layers g.B.Block.size _ c.self.invariant c.args.number c.args.place r found was false _ _ _ _ _ c.args.at s.number k route dev s c.read_at.new.self within is refl c.read_at.ensures.fields c.in-Read.is one c.read_at.ensures.same refl)
 
 pub write_at-requires-clause-placed : goal.write_at-requires-clause-placed
 write_at-requires-clause-placed g c =
@@ -264,7 +264,7 @@ write_at-requires-clause-part g c =
     let within : k < length v.snaps.items = omega (arith, c.in-Some.ensures.found.0, ap length c.deref.ensures.value) in
     let is = c.index_mut-snap.ensures.value in
     let dev : r.request.dev ≡ Snap s.number = c.in-Some.ensures.found.1 s ∙ ap (λ (x : Kept _). Snap x.number) (ap (λ xs. get_or xs k s) c.deref.ensures.value ∙ sym is) in
-    rw c.chunk.ensures (write_part g.B.Block.contents g.B.Block.layers g.B.Block.size g.B.Block.fault_count g.B.Block.done_count _ c.self.invariant c.args.number c.args.place r found was c.args.at k s route within is dev c.in-Write.bytes c.in-Write.is)
+    rw c.chunk.ensures.is (write_part g.B.Block.contents g.B.Block.layers g.B.Block.size g.B.Block.fault_count g.B.Block.done_count _ c.self.invariant c.args.number c.args.place r found was c.args.at k s route within is dev c.in-Write.bytes c.in-Write.is)
 
 pub write_at-requires-clause-room : goal.write_at-requires-clause-room
 write_at-requires-clause-room g c =
@@ -291,9 +291,9 @@ invariant_of-self-in-Ok-write_at g c =
     let is = c.index_mut-snap.ensures.value in
     let dev : r.request.dev ≡ Snap s.number = c.in-Some.ensures.found.1 s ∙ ap (λ (x : Kept _). Snap x.number) (ap (λ xs. get_or xs k s) c.deref.ensures.value ∙ sym is) in
     let chunk = r.request.range.first / s.state.chunk in
-    let wrote = subst (λ n. WritesPlace chunk c.args.at (r.request.range.first % n) c.in-Write.bytes (books_of g.B.Block.contents g.B.Block.layers s) (books_of g.B.Block.contents g.B.Block.layers c.write_at.new.self)) c.chunk.ensures
+    let wrote = subst (λ n. WritesPlace chunk c.args.at (r.request.range.first % n) c.in-Write.bytes (books_of g.B.Block.contents g.B.Block.layers s) (books_of g.B.Block.contents g.B.Block.layers c.write_at.new.self)) c.chunk.ensures.is
     (subst (λ (b : List ℕ). WritesPlace chunk c.args.at (r.request.range.first % c.chunk.result) b (books_of g.B.Block.contents g.B.Block.layers s) (books_of g.B.Block.contents g.B.Block.layers c.write_at.new.self)) c.as_slice.ensures (c.in-Ok-write_at.ensures.writes chunk)) in
-    let good = store_write g.B.Block.contents g.B.Block.layers g.B.Block.size g.B.Block.fault_count g.B.Block.done_count _ c.self.invariant c.args.number c.args.place r found was c.args.at k s route within is dev c.write_at.new.self c.write_at.new.self.device c.write_at.ensures.fields c.write_at.ensures.loud c.in-Ok-write_at.ensures.operation.counted c.in-Write.bytes c.in-Write.is wrote c.in-Ok-write_at.ensures.operation.faulty in
+    let good = store_write g.B.Block.contents g.B.Block.layers g.B.Block.size g.B.Block.fault_count g.B.Block.done_count _ c.self.invariant c.args.number c.args.place r found was c.args.at k s route within is dev c.write_at.new.self c.write_at.new.self.device c.write_at.ensures.fields c.write_at.ensures.loud c.write_at.ensures.size c.in-Ok-write_at.ensures.operation.counted c.in-Write.bytes c.in-Write.is wrote c.in-Ok-write_at.ensures.operation.faulty in
     rw c.remove-flight.ensures.items good.whole
 
 pub returns-in-Ok-write_at-clause-step : goal.returns-in-Ok-write_at-clause-step
@@ -310,9 +310,9 @@ returns-in-Ok-write_at-clause-step g c =
     let is = c.index_mut-snap.ensures.value in
     let dev : r.request.dev ≡ Snap s.number = c.in-Some.ensures.found.1 s ∙ ap (λ (x : Kept _). Snap x.number) (ap (λ xs. get_or xs k s) c.deref.ensures.value ∙ sym is) in
     let chunk = r.request.range.first / s.state.chunk in
-    let wrote = subst (λ n. WritesPlace chunk c.args.at (r.request.range.first % n) c.in-Write.bytes (books_of g.B.Block.contents g.B.Block.layers s) (books_of g.B.Block.contents g.B.Block.layers c.write_at.new.self)) c.chunk.ensures
+    let wrote = subst (λ n. WritesPlace chunk c.args.at (r.request.range.first % n) c.in-Write.bytes (books_of g.B.Block.contents g.B.Block.layers s) (books_of g.B.Block.contents g.B.Block.layers c.write_at.new.self)) c.chunk.ensures.is
     (subst (λ (b : List ℕ). WritesPlace chunk c.args.at (r.request.range.first % c.chunk.result) b (books_of g.B.Block.contents g.B.Block.layers s) (books_of g.B.Block.contents g.B.Block.layers c.write_at.new.self)) c.as_slice.ensures (c.in-Ok-write_at.ensures.writes chunk)) in
-    let good = store_write g.B.Block.contents g.B.Block.layers g.B.Block.size g.B.Block.fault_count g.B.Block.done_count _ c.self.invariant c.args.number c.args.place r found was c.args.at k s route within is dev c.write_at.new.self c.write_at.new.self.device c.write_at.ensures.fields c.write_at.ensures.loud c.in-Ok-write_at.ensures.operation.counted c.in-Write.bytes c.in-Write.is wrote c.in-Ok-write_at.ensures.operation.faulty in
+    let good = store_write g.B.Block.contents g.B.Block.layers g.B.Block.size g.B.Block.fault_count g.B.Block.done_count _ c.self.invariant c.args.number c.args.place r found was c.args.at k s route within is dev c.write_at.new.self c.write_at.new.self.device c.write_at.ensures.fields c.write_at.ensures.loud c.write_at.ensures.size c.in-Ok-write_at.ensures.operation.counted c.in-Write.bytes c.in-Write.is wrote c.in-Ok-write_at.ensures.operation.faulty in
     rw (← c.self.view_is, c.remove-flight.ensures.items) good.stepped
 
 pub returns-in-Ok-write_at-clause-exact : goal.returns-in-Ok-write_at-clause-exact
@@ -329,10 +329,10 @@ returns-in-Ok-write_at-clause-exact g c =
     let is = c.index_mut-snap.ensures.value in
     let dev : r.request.dev ≡ Snap s.number = c.in-Some.ensures.found.1 s ∙ ap (λ (x : Kept _). Snap x.number) (ap (λ xs. get_or xs k s) c.deref.ensures.value ∙ sym is) in
     let chunk = r.request.range.first / s.state.chunk in
-    let wrote = subst (λ n. WritesPlace chunk c.args.at (r.request.range.first % n) c.in-Write.bytes (books_of g.B.Block.contents g.B.Block.layers s) (books_of g.B.Block.contents g.B.Block.layers c.write_at.new.self)) c.chunk.ensures
+    let wrote = subst (λ n. WritesPlace chunk c.args.at (r.request.range.first % n) c.in-Write.bytes (books_of g.B.Block.contents g.B.Block.layers s) (books_of g.B.Block.contents g.B.Block.layers c.write_at.new.self)) c.chunk.ensures.is
     (subst (λ (b : List ℕ). WritesPlace chunk c.args.at (r.request.range.first % c.chunk.result) b (books_of g.B.Block.contents g.B.Block.layers s) (books_of g.B.Block.contents g.B.Block.layers c.write_at.new.self)) c.as_slice.ensures (c.in-Ok-write_at.ensures.writes chunk)) in
-    let one = subst (λ n. IsOneOperation (Writes (s.state.chunk * c.args.at + r.request.range.first % n) r.request.range.count) true (g.B.Block.layers s.device) (g.B.Block.layers c.write_at.new.self.device) (g.B.Block.fault_count s.device) (g.B.Block.fault_count c.write_at.new.self.device) (g.B.Block.done_count s.device) (g.B.Block.done_count c.write_at.new.self.device)) c.chunk.ensures c.in-Ok-write_at.ensures.operation in
-    rw (← c.self.view_is, c.remove-flight.ensures.items) (λ counted. store_write_exact g.B.Block.contents g.B.Block.layers g.B.Block.size _ c.self.invariant counted c.args.number c.args.place r found was true _ _ _ _ _ c.args.at s.number k route dev s c.write_at.new.self within is refl c.write_at.ensures.fields c.in-Write.bytes c.in-Write.is one wrote.written refl)
+    let one = subst (λ n. IsOneOperation (Writes (s.state.chunk * c.args.at + r.request.range.first % n) r.request.range.count) true (g.B.Block.layers s.device) (g.B.Block.layers c.write_at.new.self.device) (g.B.Block.fault_count s.device) (g.B.Block.fault_count c.write_at.new.self.device) (g.B.Block.done_count s.device) (g.B.Block.done_count c.write_at.new.self.device)) c.chunk.ensures.is c.in-Ok-write_at.ensures.operation in
+    rw (← c.self.view_is, c.remove-flight.ensures.items) (store_write_exact g.B.Block.contents g.B.Block.layers g.B.Block.size _ c.self.invariant c.args.number c.args.place r found was true _ _ _ _ _ c.args.at s.number k route dev s c.write_at.new.self within is refl c.write_at.ensures.fields c.in-Write.bytes c.in-Write.is one wrote.written refl)
 
 pub invariant_of-self-2 : goal.invariant_of-self-2
 invariant_of-self-2 g c =
@@ -347,7 +347,7 @@ invariant_of-self-2 g c =
     let within : k < length v.snaps.items = omega (arith, c.in-Some.ensures.found.0, ap length c.deref.ensures.value) in
     let is = c.index_mut-snap.ensures.value in
     let dev : r.request.dev ≡ Snap s.number = c.in-Some.ensures.found.1 s ∙ ap (λ (x : Kept _). Snap x.number) (ap (λ xs. get_or xs k s) c.deref.ensures.value ∙ sym is) in
-    let good = store_write_io g.B.Block.contents g.B.Block.layers g.B.Block.size g.B.Block.fault_count g.B.Block.done_count _ c.self.invariant c.args.number c.args.place r found was c.args.at k s route within is dev c.write_at.new.self c.write_at.new.self.device c.write_at.ensures.fields c.write_at.ensures.loud c.in-Err-write_at.ensures.operation.counted c.in-Write.bytes c.in-Write.is c.in-Err-write_at.ensures.same c.in-Err-write_at.ensures.operation.faulty in
+    let good = store_write_io g.B.Block.contents g.B.Block.layers g.B.Block.size g.B.Block.fault_count g.B.Block.done_count _ c.self.invariant c.args.number c.args.place r found was c.args.at k s route within is dev c.write_at.new.self c.write_at.new.self.device c.write_at.ensures.fields c.write_at.ensures.loud c.write_at.ensures.size c.in-Err-write_at.ensures.operation.counted c.in-Write.bytes c.in-Write.is c.in-Err-write_at.ensures.same c.in-Err-write_at.ensures.operation.faulty in
     rw c.remove-flight.ensures.items good.whole
 
 pub returns-clause-step : goal.returns-clause-step
@@ -363,7 +363,7 @@ returns-clause-step g c =
     let within : k < length v.snaps.items = omega (arith, c.in-Some.ensures.found.0, ap length c.deref.ensures.value) in
     let is = c.index_mut-snap.ensures.value in
     let dev : r.request.dev ≡ Snap s.number = c.in-Some.ensures.found.1 s ∙ ap (λ (x : Kept _). Snap x.number) (ap (λ xs. get_or xs k s) c.deref.ensures.value ∙ sym is) in
-    let good = store_write_io g.B.Block.contents g.B.Block.layers g.B.Block.size g.B.Block.fault_count g.B.Block.done_count _ c.self.invariant c.args.number c.args.place r found was c.args.at k s route within is dev c.write_at.new.self c.write_at.new.self.device c.write_at.ensures.fields c.write_at.ensures.loud c.in-Err-write_at.ensures.operation.counted c.in-Write.bytes c.in-Write.is c.in-Err-write_at.ensures.same c.in-Err-write_at.ensures.operation.faulty in
+    let good = store_write_io g.B.Block.contents g.B.Block.layers g.B.Block.size g.B.Block.fault_count g.B.Block.done_count _ c.self.invariant c.args.number c.args.place r found was c.args.at k s route within is dev c.write_at.new.self c.write_at.new.self.device c.write_at.ensures.fields c.write_at.ensures.loud c.write_at.ensures.size c.in-Err-write_at.ensures.operation.counted c.in-Write.bytes c.in-Write.is c.in-Err-write_at.ensures.same c.in-Err-write_at.ensures.operation.faulty in
     rw (← c.self.view_is, c.remove-flight.ensures.items) good.stepped
 
 pub returns-clause-exact : goal.returns-clause-exact
@@ -379,5 +379,5 @@ returns-clause-exact g c =
     let within : k < length v.snaps.items = omega (arith, c.in-Some.ensures.found.0, ap length c.deref.ensures.value) in
     let is = c.index_mut-snap.ensures.value in
     let dev : r.request.dev ≡ Snap s.number = c.in-Some.ensures.found.1 s ∙ ap (λ (x : Kept _). Snap x.number) (ap (λ xs. get_or xs k s) c.deref.ensures.value ∙ sym is) in
-    let one = subst (λ n. IsOneOperation (Writes (s.state.chunk * c.args.at + r.request.range.first % n) r.request.range.count) false (g.B.Block.layers s.device) (g.B.Block.layers c.write_at.new.self.device) (g.B.Block.fault_count s.device) (g.B.Block.fault_count c.write_at.new.self.device) (g.B.Block.done_count s.device) (g.B.Block.done_count c.write_at.new.self.device)) c.chunk.ensures c.in-Err-write_at.ensures.operation in
-    rw (← c.self.view_is, c.remove-flight.ensures.items) (λ counted. store_write_exact g.B.Block.contents g.B.Block.layers g.B.Block.size _ c.self.invariant counted c.args.number c.args.place r found was false _ _ _ _ _ c.args.at s.number k route dev s c.write_at.new.self within is refl c.write_at.ensures.fields c.in-Write.bytes c.in-Write.is one (λ l. c.in-Err-write_at.ensures.same) refl)
+    let one = subst (λ n. IsOneOperation (Writes (s.state.chunk * c.args.at + r.request.range.first % n) r.request.range.count) false (g.B.Block.layers s.device) (g.B.Block.layers c.write_at.new.self.device) (g.B.Block.fault_count s.device) (g.B.Block.fault_count c.write_at.new.self.device) (g.B.Block.done_count s.device) (g.B.Block.done_count c.write_at.new.self.device)) c.chunk.ensures.is c.in-Err-write_at.ensures.operation in
+    rw (← c.self.view_is, c.remove-flight.ensures.items) (store_write_exact g.B.Block.contents g.B.Block.layers g.B.Block.size _ c.self.invariant c.args.number c.args.place r found was false _ _ _ _ _ c.args.at s.number k route dev s c.write_at.new.self within is refl c.write_at.ensures.fields c.in-Write.bytes c.in-Write.is one (λ l. c.in-Err-write_at.ensures.same) refl)

@@ -95,7 +95,7 @@ returns-in-Some-clause-exact g c =
     let flights : c.route_again.new.flights.items ≡ map (again_of None (is_clear (map (books_of g.B.Block.contents g.B.Block.layers) (slice_set v.snaps.items k c.publish.new.self)))) (map (placed_of (books_of g.B.Block.contents g.B.Block.layers c.publish.new.self)) v.flights.items) =
     c.route_again.ensures ∙ ap (λ xs. map (again_of None (is_clear (map (books_of g.B.Block.contents g.B.Block.layers) xs))) c.route_placed.new.flights.items) c.deref-in-Some.ensures.value
     ∙ ap (map (again_of None (is_clear (map (books_of g.B.Block.contents g.B.Block.layers) (slice_set v.snaps.items k c.publish.new.self))))) c.route_placed.ensures in
-    rw (← c.self.view_is) (λ counted. publish_exact g.B.Block.contents g.B.Block.layers g.B.Block.size _ c.self.invariant counted c.args.number k s within c.index_mut-snap.ensures.value c.publish.new.self j m.0 c.route_again.new.flights.items found m.1 c.publish.ensures.fields flights)
+    rw (← c.self.view_is) (publish_exact g.B.Block.contents g.B.Block.layers g.B.Block.size _ c.self.invariant c.args.number k s within c.index_mut-snap.ensures.value c.publish.new.self j m.0 c.route_again.new.flights.items found m.1 c.publish.ensures.fields flights)
 
 pub returns-in-Some-clause-due : goal.returns-in-Some-clause-due
 returns-in-Some-clause-due g c =

@@ -2,6 +2,7 @@
 use Rattle.std.proofs.Common.{◌≡◌, ◌+◌, ◌*◌, ◌/◌, ◌<◌, ◌≤◌, ◌++◌, ◌∷◌, [], inl, inr, ℕ, true, List, Some, None, length, get_or, set, refl, sym, ◌∙◌, ap, subst, arith, nat_eq}
 use Rattle.std.specs.Prelude.{◌&&◌, sum_by, count_by}
 use Rattle.std.proofs.lemmas.List.{get_or-set_same}
+use Rattle.pending.specs.Copies.{count_of}
 use Rattle.pending.specs.declared.flights.Flight.{Flight}
 use Rattle.snapshot.specs.Kept.{Kept}
 use Rattle.volume.specs.Volumed.{Volumed, piece_of}
@@ -9,7 +10,8 @@ use Rattle.volume.specs.Whole.{count_in}
 use Rattle.volume.specs.Leaving.{place_of_snap}
 use Rattle.volume.specs.Submitting.{lacks, starts, dev_refusal, HasRoomFor, IsSavedIn, IsAsked, IsAcceptedAs, IsFoundFull}
 use Rattle.volume.proofs.Finishes.{back, begins_all}
-use Rattle.volume.proofs.Named.{IsNamed, dev_of_write, is_named}
+use Rattle.volume.proofs.Named.{IsNamed, dev_of_write, found_within, is_named}
+use Rattle.volume.proofs.Spoilt.{attached_at}
 use Rattle.volume.proofs.SnapWrites.{one_roomed, roomy_whole, within_roomy, held_done, full_done}
 use Rattle.volume.proofs.volume.Volume.start_and_enter.Goals as goal
 
@@ -21,6 +23,17 @@ invariant_of-self g c =
     let free : dev_refusal c.args.request.dev c.self.inside.snaps.items ≡ None = ap (λ (x : Volumed g.row.B.Denot). dev_refusal c.args.request.dev x.snaps) c.self.view_is ∙ c.requires.found in
     let named : IsNamed v c.args.id c.args.k s = is_named v c.self.inside.snaps.items c.args.request.dev c.args.id c.args.k s refl c.index_mut.ensures.value free (dev_of_write c.args.request c.args.id c.requires.kind) place in
     roomy_whole g.B.Block.contents g.B.Block.layers g.B.Block.size v c.self.invariant c.args.id c.args.k s named c.take_room.new.snap c.take_room.ensures.same
+
+pub take_room-requires : goal.take_room-requires
+take_room-requires g c =
+    let v : Volumed g.row.B.Denot = record { origin = c.self.inside.origin; snaps = c.self.inside.snaps.items; flights = c.self.inside.flights.items; requests = c.self.inside.requests; copies = c.self.inside.copies; attached = c.self.inside.attached } in
+    let s : Kept g.row.B.Denot = c.index_mut.result.now in
+    let place : Some c.args.k ≡ place_of_snap c.args.id c.self.inside.snaps.items = c.requires.place ∙ sym (ap (λ (x : Volumed g.row.B.Denot). place_of_snap c.args.id x.snaps) c.self.view_is) in
+    let within : c.args.k < length c.self.inside.snaps.items = found_within c.args.id c.self.inside.snaps.items c.args.k place in
+    let attached = attached_at g.B.Block.contents g.B.Block.layers g.B.Block.size v c.self.invariant c.args.k s within c.index_mut.ensures.value in
+    let piece : c.piece-piece.result ≡ s.state.chunk = c.piece-piece.ensures.piece ∙ sym (ap (λ (x : Volumed g.row.B.Denot). piece_of x.snaps) c.self.view_is) ∙ sym attached.chunk_is in
+    let sectors : c.sectors.result ≡ s.state.origin = c.sectors.ensures ∙ sym attached.origin in
+    c.sectors_of-count.ensures ∙ ap (λ (n : ℕ). count_of n c.sectors.result (c.args.request.range.first / c.piece-piece.result)) piece ∙ ap (λ (m : ℕ). count_of s.state.chunk m (c.args.request.range.first / c.piece-piece.result)) sectors
 
 pub returns-in-Err-clause-err : goal.returns-in-Err-clause-err
 returns-in-Err-clause-err g c =
@@ -85,7 +98,7 @@ save_in-given-requires-clause-begins g c =
     let place : Some c.args.k ≡ place_of_snap c.args.id c.self.inside.snaps.items = c.requires.place ∙ sym (ap (λ (x : Volumed g.row.B.Denot). place_of_snap c.args.id x.snaps) c.self.view_is) in
     let free : dev_refusal c.args.request.dev c.self.inside.snaps.items ≡ None = ap (λ (x : Volumed g.row.B.Denot). dev_refusal c.args.request.dev x.snaps) c.self.view_is ∙ c.requires.found in
     let named : IsNamed v c.args.id c.args.k s = is_named v c.self.inside.snaps.items c.args.request.dev c.args.id c.args.k s refl c.index_mut.ensures.value free (dev_of_write c.args.request c.args.id c.requires.kind) place in
-    let piece : c.piece-piece.result ≡ piece_of c.self.inside.snaps.items = c.piece-piece.ensures ∙ sym (ap (λ (x : Volumed g.row.B.Denot). piece_of x.snaps) c.self.view_is) in
+    let piece : c.piece-piece.result ≡ piece_of c.self.inside.snaps.items = c.piece-piece.ensures.piece ∙ sym (ap (λ (x : Volumed g.row.B.Denot). piece_of x.snaps) c.self.view_is) in
     let roomy = one_roomed g.B.Block.contents g.B.Block.layers g.B.Block.size v c.self.invariant c.args.id c.args.k s named c.take_room.new.snap c.take_room.ensures.same in
     let within = within_roomy g.B.Block.contents g.B.Block.layers g.B.Block.size v c.self.invariant c.args.id c.args.k s named c.take_room.new.snap c.take_room.ensures.same in
     let now2 : c.index_mut-2.result.now ≡ c.take_room.new.snap = c.index_mut-2.ensures.value ∙ get_or-set_same c.self.inside.snaps.items c.args.k c.take_room.new.snap c.index_mut-2.result.now named.within in
@@ -101,7 +114,7 @@ save_in-given-requires-clause-room g c =
     let place : Some c.args.k ≡ place_of_snap c.args.id c.self.inside.snaps.items = c.requires.place ∙ sym (ap (λ (x : Volumed g.row.B.Denot). place_of_snap c.args.id x.snaps) c.self.view_is) in
     let free : dev_refusal c.args.request.dev c.self.inside.snaps.items ≡ None = ap (λ (x : Volumed g.row.B.Denot). dev_refusal c.args.request.dev x.snaps) c.self.view_is ∙ c.requires.found in
     let named : IsNamed v c.args.id c.args.k s = is_named v c.self.inside.snaps.items c.args.request.dev c.args.id c.args.k s refl c.index_mut.ensures.value free (dev_of_write c.args.request c.args.id c.requires.kind) place in
-    let piece : c.piece-piece.result ≡ piece_of c.self.inside.snaps.items = c.piece-piece.ensures ∙ sym (ap (λ (x : Volumed g.row.B.Denot). piece_of x.snaps) c.self.view_is) in
+    let piece : c.piece-piece.result ≡ piece_of c.self.inside.snaps.items = c.piece-piece.ensures.piece ∙ sym (ap (λ (x : Volumed g.row.B.Denot). piece_of x.snaps) c.self.view_is) in
     let roomy = one_roomed g.B.Block.contents g.B.Block.layers g.B.Block.size v c.self.invariant c.args.id c.args.k s named c.take_room.new.snap c.take_room.ensures.same in
     let within = within_roomy g.B.Block.contents g.B.Block.layers g.B.Block.size v c.self.invariant c.args.id c.args.k s named c.take_room.new.snap c.take_room.ensures.same in
     let now2 : c.index_mut-2.result.now ≡ c.take_room.new.snap = c.index_mut-2.ensures.value ∙ get_or-set_same c.self.inside.snaps.items c.args.k c.take_room.new.snap c.index_mut-2.result.now named.within in
@@ -115,7 +128,7 @@ invariant_of-self-then-given-self g c =
     let place : Some c.args.k ≡ place_of_snap c.args.id c.self.inside.snaps.items = c.requires.place ∙ sym (ap (λ (x : Volumed g.row.B.Denot). place_of_snap c.args.id x.snaps) c.self.view_is) in
     let free : dev_refusal c.args.request.dev c.self.inside.snaps.items ≡ None = ap (λ (x : Volumed g.row.B.Denot). dev_refusal c.args.request.dev x.snaps) c.self.view_is ∙ c.requires.found in
     let named : IsNamed v c.args.id c.args.k s = is_named v c.self.inside.snaps.items c.args.request.dev c.args.id c.args.k s refl c.index_mut.ensures.value free (dev_of_write c.args.request c.args.id c.requires.kind) place in
-    let piece : c.piece-piece.result ≡ piece_of c.self.inside.snaps.items = c.piece-piece.ensures ∙ sym (ap (λ (x : Volumed g.row.B.Denot). piece_of x.snaps) c.self.view_is) in
+    let piece : c.piece-piece.result ≡ piece_of c.self.inside.snaps.items = c.piece-piece.ensures.piece ∙ sym (ap (λ (x : Volumed g.row.B.Denot). piece_of x.snaps) c.self.view_is) in
     let roomy = one_roomed g.B.Block.contents g.B.Block.layers g.B.Block.size v c.self.invariant c.args.id c.args.k s named c.take_room.new.snap c.take_room.ensures.same in
     let within = within_roomy g.B.Block.contents g.B.Block.layers g.B.Block.size v c.self.invariant c.args.id c.args.k s named c.take_room.new.snap c.take_room.ensures.same in
     let now2 : c.index_mut-2.result.now ≡ c.take_room.new.snap = c.index_mut-2.ensures.value ∙ get_or-set_same c.self.inside.snaps.items c.args.k c.take_room.new.snap c.index_mut-2.result.now named.within in
@@ -140,7 +153,7 @@ returns-then-given-self-clause-err g c =
     let place : Some c.args.k ≡ place_of_snap c.args.id c.self.inside.snaps.items = c.requires.place ∙ sym (ap (λ (x : Volumed g.row.B.Denot). place_of_snap c.args.id x.snaps) c.self.view_is) in
     let free : dev_refusal c.args.request.dev c.self.inside.snaps.items ≡ None = ap (λ (x : Volumed g.row.B.Denot). dev_refusal c.args.request.dev x.snaps) c.self.view_is ∙ c.requires.found in
     let named : IsNamed v c.args.id c.args.k s = is_named v c.self.inside.snaps.items c.args.request.dev c.args.id c.args.k s refl c.index_mut.ensures.value free (dev_of_write c.args.request c.args.id c.requires.kind) place in
-    let piece : c.piece-piece.result ≡ piece_of c.self.inside.snaps.items = c.piece-piece.ensures ∙ sym (ap (λ (x : Volumed g.row.B.Denot). piece_of x.snaps) c.self.view_is) in
+    let piece : c.piece-piece.result ≡ piece_of c.self.inside.snaps.items = c.piece-piece.ensures.piece ∙ sym (ap (λ (x : Volumed g.row.B.Denot). piece_of x.snaps) c.self.view_is) in
     let roomy = one_roomed g.B.Block.contents g.B.Block.layers g.B.Block.size v c.self.invariant c.args.id c.args.k s named c.take_room.new.snap c.take_room.ensures.same in
     let within = within_roomy g.B.Block.contents g.B.Block.layers g.B.Block.size v c.self.invariant c.args.id c.args.k s named c.take_room.new.snap c.take_room.ensures.same in
     let now2 : c.index_mut-2.result.now ≡ c.take_room.new.snap = c.index_mut-2.ensures.value ∙ get_or-set_same c.self.inside.snaps.items c.args.k c.take_room.new.snap c.index_mut-2.result.now named.within in
@@ -165,7 +178,7 @@ invariant_of-self-2 g c =
     let place : Some c.args.k ≡ place_of_snap c.args.id c.self.inside.snaps.items = c.requires.place ∙ sym (ap (λ (x : Volumed g.row.B.Denot). place_of_snap c.args.id x.snaps) c.self.view_is) in
     let free : dev_refusal c.args.request.dev c.self.inside.snaps.items ≡ None = ap (λ (x : Volumed g.row.B.Denot). dev_refusal c.args.request.dev x.snaps) c.self.view_is ∙ c.requires.found in
     let named : IsNamed v c.args.id c.args.k s = is_named v c.self.inside.snaps.items c.args.request.dev c.args.id c.args.k s refl c.index_mut.ensures.value free (dev_of_write c.args.request c.args.id c.requires.kind) place in
-    let piece : c.piece-piece.result ≡ piece_of c.self.inside.snaps.items = c.piece-piece.ensures ∙ sym (ap (λ (x : Volumed g.row.B.Denot). piece_of x.snaps) c.self.view_is) in
+    let piece : c.piece-piece.result ≡ piece_of c.self.inside.snaps.items = c.piece-piece.ensures.piece ∙ sym (ap (λ (x : Volumed g.row.B.Denot). piece_of x.snaps) c.self.view_is) in
     let roomy = one_roomed g.B.Block.contents g.B.Block.layers g.B.Block.size v c.self.invariant c.args.id c.args.k s named c.take_room.new.snap c.take_room.ensures.same in
     let within = within_roomy g.B.Block.contents g.B.Block.layers g.B.Block.size v c.self.invariant c.args.id c.args.k s named c.take_room.new.snap c.take_room.ensures.same in
     let now2 : c.index_mut-2.result.now ≡ c.take_room.new.snap = c.index_mut-2.ensures.value ∙ get_or-set_same c.self.inside.snaps.items c.args.k c.take_room.new.snap c.index_mut-2.result.now named.within in
@@ -195,7 +208,7 @@ returns-clause-ok g c =
     let place : Some c.args.k ≡ place_of_snap c.args.id c.self.inside.snaps.items = c.requires.place ∙ sym (ap (λ (x : Volumed g.row.B.Denot). place_of_snap c.args.id x.snaps) c.self.view_is) in
     let free : dev_refusal c.args.request.dev c.self.inside.snaps.items ≡ None = ap (λ (x : Volumed g.row.B.Denot). dev_refusal c.args.request.dev x.snaps) c.self.view_is ∙ c.requires.found in
     let named : IsNamed v c.args.id c.args.k s = is_named v c.self.inside.snaps.items c.args.request.dev c.args.id c.args.k s refl c.index_mut.ensures.value free (dev_of_write c.args.request c.args.id c.requires.kind) place in
-    let piece : c.piece-piece.result ≡ piece_of c.self.inside.snaps.items = c.piece-piece.ensures ∙ sym (ap (λ (x : Volumed g.row.B.Denot). piece_of x.snaps) c.self.view_is) in
+    let piece : c.piece-piece.result ≡ piece_of c.self.inside.snaps.items = c.piece-piece.ensures.piece ∙ sym (ap (λ (x : Volumed g.row.B.Denot). piece_of x.snaps) c.self.view_is) in
     let roomy = one_roomed g.B.Block.contents g.B.Block.layers g.B.Block.size v c.self.invariant c.args.id c.args.k s named c.take_room.new.snap c.take_room.ensures.same in
     let within = within_roomy g.B.Block.contents g.B.Block.layers g.B.Block.size v c.self.invariant c.args.id c.args.k s named c.take_room.new.snap c.take_room.ensures.same in
     let now2 : c.index_mut-2.result.now ≡ c.take_room.new.snap = c.index_mut-2.ensures.value ∙ get_or-set_same c.self.inside.snaps.items c.args.k c.take_room.new.snap c.index_mut-2.result.now named.within in

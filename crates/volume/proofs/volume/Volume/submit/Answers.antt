@@ -1,11 +1,17 @@
 -- A request that no limit, range or missing snapshot refuses is taken by its kind.
-use Rattle.std.proofs.Common.{◌/◌, [], sym, ◌∙◌, ap, subst, arith}
+use Rattle.std.proofs.Common.{◌/◌, [], inl, refl, sym, ◌∙◌, ap, subst, arith}
 use Rattle.pending.specs.Kinds.{kind_of, room_of}
 use Rattle.submit_laws.proofs.Preparing.{prepared_none}
 use Rattle.volume.specs.Volumed.{books_of, piece_of}
 use Rattle.volume.specs.Submitting.{starting, IsAsked}
 use Rattle.volume.proofs.Admits.{admitted}
 use Rattle.volume.proofs.ByKind.{origin_read_enters}
+use Rattle.pending.specs.declared.flights.Route.TheVariants.{Origin}
+use Rattle.volume.specs.Whole.{IsWhole}
+use Rattle.volume.proofs.Accepts.{if_ok, if_err, entered_accepted}
+use Rattle.volume.proofs.Refusals.{invalid_declined, others_unseen, same_refused, starved_refused, write_refused}
+use Rattle.volume.proofs.Keeping.{keeps_all, keeps_same, keeps_entered, keeps_refused, of_both}
+use Rattle.volume.proofs.Submitted.{origin_read_submitted}
 use Rattle.volume.proofs.volume.Volume.submit.Goals as goal
 
 pub enter-requires-clause-numbers : goal.enter-requires-clause-numbers
@@ -108,3 +114,114 @@ submit_snap_write-requires-clause-few g c =
     let a = admitted g.B.Block.size c.args.request c.args.self.now (sym c.in-None.ensures) in
     let kind = ap (λ k. starting k (c.args.request.range.first / piece_of c.args.self.now.snaps) c.args.self.now.snaps) c.in-SnapWrite.ensures in
     omega (arith, a.few, kind)
+
+pub returns-in-Some-clause-declined : goal.returns-in-Some-clause-declined
+returns-in-Some-clause-declined g c =
+    let whole : IsWhole g.B.Block.contents g.B.Block.layers g.B.Block.size c.args.self.now = subst (IsWhole g.B.Block.contents g.B.Block.layers g.B.Block.size) c.self.view_is c.self.invariant in
+    invalid_declined g.B.Block.contents g.B.Block.layers g.B.Block.size c.args.self.now c.args.self.now whole c.args.request c.in-Some.refusal (inl (sym c.in-Some.ensures, refl))
+
+pub returns-in-Some-clause-starved : goal.returns-in-Some-clause-starved
+returns-in-Some-clause-starved g c =
+    λ other replied. refl
+
+pub returns-in-OriginRead-clause-ok : goal.returns-in-OriginRead-clause-ok
+returns-in-OriginRead-clause-ok g c =
+    let whole : IsWhole g.B.Block.contents g.B.Block.layers g.B.Block.size c.args.self.now = subst (IsWhole g.B.Block.contents g.B.Block.layers g.B.Block.size) c.self.view_is c.self.invariant in
+    if_ok c.enter.result _ _ (λ number e. entered_accepted g.B.Block.contents g.B.Block.layers c.args.request Origin number c.args.self.now c.enter.new.self e (origin_read_submitted g.B.Block.contents g.B.Block.layers g.B.Block.size c.args.self.now whole c.args.request Origin number c.enter.new.self e (sym c.in-OriginRead.ensures) refl)) c.enter.ensures.ok
+
+pub returns-in-OriginRead-clause-exact : goal.returns-in-OriginRead-clause-exact
+returns-in-OriginRead-clause-exact g c =
+    let whole : IsWhole g.B.Block.contents g.B.Block.layers g.B.Block.size c.args.self.now = subst (IsWhole g.B.Block.contents g.B.Block.layers g.B.Block.size) c.self.view_is c.self.invariant in
+    if_ok c.enter.result _ _ (λ number e. origin_read_submitted g.B.Block.contents g.B.Block.layers g.B.Block.size c.args.self.now whole c.args.request Origin number c.enter.new.self e (sym c.in-OriginRead.ensures) refl) c.enter.ensures.ok
+
+pub returns-in-OriginRead-clause-declined : goal.returns-in-OriginRead-clause-declined
+returns-in-OriginRead-clause-declined g c =
+    let whole : IsWhole g.B.Block.contents g.B.Block.layers g.B.Block.size c.args.self.now = subst (IsWhole g.B.Block.contents g.B.Block.layers g.B.Block.size) c.self.view_is c.self.invariant in
+    if_err c.enter.result _ _ (λ e r. invalid_declined g.B.Block.contents g.B.Block.layers g.B.Block.size c.args.self.now c.enter.new.self whole c.args.request e (same_refused g.B.Block.contents g.B.Block.layers g.B.Block.size c.args.request e c.args.self.now c.enter.new.self (sym c.in-None.ensures) r)) c.enter.ensures.err
+
+pub returns-in-OriginRead-clause-starved : goal.returns-in-OriginRead-clause-starved
+returns-in-OriginRead-clause-starved g c =
+    let whole : IsWhole g.B.Block.contents g.B.Block.layers g.B.Block.size c.args.self.now = subst (IsWhole g.B.Block.contents g.B.Block.layers g.B.Block.size) c.self.view_is c.self.invariant in
+    if_err c.enter.result _ _ (λ e r. others_unseen g.B.Block.contents g.B.Block.layers g.B.Block.size c.args.self.now c.enter.new.self whole c.args.request e (same_refused g.B.Block.contents g.B.Block.layers g.B.Block.size c.args.request e c.args.self.now c.enter.new.self (sym c.in-None.ensures) r)) c.enter.ensures.err
+
+pub returns-in-OriginWrite-clause-exact : goal.returns-in-OriginWrite-clause-exact
+returns-in-OriginWrite-clause-exact g c =
+    if_ok c.submit_origin_write.result _ _ (λ number e. e.exact) c.submit_origin_write.ensures.ok
+
+pub returns-in-OriginWrite-clause-declined : goal.returns-in-OriginWrite-clause-declined
+returns-in-OriginWrite-clause-declined g c =
+    let whole : IsWhole g.B.Block.contents g.B.Block.layers g.B.Block.size c.args.self.now = subst (IsWhole g.B.Block.contents g.B.Block.layers g.B.Block.size) c.self.view_is c.self.invariant in
+    if_err c.submit_origin_write.result _ _ (λ e r. invalid_declined g.B.Block.contents g.B.Block.layers g.B.Block.size c.args.self.now c.submit_origin_write.new.self whole c.args.request e (starved_refused g.B.Block.contents g.B.Block.layers g.B.Block.size c.args.request e c.args.self.now c.submit_origin_write.new.self (sym c.in-None.ensures) r)) c.submit_origin_write.ensures.err
+
+pub returns-in-OriginWrite-clause-starved : goal.returns-in-OriginWrite-clause-starved
+returns-in-OriginWrite-clause-starved g c =
+    let whole : IsWhole g.B.Block.contents g.B.Block.layers g.B.Block.size c.args.self.now = subst (IsWhole g.B.Block.contents g.B.Block.layers g.B.Block.size) c.self.view_is c.self.invariant in
+    if_err c.submit_origin_write.result _ _ (λ e r. others_unseen g.B.Block.contents g.B.Block.layers g.B.Block.size c.args.self.now c.submit_origin_write.new.self whole c.args.request e (starved_refused g.B.Block.contents g.B.Block.layers g.B.Block.size c.args.request e c.args.self.now c.submit_origin_write.new.self (sym c.in-None.ensures) r)) c.submit_origin_write.ensures.err
+
+pub returns-in-SnapRead-clause-exact : goal.returns-in-SnapRead-clause-exact
+returns-in-SnapRead-clause-exact g c =
+    if_ok c.submit_snap_read.result _ _ (λ number e. e.exact) c.submit_snap_read.ensures.ok
+
+pub returns-in-SnapRead-clause-declined : goal.returns-in-SnapRead-clause-declined
+returns-in-SnapRead-clause-declined g c =
+    let whole : IsWhole g.B.Block.contents g.B.Block.layers g.B.Block.size c.args.self.now = subst (IsWhole g.B.Block.contents g.B.Block.layers g.B.Block.size) c.self.view_is c.self.invariant in
+    if_err c.submit_snap_read.result _ _ (λ e r. invalid_declined g.B.Block.contents g.B.Block.layers g.B.Block.size c.args.self.now c.submit_snap_read.new.self whole c.args.request e (same_refused g.B.Block.contents g.B.Block.layers g.B.Block.size c.args.request e c.args.self.now c.submit_snap_read.new.self (sym c.in-None.ensures) r)) c.submit_snap_read.ensures.err
+
+pub returns-in-SnapRead-clause-starved : goal.returns-in-SnapRead-clause-starved
+returns-in-SnapRead-clause-starved g c =
+    let whole : IsWhole g.B.Block.contents g.B.Block.layers g.B.Block.size c.args.self.now = subst (IsWhole g.B.Block.contents g.B.Block.layers g.B.Block.size) c.self.view_is c.self.invariant in
+    if_err c.submit_snap_read.result _ _ (λ e r. others_unseen g.B.Block.contents g.B.Block.layers g.B.Block.size c.args.self.now c.submit_snap_read.new.self whole c.args.request e (same_refused g.B.Block.contents g.B.Block.layers g.B.Block.size c.args.request e c.args.self.now c.submit_snap_read.new.self (sym c.in-None.ensures) r)) c.submit_snap_read.ensures.err
+
+pub returns-in-SnapWrite-clause-exact : goal.returns-in-SnapWrite-clause-exact
+returns-in-SnapWrite-clause-exact g c =
+    if_ok c.submit_snap_write.result _ _ (λ number e. e.exact) c.submit_snap_write.ensures.ok
+
+pub returns-in-SnapWrite-clause-declined : goal.returns-in-SnapWrite-clause-declined
+returns-in-SnapWrite-clause-declined g c =
+    let whole : IsWhole g.B.Block.contents g.B.Block.layers g.B.Block.size c.args.self.now = subst (IsWhole g.B.Block.contents g.B.Block.layers g.B.Block.size) c.self.view_is c.self.invariant in
+    if_err c.submit_snap_write.result _ _ (λ e r. invalid_declined g.B.Block.contents g.B.Block.layers g.B.Block.size c.args.self.now c.submit_snap_write.new.self whole c.args.request e (write_refused g.B.Block.contents g.B.Block.layers g.B.Block.size c.args.request e c.args.self.now c.submit_snap_write.new.self (sym c.in-None.ensures) c.in-SnapWrite.id (sym c.in-SnapWrite.ensures) r)) c.submit_snap_write.ensures.err
+
+pub returns-in-SnapWrite-clause-starved : goal.returns-in-SnapWrite-clause-starved
+returns-in-SnapWrite-clause-starved g c =
+    let whole : IsWhole g.B.Block.contents g.B.Block.layers g.B.Block.size c.args.self.now = subst (IsWhole g.B.Block.contents g.B.Block.layers g.B.Block.size) c.self.view_is c.self.invariant in
+    if_err c.submit_snap_write.result _ _ (λ e r. others_unseen g.B.Block.contents g.B.Block.layers g.B.Block.size c.args.self.now c.submit_snap_write.new.self whole c.args.request e (write_refused g.B.Block.contents g.B.Block.layers g.B.Block.size c.args.request e c.args.self.now c.submit_snap_write.new.self (sym c.in-None.ensures) c.in-SnapWrite.id (sym c.in-SnapWrite.ensures) r)) c.submit_snap_write.ensures.err
+
+pub returns-in-Some-clause-kept : goal.returns-in-Some-clause-kept
+returns-in-Some-clause-kept g c =
+    keeps_all g.B.Block.size c.args.self.now c.args.self.now (keeps_same g.B.Block.contents g.B.Block.layers c.args.self.now c.args.self.now refl)
+
+pub returns-in-Some-clause-untouched : goal.returns-in-Some-clause-untouched
+returns-in-Some-clause-untouched g c =
+    keeps_same g.B.Block.contents g.B.Block.layers c.args.self.now c.args.self.now refl
+
+pub returns-in-OriginRead-clause-kept : goal.returns-in-OriginRead-clause-kept
+returns-in-OriginRead-clause-kept g c =
+    keeps_all g.B.Block.size c.args.self.now c.enter.new.self (of_both c.enter.result _ _ (λ number e. keeps_entered g.B.Block.contents g.B.Block.layers c.args.self.now c.enter.new.self e.flight e.becomes) (λ e r. keeps_refused g.B.Block.contents g.B.Block.layers g.B.Block.size c.args.request e c.args.self.now c.enter.new.self (same_refused g.B.Block.contents g.B.Block.layers g.B.Block.size c.args.request e c.args.self.now c.enter.new.self (sym c.in-None.ensures) r)) c.enter.ensures.ok c.enter.ensures.err)
+
+pub returns-in-OriginRead-clause-untouched : goal.returns-in-OriginRead-clause-untouched
+returns-in-OriginRead-clause-untouched g c =
+    of_both c.enter.result _ _ (λ number e. keeps_entered g.B.Block.contents g.B.Block.layers c.args.self.now c.enter.new.self e.flight e.becomes) (λ e r. keeps_refused g.B.Block.contents g.B.Block.layers g.B.Block.size c.args.request e c.args.self.now c.enter.new.self (same_refused g.B.Block.contents g.B.Block.layers g.B.Block.size c.args.request e c.args.self.now c.enter.new.self (sym c.in-None.ensures) r)) c.enter.ensures.ok c.enter.ensures.err
+
+pub returns-in-OriginWrite-clause-kept : goal.returns-in-OriginWrite-clause-kept
+returns-in-OriginWrite-clause-kept g c =
+    keeps_all g.B.Block.size c.args.self.now c.submit_origin_write.new.self (of_both c.submit_origin_write.result _ _ (λ number e. e.kept) (λ e r. keeps_refused g.B.Block.contents g.B.Block.layers g.B.Block.size c.args.request e c.args.self.now c.submit_origin_write.new.self (starved_refused g.B.Block.contents g.B.Block.layers g.B.Block.size c.args.request e c.args.self.now c.submit_origin_write.new.self (sym c.in-None.ensures) r)) c.submit_origin_write.ensures.ok c.submit_origin_write.ensures.err)
+
+pub returns-in-OriginWrite-clause-untouched : goal.returns-in-OriginWrite-clause-untouched
+returns-in-OriginWrite-clause-untouched g c =
+    of_both c.submit_origin_write.result _ _ (λ number e. e.kept) (λ e r. keeps_refused g.B.Block.contents g.B.Block.layers g.B.Block.size c.args.request e c.args.self.now c.submit_origin_write.new.self (starved_refused g.B.Block.contents g.B.Block.layers g.B.Block.size c.args.request e c.args.self.now c.submit_origin_write.new.self (sym c.in-None.ensures) r)) c.submit_origin_write.ensures.ok c.submit_origin_write.ensures.err
+
+pub returns-in-SnapRead-clause-kept : goal.returns-in-SnapRead-clause-kept
+returns-in-SnapRead-clause-kept g c =
+    keeps_all g.B.Block.size c.args.self.now c.submit_snap_read.new.self (of_both c.submit_snap_read.result _ _ (λ number e. e.kept) (λ e r. keeps_refused g.B.Block.contents g.B.Block.layers g.B.Block.size c.args.request e c.args.self.now c.submit_snap_read.new.self (same_refused g.B.Block.contents g.B.Block.layers g.B.Block.size c.args.request e c.args.self.now c.submit_snap_read.new.self (sym c.in-None.ensures) r)) c.submit_snap_read.ensures.ok c.submit_snap_read.ensures.err)
+
+pub returns-in-SnapRead-clause-untouched : goal.returns-in-SnapRead-clause-untouched
+returns-in-SnapRead-clause-untouched g c =
+    of_both c.submit_snap_read.result _ _ (λ number e. e.kept) (λ e r. keeps_refused g.B.Block.contents g.B.Block.layers g.B.Block.size c.args.request e c.args.self.now c.submit_snap_read.new.self (same_refused g.B.Block.contents g.B.Block.layers g.B.Block.size c.args.request e c.args.self.now c.submit_snap_read.new.self (sym c.in-None.ensures) r)) c.submit_snap_read.ensures.ok c.submit_snap_read.ensures.err
+
+pub returns-in-SnapWrite-clause-kept : goal.returns-in-SnapWrite-clause-kept
+returns-in-SnapWrite-clause-kept g c =
+    keeps_all g.B.Block.size c.args.self.now c.submit_snap_write.new.self (of_both c.submit_snap_write.result _ _ (λ number e. e.kept) (λ e r. keeps_refused g.B.Block.contents g.B.Block.layers g.B.Block.size c.args.request e c.args.self.now c.submit_snap_write.new.self (write_refused g.B.Block.contents g.B.Block.layers g.B.Block.size c.args.request e c.args.self.now c.submit_snap_write.new.self (sym c.in-None.ensures) c.in-SnapWrite.id (sym c.in-SnapWrite.ensures) r)) c.submit_snap_write.ensures.ok c.submit_snap_write.ensures.err)
+
+pub returns-in-SnapWrite-clause-untouched : goal.returns-in-SnapWrite-clause-untouched
+returns-in-SnapWrite-clause-untouched g c =
+    of_both c.submit_snap_write.result _ _ (λ number e. e.kept) (λ e r. keeps_refused g.B.Block.contents g.B.Block.layers g.B.Block.size c.args.request e c.args.self.now c.submit_snap_write.new.self (write_refused g.B.Block.contents g.B.Block.layers g.B.Block.size c.args.request e c.args.self.now c.submit_snap_write.new.self (sym c.in-None.ensures) c.in-SnapWrite.id (sym c.in-SnapWrite.ensures) r)) c.submit_snap_write.ensures.ok c.submit_snap_write.ensures.err

@@ -6,10 +6,11 @@ use Rattle.plain.specs.declared.request.Request.{Request}
 use Rattle.pending.specs.Kinds.{kind_of, room_of}
 use Rattle.pending.specs.Routes.{write_route_of}
 use Rattle.pending.specs.declared.flights.Flight.{Flight}
-use Rattle.snapshot.specs.Kept.{Kept}
+use Rattle.volume_laws.specs.Published.{is_clear}
+use Rattle.snapshot.specs.Kept.{Kept, books_of as snap_books}
 use Rattle.volume.specs.Volumed.{Volumed, piece_of}
 use Rattle.volume.specs.Whole.{count_in}
-use Rattle.volume.specs.Submitting.{unroomed, starts, is_clear_of, AreSavedIn, HaveRooms, IsAsked, IsAcceptedAs}
+use Rattle.volume.specs.Submitting.{unroomed, starts, AreSavedIn, HaveRooms, IsAsked, IsAcceptedAs}
 use Rattle.volume.proofs.Roomed.{whole_roomed}
 use Rattle.volume.proofs.Finishes.{back, begins_all, some_all, written_whole, written_accepted}
 use Rattle.volume.proofs.volume.Volume.submit_origin_write.Goals as goal
@@ -45,7 +46,7 @@ save_in_all-self-inside-requires-clause-begins g c =
     let same : map unroomed c.take_rooms.new.snaps ≡ map unroomed c.self.inside.snaps.items = c.take_rooms.ensures.same ∙ ap (map unroomed) c.as_mut_slice.ensures.value in
     let back_rooms = back c.self.inside.snaps.len c.take_rooms.new.snaps c.self.inside.snaps.items (c.take_rooms.auto.snaps ∙ c.as_mut_slice.ensures.len) in
     let now2 = c.as_mut_slice-2.ensures.value ∙ back_rooms in
-    let piece : c.piece-piece.result ≡ piece_of c.self.inside.snaps.items = c.piece-piece.ensures ∙ sym (ap (λ (x : Volumed g.row.B.Denot). piece_of x.snaps) c.self.view_is) in
+    let piece : c.piece-piece.result ≡ piece_of c.self.inside.snaps.items = c.piece-piece.ensures.piece ∙ sym (ap (λ (x : Volumed g.row.B.Denot). piece_of x.snaps) c.self.view_is) in
     let asked : IsAsked (g.B.Block.size c.self.inside.origin) (piece_of c.self.inside.snaps.items) c.args.request = subst (λ (x : Volumed g.row.B.Denot). IsAsked (g.B.Block.size x.origin) (piece_of x.snaps) c.args.request) (sym c.self.view_is) c.requires.asked in
     let all = begins_all g.B.Block.contents g.B.Block.layers g.B.Block.size v c.self.invariant c.take_rooms.new.snaps same c.args.request.range.first c.args.request.range.count asked.some asked.inside in
     subst (λ (x : List (Kept g.row.B.Denot)). All (λ s. s.state.chunk * (c.args.request.range.first / c.piece-piece.result) < s.state.origin) x) (sym now2)
@@ -58,7 +59,7 @@ save_in_all-self-inside-requires-clause-rooms g c =
     let same : map unroomed c.take_rooms.new.snaps ≡ map unroomed c.self.inside.snaps.items = c.take_rooms.ensures.same ∙ ap (map unroomed) c.as_mut_slice.ensures.value in
     let back_rooms = back c.self.inside.snaps.len c.take_rooms.new.snaps c.self.inside.snaps.items (c.take_rooms.auto.snaps ∙ c.as_mut_slice.ensures.len) in
     let now2 = c.as_mut_slice-2.ensures.value ∙ back_rooms in
-    let piece : c.piece-piece.result ≡ piece_of c.self.inside.snaps.items = c.piece-piece.ensures ∙ sym (ap (λ (x : Volumed g.row.B.Denot). piece_of x.snaps) c.self.view_is) in
+    let piece : c.piece-piece.result ≡ piece_of c.self.inside.snaps.items = c.piece-piece.ensures.piece ∙ sym (ap (λ (x : Volumed g.row.B.Denot). piece_of x.snaps) c.self.view_is) in
     let asked : IsAsked (g.B.Block.size c.self.inside.origin) (piece_of c.self.inside.snaps.items) c.args.request = subst (λ (x : Volumed g.row.B.Denot). IsAsked (g.B.Block.size x.origin) (piece_of x.snaps) c.args.request) (sym c.self.view_is) c.requires.asked in
     subst (λ (x : List (Kept g.row.B.Denot)). HaveRooms (c.args.request.range.first / c.piece-piece.result) x c.in-Ok.rooms.items) (sym now2) c.in-Ok.ensures.ok
 
@@ -69,7 +70,7 @@ is_clear-requires g c =
     let same : map unroomed c.take_rooms.new.snaps ≡ map unroomed c.self.inside.snaps.items = c.take_rooms.ensures.same ∙ ap (map unroomed) c.as_mut_slice.ensures.value in
     let back_rooms = back c.self.inside.snaps.len c.take_rooms.new.snaps c.self.inside.snaps.items (c.take_rooms.auto.snaps ∙ c.as_mut_slice.ensures.len) in
     let now2 = c.as_mut_slice-2.ensures.value ∙ back_rooms in
-    let piece : c.piece-piece.result ≡ piece_of c.self.inside.snaps.items = c.piece-piece.ensures ∙ sym (ap (λ (x : Volumed g.row.B.Denot). piece_of x.snaps) c.self.view_is) in
+    let piece : c.piece-piece.result ≡ piece_of c.self.inside.snaps.items = c.piece-piece.ensures.piece ∙ sym (ap (λ (x : Volumed g.row.B.Denot). piece_of x.snaps) c.self.view_is) in
     let asked : IsAsked (g.B.Block.size c.self.inside.origin) (piece_of c.self.inside.snaps.items) c.args.request = subst (λ (x : Volumed g.row.B.Denot). IsAsked (g.B.Block.size x.origin) (piece_of x.snaps) c.args.request) (sym c.self.view_is) c.requires.asked in
     let gs = c.save_in_all-self-inside.new.flights in
     let after = c.save_in_all-self-inside.new.snaps in
@@ -89,7 +90,7 @@ invariant_of-self-2 g c =
     let same : map unroomed c.take_rooms.new.snaps ≡ map unroomed c.self.inside.snaps.items = c.take_rooms.ensures.same ∙ ap (map unroomed) c.as_mut_slice.ensures.value in
     let back_rooms = back c.self.inside.snaps.len c.take_rooms.new.snaps c.self.inside.snaps.items (c.take_rooms.auto.snaps ∙ c.as_mut_slice.ensures.len) in
     let now2 = c.as_mut_slice-2.ensures.value ∙ back_rooms in
-    let piece : c.piece-piece.result ≡ piece_of c.self.inside.snaps.items = c.piece-piece.ensures ∙ sym (ap (λ (x : Volumed g.row.B.Denot). piece_of x.snaps) c.self.view_is) in
+    let piece : c.piece-piece.result ≡ piece_of c.self.inside.snaps.items = c.piece-piece.ensures.piece ∙ sym (ap (λ (x : Volumed g.row.B.Denot). piece_of x.snaps) c.self.view_is) in
     let asked : IsAsked (g.B.Block.size c.self.inside.origin) (piece_of c.self.inside.snaps.items) c.args.request = subst (λ (x : Volumed g.row.B.Denot). IsAsked (g.B.Block.size x.origin) (piece_of x.snaps) c.args.request) (sym c.self.view_is) c.requires.asked in
     let gs = c.save_in_all-self-inside.new.flights in
     let after = c.save_in_all-self-inside.new.snaps in
@@ -110,7 +111,7 @@ invariant_of-self-2 g c =
     let room_f = c.in-Ok-new.ensures.room ∙ ap room_of (sym request_is) in
     let kind_f = ap kind_of request_is ∙ c.requires.kind in
     let slice = c.as_slice.ensures.value ∙ back_snaps in
-    let route_f = c.write_route-flight.ensures ∙ ap (write_route_of false None) (c.is_clear.ensures ∙ ap (is_clear_of c.args.request.range.first) slice ∙ ap (λ (r : Request). is_clear_of r.range.first c.save_in_all-self-inside.new.snaps) (sym request_is)) in
+    let route_f = c.write_route-flight.ensures ∙ ap (write_route_of false None) (c.is_clear.ensures ∙ ap (λ (xs : List (Kept g.row.B.Denot)). is_clear (map (snap_books g.B.Block.contents g.B.Block.layers) xs) c.args.request.range.first) slice ∙ ap (λ (r : Request). is_clear (map (snap_books g.B.Block.contents g.B.Block.layers) c.save_in_all-self-inside.new.snaps) r.range.first) (sym request_is)) in
     let space : length c.self.inside.flights.items < 64 = omega (arith, c.requires.room, ap (λ (x : Volumed g.row.B.Denot). length x.flights) c.self.view_is) in
     let pushed = c.push_reserved.ensures.items ∙ ap (λ fs. fs ++ f ∷ []) back_flights in
     rw (back_snaps, pushed) (written_whole g.B.Block.contents g.B.Block.layers g.B.Block.size v c.self.invariant c.take_rooms.new.snaps c.save_in_all-self-inside.new.snaps same c.save_in_all-self-inside.result c.save_in_all-self-inside.new.flights f saved_f few_f c.in-Ok-new.ensures.number asked_f room_f kind_f route_f space)
@@ -122,7 +123,7 @@ returns-clause-ok g c =
     let same : map unroomed c.take_rooms.new.snaps ≡ map unroomed c.self.inside.snaps.items = c.take_rooms.ensures.same ∙ ap (map unroomed) c.as_mut_slice.ensures.value in
     let back_rooms = back c.self.inside.snaps.len c.take_rooms.new.snaps c.self.inside.snaps.items (c.take_rooms.auto.snaps ∙ c.as_mut_slice.ensures.len) in
     let now2 = c.as_mut_slice-2.ensures.value ∙ back_rooms in
-    let piece : c.piece-piece.result ≡ piece_of c.self.inside.snaps.items = c.piece-piece.ensures ∙ sym (ap (λ (x : Volumed g.row.B.Denot). piece_of x.snaps) c.self.view_is) in
+    let piece : c.piece-piece.result ≡ piece_of c.self.inside.snaps.items = c.piece-piece.ensures.piece ∙ sym (ap (λ (x : Volumed g.row.B.Denot). piece_of x.snaps) c.self.view_is) in
     let asked : IsAsked (g.B.Block.size c.self.inside.origin) (piece_of c.self.inside.snaps.items) c.args.request = subst (λ (x : Volumed g.row.B.Denot). IsAsked (g.B.Block.size x.origin) (piece_of x.snaps) c.args.request) (sym c.self.view_is) c.requires.asked in
     let gs = c.save_in_all-self-inside.new.flights in
     let after = c.save_in_all-self-inside.new.snaps in
@@ -143,7 +144,7 @@ returns-clause-ok g c =
     let room_f = c.in-Ok-new.ensures.room ∙ ap room_of (sym request_is) in
     let kind_f = ap kind_of request_is ∙ c.requires.kind in
     let slice = c.as_slice.ensures.value ∙ back_snaps in
-    let route_f = c.write_route-flight.ensures ∙ ap (write_route_of false None) (c.is_clear.ensures ∙ ap (is_clear_of c.args.request.range.first) slice ∙ ap (λ (r : Request). is_clear_of r.range.first c.save_in_all-self-inside.new.snaps) (sym request_is)) in
+    let route_f = c.write_route-flight.ensures ∙ ap (write_route_of false None) (c.is_clear.ensures ∙ ap (λ (xs : List (Kept g.row.B.Denot)). is_clear (map (snap_books g.B.Block.contents g.B.Block.layers) xs) c.args.request.range.first) slice ∙ ap (λ (r : Request). is_clear (map (snap_books g.B.Block.contents g.B.Block.layers) c.save_in_all-self-inside.new.snaps) r.range.first) (sym request_is)) in
     let space : length c.self.inside.flights.items < 64 = omega (arith, c.requires.room, ap (λ (x : Volumed g.row.B.Denot). length x.flights) c.self.view_is) in
     let pushed = c.push_reserved.ensures.items ∙ ap (λ fs. fs ++ f ∷ []) back_flights in
     let w : List (Kept g.row.B.Denot) → List Flight → Volumed g.row.B.Denot = λ x y. record { origin = c.self.inside.origin; snaps = x; flights = y; requests = c.self.inside.requests + 1; copies = c.save_in_all-self-inside.result; attached = c.self.inside.attached } in

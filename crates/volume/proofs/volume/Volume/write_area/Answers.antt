@@ -60,7 +60,7 @@ invariant_of-self g c =
     let is = c.index_mut-snap.ensures.value in
     let found : is_committing c.args.number s ≡ true = snap_found (is_committing c.args.number) k v.snaps.items c.deref.result.now s c.deref.ensures.value is (c.in-Some.ensures.found.1 s) in
     let op = c.in-Ok.ensures.operation in
-    let good = commit_good g.B.Block.contents g.B.Block.layers g.B.Block.size g.B.Block.fault_count g.B.Block.done_count _ c.self.invariant c.args.number k s c.write_area.new.self within is found c.write_area.new.self.device c.in-Ok.ensures.fields c.in-Ok.ensures.commits c.write_area.ensures.loud op.faulty op.counted in
+    let good = commit_good g.B.Block.contents g.B.Block.layers g.B.Block.size g.B.Block.fault_count g.B.Block.done_count _ c.self.invariant c.args.number k s c.write_area.new.self within is found c.write_area.new.self.device c.in-Ok.ensures.fields c.in-Ok.ensures.commits c.write_area.ensures.loud c.write_area.ensures.size op.faulty op.counted in
     good.whole
 
 pub spoil-requires : goal.spoil-requires
@@ -84,7 +84,7 @@ invariant_of-self-in-Err g c =
     let found : is_committing c.args.number s ≡ true = snap_found (is_committing c.args.number) k v.snaps.items c.deref.result.now s c.deref.ensures.value is (c.in-Some.ensures.found.1 s) in
     let op = c.in-Err.ensures.operation in
     let t = spoilt_device s c.write_area.new.self c.spoil.new.snap c.write_area.new.self.device c.in-Err.ensures.kept c.spoil.ensures.fields in
-    let good = commit_fault g.B.Block.contents g.B.Block.layers g.B.Block.size g.B.Block.fault_count g.B.Block.done_count _ c.self.invariant c.args.number k s c.spoil.new.snap within is found t.0 (ap (λ d. is_loud (g.B.Block.layers d)) t.1 ∙ c.write_area.ensures.loud) (ap g.B.Block.fault_count t.1 ∙ op.faulty) (ap g.B.Block.done_count t.1 ∙ op.counted) in
+    let good = commit_fault g.B.Block.contents g.B.Block.layers g.B.Block.size g.B.Block.fault_count g.B.Block.done_count _ c.self.invariant c.args.number k s c.spoil.new.snap within is found t.0 (ap (λ d. is_loud (g.B.Block.layers d)) t.1 ∙ c.write_area.ensures.loud) (ap g.B.Block.size t.1 ∙ c.write_area.ensures.size) (ap g.B.Block.fault_count t.1 ∙ op.faulty) (ap g.B.Block.done_count t.1 ∙ op.counted) in
     let flights : c.spoil.new.flights.items ≡ map (refused_of (s.number ∷ [])) v.flights.items = c.spoil.ensures.flights ∙ ap (λ n. map (refused_of (n ∷ [])) v.flights.items) (ap (λ (x : Kept _). x.number) c.in-Err.ensures.kept) in
     rw flights good.whole
 
@@ -97,7 +97,7 @@ returns-in-Ok-clause-step g c =
     let is = c.index_mut-snap.ensures.value in
     let found : is_committing c.args.number s ≡ true = snap_found (is_committing c.args.number) k v.snaps.items c.deref.result.now s c.deref.ensures.value is (c.in-Some.ensures.found.1 s) in
     let op = c.in-Ok.ensures.operation in
-    let good = commit_good g.B.Block.contents g.B.Block.layers g.B.Block.size g.B.Block.fault_count g.B.Block.done_count _ c.self.invariant c.args.number k s c.write_area.new.self within is found c.write_area.new.self.device c.in-Ok.ensures.fields c.in-Ok.ensures.commits c.write_area.ensures.loud op.faulty op.counted in
+    let good = commit_good g.B.Block.contents g.B.Block.layers g.B.Block.size g.B.Block.fault_count g.B.Block.done_count _ c.self.invariant c.args.number k s c.write_area.new.self within is found c.write_area.new.self.device c.in-Ok.ensures.fields c.in-Ok.ensures.commits c.write_area.ensures.loud c.write_area.ensures.size op.faulty op.counted in
     rw (← c.self.view_is) good.stepped
 
 pub returns-in-Ok-clause-exact : goal.returns-in-Ok-clause-exact
@@ -109,7 +109,7 @@ returns-in-Ok-clause-exact g c =
     let is = c.index_mut-snap.ensures.value in
     let found : is_committing c.args.number s ≡ true = snap_found (is_committing c.args.number) k v.snaps.items c.deref.result.now s c.deref.ensures.value is (c.in-Some.ensures.found.1 s) in
     let op = c.in-Ok.ensures.operation in
-    rw (← c.self.view_is) (λ counted. area_exact g.B.Block.contents g.B.Block.layers g.B.Block.size _ c.self.invariant counted c.args.number k s within c.index_mut-snap.ensures.value _ _ _ _ found c.write_area.new.self op c.in-Ok.ensures.written c.in-Ok.ensures.fields)
+    rw (← c.self.view_is) (area_exact g.B.Block.contents g.B.Block.layers g.B.Block.size _ c.self.invariant c.args.number k s within c.index_mut-snap.ensures.value _ _ _ _ found c.write_area.new.self op c.in-Ok.ensures.written c.in-Ok.ensures.fields)
 
 pub returns-in-Ok-clause-due : goal.returns-in-Ok-clause-due
 returns-in-Ok-clause-due g c =
@@ -131,7 +131,7 @@ returns-in-Err-clause-step g c =
     let found : is_committing c.args.number s ≡ true = snap_found (is_committing c.args.number) k v.snaps.items c.deref.result.now s c.deref.ensures.value is (c.in-Some.ensures.found.1 s) in
     let op = c.in-Err.ensures.operation in
     let t = spoilt_device s c.write_area.new.self c.spoil.new.snap c.write_area.new.self.device c.in-Err.ensures.kept c.spoil.ensures.fields in
-    let good = commit_fault g.B.Block.contents g.B.Block.layers g.B.Block.size g.B.Block.fault_count g.B.Block.done_count _ c.self.invariant c.args.number k s c.spoil.new.snap within is found t.0 (ap (λ d. is_loud (g.B.Block.layers d)) t.1 ∙ c.write_area.ensures.loud) (ap g.B.Block.fault_count t.1 ∙ op.faulty) (ap g.B.Block.done_count t.1 ∙ op.counted) in
+    let good = commit_fault g.B.Block.contents g.B.Block.layers g.B.Block.size g.B.Block.fault_count g.B.Block.done_count _ c.self.invariant c.args.number k s c.spoil.new.snap within is found t.0 (ap (λ d. is_loud (g.B.Block.layers d)) t.1 ∙ c.write_area.ensures.loud) (ap g.B.Block.size t.1 ∙ c.write_area.ensures.size) (ap g.B.Block.fault_count t.1 ∙ op.faulty) (ap g.B.Block.done_count t.1 ∙ op.counted) in
     let flights : c.spoil.new.flights.items ≡ map (refused_of (s.number ∷ [])) v.flights.items = c.spoil.ensures.flights ∙ ap (λ n. map (refused_of (n ∷ [])) v.flights.items) (ap (λ (x : Kept _). x.number) c.in-Err.ensures.kept) in
     rw (← c.self.view_is, flights) good.stepped
 
@@ -145,7 +145,7 @@ returns-in-Err-clause-exact g c =
     let found : is_committing c.args.number s ≡ true = snap_found (is_committing c.args.number) k v.snaps.items c.deref.result.now s c.deref.ensures.value is (c.in-Some.ensures.found.1 s) in
     let op = c.in-Err.ensures.operation in
     let flights : c.spoil.new.flights.items ≡ map (refused_of (s.number ∷ [])) v.flights.items = c.spoil.ensures.flights ∙ ap (λ n. map (refused_of (n ∷ [])) v.flights.items) (ap (λ (x : Kept _). x.number) c.in-Err.ensures.kept) in
-    rw (← c.self.view_is, flights) (λ counted. area_fault_exact g.B.Block.contents g.B.Block.layers g.B.Block.size _ c.self.invariant counted c.args.number k s within c.index_mut-snap.ensures.value _ _ _ _ found c.write_area.new.self c.spoil.new.snap op c.in-Err.ensures.same c.in-Err.ensures.kept c.spoil.ensures.fields)
+    rw (← c.self.view_is, flights) (area_fault_exact g.B.Block.contents g.B.Block.layers g.B.Block.size _ c.self.invariant c.args.number k s within c.index_mut-snap.ensures.value _ _ _ _ found c.write_area.new.self c.spoil.new.snap op c.in-Err.ensures.same c.in-Err.ensures.kept c.spoil.ensures.fields)
 
 pub returns-in-Err-clause-due : goal.returns-in-Err-clause-due
 returns-in-Err-clause-due g c =

@@ -53,7 +53,7 @@ returns-then-lacks_next_area-clause-exact g c =
     let within : k < length v.snaps.items = omega (arith, c.in-Some.ensures.found.0, ap length c.deref.ensures.value) in
     let is = c.index_mut-snap.ensures.value in
     let found : is_zeroing c.args.number s ≡ true = snap_found (is_zeroing c.args.number) k v.snaps.items c.deref.result.now s c.deref.ensures.value is (c.in-Some.ensures.found.1 s) in
-    rw (← c.self.view_is, c.spoil.ensures.flights) (λ counted. zero_lacks_exact g.B.Block.contents g.B.Block.layers g.B.Block.size _ c.self.invariant counted c.args.number k s within c.index_mut-snap.ensures.value 0 0 0 0 found c.spoil.new.snap c.if-lacks_next_area.ensures c.spoil.ensures.fields)
+    rw (← c.self.view_is, c.spoil.ensures.flights) (zero_lacks_exact g.B.Block.contents g.B.Block.layers g.B.Block.size _ c.self.invariant c.args.number k s within c.index_mut-snap.ensures.value 0 0 0 0 found c.spoil.new.snap c.if-lacks_next_area.ensures c.spoil.ensures.fields)
 
 pub returns-then-lacks_next_area-clause-due : goal.returns-then-lacks_next_area-clause-due
 returns-then-lacks_next_area-clause-due g c =
@@ -85,7 +85,7 @@ invariant_of-self-in-Ok g c =
     let is = c.index_mut-snap.ensures.value in
     let found : is_zeroing c.args.number s ≡ true = snap_found (is_zeroing c.args.number) k v.snaps.items c.deref.result.now s c.deref.ensures.value is (c.in-Some.ensures.found.1 s) in
     let op = c.in-Ok.ensures.operation in
-    let good = zero_good g.B.Block.contents g.B.Block.layers g.B.Block.size g.B.Block.fault_count g.B.Block.done_count _ c.self.invariant c.args.number k s c.zero_next.new.self within is found c.zero_next.new.self.device c.in-Ok.ensures.fields c.in-Ok.ensures.zeroes c.zero_next.ensures.loud op.faulty op.counted in
+    let good = zero_good g.B.Block.contents g.B.Block.layers g.B.Block.size g.B.Block.fault_count g.B.Block.done_count _ c.self.invariant c.args.number k s c.zero_next.new.self within is found c.zero_next.new.self.device c.in-Ok.ensures.fields c.in-Ok.ensures.zeroes c.zero_next.ensures.loud c.zero_next.ensures.size op.faulty op.counted in
     good.whole
 
 pub spoil-requires-in-Err : goal.spoil-requires-in-Err
@@ -109,7 +109,7 @@ invariant_of-self-in-Err g c =
     let found : is_zeroing c.args.number s ≡ true = snap_found (is_zeroing c.args.number) k v.snaps.items c.deref.result.now s c.deref.ensures.value is (c.in-Some.ensures.found.1 s) in
     let op = c.in-Err.ensures.operation in
     let t = spoilt_device s c.zero_next.new.self c.spoil-in-Err.new.snap c.zero_next.new.self.device c.in-Err.ensures.kept c.spoil-in-Err.ensures.fields in
-    let good = zero_fault g.B.Block.contents g.B.Block.layers g.B.Block.size g.B.Block.fault_count g.B.Block.done_count _ c.self.invariant c.args.number k s c.spoil-in-Err.new.snap within is found t.0 (ap (λ d. is_loud (g.B.Block.layers d)) t.1 ∙ c.zero_next.ensures.loud) (ap g.B.Block.fault_count t.1 ∙ op.faulty) (ap g.B.Block.done_count t.1 ∙ op.counted) in
+    let good = zero_fault g.B.Block.contents g.B.Block.layers g.B.Block.size g.B.Block.fault_count g.B.Block.done_count _ c.self.invariant c.args.number k s c.spoil-in-Err.new.snap within is found t.0 (ap (λ d. is_loud (g.B.Block.layers d)) t.1 ∙ c.zero_next.ensures.loud) (ap g.B.Block.size t.1 ∙ c.zero_next.ensures.size) (ap g.B.Block.fault_count t.1 ∙ op.faulty) (ap g.B.Block.done_count t.1 ∙ op.counted) in
     let flights : c.spoil-in-Err.new.flights.items ≡ map (refused_of (s.number ∷ [])) v.flights.items = c.spoil-in-Err.ensures.flights ∙ ap (λ n. map (refused_of (n ∷ [])) v.flights.items) (ap (λ (x : Kept _). x.number) c.in-Err.ensures.kept) in
     rw flights good.whole
 
@@ -122,7 +122,7 @@ returns-in-Ok-clause-step g c =
     let is = c.index_mut-snap.ensures.value in
     let found : is_zeroing c.args.number s ≡ true = snap_found (is_zeroing c.args.number) k v.snaps.items c.deref.result.now s c.deref.ensures.value is (c.in-Some.ensures.found.1 s) in
     let op = c.in-Ok.ensures.operation in
-    let good = zero_good g.B.Block.contents g.B.Block.layers g.B.Block.size g.B.Block.fault_count g.B.Block.done_count _ c.self.invariant c.args.number k s c.zero_next.new.self within is found c.zero_next.new.self.device c.in-Ok.ensures.fields c.in-Ok.ensures.zeroes c.zero_next.ensures.loud op.faulty op.counted in
+    let good = zero_good g.B.Block.contents g.B.Block.layers g.B.Block.size g.B.Block.fault_count g.B.Block.done_count _ c.self.invariant c.args.number k s c.zero_next.new.self within is found c.zero_next.new.self.device c.in-Ok.ensures.fields c.in-Ok.ensures.zeroes c.zero_next.ensures.loud c.zero_next.ensures.size op.faulty op.counted in
     rw (← c.self.view_is) good.stepped
 
 pub returns-in-Ok-clause-exact : goal.returns-in-Ok-clause-exact
@@ -134,7 +134,7 @@ returns-in-Ok-clause-exact g c =
     let is = c.index_mut-snap.ensures.value in
     let found : is_zeroing c.args.number s ≡ true = snap_found (is_zeroing c.args.number) k v.snaps.items c.deref.result.now s c.deref.ensures.value is (c.in-Some.ensures.found.1 s) in
     let op = c.in-Ok.ensures.operation in
-    rw (← c.self.view_is) (λ counted. zero_exact g.B.Block.contents g.B.Block.layers g.B.Block.size _ c.self.invariant counted c.args.number k s within c.index_mut-snap.ensures.value _ _ _ _ found c.zero_next.new.self c.if-lacks_next_area.ensures c.in-Ok.ensures.operation c.in-Ok.ensures.written c.in-Ok.ensures.fields)
+    rw (← c.self.view_is) (zero_exact g.B.Block.contents g.B.Block.layers g.B.Block.size _ c.self.invariant c.args.number k s within c.index_mut-snap.ensures.value _ _ _ _ found c.zero_next.new.self c.if-lacks_next_area.ensures c.in-Ok.ensures.operation c.in-Ok.ensures.written c.in-Ok.ensures.fields)
 
 pub returns-in-Ok-clause-due : goal.returns-in-Ok-clause-due
 returns-in-Ok-clause-due g c =
@@ -156,7 +156,7 @@ returns-in-Err-clause-step g c =
     let found : is_zeroing c.args.number s ≡ true = snap_found (is_zeroing c.args.number) k v.snaps.items c.deref.result.now s c.deref.ensures.value is (c.in-Some.ensures.found.1 s) in
     let op = c.in-Err.ensures.operation in
     let t = spoilt_device s c.zero_next.new.self c.spoil-in-Err.new.snap c.zero_next.new.self.device c.in-Err.ensures.kept c.spoil-in-Err.ensures.fields in
-    let good = zero_fault g.B.Block.contents g.B.Block.layers g.B.Block.size g.B.Block.fault_count g.B.Block.done_count _ c.self.invariant c.args.number k s c.spoil-in-Err.new.snap within is found t.0 (ap (λ d. is_loud (g.B.Block.layers d)) t.1 ∙ c.zero_next.ensures.loud) (ap g.B.Block.fault_count t.1 ∙ op.faulty) (ap g.B.Block.done_count t.1 ∙ op.counted) in
+    let good = zero_fault g.B.Block.contents g.B.Block.layers g.B.Block.size g.B.Block.fault_count g.B.Block.done_count _ c.self.invariant c.args.number k s c.spoil-in-Err.new.snap within is found t.0 (ap (λ d. is_loud (g.B.Block.layers d)) t.1 ∙ c.zero_next.ensures.loud) (ap g.B.Block.size t.1 ∙ c.zero_next.ensures.size) (ap g.B.Block.fault_count t.1 ∙ op.faulty) (ap g.B.Block.done_count t.1 ∙ op.counted) in
     let flights : c.spoil-in-Err.new.flights.items ≡ map (refused_of (s.number ∷ [])) v.flights.items = c.spoil-in-Err.ensures.flights ∙ ap (λ n. map (refused_of (n ∷ [])) v.flights.items) (ap (λ (x : Kept _). x.number) c.in-Err.ensures.kept) in
     rw (← c.self.view_is, flights) good.stepped
 
@@ -170,7 +170,7 @@ returns-in-Err-clause-exact g c =
     let found : is_zeroing c.args.number s ≡ true = snap_found (is_zeroing c.args.number) k v.snaps.items c.deref.result.now s c.deref.ensures.value is (c.in-Some.ensures.found.1 s) in
     let op = c.in-Err.ensures.operation in
     let flights : c.spoil-in-Err.new.flights.items ≡ map (refused_of (s.number ∷ [])) v.flights.items = c.spoil-in-Err.ensures.flights ∙ ap (λ n. map (refused_of (n ∷ [])) v.flights.items) (ap (λ (x : Kept _). x.number) c.in-Err.ensures.kept) in
-    rw (← c.self.view_is, flights) (λ counted. zero_fault_exact g.B.Block.contents g.B.Block.layers g.B.Block.size _ c.self.invariant counted c.args.number k s within c.index_mut-snap.ensures.value _ _ _ _ found c.zero_next.new.self c.spoil-in-Err.new.snap c.if-lacks_next_area.ensures c.in-Err.ensures.operation c.in-Err.ensures.same c.in-Err.ensures.kept c.spoil-in-Err.ensures.fields)
+    rw (← c.self.view_is, flights) (zero_fault_exact g.B.Block.contents g.B.Block.layers g.B.Block.size _ c.self.invariant c.args.number k s within c.index_mut-snap.ensures.value _ _ _ _ found c.zero_next.new.self c.spoil-in-Err.new.snap c.if-lacks_next_area.ensures c.in-Err.ensures.operation c.in-Err.ensures.same c.in-Err.ensures.kept c.spoil-in-Err.ensures.fields)
 
 pub returns-in-Err-clause-due : goal.returns-in-Err-clause-due
 returns-in-Err-clause-due g c =

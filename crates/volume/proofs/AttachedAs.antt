@@ -1,0 +1,244 @@
+-- A volume that takes a snapshot does what the machine of `settling` does.
+use Rattle.std.proofs.Common.{◌≡◌, ◌≢◌, inl, inr, ℕ, zero, suc, ◌+◌, ◌*◌, ◌/◌, ◌<◌, ◌≤◌, Bool, true, false, List, [], ◌∷◌, ◌++◌, length, map, refl, sym, ap, ◌∙◌, subst, arith}
+use Rattle.std.specs.Prelude.{◌==◌, ◌&&◌, ◌||◌, not, nat_lt, nat_le, Option, Some, None, Ok, if◌then◌else◌}
+use Rattle.std.specs.List.{All, list_all}
+use Rattle.std.proofs.lemmas.List.Folds.{list_all-append}
+use Rattle.std.proofs.lemmas.Bool.{cases_Bool, cases_lt, cases_eq, cond-true, cond-false, true≢false, false≢true, lt-ltb, le-ltb, lt-leb, le-leb, eq-eqb, ne_eqb}
+use Rattle.std.proofs.lemmas.List.Elements.{All-cons, All-push}
+use Rattle.sector.specs.declared.refusal.Refusal.{Refusal}
+use Rattle.sector.specs.declared.refusal.Refusal.TheVariants.{Stale, TooMany, BadChunk, NoMemory, NotQuiet}
+use Rattle.chunk.specs.Sizes.{is_chunk}
+use Rattle.chunk.proofs.Limits.{is_chunk-some}
+use Rattle.device.specs.Layers.{Layer, is_loud}
+use Rattle.model.specs.NextPlace.{IsNextPlace}
+use Rattle.model.specs.Pairs.{pairs_of}
+use Rattle.plain.specs.declared.request.Reply.{Reply}
+use Rattle.settled.specs.Order.{IsInOrder}
+use Rattle.settling.specs.Devices.{Device, sectors_of}
+use Rattle.settling.specs.Snaps.{Snap, Volume}
+use Rattle.settling.specs.Held.{Held}
+use Rattle.settling.specs.Rest.{IsKept, IsResting, IsAtRest}
+use Rattle.settling.specs.Seen.{copying_of}
+use Rattle.settling.specs.Attaching.{Tried, Store, Attached, refuse, done, open_store, attached, with_tried, refused_attach}
+use Rattle.settling.proofs.Attaching.{size_of}
+use Rattle.settling.proofs.Opened.{IsSound, open_sound}
+use Rattle.settling.proofs.Resting.{next_place_is}
+use Rattle.volume_laws.specs.Steps.{IsNewSnap}
+use Rattle.snapshot.specs.declared.opening.StoreDev.{StoreDev}
+use Rattle.snapshot.specs.Kept.{Kept, books_of as snap_books}
+use Rattle.snapshot.specs.Attaching.{AreSized}
+use Rattle.snapshot.specs.Opened.{IsOpened}
+use Rattle.snapshot.specs.Opening.{IsOpenedAs}
+use Rattle.store.specs.declared.state.State.{State}
+use Rattle.store.specs.Stored.{new_of}
+use Rattle.volume.specs.Volumed.{Volumed, piece_of, is_loud_in_all}
+use Rattle.volume.specs.Moved.{device_of, held_of, moving_of}
+use Rattle.volume.specs.Whole.{IsAttached}
+use Rattle.volume.specs.Taking.{taking_refusal, wanted_of}
+use Rattle.volume.specs.Attached.{store_of, volume_in, IsAttachedAs}
+
+-- both limits
+neither : (a b c d : Bool) → a ≡ not c → b ≡ not d → (a && b) ≡ not (c || d)
+neither a b true d p q = ap (λ x. x && b) p
+neither a b false d p q = ap (λ x. x && b) p ∙ q
+
+limit_same : (count given : ℕ) → given ≤ 4_294_967_295 → (nat_lt count 8 && nat_lt (given + 1) 4_294_967_296) ≡ not (nat_le 8 count || (given == 4_294_967_295))
+limit_same count given few = neither (nat_lt count 8) (nat_lt (given + 1) 4_294_967_296) (nat_le 8 count) (given == 4_294_967_295) counts numbers
+  where
+    counts : nat_lt count 8 ≡ not (nat_le 8 count)
+    counts = elim (cases_lt count 8) [
+      | inl lt ↦ lt-ltb _ _ lt ∙ sym (ap not (lt-leb _ _ lt))
+      | inr ge ↦ le-ltb _ _ ge ∙ sym (ap not (le-leb _ _ ge))
+    ]
+
+    numbers : nat_lt (given + 1) 4_294_967_296 ≡ not (given == 4_294_967_295)
+    numbers = elim (cases_eq given 4_294_967_295) [
+      | inl last ↦ le-ltb _ _ (omega arith) ∙ sym (ap not (eq-eqb _ _ last))
+      | inr other ↦ lt-ltb _ _ (omega arith) ∙ sym (ap not (ne_eqb _ _ other))
+    ]
+
+some_same : (r s : Refusal) → Some r ≡ Some s → r ≡ s
+some_same r s e = cc
+
+limit_here : (v : Volume) (count given : ℕ) (b : Bool) → given ≤ 4_294_967_295 → length v.snaps ≡ count → (nat_le 8 count || (given == 4_294_967_295)) ≡ b → (nat_lt (length v.snaps) 8 && nat_lt (given + 1) 4_294_967_296) ≡ not b
+limit_here v count given b few len is = ap (λ n. nat_lt n 8 && nat_lt (given + 1) 4_294_967_296) len ∙ limit_same count given few ∙ ap not is
+
+-- refused before the store is looked at
+pub refused_before : (stale quiet : Bool) (count given chunk : ℕ) (store : Store) (v : Volume) (refusal : Refusal) → given ≤ 4_294_967_295 → quiet ≡ true → store.stale ≡ stale → length v.snaps ≡ count → taking_refusal stale quiet count given chunk ≡ Some refusal → attached (given + 1) chunk store v ≡ refused_attach refusal store v
+unfolding attached
+refused_before true quiet count given chunk store v refusal few calm is len e = cond-true _ _ _ is ∙ ap (λ r. refused_attach r store v) (some_same Stale refusal e)
+refused_before false false count given chunk store v refusal few calm is len e = absurd (false≢true calm)
+refused_before false true count given chunk store v refusal few calm is len e = cond-false _ _ _ is ∙ elim (cases_Bool (nat_le 8 count || (given == 4_294_967_295))) [
+  | inl many ↦ cond-false _ _ _ (limit_here v count given true few len many) ∙ ap (λ r. refused_attach r store v) (some_same TooMany refusal (sym (cond-true _ _ _ many) ∙ e))
+  | inr room ↦ cond-true _ _ _ (limit_here v count given false few len room) ∙ elim (cases_Bool (is_chunk chunk)) [
+    | inl allowed ↦ (let got : ◌≡◌ {A = Option Refusal} None (Some refusal) = sym (cond-false _ _ _ room ∙ cond-true _ _ _ allowed) ∙ e in absurd (cc))
+    | inr bad ↦ cond-false _ _ _ bad ∙ ap (λ r. refused_attach r store v) (some_same BadChunk refusal (sym (cond-false _ _ _ room ∙ cond-false _ _ _ bad) ∙ e))
+  ]
+]
+
+-- a number is left
+pub number_left : (stale quiet : Bool) (count given chunk : ℕ) → given ≤ 4_294_967_295 → taking_refusal stale quiet count given chunk ≡ None → given < 4_294_967_295
+number_left true quiet count given chunk few e = absurd (cc)
+number_left false false count given chunk few e = absurd (cc)
+number_left false true count given chunk few e = elim (cases_eq given 4_294_967_295) [
+  | inr other ↦ omega (arith, few, other)
+  | inl last ↦ (let many : (nat_le 8 count || (given == 4_294_967_295)) ≡ true = or_last (nat_le 8 count) (given == 4_294_967_295) (eq-eqb _ _ last) in
+      let got : ◌≡◌ {A = Option Refusal} (Some TooMany) None = sym (cond-true _ _ _ many) ∙ e in absurd (cc))
+]
+  where
+    or_last : (a b : Bool) → b ≡ true → (a || b) ≡ true
+    or_last true b e = refl
+    or_last false b e = e
+
+-- for want of memory none is
+pub no_memory : (stale quiet : Bool) (count given chunk : ℕ) → taking_refusal stale quiet count given chunk ≡ Some NoMemory → ⊥
+no_memory true quiet count given chunk e = let same = some_same Stale NoMemory e in absurd (cc)
+no_memory false false count given chunk e = let same = some_same NotQuiet NoMemory e in absurd (cc)
+no_memory false true count given chunk e = elim (cases_Bool (nat_le 8 count || (given == 4_294_967_295))) [
+  | inl many ↦ (let same = some_same TooMany NoMemory (sym (cond-true _ _ _ many) ∙ e) in absurd (cc))
+  | inr room ↦ elim (cases_Bool (is_chunk chunk)) [
+    | inl allowed ↦ (let got : ◌≡◌ {A = Option Refusal} None (Some NoMemory) = sym (cond-false _ _ _ room ∙ cond-true _ _ _ allowed) ∙ e in absurd (cc))
+    | inr bad ↦ (let same = some_same BadChunk NoMemory (sym (cond-false _ _ _ room ∙ cond-false _ _ _ bad) ∙ e) in absurd (cc))
+  ]
+]
+
+-- not refused before that: the store is opened
+pub admitted : (stale quiet : Bool) (count given chunk : ℕ) (store : Store) (v : Volume) → given ≤ 4_294_967_295 → store.stale ≡ stale → length v.snaps ≡ count → taking_refusal stale quiet count given chunk ≡ None → (is_chunk chunk ≡ true) × (store.stale ≡ false) × (attached (given + 1) chunk store v ≡ with_tried (given + 1) (open_store v.snaps (sectors_of v.origin) chunk store.device) v)
+unfolding attached
+admitted true quiet count given chunk store v few is len e = absurd (cc)
+admitted false false count given chunk store v few is len e = absurd (cc)
+admitted false true count given chunk store v few is len e = elim (cases_Bool (nat_le 8 count || (given == 4_294_967_295))) [
+  | inl many ↦ (let got : ◌≡◌ {A = Option Refusal} (Some TooMany) None = sym (cond-true _ _ _ many) ∙ e in absurd (cc))
+  | inr room ↦ elim (cases_Bool (is_chunk chunk)) [
+    | inl allowed ↦ (allowed, is, cond-false _ _ _ is ∙ cond-true _ _ _ (limit_here v count given false few len room) ∙ cond-true _ _ _ allowed)
+    | inr bad ↦ (let got : ◌≡◌ {A = Option Refusal} (Some BadChunk) None = sym (cond-false _ _ _ room ∙ cond-false _ _ _ bad) ∙ e in absurd (cc))
+  ]
+]
+
+snap_same : (number number' chunk : ℕ) (live live' stale stale' : Bool) (store : Device) → number ≡ number' → live ≡ live' → stale ≡ stale' →
+    (let a : Snap = record { number = number; chunk = chunk; live = live; stale = stale; store = store } in a) ≡ record { number = number'; chunk = chunk; live = live'; stale = stale'; store = store }
+snap_same number number' chunk live live' stale stale' store p q r = cc
+
+map_push : {X Y : Type 0} (f : X → Y) (xs : List X) (x : X) → map f (xs ++ x ∷ []) ≡ map f xs ++ f x ∷ []
+map_push f [] x = refl
+map_push f (y ∷ xs) x = ap (λ ys. f y ∷ ys) (map_push f xs x)
+
+module _ {B : Type 0} (contents : B → List ℕ) (layers : B → List Layer) where
+  abbrev pub snap_of : Kept B → Snap
+  snap_of s = (held_of contents layers s).snap
+
+  snaps_length : (ss : List (Kept B)) → length (map (λ (h : Held). h.snap) (map (held_of contents layers) ss)) ≡ length ss
+  snaps_length [] = refl
+  snaps_length (s ∷ ss) = let same = snaps_length ss in omega arith
+
+  pub count_in : (v : Volumed B) → length (volume_in contents layers v).snaps ≡ length v.snaps
+  count_in v = snaps_length v.snaps
+
+  -- the volume's chunks are of one size
+  sized_all : (copies sectors chunk : ℕ) (ss : List (Kept B)) → All (IsAttached copies sectors chunk) ss → All (λ (t : Snap). t.chunk ≡ chunk) (map (λ (h : Held). h.snap) (map (held_of contents layers) ss))
+  sized_all copies sectors chunk [] all = λ k d lt. absurd (omega (arith, lt))
+  sized_all copies sectors chunk (s ∷ ss) all =
+      All-cons (λ (t : Snap). t.chunk ≡ chunk) (snap_of s) (map (λ (h : Held). h.snap) (map (held_of contents layers) ss)) (all 0 s (omega arith)).chunk_is (sized_all copies sectors chunk ss (λ j e below. all (suc j) e (omega (arith, below))))
+
+  pub sized : (copies sectors : ℕ) (ss : List (Kept B)) → All (IsAttached copies sectors (piece_of ss)) ss → AreSized (wanted_of ss) (map (λ (h : Held). h.snap) (map (held_of contents layers) ss))
+  sized copies sectors [] all = refl
+  sized copies sectors (s ∷ ss) all = (λ e. absurd (cc), sized_all copies sectors s.state.chunk (s ∷ ss) all)
+
+  -- the volume with one more
+  abbrev pub taken : Volumed B → ℕ → Kept B → Volumed B
+  taken v number s = record v { snaps = v.snaps ++ s ∷ []; attached = number }
+
+  snaps_taken : (ss : List (Kept B)) (s : Kept B) → map (λ (h : Held). h.snap) (map (held_of contents layers) (ss ++ s ∷ [])) ≡ map (λ (h : Held). h.snap) (map (held_of contents layers) ss) ++ snap_of s ∷ []
+  snaps_taken [] s = refl
+  snaps_taken (t ∷ ss) s = ap (λ ys. snap_of t ∷ ys) (snaps_taken ss s)
+
+  -- what is attached is the volume with one more
+  pub exactly : (v : Volumed B) (number : ℕ) (s : Kept B) → s.number ≡ number → s.live ≡ true → s.stale ≡ false →
+      with_tried number (done s.state.chunk (device_of contents layers s.device)) (volume_in contents layers v) ≡ record { volume = volume_in contents layers (taken v number s); refused = None; back = None }
+  exactly v number s number_is live stale =
+      let whole : List Snap → Attached = λ (ts : List Snap). record { volume = record { origin = device_of contents layers v.origin; snaps = ts }; refused = None; back = None } in
+      let before : List Snap = (volume_in contents layers v).snaps in
+      ap (λ (t : Snap). whole (before ++ t ∷ [])) (sym (snap_same s.number number s.state.chunk s.live true s.stale false (device_of contents layers s.device) number_is live stale))
+      ∙ ap whole (sym (snaps_taken v.snaps s))
+
+  -- nothing is left to do for the new one
+  pub resting : (sectors size chunk : ℕ) (origin : List ℕ) (device : Device) (snaps : List Snap) (s : Kept B) → sectors ≤ 16_777_216 → size ≤ 16_777_216 → 0 < chunk → length device.bytes ≡ 512 * size →
+      open_store snaps sectors chunk device ≡ done s.state.chunk (device_of contents layers s.device) → is_loud (layers s.device) ≡ true → IsNewSnap origin (snap_books contents layers s) → IsNextPlace s.state.chunk (map new_of s.pairs) s.next → s.state.zeroed ≡ false → IsResting sectors (held_of contents layers s)
+  resting sectors size chunk origin device snaps s small_origin small pos whole opens loud new next unzeroed = record {
+    tried = new.tried;
+    copies = ap (λ cs. map copying_of cs) new.copies;
+    marks = new.marks;
+    live = λ _. record {
+      order = (size, subst (IsSound sectors size small_origin small) opens (open_sound sectors size small_origin small snaps chunk device pos whole));
+      pairs = new.stored loud;
+      next = next_place_is s.state.chunk s.next s.pairs new.text.some next;
+      zeroed = unzeroed;
+    };
+  }
+
+  pub rests_taken : (v : Volumed B) (number sectors : ℕ) (s : Kept B) (replied : Option Reply) → IsResting sectors (held_of contents layers s) → IsAtRest sectors (moving_of contents layers replied v) → IsAtRest sectors (moving_of contents layers replied (taken v number s))
+  rests_taken v number sectors s replied here rest = record {
+    whole = rest.whole;
+    snaps = subst (All (IsResting sectors)) (sym (map_push (held_of contents layers) v.snaps s)) (All-push (IsResting sectors) (map (held_of contents layers) v.snaps) (held_of contents layers s) rest.snaps here);
+    requests = rest.requests;
+  }
+
+  -- the new one, over an origin of so many sectors
+  pub attached_is : (v : Volumed B) (number size_origin chunk : ℕ) (store : StoreDev B) (s : Kept B) (snaps : List (Kept B)) → length (contents v.origin) ≡ 512 * size_origin →
+      attached number chunk (store_of contents layers store) (volume_in contents layers v) ≡ with_tried number (open_store (volume_in contents layers v).snaps (sectors_of (device_of contents layers v.origin)) chunk (device_of contents layers store.device)) (volume_in contents layers v) →
+      open_store (volume_in contents layers v).snaps size_origin chunk (device_of contents layers store.device) ≡ done s.state.chunk (device_of contents layers s.device) →
+      s.number ≡ number → s.live ≡ true → s.stale ≡ false → IsResting size_origin (held_of contents layers s) → snaps ≡ v.snaps ++ s ∷ [] →
+      IsAttachedAs contents layers number chunk store v (record v { snaps = snaps; attached = number })
+  attached_is v number size_origin chunk store s snaps whole goes opens number_is live stale here same =
+      let vol : Volume = volume_in contents layers v in
+      let count : sectors_of (device_of contents layers v.origin) ≡ size_origin = size_of (length (contents v.origin)) size_origin whole in
+      subst (λ (ss : List (Kept B)). IsAttachedAs contents layers number chunk store v (record v { snaps = ss; attached = number })) (sym same) (record {
+        exact = goes ∙ ap (λ n. with_tried number (open_store (volume_in contents layers v).snaps n chunk (device_of contents layers store.device)) (volume_in contents layers v)) count
+            ∙ ap (λ (t : Tried). with_tried number t (volume_in contents layers v)) opens ∙ exactly v number s number_is live stale;
+        snap = s;
+        becomes = refl;
+        number_is = number_is;
+        live = live;
+        stale = stale;
+        rests = λ sectors replied rest. (let e : size_origin ≡ sectors = let w = rest.whole in omega (arith, whole, w) in
+            rests_taken v number sectors s replied (subst (λ (n : ℕ). IsResting n (held_of contents layers s)) e here) rest);
+      })
+
+  -- the store that is given back
+  pub back_is : (v : Volumed B) (number size_origin chunk : ℕ) (store back : StoreDev B) (refusal : Refusal) → length (contents v.origin) ≡ 512 * size_origin →
+      attached number chunk (store_of contents layers store) (volume_in contents layers v) ≡ with_tried number (open_store (volume_in contents layers v).snaps (sectors_of (device_of contents layers v.origin)) chunk (device_of contents layers store.device)) (volume_in contents layers v) →
+      open_store (volume_in contents layers v).snaps size_origin chunk (device_of contents layers store.device) ≡ refuse refusal (device_of contents layers back.device) → back.stale ≡ false →
+      attached number chunk (store_of contents layers store) (volume_in contents layers v) ≡ refused_attach refusal (store_of contents layers back) (volume_in contents layers v)
+  back_is v number size_origin chunk store back refusal whole goes opens stale =
+      let count : sectors_of (device_of contents layers v.origin) ≡ size_origin = size_of (length (contents v.origin)) size_origin whole in
+      goes ∙ ap (λ n. with_tried number (open_store (volume_in contents layers v).snaps n chunk (device_of contents layers store.device)) (volume_in contents layers v)) count
+      ∙ ap (λ (t : Tried). with_tried number t (volume_in contents layers v)) opens
+      ∙ ap (λ b. refused_attach refusal (store_at b) (volume_in contents layers v)) (sym stale)
+    where
+      store_at : Bool → Store
+      store_at b = record { device = device_of contents layers back.device; stale = b }
+
+  -- no area of the new one is zeroed ahead
+  pub unzeroed_of : (number line origin size : ℕ) (device : B) (s : Kept B) → IsOpened contents layers number line origin size device s → s.state.zeroed ≡ false
+  unzeroed_of number line origin size device s o = ap (λ (x : Kept B). x.state.zeroed) o.fields ∙ of_loaded o.opened
+    where
+      of_loaded : IsOpenedAs line origin size (contents device) o.loaded s.pairs → o.loaded.zeroed ≡ false
+      of_loaded (inl fresh) = ap (λ (t : State). t.zeroed) fresh.state
+      of_loaded (inr written) = written.rest.2
+
+  -- whether all devices are loud then
+  pub loud_taken : (v : Volumed B) (number : ℕ) (s : Kept B) → is_loud_in_all layers (taken v number s) ≡ (is_loud_in_all layers v && is_loud (layers s.device))
+  loud_taken v number s =
+      let loud : Kept B → Bool = λ (t : Kept B). is_loud (layers t.device) in
+      ap (λ b. is_loud (layers v.origin) && b) (list_all-append (λ (t : Kept B). is_loud (layers t.device)) v.snaps (s ∷ []))
+      ∙ regrouped (is_loud (layers v.origin)) (list_all (λ (t : Kept B). is_loud (layers t.device)) v.snaps) (is_loud (layers s.device))
+    where
+      regrouped : (a b c : Bool) → (a && (b && (c && true))) ≡ ((a && b) && c)
+      regrouped true true true = refl
+      regrouped true true false = refl
+      regrouped true false c = refl
+      regrouped false b c = refl
+
+  pub loud_taken_as : (v : Volumed B) (number : ℕ) (device : B) (s : Kept B) (snaps : List (Kept B)) → snaps ≡ v.snaps ++ s ∷ [] → is_loud (layers s.device) ≡ is_loud (layers device) → is_loud_in_all layers (record v { snaps = snaps; attached = number }) ≡ (is_loud_in_all layers v && is_loud (layers device))
+  loud_taken_as v number device s snaps same loud =
+      ap (λ (ss : List (Kept B)). is_loud_in_all layers (record v { snaps = ss; attached = number })) same ∙ loud_taken v number s ∙ ap (λ b. is_loud_in_all layers v && b) loud

@@ -1,0 +1,116 @@
+-- A request changes no device, and neither which snapshots there are nor their chunks.
+use Rattle.std.proofs.Common.{◌≡◌, inl, inr, ℕ, ◌+◌, List, [], ◌∷◌, get_or, set, map, refl, sym, ◌∙◌, ap, subst}
+use Rattle.std.specs.Prelude.{Result, Ok, Err, IfOk, IfErr}
+use Rattle.std.proofs.lemmas.Bool.{cases_Bool, MatchBool-at_true, MatchBool-at_false}
+use Rattle.std.proofs.Math.Seq.{map-set_same}
+use Rattle.device.specs.Layers.{Layer}
+use Rattle.sector.specs.declared.refusal.Refusal.{Refusal}
+use Rattle.plain.specs.declared.request.Request.{Request}
+use Rattle.pending.specs.declared.copies.ChunkCopy.{ChunkCopy}
+use Rattle.pending.specs.declared.flights.Flight.{Flight}
+use Rattle.snapshot.specs.Kept.{Kept}
+use Rattle.snapshot.specs.Calls.{StartsAt, started}
+use Rattle.volume.specs.Volumed.{Volumed}
+use Rattle.volume.specs.Whole.{number_of_snap}
+use Rattle.volume.specs.Stepping.{KeepsAll, KeepsDevices}
+use Rattle.volume.specs.Submitting.{unroomed, starts, overflows, spoilt_of, entered_of, IsSavedIn, AreSavedIn, SameButRoom, IsFoundFull, IsRefusedAs}
+use Rattle.volume.proofs.Roomed.{roomed}
+
+-- what each device has of a kind
+sizes_of : {B : Type 0} (size : B → ℕ) (xs ys : List (Kept B)) → map (λ (s : Kept B). s.device) xs ≡ map (λ (s : Kept B). s.device) ys → map (λ (s : Kept B). size s.device) xs ≡ map (λ (s : Kept B). size s.device) ys
+sizes_of {B = B} size xs ys same = sym (seen xs) ∙ ap (map size) same ∙ seen ys
+  where
+    seen : (zs : List (Kept B)) → map size (map (λ (s : Kept B). s.device) zs) ≡ map (λ (s : Kept B). size s.device) zs
+    seen [] = refl
+    seen (z ∷ zs) = ap (λ ns. size z.device ∷ ns) (seen zs)
+
+pub keeps_all : {B : Type 0} (size : B → ℕ) (v w : Volumed B) → KeepsDevices v w → KeepsAll size v w
+keeps_all size v w k = record {
+  attached = k.attached;
+  numbers = k.numbers;
+  chunks = k.chunks;
+  sizes = ap (λ d. size d ∷ map (λ (s : Kept _). size s.device) w.snaps) k.origin ∙ ap (λ ns. size v.origin ∷ ns) (sizes_of size w.snaps v.snaps k.devices);
+}
+
+-- what neither a copy that starts nor a spoil changes
+pub record IsFixed {B X : Type 0} (contents : B → List ℕ) (layers : B → List Layer) (f : Kept B → X) : Type 0 where
+  pub room : (s : Kept B) → f (unroomed s) ≡ f s
+  pub begun : (s t : Kept B) (p : ChunkCopy) → StartsAt contents layers p s t → f t ≡ f s
+  pub spoilt : (s : Kept B) → f (spoilt_of s) ≡ f s
+
+module _ {B : Type 0} (contents : B → List ℕ) (layers : B → List Layer) where
+  fixed_device : IsFixed contents layers (λ (s : Kept B). s.device)
+  fixed_device = record { room = λ s. refl; begun = λ s t p at. ap (λ (x : Kept B). x.device) at.fields; spoilt = λ s. refl }
+
+  fixed_number : IsFixed contents layers number_of_snap
+  fixed_number = record { room = λ s. refl; begun = λ s t p at. ap number_of_snap at.fields; spoilt = λ s. refl }
+
+  fixed_chunk : IsFixed contents layers (λ (s : Kept B). s.state.chunk)
+  fixed_chunk = record { room = λ s. refl; begun = λ s t p at. ap (λ (x : Kept B). x.state.chunk) at.fields; spoilt = λ s. refl }
+
+  module _ {X : Type 0} (f : Kept B → X) (fixed : IsFixed contents layers f) where
+    one_fixed : (c : ℕ) (s t : Kept B) (n m : ℕ) (fs gs : List Flight) → IsSavedIn contents layers c s t n m fs gs → f t ≡ f s
+    one_fixed c s t n m fs gs e = elim (cases_Bool (starts c s)) [
+      | inl begins ↦ (let (buffer, at, m_is, g) = MatchBool-at_true _ _ begins e in fixed.begun s t (started (n + 1) c s.next buffer) at)
+      | inr unsaid ↦ elim (cases_Bool (overflows c s)) [
+        | inl over ↦ (let (same, m_is, g) = MatchBool-at_true _ _ over (MatchBool-at_false _ _ unsaid e) in ap f same ∙ fixed.spoilt s)
+        | inr fine ↦ (let (same, m_is, g) = MatchBool-at_false _ _ fine (MatchBool-at_false _ _ unsaid e) in ap f same)
+      ]
+    ]
+
+    all_fixed : (c : ℕ) (ss ts : List (Kept B)) (n m : ℕ) (fs gs : List Flight) → AreSavedIn contents layers c ss ts n m fs gs → map f ts ≡ map f ss
+    all_fixed c [] [] n m fs gs e = refl
+    all_fixed c [] (t ∷ ts) n m fs gs e = absurd e
+    all_fixed c (s ∷ ss) [] n m fs gs e = absurd e
+    all_fixed c (s ∷ ss) (t ∷ ts) n m fs gs (k, hs, one, rest) = ap (λ x. x ∷ map f ts) (one_fixed c s t n k fs hs one) ∙ ap (λ xs. f s ∷ xs) (all_fixed c ss ts k m hs gs rest)
+
+    -- one of them changes
+    set_fixed : (xs : List (Kept B)) (k : ℕ) (s t : Kept B) → s ≡ get_or xs k s → f t ≡ f s → map f (set xs k t) ≡ map f xs
+    set_fixed xs k s t is same = map-set_same f xs k t s (same ∙ ap f is)
+
+  -- by what each snapshot keeps
+  keeps_by : (v w : Volumed B) → w.origin ≡ v.origin → w.attached ≡ v.attached → ((X : Type 0) (f : Kept B → X) → IsFixed contents layers f → map f w.snaps ≡ map f v.snaps) → KeepsDevices v w
+  keeps_by v w origin attached same = record {
+    origin = origin;
+    devices = same B (λ (s : Kept B). s.device) fixed_device;
+    attached = attached;
+    numbers = same ℕ number_of_snap fixed_number;
+    chunks = same ℕ (λ (s : Kept B). s.state.chunk) fixed_chunk;
+  }
+
+  pub keeps_same : (v w : Volumed B) → w ≡ v → KeepsDevices v w
+  keeps_same v w e = subst (λ (x : Volumed B). KeepsDevices v x) (sym e) (keeps_by v v refl refl (λ X f fixed. refl))
+
+  pub keeps_entered : (v w : Volumed B) (f : Flight) → w ≡ entered_of f v → KeepsDevices v w
+  keeps_entered v w f e = subst (λ (x : Volumed B). KeepsDevices v x) (sym e) (keeps_by v (entered_of f v) refl refl (λ X g fixed. refl))
+
+  -- room was made, and copies were started
+  pub keeps_saved : (v w : Volumed B) (c n m : ℕ) (before : List (Kept B)) (fs gs : List Flight) → w.origin ≡ v.origin → w.attached ≡ v.attached → map unroomed before ≡ map unroomed v.snaps → AreSavedIn contents layers c before w.snaps n m fs gs → KeepsDevices v w
+  keeps_saved v w c n m before fs gs origin attached room saved = keeps_by v w origin attached (λ X f fixed. all_fixed f fixed c before w.snaps n m fs gs saved ∙ roomed f before v.snaps room fixed.room)
+
+  -- in one of them
+  pub keeps_begun : (v w : Volumed B) (k : ℕ) (before : List (Kept B)) (s t : Kept B) (p : ChunkCopy) → w.origin ≡ v.origin → w.attached ≡ v.attached → w.snaps ≡ set before k t → map unroomed before ≡ map unroomed v.snaps → s ≡ get_or before k s
+      → StartsAt contents layers p s t → KeepsDevices v w
+  keeps_begun v w k before s t p origin attached snaps room is at =
+      keeps_by v w origin attached (λ X f fixed. ap (map f) snaps ∙ set_fixed f fixed before k s t is (fixed.begun s t p at) ∙ roomed f before v.snaps room fixed.room)
+
+  keeps_room : (v w : Volumed B) → SameButRoom v w → KeepsDevices v w
+  keeps_room v w e = keeps_by v w (ap (λ (x : Volumed B). x.origin) e.becomes) (ap (λ (x : Volumed B). x.attached) e.becomes) (λ X f fixed. roomed f w.snaps v.snaps e.roomed fixed.room)
+
+  keeps_full : (number c : ℕ) (v w : Volumed B) → IsFoundFull contents layers number c v w → KeepsDevices v w
+  keeps_full number c v w e = keeps_by v w (ap (λ (x : Volumed B). x.origin) e.becomes) (ap (λ (x : Volumed B). x.attached) e.becomes)
+      (λ X f fixed. roomed f w.snaps (set v.snaps e.place (spoilt_of e.snap)) e.spoilt fixed.room ∙ set_fixed f fixed v.snaps e.place e.snap (spoilt_of e.snap) e.is (fixed.spoilt e.snap))
+
+  pub keeps_refused : (size : B → ℕ) (request : Request) (refusal : Refusal) (v w : Volumed B) → IsRefusedAs contents layers size request refusal v w → KeepsDevices v w
+  keeps_refused size request refusal v w e = elim e [
+    | inl first ↦ keeps_same v w first.1
+    | inr later ↦ elim later [
+      | inl lacking ↦ (let (free, memory, same) = lacking in keeps_room v w same)
+      | inr full ↦ (let (free, invalid, rest) = full in let (number, kind, found) = rest in keeps_full number _ v w found)
+    ]
+  ]
+
+-- what holds whatever the result
+pub of_both : {X E C : Type 0} (r : Result X E) (P : X → Type 0) (Q : E → Type 0) → ((x : X) → P x → C) → ((e : E) → Q e → C) → IfOk r P → IfErr r Q → C
+of_both (Ok x) P Q f g p q = f x p
+of_both (Err e) P Q f g p q = g e q

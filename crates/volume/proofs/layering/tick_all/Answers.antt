@@ -1,0 +1,23 @@
+use Rattle.std.proofs.Common.{rules, ◌≡◌, ℕ, ◌<◌, length, slice_index_or, Option, ◌+◌, ◌-◌, ◌*◌, ◌≤◌, ◌/◌, ◌%◌, Bool, true, false, nat_eq, nat_lt, List, [], ◌∷◌, ◌++◌, slice_set, bit_and, bit_or, Fits, w8, w32, w64, Bor, MutBor}
+use Rattle.layers.specs.Ticks.{layers_ticked}
+use Rattle.plain.specs.declared.request.Reply.{Reply}
+use Rattle.snapshot.specs.Kept.{Kept}
+use Rattle.volume.specs.Volumed.{books_of, is_loud_in_all, plain_of}
+use Rattle.volume.specs.Moved.{moving_of}
+use Rattle.volume.specs.Layering.{IsSnapLater, IsTicked, moving_relayered}
+use Rattle.std.proofs.Common.{arith}
+use Rattle.volume.proofs.Relayered.{later_more, later_done}
+use Rattle.volume.proofs.layering.tick_all.Goals as goal
+
+-- src/layering.rt:19:5
+pub loop-k-preserved : goal.loop-k-preserved
+loop-k-preserved g c =
+    let inside : c.loop-k.k < length c.loop-k.snaps = omega (arith, c.loop-k-test.true, c.loop-k.auto.snaps) in
+    later_more (record { contents = g.B.Block.contents; durable = g.B.Block.durable; size = g.B.Block.size; faults = g.B.Block.fault_count; done = g.B.Block.done_count }) g.B.Block.layers c.args.seconds c.loop-k.k c.args.snaps.now c.loop-k.snaps c.index-snaps-k.result c.tick.new.self c.loop-k.invariant inside
+    (record { store = record { moved = c.tick.ensures.layers; rest = c.tick.ensures.rest }; same = c.tick.ensures.same })
+
+-- src/layering.rt:15:1
+pub returns-clause-each : goal.returns-clause-each
+returns-clause-each g c =
+    let whole : c.loop-k.k ≡ length c.loop-k.snaps = omega (arith, c.loop-k-test.false, c.loop-k.auto.snaps, c.loop-k.auto.k-end) in
+    later_done (record { contents = g.B.Block.contents; durable = g.B.Block.durable; size = g.B.Block.size; faults = g.B.Block.fault_count; done = g.B.Block.done_count }) g.B.Block.layers c.args.seconds c.loop-k.k c.args.snaps.now c.loop-k.snaps c.loop-k.invariant whole

@@ -1,0 +1,20 @@
+-- The largest chunk is allowed, and all snapshots have the first one's chunks.
+use Rattle.std.proofs.Common.{◌≡◌, ◌<◌, ◌≤◌, ℕ, List, [], ◌∷◌, length, get_or, refl, sym, ◌∙◌, ap, subst, arith}
+use Rattle.snapshot.specs.Kept.{Kept}
+use Rattle.volume.specs.Volumed.{piece_of, Volumed}
+use Rattle.volume.proofs.volume.Volume.piece.Goals as goal
+
+first_piece : {B : Type 0} (xs : List (Kept B)) (s : Kept B) → 1 ≤ length xs → s ≡ get_or xs 0 s → piece_of xs ≡ s.state.chunk
+first_piece [] s some is = absurd (omega (arith, some))
+first_piece (x ∷ xs) s some is = ap (λ (t : Kept _). t.state.chunk) (sym is)
+
+pub returns-in-empty-clause-allowed : goal.returns-in-empty-clause-allowed
+unfolding lib.Count.ones
+returns-in-empty-clause-allowed g c = refl
+
+pub returns-in-len1-up-clause-same : goal.returns-in-len1-up-clause-same
+returns-in-len1-up-clause-same g c =
+    let some = c.in-len1-up.len_at_least in
+    let first : piece_of c.as_slice.result.now ≡ c.chunk.result = first_piece c.as_slice.result.now c.first-item.result some c.first-item.is ∙ sym c.chunk.ensures.is in
+    let here : piece_of c.self.inside.snaps.items ≡ c.chunk.result = ap piece_of (sym c.as_slice.ensures.value) ∙ first in
+    rw (← c.self.view_is) (λ k d lt. (c.self.invariant.snaps k d lt).chunk_is ∙ here)

@@ -1,0 +1,36 @@
+// The layers of a volume's devices, which know of time.
+ghost use Rattle.std.specs.Prelude.{◌≡◌, ℕ, ◌<◌, length, slice_index_or, Option};
+ghost use Rattle.layers.specs.Ticks.{layers_ticked};
+ghost use Rattle.plain.specs.declared.request.Reply.{Reply};
+ghost use Rattle.snapshot.specs.Kept.{Kept};
+ghost use Rattle.volume.specs.Volumed.{books_of, is_loud_in_all, plain_of};
+ghost use Rattle.volume.specs.Moved.{moving_of};
+ghost use Rattle.volume.specs.Layering.{IsSnapLater, IsTicked, moving_relayered};
+
+use crate::Volume;
+use layers::Layered;
+use snapshot::Snapshot;
+
+/// Lets so many seconds pass for the layers of all stores.
+fn tick_all<B: Layered>(snaps: &mut [Snapshot<B>], seconds: u32)
+    ensures count { length snaps.new ≡ length snaps.old }
+    ensures each { (k : ℕ) (d : Kept B) → k < length snaps.old → IsSnapLater (record { contents = B.contents; durable = B.durable; size = B.size; faults = B.fault_count; done = B.done_count }) B.layers seconds (slice_index_or snaps.old k d) (slice_index_or snaps.new k d) }
+{
+    for k in 0..snaps.len() {
+        snaps[k].tick(seconds);
+    }
+}
+
+impl<B: Layered> Volume<B> {
+    /// Lets so many seconds pass for the layers of every device. No request, no copy and no byte changes, and no operation
+    /// is counted.
+    #[tactic(auto, using(crate::proofs::Relayered::ticked_moving, crate::proofs::Relayered::whole_alike))]
+    pub fn tick(&mut self, seconds: u32)
+        ensures ticked { IsTicked (record { contents = B.contents; durable = B.durable; size = B.size; faults = B.fault_count; done = B.done_count }) B.layers seconds self.old self.new }
+        ensures moving { (replied : Option Reply) → moving_of B.contents B.layers replied self.new ≡ moving_relayered (layers_ticked seconds) (moving_of B.contents B.layers replied self.old) }
+        ensures books { books_of B.contents B.layers B.size self.new ≡ books_of B.contents B.layers B.size self.old }
+    {
+        self.origin.tick(seconds);
+        tick_all(self.snaps.as_mut_slice(), seconds);
+    }
+}
