@@ -1,7 +1,7 @@
 -- What the words of a command line say. The commands are this project's own choice; the table line after
 -- `create` is the kernel's. In each command every word's form is looked at first (BadTable), then the chunk of
 -- a table line (BadChunk), then the number of sectors (OutOfRange).
-use Rattle.std.specs.Prelude.{ℕ, List, [], ◌∷◌, if◌then◌else◌, Result, Ok, Err, codes}
+use Rattle.std.specs.Prelude.{ℕ, Bool, false, List, [], ◌∷◌, if◌then◌else◌, Result, Ok, Err, codes}
 use Rattle.std.specs.Str.{bytes_eq}
 use Rattle.sector.specs.declared.refusal.Refusal.{Refusal}
 use Rattle.sector.specs.declared.refusal.Refusal.TheVariants.{BadTable}
@@ -10,9 +10,12 @@ use Rattle.words.specs.Names.{name_of}
 use Rattle.words.specs.Numbers.{numeral_of}
 use Rattle.command.specs.Words.{sectors_of}
 use Rattle.command.specs.DataWords.{payload_of}
-use Rattle.command.specs.TableLine.{table_line_of}
+use Rattle.table.specs.declared.lines.Line.{Line}
+use Rattle.table.specs.Grammar.{line_in}
+use Rattle.command.specs.Messages.{message_in}
+use Rattle.command.specs.Events.{event_in}
 use Rattle.command.specs.declared.grammar.Command.{Command}
-use Rattle.command.specs.declared.grammar.Command.TheVariants.{Disk, Create, Remove, Load, Save, Read, Write, Status}
+use Rattle.command.specs.declared.grammar.Command.TheVariants.{Disk, Create, Remove, Load, Save, Message, Tick, Read, Write, Step, Settle, Status, Table}
 
 -- a name and a first sector
 abbrev pub place_of : List ℕ → List ℕ → Result (List ℕ × ℕ) Refusal
@@ -55,11 +58,20 @@ disk_of (name ∷ sectors ∷ []) = do
   Ok (Disk name sectors)
 disk_of words = Err BadTable
 
+-- the words of a table line that name a merge
+abbrev pub is_merge : List (List ℕ) → Bool
+is_merge (start ∷ sectors ∷ target ∷ words) = bytes_eq target (codes "snapshot-merge")
+is_merge words = false
+
+-- a table line by which a device is made; a merge begins by another command
+abbrev pub made_line_of : List (List ℕ) → Result Line Refusal
+made_line_of words = if is_merge words then Err BadTable else line_in words
+
 -- `create NAME LINE`
 abbrev pub create_of : List (List ℕ) → Result Command Refusal
 create_of (name ∷ words) = do
   name ← name_of name
-  line ← table_line_of words
+  line ← made_line_of words
   Ok (Create name line)
 create_of words = Err BadTable
 
@@ -75,6 +87,19 @@ load_of words = patch_of words >>= λ patch. Ok (Load patch.0 patch.1 patch.2)
 abbrev pub save_of : List (List ℕ) → Result Command Refusal
 save_of words = span_of words >>= λ span. Ok (Save span.0 span.1 span.2)
 
+-- `message DEV 0 WORDS`; the 0 is the word in which dmsetup takes a sector
+abbrev pub message_of : List (List ℕ) → Result Command Refusal
+message_of (device ∷ sector ∷ words) = do
+  device ← name_of device
+  message ← message_in words
+  if bytes_eq sector (codes "0") then Ok (Message device message) else Err BadTable
+message_of words = Err BadTable
+
+-- `tick N`
+abbrev pub tick_of : List (List ℕ) → Result Command Refusal
+tick_of (seconds ∷ []) = numeral_of seconds >>= λ seconds. Ok (Tick seconds)
+tick_of words = Err BadTable
+
 -- `read DEV S N`
 abbrev pub read_of : List (List ℕ) → Result Command Refusal
 read_of words = span_of words >>= λ span. Ok (Read span.0 span.1 span.2)
@@ -83,9 +108,25 @@ read_of words = span_of words >>= λ span. Ok (Read span.0 span.1 span.2)
 abbrev pub write_of : List (List ℕ) → Result Command Refusal
 write_of words = patch_of words >>= λ patch. Ok (Write patch.0 patch.1 patch.2)
 
+-- `step VOL EVENT`
+abbrev pub step_of : List (List ℕ) → Result Command Refusal
+step_of (volume ∷ words) = do
+  volume ← name_of volume
+  event ← event_in words
+  Ok (Step volume event)
+step_of words = Err BadTable
+
+-- `settle VOL`
+abbrev pub settle_of : List (List ℕ) → Result Command Refusal
+settle_of words = alone_of words >>= λ volume. Ok (Settle volume)
+
 -- `status DEV`
 abbrev pub status_of : List (List ℕ) → Result Command Refusal
 status_of words = alone_of words >>= λ name. Ok (Status name)
+
+-- `table DEV`
+abbrev pub table_of : List (List ℕ) → Result Command Refusal
+table_of words = alone_of words >>= λ name. Ok (Table name)
 
 -- the command that some words say; an unknown one is BadTable
 abbrev pub command_of : List (List ℕ) → Result Command Refusal
@@ -96,7 +137,12 @@ command_of (verb ∷ words) =
     if bytes_eq verb (codes "remove") then remove_of words else
     if bytes_eq verb (codes "load") then load_of words else
     if bytes_eq verb (codes "save") then save_of words else
+    if bytes_eq verb (codes "message") then message_of words else
+    if bytes_eq verb (codes "tick") then tick_of words else
     if bytes_eq verb (codes "read") then read_of words else
     if bytes_eq verb (codes "write") then write_of words else
+    if bytes_eq verb (codes "step") then step_of words else
+    if bytes_eq verb (codes "settle") then settle_of words else
     if bytes_eq verb (codes "status") then status_of words else
+    if bytes_eq verb (codes "table") then table_of words else
     Err BadTable

@@ -1,5 +1,6 @@
 pub mod Words
 pub mod DataWords
-pub mod TableLine
+pub mod Messages
+pub mod Events
 pub mod Grammar
 pub mod Line

@@ -1,12 +1,7 @@
 -- Forms of words that several commands share. They are this project's own choice.
-use Rattle.std.specs.Prelude.{ℕ, ◌&&◌, List, nat_lt, nat_le, if◌then◌else◌, Result, Ok, Err}
-use Rattle.std.specs.Str.{bytes_eq}
+use Rattle.std.specs.Prelude.{ℕ, ◌&&◌, nat_lt, nat_le, if◌then◌else◌, Result, Ok, Err}
 use Rattle.sector.specs.declared.refusal.Refusal.{Refusal}
-use Rattle.sector.specs.declared.refusal.Refusal.TheVariants.{BadTable, OutOfRange}
-
--- a word that can be nothing but this
-abbrev pub only : List ℕ → List ℕ → Result (Unit {0}) Refusal
-only text word = if bytes_eq word text then Ok tt else Err BadTable
+use Rattle.sector.specs.declared.refusal.Refusal.TheVariants.{OutOfRange}
 
 -- how many sectors one command may move: 1 to 2048
 abbrev pub sectors_of : ℕ → Result ℕ Refusal

@@ -2,12 +2,15 @@
 ghost use Rattle.std.specs.Prelude.{◌≡◌, ◌≤◌, length};
 ghost use Rattle.words.specs.Given.{Gives};
 ghost use Rattle.words.specs.Texts.{texts};
-ghost use Rattle.command.specs.Grammar.{place_of, amount_of, span_of, patch_of, alone_of, disk_of, create_of, remove_of, load_of, save_of, read_of, write_of, status_of, command_of};
+ghost use Rattle.command.specs.Grammar.{place_of, amount_of, span_of, patch_of, alone_of, disk_of, is_merge, made_line_of, create_of, remove_of, load_of, save_of, message_of, tick_of, read_of, write_of, step_of, settle_of, status_of, table_of, command_of};
 
 use super::data_words::{payload, sectors};
-use super::table_line::{TableLine, table_line};
+use super::events::{Event, event_in};
+use super::messages::message_in;
+use layers::Message;
 use sector::{Buf, Refusal};
 use std::alloc::Global;
+use table::{Line, parse_words};
 use words::{Name, numeral};
 
 /// A command. Numbers of sectors and places are in sectors; bytes are whole sectors.
@@ -18,10 +21,10 @@ pub enum Command {
         name: Name,
         sectors: u32,
     },
-    /// `create NAME LINE`: a device by its table line.
+    /// `create NAME LINE`: a device by its table line, which is not that of a merge.
     Create {
         name: Name,
-        line: TableLine,
+        line: Line,
     },
     /// `remove NAME`: takes a device away.
     Remove {
@@ -39,6 +42,15 @@ pub enum Command {
         first: u32,
         count: u32,
     },
+    /// `message DEV 0 WORDS`: a message to a layer.
+    Message {
+        device: Name,
+        message: Message,
+    },
+    /// `tick N`: so many seconds pass for every flakey layer.
+    Tick {
+        seconds: u32,
+    },
     /// `read DEV S N`: reads an origin or snapshot. `count` is 1 to 2048.
     Read {
         device: Name,
@@ -51,8 +63,21 @@ pub enum Command {
         first: u32,
         bytes: Buf,
     },
+    /// `step VOL EVENT`: one event of the volume of an origin.
+    Step {
+        volume: Name,
+        event: Event,
+    },
+    /// `settle VOL`: the events that are due in the volume of an origin, until there is none.
+    Settle {
+        volume: Name,
+    },
     /// `status DEV`: prints the status line.
     Status {
+        device: Name,
+    },
+    /// `table DEV`: prints the table line.
+    Table {
         device: Name,
     },
 }
@@ -128,13 +153,34 @@ fn disk(words: &[&[u8]]) -> Result<Command, Refusal>
     }
 }
 
+/// Whether the words of a table line name a merge.
+fn is_merge(words: &[&[u8]]) -> bool
+    ensures { result ≡ is_merge (texts words.now) }
+{
+    match words {
+        [_, _, target, _parameters @ ..] => *target == b"snapshot-merge".as_slice(),
+        _ => false,
+    }
+}
+
+/// The table line of a device that is to be made. `BadTable` for that of a merge, whatever else it says, and else as
+/// `parse_words`.
+fn made_line(words: &[&[u8]]) -> Result<Line, Refusal>
+    ensures { result ≡ made_line_of (texts words.now) }
+{
+    if is_merge(words) {
+        return Err(Refusal::BadTable);
+    }
+    parse_words(words)
+}
+
 fn create(words: &[&[u8]]) -> Result<Command, Refusal>
     ensures { result ≡ create_of (texts words.now) }
 {
     match words {
         [name, words @ ..] => {
             let name = Name::new(name)?;
-            let line = table_line(words)?;
+            let line = made_line(words)?;
             Ok(Command::Create { name, line })
         }
         _ => Err(Refusal::BadTable),
@@ -163,6 +209,35 @@ fn save(words: &[&[u8]]) -> Result<Command, Refusal>
     Ok(Command::Save { disk, first, count })
 }
 
+#[tactic(auto, using(crate::proofs::Counts::message_short))]
+fn message(words: &[&[u8]]) -> Result<Command, Refusal>
+    ensures { result ≡ message_of (texts words.now) }
+{
+    match words {
+        [device, sector, words @ ..] => {
+            let device = Name::new(device)?;
+            let message = message_in(words)?;
+            if *sector != b"0".as_slice() {
+                return Err(Refusal::BadTable);
+            }
+            Ok(Command::Message { device, message })
+        }
+        _ => Err(Refusal::BadTable),
+    }
+}
+
+fn tick(words: &[&[u8]]) -> Result<Command, Refusal>
+    ensures { result ≡ tick_of (texts words.now) }
+{
+    match words {
+        [seconds] => {
+            let seconds = numeral(seconds)?;
+            Ok(Command::Tick { seconds })
+        }
+        _ => Err(Refusal::BadTable),
+    }
+}
+
 fn read(words: &[&[u8]]) -> Result<Command, Refusal>
     ensures { result ≡ read_of (texts words.now) }
 {
@@ -186,11 +261,38 @@ fn write(alloc: Global, words: &[&[u8]]) -> Result<Command, Refusal>
     })
 }
 
+fn step(words: &[&[u8]]) -> Result<Command, Refusal>
+    ensures { result ≡ step_of (texts words.now) }
+{
+    match words {
+        [volume, words @ ..] => {
+            let volume = Name::new(volume)?;
+            let event = event_in(words)?;
+            Ok(Command::Step { volume, event })
+        }
+        _ => Err(Refusal::BadTable),
+    }
+}
+
+fn settle(words: &[&[u8]]) -> Result<Command, Refusal>
+    ensures { result ≡ settle_of (texts words.now) }
+{
+    let volume = alone(words)?;
+    Ok(Command::Settle { volume })
+}
+
 fn status(words: &[&[u8]]) -> Result<Command, Refusal>
     ensures { result ≡ status_of (texts words.now) }
 {
     let device = alone(words)?;
     Ok(Command::Status { device })
+}
+
+fn table(words: &[&[u8]]) -> Result<Command, Refusal>
+    ensures { result ≡ table_of (texts words.now) }
+{
+    let device = alone(words)?;
+    Ok(Command::Table { device })
 }
 
 /// The command that some words say.
@@ -211,12 +313,22 @@ pub fn command_in(alloc: Global, words: &[&[u8]]) -> Result<Command, Refusal>
         load(alloc, words)
     } else if *verb == b"save".as_slice() {
         save(words)
+    } else if *verb == b"message".as_slice() {
+        message(words)
+    } else if *verb == b"tick".as_slice() {
+        tick(words)
     } else if *verb == b"read".as_slice() {
         read(words)
     } else if *verb == b"write".as_slice() {
         write(alloc, words)
+    } else if *verb == b"step".as_slice() {
+        step(words)
+    } else if *verb == b"settle".as_slice() {
+        settle(words)
     } else if *verb == b"status".as_slice() {
         status(words)
+    } else if *verb == b"table".as_slice() {
+        table(words)
     } else {
         Err(Refusal::BadTable)
     }

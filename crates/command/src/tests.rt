@@ -1,12 +1,14 @@
 // Lines, and what they say by the rules as they are written for users.
 use super::*;
+use layers::Message;
 use sector::Refusal;
 use std::test::Fail;
+use table::Target;
 
 #[test]
 fn refuses_each_line_with_its_first_refusal(rt: HostRuntime) {
     let bad_table = [
-        "tick",
+        "start",
         "disk",
         "disk d",
         "disk d 8 9",
@@ -47,6 +49,7 @@ fn refuses_each_line_with_its_first_refusal(rt: HostRuntime) {
         "create o 1 128 snapshot-origin base",
         "create o 0 128 snapshot-origin base 0",
         "create o 0 128 snapshot-origin Base",
+        "create m 0 128 snapshot-merge base cow P 1",
         "create m 0 128 snapshot-merge base cow P 3",
         "create s 0 128 snapshot base cow N 8",
         "create s 0 128 snapshot base cow p 8",
@@ -57,6 +60,31 @@ fn refuses_each_line_with_its_first_refusal(rt: HostRuntime) {
         "create s 0 128 snapshot base cow P 3 00",
         "create s 0 128 snapshot base cow P 3 0 0",
         "create S 0 128 snapshot base cow P 3",
+        "create f 0 8 flakey base 0 0 0",
+        "create f 0 8 linear base 0",
+        "create d 0 8 dust base 1 512",
+        "create e 0 8 error 0",
+        "message",
+        "message du",
+        "message du 0",
+        "message du enable",
+        "message Du 0 enable",
+        "message du 1 enable",
+        "message du 00 enable",
+        "message du 0 quiet",
+        "message du 0 Enable",
+        "message du 0 enable 1",
+        "message du 0 countbadblocks 1",
+        "message du 0 addbadblock",
+        "message du 0 addbadblock x",
+        "message du 0 addbadblock 1 2",
+        "message du 0 queryblock 4294967296",
+        "tick",
+        "tick x",
+        "tick 1 1",
+        "table",
+        "table Vol",
+        "table a b",
     ];
     let bad_chunk = [
         "create s 0 128 snapshot base cow P 3",
@@ -132,27 +160,32 @@ fn reads_each_command(rt: HostRuntime) -> Result<(), Fail> {
         return Err(Fail::from("no create"));
     };
     assert_eq!(rt; name.as_slice(), b"snap".as_slice());
-    let TableLine::Snapshot {
-        sectors,
+    let Target::Snapshot {
         device,
         store,
         chunk,
-    } = line
+    } = &line.target
     else {
         return Err(Fail::from("no snapshot"));
     };
     assert_eq!(rt; device.as_slice(), b"base".as_slice());
     assert_eq!(rt; store.as_slice(), b"cow".as_slice());
-    assert_eq!(rt; (*sectors, *chunk), (128, 16));
+    assert_eq!(rt; (line.sectors, *chunk), (128, 16));
     let kinds = [
         ("disk abcdefghijklmnop 4294967295", "disk"),
         ("create vol 0 128 snapshot-origin base", "origin"),
         ("create snap 0 128 snapshot base cow P 1024", "snapshot"),
+        ("create fl 0 64 flakey cow 0 1 1 1 error_writes", "flakey"),
+        ("create du 0 128 dust base 0 1024", "dust"),
+        ("create er 0 64 error", "error"),
         ("remove snap", "remove"),
         ("save cow 4294967295 2048", "save"),
         ("read vol 5 1", "read"),
         ("write vol 5 1048576*aa", "write"),
+        ("message du 0 disable", "message"),
+        ("tick 4294967295", "tick"),
         ("status snap", "status"),
+        ("table snap", "table"),
     ];
     for (line, want) in kinds {
         let command = said(rt.alloc(), line.as_bytes(), LINE_LIMIT)?;
@@ -164,19 +197,114 @@ fn reads_each_command(rt: HostRuntime) -> Result<(), Fail> {
 fn kind_of(command: &Command) -> &'static str {
     match command {
         Command::Disk { .. } => "disk",
-        Command::Create {
-            line: TableLine::Origin { .. },
-            ..
-        } => "origin",
-        Command::Create {
-            line: TableLine::Snapshot { .. },
-            ..
-        } => "snapshot",
+        Command::Create { line, .. } => target_kind(&line.target),
         Command::Remove { .. } => "remove",
         Command::Load { .. } => "load",
         Command::Save { .. } => "save",
+        Command::Message { .. } => "message",
+        Command::Tick { .. } => "tick",
         Command::Read { .. } => "read",
         Command::Write { .. } => "write",
+        Command::Step { .. } => "step",
+        Command::Settle { .. } => "settle",
         Command::Status { .. } => "status",
+        Command::Table { .. } => "table",
+    }
+}
+
+fn target_kind(target: &Target) -> &'static str {
+    match target {
+        Target::Origin { .. } => "origin",
+        Target::Snapshot { .. } => "snapshot",
+        Target::Merge { .. } => "merge",
+        Target::Flakey { .. } => "flakey",
+        Target::Dust { .. } => "dust",
+        Target::Error => "error",
+    }
+}
+
+#[test]
+fn reads_each_message(rt: HostRuntime) -> Result<(), Fail> {
+    let messages = [
+        ("message du 0 addbadblock 2", Message::AddBadBlock(2)),
+        (
+            "message du 0 removebadblock 002",
+            Message::RemoveBadBlock(2),
+        ),
+        (
+            " message  du 0 queryblock 4294967295",
+            Message::QueryBlock(4_294_967_295),
+        ),
+        ("message du 0 countbadblocks", Message::CountBadBlocks),
+        ("message du 0 clearbadblocks", Message::ClearBadBlocks),
+        ("message du 0 enable", Message::Enable),
+        ("message du 0 disable", Message::Disable),
+    ];
+    for (line, want) in messages {
+        let told = said(rt.alloc(), line.as_bytes(), LINE_LIMIT)?;
+        let Some(Command::Message { device, message }) = &told else {
+            return Err(Fail::from("no message"));
+        };
+        assert_eq!(rt; device.as_slice(), b"du".as_slice());
+        assert_eq!(rt; *message, want, "in {line}");
+    }
+    Ok(())
+}
+
+fn event_kind(event: &Event) -> &'static str {
+    match event {
+        Event::Issue(_) => "issue",
+        Event::CopyRead(_) => "copy-read",
+        Event::CopyWrite(_) => "copy-write",
+        Event::Publish(_) => "publish",
+        Event::ZeroNext(_) => "zero-next",
+        Event::WriteArea(_) => "write-area",
+        Event::WriteInvalid(_) => "write-invalid",
+    }
+}
+
+#[test]
+fn reads_each_event(rt: HostRuntime) -> Result<(), Fail> {
+    let events = [
+        ("step vol issue 2", "issue"),
+        ("step vol copy-read 1", "copy-read"),
+        ("step vol copy-write 01", "copy-write"),
+        ("step vol publish 4294967295", "publish"),
+        ("step vol zero-next snap", "zero-next"),
+        ("step vol write-area s2", "write-area"),
+        ("step vol write-invalid snap", "write-invalid"),
+    ];
+    for (line, want) in events {
+        let stepped = said(rt.alloc(), line.as_bytes(), LINE_LIMIT)?;
+        let Some(Command::Step { event, .. }) = &stepped else {
+            return Err(Fail::from("no step"));
+        };
+        assert_eq!(rt; event_kind(event), want, "in {line}");
+    }
+    Ok(())
+}
+
+#[test]
+fn refuses_other_words_of_events(rt: HostRuntime) {
+    let lines = [
+        "step",
+        "step vol",
+        "step vol issue",
+        "step vol issue x",
+        "step vol issue 1 2",
+        "step vol issue 4294967296",
+        "step vol write-area Snap",
+        "step vol write-area snap snap",
+        "step vol merge",
+        "step Vol issue 1",
+        "settle",
+        "settle vol vol",
+    ];
+    for line in lines {
+        assert_eq!(rt;
+            refusal_of(&rt, line.as_bytes()),
+            Some(Refusal::BadTable),
+            "in {line}"
+        );
     }
 }

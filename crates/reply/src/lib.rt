@@ -1,18 +1,21 @@
 //! Replies of the command program, and the lines that print them.
 //!
-//! It stands on `sector` and `words` for data, refusals and texts, on `lines` for the laws of one write after
-//! another, and on `command` for the grammar of data words, by which what is printed can be read again. It
-//! promises that exactly the stated line is written, byte by byte: data as longest runs that say the bytes
-//! again. Printing takes no memory, so a reply that was reached is never lost to want of it.
+//! It stands on `sector` and `words` for data, refusals and texts, on `layers` for the answers to messages, on `lines`
+//! for the laws of one write after another, and on `command` for the grammar of data words, by which what is printed
+//! can be read again. It promises that exactly the stated line is written, byte by byte: data as longest runs that say
+//! the bytes again. Printing takes no memory, so a reply that was reached is never lost to want of it.
 #![tactic(auto)]
 
 ghost use Rattle.std.specs.Prelude.{◌≡◌, OnOk};
 ghost use Rattle.std.specs.Io.KnownBytes.{Appends};
 ghost use Rattle.reply.specs.Texts.{refusal_text, text_of};
 
+mod answers;
+mod ended;
 pub mod laws;
 mod runs;
 
+pub use ended::{Ended, Ending};
 use itoa::Buffer;
 use runs::write_data;
 use sector::{Buf, Refusal};
@@ -75,6 +78,7 @@ impl Reply {
 #[cfg(test)]
 mod tests {
     use super::*;
+    use layers::Answer;
     use std::test::Fail;
 
     #[test]
@@ -91,6 +95,44 @@ mod tests {
         Reply::Refused(Refusal::Overflow).write_to(&mut out)?;
         let want =
             b"ok\nok 1*53 1*6e 1*41 1*70 1*01 3*00 1*01 3*00 1*01 5*00\nok 0 128 snapshot Invalid\nerr 1 NoSuchDevice\nerr 23 Overflow\n";
+        assert_eq!(rt; out.as_slice(), want.as_slice());
+        Ok(())
+    }
+
+    #[test]
+    fn prints_the_line_of_a_request_that_ended(rt: HostRuntime) -> Result<(), Fail> {
+        let bytes = Buf::from_slice(rt.alloc(), &[0x11; 512])?;
+        let endings = [
+            (2, Ending::Data(bytes)),
+            (3, Ending::Written),
+            (4, Ending::Refused(Refusal::Invalid)),
+            (18_446_744_073_709_551_615, Ending::Refused(Refusal::Io)),
+        ];
+        let mut out = Vec::new(rt.alloc());
+        for (request, ending) in endings {
+            Ended { request, ending }.write_to(&mut out)?;
+        }
+        let want =
+            b"reply 2 512*11\nreply 3 written\nreply 4 err 6 Invalid\nreply 18446744073709551615 err 8 Io\n";
+        assert_eq!(rt; out.as_slice(), want.as_slice());
+        Ok(())
+    }
+
+    #[test]
+    fn prints_each_answer_to_a_message(rt: HostRuntime) -> Result<(), Fail> {
+        let answers = [
+            Answer::Done,
+            Answer::Already,
+            Answer::Absent,
+            Answer::Bad,
+            Answer::Good,
+            Answer::Count(32768),
+        ];
+        let mut out = Vec::new(rt.alloc());
+        for answer in answers {
+            Reply::to_message(rt.alloc(), answer)?.write_to(&mut out)?;
+        }
+        let want = b"ok\nok already\nok absent\nok bad\nok good\nok 32768\n";
         assert_eq!(rt; out.as_slice(), want.as_slice());
         Ok(())
     }

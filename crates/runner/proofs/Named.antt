@@ -7,12 +7,14 @@ use Rattle.std.proofs.lemmas.List.Sums.{sum_by-cons, sum_by-remove, sum_by-set, 
 use Rattle.std.proofs.lemmas.Option.{slice_get_cases}
 use Rattle.std.proofs.lemmas.Slice.Eq.{bytes_eq-Decides}
 use Rattle.sector.specs.declared.refusal.Refusal.{Refusal}
-use Rattle.sector.specs.declared.refusal.Refusal.TheVariants.{NoSuchDevice, OutOfRange, Busy, TooMany, BadTable}
+use Rattle.sector.specs.declared.refusal.Refusal.TheVariants.{NoSuchDevice, OutOfRange, Busy, TooMany, BadTable, NotDue}
 use Rattle.words.specs.Given.{◌>>=◌}
 use Rattle.command.specs.declared.grammar.Command.{Command}
 use Rattle.command.specs.declared.grammar.Command.TheVariants as commands
-use Rattle.command.specs.declared.table_line.TableLine.{TableLine}
-use Rattle.command.specs.declared.table_line.TableLine.TheVariants as lines
+use Rattle.command.specs.declared.events.Event.{Event}
+use Rattle.table.specs.declared.lines.Line.{Line}
+use Rattle.table.specs.declared.lines.Target.{Target}
+use Rattle.table.specs.declared.lines.Target.TheVariants as targets
 use Rattle.reply.specs.declared.Reply.{Reply}
 use Rattle.reply.specs.declared.Reply.TheVariants.{Done}
 use Rattle.settled.specs.Settled.{Settled, written}
@@ -28,6 +30,9 @@ use Rattle.runner.specs.Disks.{device_count, devices_in, with_disk, make, save, 
 use Rattle.runner.specs.Volumes.{same_size, origin_on, origin_free, origin_at, over, with_snapshot, snapshot_on, snapshot_free, snapshot_at, made_by, create, closed, names_at, without_snapshot, parted, detached, removed_at, take_away}
 use Rattle.runner.specs.Sectors.{read, read_at, write, written_at, written_to, written_in, with_state, not_written, sectors_in}
 use Rattle.runner.specs.Status.{status, status_at}
+use Rattle.runner.specs.TableLines.{show, line_at}
+use Rattle.runner.specs.Layers.{tell}
+use Rattle.runner.specs.Events.{settle, step_event, stepped, snapshot_named, is_origin, is_snapshot_of}
 use Rattle.command.specs.Words.{sectors_of}
 use Rattle.command.specs.Line.{said_of}
 use Rattle.runner.specs.Steps.{step, obeyed, answer_of}
@@ -192,28 +197,32 @@ keeps_snapshot name sectors chunk v i table none room named =
     let more = attached_sum f name chunk disk old new did in
     omega (arith, less, disk_was, changed, volume_was, more)) named))))
 
-keeps_made : (name : List ℕ) (line : TableLine) (table : Table) → place_of name table ≡ None → nat_le 64 (device_count table) ≡ false → AreNamed table → AreNamed (left_by (made_by name line table) table)
+keeps_made : (name : List ℕ) (sectors : ℕ) (target : Target) (table : Table) → place_of name table ≡ None → nat_le 64 (device_count table) ≡ false → AreNamed table → AreNamed (left_by (made_by name sectors target table) table)
 unfolding made_by
-keeps_made name (lines.Origin sectors device) table none room named =
+keeps_made name sectors (targets.Origin device) table none room named =
     keeps_then (found (place_of device table)) (λ place. origin_at name sectors place table) table named (λ place at. on place)
   where
     on : (place : Place) → AreNamed (left_by (origin_at name sectors place table) table)
     on (Free i) = keeps_origin name sectors i table none room named
     on (In v role) = named
-keeps_made name (lines.Snapshot sectors device store chunk) table none room named =
+keeps_made name sectors (targets.Snapshot device store chunk) table none room named =
     keeps_then (over (place_of device table)) _ table named (λ v under.
     keeps_then (found (place_of store table)) (λ place. snapshot_at name sectors chunk v place table) table named (λ place at. on v place))
   where
     on : (v : ℕ) (place : Place) → AreNamed (left_by (snapshot_at name sectors chunk v place table) table)
     on v (Free i) = keeps_snapshot name sectors chunk v i table none room named
     on v (In w role) = named
+keeps_made name sectors (targets.Merge device store chunk) table none room named = named
+keeps_made name sectors (targets.Flakey device offset up down features) table none room named = named
+keeps_made name sectors (targets.Dust device block) table none room named = named
+keeps_made name sectors targets.Error table none room named = named
 
-keeps_create : (name : List ℕ) (line : TableLine) (table : Table) → AreNamed table → AreNamed (left_by (create name line table) table)
+keeps_create : (name : List ℕ) (line : Line) (table : Table) → AreNamed table → AreNamed (left_by (create name line table) table)
 unfolding create
 keeps_create name line table named =
     keeps_if (is_some (place_of name table)) _ _ table named (λ free.
     keeps_if (nat_le 64 (device_count table)) _ _ table named (λ room.
-    keeps_made name line table (no_place (place_of name table) free) room named))
+    keeps_made name line.sectors line.target table (no_place (place_of name table) free) room named))
 
 keeps_closed : (v : ℕ) (table : Table) → AreNamed table → AreNamed (left_by (closed v table) table)
 unfolding closed
@@ -315,6 +324,39 @@ keeps_status name table named =
     keeps_then (found (place_of name table)) _ table named (λ place at.
     keeps_then (status_at place table) _ table named (λ text did. named))
 
+keeps_shown : (name : List ℕ) (table : Table) → AreNamed table → AreNamed (left_by (show name table) table)
+unfolding show
+keeps_shown name table named =
+    keeps_then (found (place_of name table)) _ table named (λ place at.
+    keeps_then (line_at place table) _ table named (λ line did. named))
+
+keeps_told : (name : List ℕ) (table : Table) → AreNamed table → AreNamed (left_by (tell name table) table)
+unfolding tell
+keeps_told name table named = keeps_then {A = Reply} (found (place_of name table)) (λ place. Err BadTable) table named (λ place at. named)
+
+-- either branch keeps what both keep
+keeps_either : {A : Type 0} (b : Bool) (x y : Result (A × Table) Refusal) (table : Table) → AreNamed (left_by x table) → AreNamed (left_by y table) → AreNamed (left_by (if b then x else y) table)
+keeps_either true x y table yes_named no_named = yes_named
+keeps_either false x y table yes_named no_named = no_named
+
+keeps_settled : (name : List ℕ) (table : Table) → AreNamed table → AreNamed (left_by (settle name table) table)
+unfolding settle
+keeps_settled name table named =
+    keeps_then {A = Reply} (found (place_of name table)) (λ place. if is_origin place then Ok (Done, table) else Err BadTable) table named (λ place at.
+    keeps_either {A = Reply} (is_origin place) (Ok (Done, table)) (Err BadTable) table named named)
+
+keeps_stepped : (name : List ℕ) (event : Event) (table : Table) → AreNamed table → AreNamed (left_by (step_event name event table) table)
+unfolding step_event
+keeps_stepped name event table named =
+    keeps_then {A = Reply} (found (place_of name table)) (λ place. stepped place (snapshot_named event) table) table named (λ place at. on place (snapshot_named event))
+  where
+    on : (place : Place) (snapshot : Option (List ℕ)) → AreNamed (left_by (stepped place snapshot table) table)
+    on place None = keeps_either {A = Reply} (is_origin place) (Err NotDue) (Err BadTable) table named named
+    on place (Some snapshot) =
+        keeps_then {A = Reply} (found (place_of snapshot table)) (λ other. if is_origin place then (if is_snapshot_of place other then Err NotDue else Err BadTable) else Err BadTable) table named (λ other at.
+        keeps_either {A = Reply} (is_origin place) (if is_snapshot_of place other then Err NotDue else Err BadTable) (Err BadTable) table
+        (keeps_either {A = Reply} (is_snapshot_of place other) (Err NotDue) (Err BadTable) table named named) named)
+
 written_sum : (f : List ℕ → ℕ) (role : Role) (old new : Volume) (first count : ℕ) (bytes : List ℕ) → written_in role old first count bytes ≡ Ok new → volume_sum f new ≡ volume_sum f old
 unfolding written_in
 written_sum f Origin old new first count bytes h = by (fits (sectors_in old) first count) h
@@ -360,9 +402,14 @@ keeps_step (commands.Create name line) table named = keeps_create name line tabl
 keeps_step (commands.Remove name) table named = keeps_remove name table named
 keeps_step (commands.Load disk first bytes) table named = keeps_load disk first bytes table named
 keeps_step (commands.Save disk first count) table named = keeps_save disk first count table named
+keeps_step (commands.Message device message) table named = keeps_told device table named
+keeps_step (commands.Tick seconds) table named = named
 keeps_step (commands.Read device first count) table named = keeps_read device first count table named
 keeps_step (commands.Write device first bytes) table named = keeps_write device first bytes table named
+keeps_step (commands.Step volume event) table named = keeps_stepped volume event table named
+keeps_step (commands.Settle volume) table named = keeps_settled volume table named
 keeps_step (commands.Status device) table named = keeps_status device table named
+keeps_step (commands.Table device) table named = keeps_shown device table named
 
 keeps_said : (said : Option Command) (table : Table) → AreNamed table → AreNamed (left_by (obeyed table said) table)
 keeps_said None table named = named

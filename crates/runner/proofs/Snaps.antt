@@ -10,6 +10,7 @@ use Rattle.settled.specs.Attaching.{used_by}
 use Rattle.settled.specs.Used.{used_of}
 use Rattle.runner.specs.Sectors.{shown, shown_at}
 use Rattle.runner.specs.Status.{usage_of, used_at}
+use Rattle.runner.specs.TableLines.{chunk_at}
 use Rattle.std.proofs.lemmas.Bool.{true≢false}
 use Rattle.std.proofs.lemmas.Option.{slice_get_cases}
 use Rattle.settled.specs.Settled.{Settled, Snap}
@@ -28,6 +29,13 @@ unfolding store_at
 store_here state k bytes lt is =
     let s = snap_here state k lt in
     rw s.1 (ap (λ (b : List ℕ). Ok b) (sym (is s.0 ∙ ap (λ (x : Snap). x.store) s.2)))
+
+-- and the sectors of its chunks
+pub chunk_here : (state : Settled) (k chunk : ℕ) → k < length state.snaps → ((d : Snap) → chunk ≡ (get_or state.snaps k d).chunk) → chunk_at k state ≡ Ok chunk
+unfolding chunk_at
+chunk_here state k chunk lt is =
+    let s = snap_here state k lt in
+    rw s.1 (ap (λ (n : ℕ). Ok n) (sym (is s.0 ∙ ap (λ (x : Snap). x.chunk) s.2)))
 
 saved_cases : (saved : Saved) → ((array : List ℕ) × (saved ≡ Live array)) ⊎ (saved ≡ Invalid)
 saved_cases (Live array) = inl (array, refl)

@@ -5,6 +5,9 @@ pub mod Disks
 pub mod Volumes
 pub mod Sectors
 pub mod Status
+pub mod TableLines
+pub mod Layers
+pub mod Events
 pub mod Steps
 pub mod Counts
 pub mod Output

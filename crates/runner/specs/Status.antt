@@ -1,11 +1,14 @@
--- Status lines, as the kernel's admin-guide page on snapshots has them. That the numbers of a snapshot are those of its
--- store's next place and areas is this project's own.
-use Rattle.std.specs.Prelude.{ℕ, ◌/◌, List, ◌++◌, length, codes, decimal, Option, Some, None, Result, Ok, Err}
+-- Which device has which status line. That the numbers of a snapshot are those of its store's next place and areas is this
+-- project's own.
+use Rattle.std.specs.Prelude.{ℕ, ◌/◌, List, length, Option, Some, None, Result, Ok, Err}
 use Rattle.sector.specs.declared.refusal.Refusal.{Refusal}
 use Rattle.sector.specs.declared.refusal.Refusal.TheVariants.{BadTable}
 use Rattle.words.specs.Given.{◌>>=◌}
 use Rattle.reply.specs.declared.Reply.{Reply}
 use Rattle.reply.specs.declared.Reply.TheVariants.{Said}
+use Rattle.status.specs.declared.State.{State}
+use Rattle.status.specs.declared.State.TheVariants as states
+use Rattle.status.specs.Lines.{origin_text, snapshot_text}
 use Rattle.settled.specs.Settled.{Settled}
 use Rattle.settled.specs.declared.usage.Usage.{Usage}
 use Rattle.settled.specs.Attaching.{Used, used_by}
@@ -23,16 +26,10 @@ abbrev pub usage_of : Option Used → Option Usage
 usage_of None = None
 usage_of (Some used) = Some (record { allocated = used.allocated; metadata = used.metadata })
 
--- `<allocated>/<total> <metadata>` in sectors, or that it is spoiled
-abbrev pub usage_text : Option Usage → ℕ → List ℕ
-usage_text None total = codes "Invalid"
-usage_text (Some usage) total = decimal usage.allocated ++ codes "/" ++ decimal total ++ codes " " ++ decimal usage.metadata
-
-abbrev pub snapshot_text : ℕ → Option Usage → ℕ → List ℕ
-snapshot_text sectors usage total = codes "0 " ++ decimal sectors ++ codes " snapshot " ++ usage_text usage total
-
-abbrev pub origin_text : ℕ → List ℕ
-origin_text sectors = codes "0 " ++ decimal sectors ++ codes " snapshot-origin"
+-- what a status line says of a snapshot on a store of so many sectors: its numbers, or that it is spoiled
+abbrev pub state_of : Option Usage → ℕ → State
+state_of None total = states.Invalid
+state_of (Some usage) total = states.Used usage.allocated total usage.metadata
 
 -- the numbers of a snapshot; none of one that is spoiled
 unfoldable pub used_at : ℕ → Settled → Result (Option Usage) Refusal
@@ -43,7 +40,7 @@ unfoldable pub snapshot_status : ℕ → Settled → ℕ → Result (List ℕ) R
 snapshot_status k state sectors = do
   used ← used_at k state
   store ← store_at k state
-  Ok (snapshot_text sectors used (length store / 512))
+  Ok (snapshot_text sectors (state_of used (length store / 512)))
 
 -- the status line of an origin or a snapshot
 unfoldable pub status_in : Role → Volume → Result (List ℕ) Refusal

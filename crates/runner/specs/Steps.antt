@@ -12,6 +12,9 @@ use Rattle.runner.specs.Disks.{make, save, load}
 use Rattle.runner.specs.Volumes.{create, take_away}
 use Rattle.runner.specs.Sectors.{read, write}
 use Rattle.runner.specs.Status.{status}
+use Rattle.runner.specs.TableLines.{show}
+use Rattle.runner.specs.Layers.{tell, tick}
+use Rattle.runner.specs.Events.{settle, step_event}
 
 -- What the call answered and left is what the rule says, unless memory ran out. A refusal changes nothing.
 abbrev pub Steps : {A : Type 0} → Result A Refusal → Table → Table → Result (A × Table) Refusal → Type 0
@@ -30,9 +33,14 @@ step (commands.Create name line) table = create name line table
 step (commands.Remove name) table = take_away name table
 step (commands.Load disk first bytes) table = load disk first bytes table
 step (commands.Save disk first count) table = save disk first count table
+step (commands.Message device message) table = tell device table
+step (commands.Tick seconds) table = tick table
 step (commands.Read device first count) table = read device first count table
 step (commands.Write device first bytes) table = write device first bytes table
+step (commands.Step volume event) table = step_event volume event table
+step (commands.Settle volume) table = settle volume table
 step (commands.Status device) table = status device table
+step (commands.Table device) table = show device table
 
 -- a line that says nothing answers nothing
 abbrev pub obeyed : Table → Option Command → Result (Option Reply × Table) Refusal

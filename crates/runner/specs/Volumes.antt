@@ -4,8 +4,9 @@ use Rattle.std.specs.List.{remove}
 use Rattle.sector.specs.declared.refusal.Refusal.{Refusal}
 use Rattle.sector.specs.declared.refusal.Refusal.TheVariants.{NoSuchDevice, Busy, TooMany, BadTable}
 use Rattle.words.specs.Given.{◌>>=◌}
-use Rattle.command.specs.declared.table_line.TableLine.{TableLine}
-use Rattle.command.specs.declared.table_line.TableLine.TheVariants as lines
+use Rattle.table.specs.declared.lines.Line.{Line}
+use Rattle.table.specs.declared.lines.Target.{Target}
+use Rattle.table.specs.declared.lines.Target.TheVariants as targets
 use Rattle.reply.specs.declared.Reply.{Reply}
 use Rattle.reply.specs.declared.Reply.TheVariants.{Done}
 use Rattle.settled.specs.Settled.{Settled}
@@ -80,22 +81,27 @@ abbrev pub snapshot_at : List ℕ → ℕ → ℕ → ℕ → Place → Table �
 snapshot_at name sectors chunk v (Free i) table = snapshot_free name sectors chunk v i table
 snapshot_at name sectors chunk v (In w role) table = Err (taken role)
 
--- the device of a line
-unfoldable pub made_by : List ℕ → TableLine → Table → Result (Reply × Table) Refusal
-made_by name (lines.Origin sectors device) table = do
+-- The device of a target, over so many sectors. No device is made of a merge, which begins by another command; nor of a
+-- layer yet.
+unfoldable pub made_by : List ℕ → ℕ → Target → Table → Result (Reply × Table) Refusal
+made_by name sectors (targets.Origin device) table = do
   place ← found (place_of device table)
   origin_at name sectors place table
-made_by name (lines.Snapshot sectors device store chunk) table = do
+made_by name sectors (targets.Snapshot device store chunk) table = do
   v ← over (place_of device table)
   place ← found (place_of store table)
   snapshot_at name sectors chunk v place table
+made_by name sectors (targets.Merge device store chunk) table = Err BadTable
+made_by name sectors (targets.Flakey device offset up down features) table = Err BadTable
+made_by name sectors (targets.Dust device block) table = Err BadTable
+made_by name sectors targets.Error table = Err BadTable
 
 -- `create NAME LINE`
-unfoldable pub create : List ℕ → TableLine → Table → Result (Reply × Table) Refusal
+unfoldable pub create : List ℕ → Line → Table → Result (Reply × Table) Refusal
 create name line table =
     if is_some (place_of name table) then Err Busy else
     if nat_le 64 (device_count table) then Err TooMany else
-    made_by name line table
+    made_by name line.sectors line.target table
 
 -- an origin without snapshots goes, and its disk is free again
 unfoldable pub closed : ℕ → Table → Result (Reply × Table) Refusal

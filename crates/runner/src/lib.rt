@@ -1,8 +1,8 @@
 //! The command program: a table of named devices, the commands that make, change and show them, and whole texts of
 //! command lines.
 //!
-//! It stands on `command`, which says what a line says, on `settled`, which says what a volume does, and on `reply` and
-//! `lines` for what is printed and read. It promises that a text of lines prints exactly the answers of the definition
+//! It stands on `command`, which says what a line says, on `settled`, which says what a volume does, and on `table`,
+//! `status`, `reply` and `lines` for what is printed and read. It promises that a text of lines prints exactly the answers of the definition
 //! `output_of`, one command after the other, from no devices on: each command's own definition says what it answers and
 //! which devices it leaves, with the first refusal in the stated order, and a refusal leaves every device as it was.
 //! Since a volume's arrays are computed from its disks' own bytes, this says too that the raw bytes of a live
@@ -14,16 +14,19 @@ mod desk;
 mod devices;
 mod disks;
 mod error;
+mod events;
 mod find;
 mod free_disk;
+mod messages;
 mod mounted;
 mod names;
 mod place;
 mod sectors;
 mod sizes;
-mod status;
+mod status_line;
 mod step;
 mod summary;
+mod table_line;
 mod text;
 mod volumes;
 

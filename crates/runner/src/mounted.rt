@@ -6,6 +6,7 @@ ghost use Rattle.device.specs.Disk.{disk_contents};
 ghost use Rattle.runner.specs.Disks.{store_at, saved_in, raw_size, cut};
 ghost use Rattle.runner.specs.Sectors.{sectors_in, shown_at, read_in, written_in, not_written};
 ghost use Rattle.runner.specs.Status.{status_in, snapshot_status, used_at};
+ghost use Rattle.runner.specs.TableLines.{line_in, snapshot_line, chunk_at};
 ghost use Rattle.runner.specs.Volumes.{origin_on, snapshot_on, parted};
 ghost use Rattle.runner.specs.Steps.{Changes};
 ghost use Rattle.runner.specs.declared.place.Role.TheVariants.{Origin, Snapshot};
@@ -17,12 +18,14 @@ use crate::free_disk::{FreeDisk, raw_sectors};
 use crate::names::Names;
 use crate::place::Role;
 use crate::sizes::range_in;
-use crate::status::{origin_line, snapshot_line};
+use crate::status_line::state_of;
 use device::{Block, MemDisk};
 use sector::{Buf, Range, Refusal, SECTOR_BYTES};
 use settled::{Usage, Volume};
+use status::{origin_line, snapshot_line};
 use std::alloc::Global;
 use std::marker::Model;
+use table::{Line, Target};
 use words::{Name, Text};
 
 /// An origin with its snapshots, and the names of all their devices.
@@ -300,6 +303,49 @@ impl Mounted {
             Role::Under | Role::Store(_) => Err(Refusal::BadTable),
         }
     }
+
+    /// The table line of a snapshot.
+    #[tactic(auto, unfolding(crate::specs::TableLines::snapshot_line))]
+    fn snapshot_table(&self, k: usize) -> Line
+        requires { k < length self.now.snaps }
+        ensures { snapshot_line k self.now ≡ Ok result }
+    {
+        Line {
+            sectors: self.volume.sectors() as u32,
+            target: Target::Snapshot {
+                device: self.disk.copy(),
+                store: self.snaps[k].store.copy(),
+                chunk: chunk(&self.volume, k),
+            },
+        }
+    }
+
+    /// The table line of the origin or of a snapshot. `BadTable` for a disk.
+    #[tactic(auto, unfolding(crate::specs::TableLines::line_in))]
+    pub fn table_line(&self, role: Role) -> Result<Line, Refusal>
+        requires { IsRoleAmong role (length self.now.snaps) }
+        ensures { result ≡ line_in role self.now }
+    {
+        match role {
+            Role::Origin => Ok(Line {
+                sectors: self.volume.sectors() as u32,
+                target: Target::Origin {
+                    device: self.disk.copy(),
+                },
+            }),
+            Role::Snapshot(k) => Ok(self.snapshot_table(k)),
+            Role::Under | Role::Store(_) => Err(Refusal::BadTable),
+        }
+    }
+}
+
+/// The sectors of the chunks of a snapshot.
+#[tactic(auto, using(crate::proofs::Snaps::chunk_here))]
+fn chunk(volume: &Volume, k: usize) -> u32
+    requires { k < length volume.now.snaps }
+    ensures { chunk_at k volume.now ≡ Ok result }
+{
+    volume.chunk(k)
 }
 
 /// The status line of a snapshot.
@@ -309,7 +355,8 @@ fn snapshot_status(alloc: Global, volume: &Volume, k: usize) -> Result<Text, Ref
     ensures { Gives result (snapshot_status k volume.now (length volume.now.array / 512)) }
 {
     let total = disk_sectors(store_disk(volume, k));
-    snapshot_line(alloc, volume.sectors(), usage(volume, k), total).map_err(|_| Refusal::NoMemory)
+    let state = state_of(usage(volume, k), total);
+    snapshot_line(alloc, volume.sectors(), state).map_err(|_| Refusal::NoMemory)
 }
 
 /// Reads sectors of what a snapshot shows. `Invalid` where it is spoiled.

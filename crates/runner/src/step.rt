@@ -5,8 +5,11 @@ ghost use Rattle.runner.specs.Steps.{Steps, step, answer_of};
 
 use crate::devices::Devices;
 use crate::disks::{load_disk, make_disk, save_disk};
+use crate::events::{settle_volume, step_volume};
+use crate::messages::tell_device;
 use crate::sectors::{read_device, write_device};
-use crate::status::status_device;
+use crate::status_line::status_device;
+use crate::table_line::show_table;
 use crate::volumes::{create_device, remove_device};
 use command::{Command, LINE_LIMIT, said};
 use reply::Reply;
@@ -24,6 +27,9 @@ fn obey(alloc: Global, devices: &mut Devices, command: Command) -> Result<Reply,
         Command::Remove { name } => remove_device(devices, &name),
         Command::Load { disk, first, bytes } => load_disk(devices, &disk, first, &bytes),
         Command::Save { disk, first, count } => save_disk(alloc, devices, &disk, first, count),
+        Command::Message { device, .. } => tell_device(devices, &device),
+        // no device has layers, which alone know the time
+        Command::Tick { .. } => Ok(Reply::Done),
         Command::Read {
             device,
             first,
@@ -34,7 +40,10 @@ fn obey(alloc: Global, devices: &mut Devices, command: Command) -> Result<Reply,
             first,
             bytes,
         } => write_device(devices, &device, first, &bytes),
+        Command::Step { volume, event } => step_volume(devices, &volume, &event),
+        Command::Settle { volume } => settle_volume(devices, &volume),
         Command::Status { device } => status_device(alloc, devices, &device),
+        Command::Table { device } => show_table(alloc, devices, &device),
     }
 }
 

@@ -13,10 +13,10 @@ use crate::find::{find, find_device, is_full};
 use crate::free_disk::FreeDisk;
 use crate::mounted::Mounted;
 use crate::place::{Place, Role};
-use command::TableLine;
 use reply::Reply;
 use sector::Refusal;
 use std::alloc::Global;
+use table::{Line, Target};
 use words::Name;
 
 /// Why nothing can stand on a device of a volume.
@@ -107,23 +107,23 @@ fn volume_over(devices: &Devices, name: &Name) -> Result<usize, Refusal>
     }
 }
 
-/// The device of a table line.
+/// The device of a target, over so many sectors.
 #[tactic(auto, unfolding(crate::specs::Volumes::made_by))]
 fn made_by(
     alloc: Global,
     devices: &mut Devices,
     name: Name,
-    line: TableLine,
+    sectors: u32,
+    target: Target,
 ) -> Result<Reply, Refusal>
-    ensures { Steps result (table_of devices.old) (table_of devices.new) (made_by name line (table_of devices.old)) }
+    ensures { Steps result (table_of devices.old) (table_of devices.new) (made_by name sectors target (table_of devices.old)) }
 {
-    match line {
-        TableLine::Origin { sectors, device } => match find_device(devices, &device)? {
+    match target {
+        Target::Origin { device } => match find_device(devices, &device)? {
             Place::Free(i) => make_origin(alloc, devices, name, sectors, i),
             Place::In(_, role) => Err(taken(role)),
         },
-        TableLine::Snapshot {
-            sectors,
+        Target::Snapshot {
             device,
             store,
             chunk,
@@ -134,6 +134,10 @@ fn made_by(
                 Place::In(_, role) => Err(taken(role)),
             }
         }
+        // a merge begins by a command of its own, and layers are not made yet
+        Target::Merge { .. } | Target::Flakey { .. } | Target::Dust { .. } | Target::Error => {
+            Err(Refusal::BadTable)
+        }
     }
 }
 
@@ -143,7 +147,7 @@ pub fn create_device(
     alloc: Global,
     devices: &mut Devices,
     name: Name,
-    line: TableLine,
+    line: Line,
 ) -> Result<Reply, Refusal>
     ensures { Steps result (table_of devices.old) (table_of devices.new) (create name line (table_of devices.old)) }
 {
@@ -153,7 +157,7 @@ pub fn create_device(
     if is_full(devices) {
         return Err(Refusal::TooMany);
     }
-    made_by(alloc, devices, name, line)
+    made_by(alloc, devices, name, line.sectors, line.target)
 }
 
 /// An origin without snapshots goes, and its disk is free again.

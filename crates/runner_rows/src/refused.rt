@@ -17,7 +17,7 @@ const QUERIES: [&str; 6] = [
 ];
 
 /// Lines, and what each answers: a snapshot, a first write of its origin, and the devices taken away again.
-const LINES: [(&str, &str); 16] = [
+const LINES: [(&str, &str); 18] = [
     ("disk base 128", "ok\n"),
     ("disk cow 64", "ok\n"),
     ("create vol 0 128 snapshot-origin base", "ok\n"),
@@ -27,6 +27,8 @@ const LINES: [(&str, &str); 16] = [
     ("read vol 5 1", "ok 512*aa\n"),
     ("read snap 5 1", "ok 512*11\n"),
     ("status snap", "ok 0 128 snapshot 3/64 2\n"),
+    ("table vol", "ok 0 128 snapshot-origin base\n"),
+    ("table snap", "ok 0 128 snapshot base cow P 1\n"),
     ("save cow 1 1", "ok 1*05 7*00 1*02 503*00\n"),
     ("save cow 2 1", "ok 512*11\n"),
     ("remove snap", "ok\n"),

@@ -3,7 +3,8 @@
 use runner::{exit_status, run};
 use std::test::Fail;
 
-fn printed(alloc: std::alloc::Global, text: &str) -> Result<(Vec<u8>, u8), Fail> {
+/// What is printed for a text, and the exit status.
+pub fn printed(alloc: std::alloc::Global, text: &str) -> Result<(Vec<u8>, u8), Fail> {
     let mut reader = text.as_bytes();
     let mut out = Vec::new(alloc);
     let ran = run(alloc, &mut reader, &mut out, 1);

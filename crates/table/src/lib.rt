@@ -10,7 +10,7 @@ mod reading;
 
 pub use lines::{Features, Line, Target};
 pub use printing::print;
-pub use reading::parse;
+pub use reading::{parse, parse_words};
 
 #[cfg(test)]
 mod tests;

@@ -217,7 +217,9 @@ fn target(kind: &[u8], words: &[&[u8]]) -> Result<Target, Refusal>
     }
 }
 
-fn line(words: &[&[u8]]) -> Result<Line, Refusal>
+/// The line that some words say, which may be words of a longer line. `BadTable` where they are no table line, `BadChunk`
+/// where they are one but for a chunk size that is no power of two from 1 to 1024.
+pub fn parse_words(words: &[&[u8]]) -> Result<Line, Refusal>
     ensures reads { result ≡ line_in (texts words.now) }
     ensures lawful { IfOk result (λ line. is_line line ≡ true) }
 {
@@ -234,12 +236,12 @@ fn line(words: &[&[u8]]) -> Result<Line, Refusal>
     }
 }
 
-/// The line that a text says. `BadTable` where it is no table line, `BadChunk` where it is one but for a chunk size
-/// that is no power of two from 1 to 1024, `NoMemory` where the allocator refused memory for the list of words.
+/// The line that a text says. Refused as `parse_words` is, and with `NoMemory` where the allocator refused memory for the
+/// list of words.
 pub fn parse(alloc: Global, text: &[u8]) -> Result<Line, Refusal>
     ensures reads { Gives result (line_of text.now) }
     ensures lawful { IfOk result (λ line. is_line line ≡ true) }
 {
     let words = words_in(alloc, text).map_err(|_| Refusal::NoMemory)?;
-    line(words.as_slice())
+    parse_words(words.as_slice())
 }

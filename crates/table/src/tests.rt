@@ -1,5 +1,5 @@
 // Table lines by hand.
-use crate::{Features, Target, parse, print};
+use crate::{Features, Target, parse, parse_words, print};
 use sector::Refusal;
 use std::alloc::Global;
 use std::process::Abort;
@@ -59,6 +59,24 @@ fn a_line_is_printed_behind_what_a_vector_holds(rt: HostRuntime) -> Result<(), F
     let mut out = b"ok ".to_vec(rt.alloc())?;
     print(&parse(rt.alloc(), b"0 64 error")?, &mut out)?;
     assert_eq!(rt; out.as_slice(), b"ok 0 64 error".as_slice());
+    Ok(())
+}
+
+#[test]
+fn a_line_is_read_from_the_words_of_a_longer_one(rt: HostRuntime) -> Result<(), Fail> {
+    let words = [
+        b"create".as_slice(),
+        b"vol",
+        b"0",
+        b"128",
+        b"snapshot-origin",
+        b"base",
+    ];
+    let mut out = Vec::new(rt.alloc());
+    print(&parse_words(&words[2..])?, &mut out)?;
+    assert_eq!(rt; out.as_slice(), b"0 128 snapshot-origin base".as_slice());
+    assert_eq!(rt; parse_words(&words[1..]).err(), Some(Refusal::BadTable));
+    assert_eq!(rt; parse_words(&words[2..3]).err(), Some(Refusal::BadTable));
     Ok(())
 }
 

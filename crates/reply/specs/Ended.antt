@@ -1,0 +1,17 @@
+-- The line of a request that was started by one command and ended in another. The form is this project's own choice.
+use Rattle.std.specs.Prelude.{ℕ, List, ◌++◌, codes, decimal}
+use Rattle.reply.specs.declared.ended.Ended.{Ended}
+use Rattle.reply.specs.declared.ended.Ending.{Ending}
+use Rattle.reply.specs.declared.ended.Ending.TheVariants.{Data, Written, Refused}
+use Rattle.reply.specs.Runs.{data_words}
+use Rattle.reply.specs.Texts.{refusal_text}
+
+-- how it ended, a space before each word
+abbrev pub ending_words : Ending → List ℕ
+ending_words (Data bytes) = data_words bytes
+ending_words Written = codes " written"
+ending_words (Refused refusal) = codes " " ++ refusal_text refusal
+
+-- the line, with its end
+abbrev pub ended_text : Ended → List ℕ
+ended_text ended = codes "reply " ++ decimal ended.request ++ ending_words ended.ending ++ codes "\n"

@@ -1,0 +1,34 @@
+// Replies to messages.
+ghost use Rattle.std.specs.Prelude.{◌≡◌, IfOk};
+ghost use Rattle.reply.specs.declared.Reply.TheVariants.{Said};
+ghost use Rattle.reply.specs.Answers.{reply_to};
+
+use crate::Reply;
+use itoa::Buffer;
+use layers::Answer;
+use std::alloc::{AllocError, Global};
+use words::Text;
+
+/// A reply that says a text.
+fn saying(alloc: Global, text: &[u8]) -> Result<Reply, AllocError>
+    ensures { IfOk result (λ reply. reply ≡ Said text.now) }
+{
+    Ok(Reply::Said(Text::from_slice(alloc, text)?))
+}
+
+impl Reply {
+    /// The reply to a message, by the answer of the layer that it was for. An error says that the allocator refused
+    /// memory for its text.
+    pub fn to_message(alloc: Global, answer: Answer) -> Result<Reply, AllocError>
+        ensures { IfOk result (λ reply. reply ≡ reply_to answer) }
+    {
+        match answer {
+            Answer::Done => Ok(Reply::Done),
+            Answer::Already => saying(alloc, b"already"),
+            Answer::Absent => saying(alloc, b"absent"),
+            Answer::Bad => saying(alloc, b"bad"),
+            Answer::Good => saying(alloc, b"good"),
+            Answer::Count(blocks) => saying(alloc, Buffer::new().format(blocks).as_bytes()),
+        }
+    }
+}

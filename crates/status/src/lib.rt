@@ -1,0 +1,101 @@
+//! Status lines of origins and snapshots, as the kernel's admin-guide page on snapshots has them.
+//!
+//! It stands on `words` for texts. It promises that each line is the one of its definition in `specs/`, byte by byte.
+//! What the numbers of a line are is the caller's; only want of memory keeps a line from being made.
+#![tactic(auto)]
+
+ghost use Rattle.std.specs.Prelude.{◌≡◌, ◌++◌, OnOk, IfOk, decimal};
+ghost use Rattle.status.specs.Lines.{origin_text, snapshot_text, state_text};
+
+use itoa::Buffer;
+use std::alloc::{AllocError, Global};
+use words::Text;
+
+/// What a status line says of a snapshot.
+#[derive(Clone, Copy, Debug, PartialEq, Eq)]
+pub enum State {
+    /// The snapshot is spoiled.
+    Invalid,
+    /// Sectors of the snapshot's store: those in use, all, and those in use that hold no copies.
+    Used {
+        allocated: u64,
+        total: u64,
+        metadata: u64,
+    },
+}
+
+/// Adds a number in decimal digits.
+fn push_number(text: &mut Vec<u8>, number: u64) -> Result<(), AllocError>
+    ensures { OnOk result (text.new.items ≡ text.old.items ++ decimal number) }
+{
+    let mut buffer = Buffer::new();
+    text.extend_from_slice(buffer.format(number).as_bytes())
+}
+
+/// Adds what a status line says of a snapshot.
+fn push_state(text: &mut Vec<u8>, state: State) -> Result<(), AllocError>
+    ensures { OnOk result (text.new.items ≡ text.old.items ++ state_text state) }
+{
+    match state {
+        State::Invalid => text.extend_from_slice(b"Invalid"),
+        State::Used {
+            allocated,
+            total,
+            metadata,
+        } => {
+            push_number(text, allocated)?;
+            text.extend_from_slice(b"/")?;
+            push_number(text, total)?;
+            text.extend_from_slice(b" ")?;
+            push_number(text, metadata)
+        }
+    }
+}
+
+/// The status line of an origin of so many sectors, without a line end.
+pub fn origin_line(alloc: Global, sectors: u64) -> Result<Text, AllocError>
+    ensures { IfOk result (λ text. text ≡ origin_text sectors) }
+{
+    let mut text = Vec::new(alloc);
+    text.extend_from_slice(b"0 ")?;
+    push_number(&mut text, sectors)?;
+    text.extend_from_slice(b" snapshot-origin")?;
+    Ok(Text::from_vec(text))
+}
+
+/// The status line of a snapshot of so many sectors, without a line end.
+pub fn snapshot_line(alloc: Global, sectors: u64, state: State) -> Result<Text, AllocError>
+    ensures { IfOk result (λ text. text ≡ snapshot_text sectors state) }
+{
+    let mut text = Vec::new(alloc);
+    text.extend_from_slice(b"0 ")?;
+    push_number(&mut text, sectors)?;
+    text.extend_from_slice(b" snapshot ")?;
+    push_state(&mut text, state)?;
+    Ok(Text::from_vec(text))
+}
+
+#[cfg(test)]
+mod tests {
+    use super::*;
+    use std::test::Fail;
+
+    #[test]
+    fn prints_each_status_line(rt: HostRuntime) -> Result<(), Fail> {
+        let origin = origin_line(rt.alloc(), 2_097_152)?;
+        assert_eq!(rt; origin.as_slice(), b"0 2097152 snapshot-origin".as_slice());
+        let state = State::Used {
+            allocated: 397_896,
+            total: 2_097_152,
+            metadata: 1_560,
+        };
+        let snapshot = snapshot_line(rt.alloc(), 8_388_608, state)?;
+        assert_eq!(rt;
+            snapshot.as_slice(),
+            b"0 8388608 snapshot 397896/2097152 1560".as_slice()
+        );
+        let spoiled = snapshot_line(rt.alloc(), 128, State::Invalid)?;
+        assert_eq!(rt; spoiled.as_slice(), b"0 128 snapshot Invalid".as_slice());
+        Ok(())
+    }
+}
