@@ -1,0 +1,5 @@
+pub mod AtPlace
+pub mod Below
+pub mod DiskBelow
+pub mod InTable
+pub mod StackSizes

@@ -1,0 +1,110 @@
+// Finding a device by its name.
+ghost use Rattle.std.specs.Prelude.{◌≡◌, ◌<◌, ◌-◌, length, IfSome, IfOk, nat_le, sum_by, slice_get, is_some, Some, position};
+ghost use Rattle.devices.specs.Devices.{table_of};
+ghost use Rattle.devices.specs.Places.{place_of, place_free, place_among, found, role_of, is_among, IsDepthAt, IsRoleAt, IsPlaceIn};
+ghost use Rattle.devices.specs.declared.place.Place.TheVariants.{Free, In};
+ghost use Rattle.devices.specs.Disks.{device_count, devices_in, devices_of};
+
+use crate::free_stack::FreeStack;
+use crate::held::{Held, MOST_DEVICES};
+use crate::mounted::Mounted;
+use crate::place::Place;
+use sector::Refusal;
+use words::Name;
+
+fn stack_of(stacks: &[FreeStack], name: &Name) -> Option<usize>
+    ensures place { result ≡ position (λ s. is_among name.now s.names) stacks.now }
+    ensures within { IfSome result (λ i. i < length stacks.now) }
+{
+    stacks.iter().position(|stack| stack.has(name))
+}
+
+fn volume_of(volumes: &[Mounted], name: &Name) -> Option<usize>
+    ensures place { result ≡ position (λ v. is_some (role_of name.now v)) volumes.now }
+    ensures within { IfSome result (λ v. v < length volumes.now) }
+{
+    volumes.iter().position(|volume| volume.has(name))
+}
+
+/// Where a name stands among the stacks that nothing uses.
+#[tactic(auto, unfolding(crate::specs::Places::place_free))]
+fn place_free(held: &Held, name: &Name) -> Option<Place>
+    ensures place { result ≡ place_free name.now held.now.stacks.items }
+    ensures within { IfSome result (λ place. IsPlaceIn place (table_of held.now)) }
+{
+    match stack_of(&held.stacks, name) {
+        None => None,
+        Some(i) => match held.stacks[i].depth(name) {
+            None => None,
+            Some(depth) => Some(Place::Free(i, depth)),
+        },
+    }
+}
+
+/// Where a name stands among the volumes.
+#[tactic(auto, unfolding(crate::specs::Places::place_among))]
+fn place_among(held: &Held, name: &Name) -> Option<Place>
+    ensures place { result ≡ place_among name.now held.now.volumes.items }
+    ensures within { IfSome result (λ place. IsPlaceIn place (table_of held.now)) }
+{
+    match volume_of(&held.volumes, name) {
+        None => None,
+        Some(v) => match held.volumes[v].role(name) {
+            None => None,
+            Some(role) => Some(Place::In(v, role)),
+        },
+    }
+}
+
+/// Where a name stands.
+#[tactic(auto, unfolding(crate::specs::Places::place_of))]
+pub fn find(held: &Held, name: &Name) -> Option<Place>
+    ensures place { result ≡ place_of name.now (table_of held.now) }
+    ensures within { IfSome result (λ place. IsPlaceIn place (table_of held.now)) }
+{
+    match place_free(held, name) {
+        Some(place) => Some(place),
+        None => place_among(held, name),
+    }
+}
+
+/// Where a name stands. `NoSuchDevice` for a name that no device has.
+pub fn find_device(held: &Held, name: &Name) -> Result<Place, Refusal>
+    ensures place { result ≡ found (place_of name.now (table_of held.now)) }
+    ensures within { IfOk result (λ place. IsPlaceIn place (table_of held.now)) }
+{
+    match find(held, name) {
+        None => Err(Refusal::NoSuchDevice),
+        Some(place) => Ok(place),
+    }
+}
+
+/// What is left of so many devices, those of some stacks taken away.
+fn left_after_stacks(stacks: &[FreeStack], most: usize) -> usize
+    ensures { result ≡ most - sum_by devices_of stacks.now }
+{
+    let mut left = most;
+    for stack in stacks {
+        left = left.saturating_sub(stack.devices());
+    }
+    left
+}
+
+/// What is left of so many devices, those of some volumes taken away.
+fn left_after_volumes(volumes: &[Mounted], most: usize) -> usize
+    ensures { result ≡ most - sum_by devices_in volumes.now }
+{
+    let mut left = most;
+    for volume in volumes {
+        left = volume.left_of(left);
+    }
+    left
+}
+
+/// Whether there are as many devices as there may be.
+pub fn is_full(held: &Held) -> bool
+    ensures { result ≡ nat_le 64 (device_count (table_of held.now)) }
+{
+    let left = left_after_stacks(&held.stacks, MOST_DEVICES);
+    left_after_volumes(&held.volumes, left) == 0
+}

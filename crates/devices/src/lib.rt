@@ -1,0 +1,38 @@
+//! The program's named devices: disks, layers over them, and volumes, and what each command does to them.
+//!
+//! It stands on `layers` for stacks of layers, on `table` for the lines that describe devices, and on `settling` for what a
+//! volume does. It promises that each command answers and leaves exactly what its definition says of the table of devices
+//! before it, with the first refusal in the stated order, and that a refusal leaves every device as it was. Want of
+//! memory alone may change an answer; then nothing else changed.
+//!
+//! Volumes stand in the table, in the look-up and in what is saved, told, ticked and printed, but no call makes one yet: the
+//! lines of an origin and of a snapshot are `BadTable`, and `remove` of a device of a volume is `Busy`.
+#![tactic(auto)]
+
+mod bottom;
+mod create;
+mod disks;
+mod find;
+mod free_stack;
+mod held;
+mod lines;
+mod messages;
+mod mounted;
+mod names;
+mod parked;
+mod place;
+mod raw;
+mod remove;
+mod sizes;
+mod told;
+
+pub use create::create_device;
+pub use disks::make_disk;
+pub use held::Held;
+pub use lines::line_text;
+pub use messages::{tell, tick};
+pub use raw::{load_disk, save_disk};
+pub use remove::remove_device;
+
+#[cfg(test)]
+mod tests;
