@@ -1,0 +1,16 @@
+pub mod Settled
+pub mod Quiet
+pub mod WriteRuns
+pub mod Seen
+pub mod Limits
+pub mod Served
+pub mod Refusing
+pub mod Between
+pub mod ReadRuns
+pub mod Going
+pub mod Writing
+pub mod Reading
+pub mod Leaves
+pub mod Takes
+pub mod Closes
+pub mod Started

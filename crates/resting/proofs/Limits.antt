@@ -1,0 +1,119 @@
+-- A request that can be served is refused for its snapshot's sake alone.
+use Rattle.std.proofs.Common.{◌≡◌, inl, inr, ℕ, ◌+◌, ◌*◌, ◌/◌, ◌%◌, ◌<◌, ◌≤◌, Bool, true, false, List, [], ◌∷◌, length, Option, Some, None, refl, sym, ◌∙◌, ap, arith, nat_eq}
+use Rattle.std.specs.Prelude.{◌&&◌, ◌||◌, not, nat_lt, nat_le, sum_by, count_by, slice_index_or, ◌++◌}
+use Rattle.std.specs.List.{list_all}
+use Rattle.std.proofs.lemmas.Bool.{cases_Bool, eqb-true, true≢false}
+use Rattle.std.proofs.lemmas.List.{nil_from_length}
+use Rattle.std.proofs.lemmas.List.Sums.{count_by-le-length}
+use Rattle.std.proofs.lemmas.Nat.{div-add-mod'}
+use Rattle.sector.specs.declared.refusal.Refusal.{Refusal}
+use Rattle.sector.specs.declared.refusal.Refusal.TheVariants.{Invalid}
+use Rattle.plain.specs.declared.request.Request.{Request}
+use Rattle.plain.specs.declared.request.Dev.{Dev}
+use Rattle.plain.specs.declared.request.Dev.TheVariants.{Origin, Snap as ToSnap}
+use Rattle.pending.specs.Kinds.{kind_of}
+use Rattle.pending.specs.declared.flights.Kind.{Kind}
+use Rattle.pending.specs.declared.flights.Kind.TheVariants.{OriginRead, OriginWrite, SnapRead, SnapWrite}
+use Rattle.settled.proofs.Writes.{piece_high}
+use Rattle.snapshot.specs.Kept.{Kept}
+use Rattle.volume.specs.Volumed.{Volumed, piece_of}
+use Rattle.volume.specs.Whole.{count_in}
+use Rattle.volume.specs.Leaving.{is_done_of, is_quiet_of, place_of_snap}
+use Rattle.volume.specs.Submitting.{first_of_two, refusal_at, dev_refusal, range_refusal, limit_refusal, is_piece_of, are_too_many, starting, starts, submit_refusal}
+use Rattle.volume.proofs.Leaves.{quiet_none}
+use Rattle.volume.proofs.Sums.{sum_cons}
+use Rattle.resting.specs.Rested.{rested_of, has_dev}
+use Rattle.resting.specs.Serving.{CanServe}
+use Rattle.resting.proofs.Seen.{dev_missing}
+
+and_first : (a b : Bool) → (a && b) ≡ true → a ≡ true
+and_first true b e = refl
+and_first false b e = e
+
+and_second : (a b : Bool) → (a && b) ≡ true → b ≡ true
+and_second true b e = e
+and_second false b e = absurd (cc)
+
+lt-true : (m n : ℕ) → m < n → nat_lt m n ≡ true
+lt-true m n lt = search (arith)
+
+lt-false : (m n : ℕ) → n ≤ m → nat_lt m n ≡ false
+lt-false m n le = search (arith)
+
+le-true : (m n : ℕ) → m ≤ n → nat_le m n ≡ true
+le-true m n le = search (arith)
+
+le-false : (m n : ℕ) → n < m → nat_le m n ≡ false
+le-false m n lt = search (arith)
+
+-- a snapshot of which nothing is left has no numbers of copies
+pub done_copies : {B : Type 0} (s : Kept B) → is_done_of s ≡ true → s.copies ≡ []
+done_copies s e = nil_from_length s.copies (eqb-true (length s.copies) 0 (and_first (nat_eq (length s.copies) 0) (nat_eq (length s.marks) 0) (and_first (nat_eq (length s.copies) 0 && nat_eq (length s.marks) 0) (not s.untried) e)))
+
+done_marks : {B : Type 0} (s : Kept B) → is_done_of s ≡ true → s.marks ≡ []
+done_marks s e = nil_from_length s.marks (eqb-true (length s.marks) 0 (and_second (nat_eq (length s.copies) 0) (nat_eq (length s.marks) 0) (and_first (nat_eq (length s.copies) 0 && nat_eq (length s.marks) 0) (not s.untried) e)))
+
+done_count : {B : Type 0} (s : Kept B) → is_done_of s ≡ true → count_in s ≡ 0
+done_count s e = rw (done_copies s e, done_marks s e) refl
+
+counts_none : {B : Type 0} (snaps : List (Kept B)) → list_all is_done_of snaps ≡ true → sum_by count_in snaps ≡ 0
+counts_none [] e = refl
+counts_none (s ∷ snaps) e =
+    let here = done_count s (and_first (is_done_of s) (list_all is_done_of snaps) e) in
+    let rest = counts_none snaps (and_second (is_done_of s) (list_all is_done_of snaps) e) in
+    omega (arith, sum_cons count_in s snaps, here, rest)
+
+starting_few : {B : Type 0} (kind : Kind) (c : ℕ) (snaps : List (Kept B)) → starting kind c snaps ≤ length snaps
+starting_few OriginRead c snaps = omega arith
+starting_few OriginWrite c snaps = count_by-le-length (starts c) snaps
+starting_few (SnapRead number) c snaps = omega arith
+starting_few (SnapWrite number) c snaps = count_by-le-length (λ s. nat_eq s.number number && starts c s) snaps
+
+within_piece : (first count piece q r : ℕ) → first + count ≤ piece * q + piece → q * piece + r ≡ first → r + count ≤ piece
+within_piece first count piece q r high whole = let turned : q * piece ≡ piece * q = grind arith in omega (arith, high, whole, turned)
+
+refused_at : {B : Type 0} (dev : Dev) (v : Volumed B) (o : Option ℕ) (refusal : Refusal) → (o ≡ None → ⊥) → refusal_at v.snaps o ≡ Some refusal → refusal ≡ Invalid
+refused_at dev v None refusal there e = absurd (there refl)
+refused_at dev v (Some k) refusal there e = elim (cases_Bool (slice_index_or (Rattle.std.specs.Prelude.map (λ s. s.live) v.snaps) k false)) [
+  | inl live ↦ (let none : None ≡ Some refusal = rw live at e in absurd (cc))
+  | inr dead ↦ (let some : Some Invalid ≡ Some refusal = rw dead at e in cc)
+]
+
+dev_refused : {B : Type 0} (dev : Dev) (v : Volumed B) (refusal : Refusal) → has_dev dev (rested_of v) ≡ true → dev_refusal dev v.snaps ≡ Some refusal → refusal ≡ Invalid
+dev_refused Origin v refusal there e = absurd (cc)
+dev_refused (ToSnap n) v refusal there e = refused_at (ToSnap n) v (place_of_snap n v.snaps) refusal (λ none. true≢false (sym there ∙ dev_missing n v none)) e
+
+first_only : (a b : Option Refusal) (refusal : Refusal) → b ≡ None → first_of_two a b ≡ Some refusal → a ≡ Some refusal
+first_only None b refusal none e = absurd (let both : None ≡ Some refusal = sym none ∙ e in cc)
+first_only (Some other) b refusal none e = e
+
+module _ {B : Type 0} (size : B → ℕ) (request : Request) (v : Volumed B) (can : CanServe size request.dev request.op request.range v) (quiet : is_quiet_of v ≡ true) (few : length v.snaps ≤ 8) where
+  range_none : range_refusal (piece_of v.snaps) (size v.origin) request.range ≡ None
+  range_none =
+      let whole : request.range.first / piece_of v.snaps * piece_of v.snaps + request.range.first % piece_of v.snaps ≡ request.range.first = div-add-mod' request.range.first (piece_of v.snaps) in
+      let high = piece_high (piece_of v.snaps) request.range.first request.range.count can.pos can.some can.one in
+      let within = within_piece request.range.first request.range.count (piece_of v.snaps) (request.range.first / piece_of v.snaps) (request.range.first % piece_of v.snaps) high whole in
+      let fits : is_piece_of (piece_of v.snaps) (size v.origin) request.range ≡ true =
+      ap (λ b. b && nat_le (request.range.first + request.range.count) (size v.origin) && nat_le (request.range.first % piece_of v.snaps + request.range.count) (piece_of v.snaps)) (lt-true 0 request.range.count can.some)
+      ∙ ap (λ b. b && nat_le (request.range.first % piece_of v.snaps + request.range.count) (piece_of v.snaps)) (le-true (request.range.first + request.range.count) (size v.origin) can.inside)
+      ∙ le-true (request.range.first % piece_of v.snaps + request.range.count) (piece_of v.snaps) within in
+      rw fits refl
+
+  limit_none : limit_refusal (starting (kind_of request) (request.range.first / piece_of v.snaps) v.snaps) v ≡ None
+  limit_none =
+      let new : ℕ = starting (kind_of request) (request.range.first / piece_of v.snaps) v.snaps in
+      let flights : length v.flights ≡ 0 = ap length (quiet_none v quiet) in
+      let counts : sum_by count_in v.snaps ≡ 0 = counts_none v.snaps (and_second (nat_eq (length v.flights) 0) (list_all is_done_of v.snaps) quiet) in
+      let started : new ≤ length v.snaps = starting_few (kind_of request) (request.range.first / piece_of v.snaps) v.snaps in
+      let a : nat_le 64 (length v.flights) ≡ false = le-false 64 (length v.flights) (omega (arith, flights)) in
+      let b : nat_le 18_446_744_073_709_551_615 v.requests ≡ false = le-false 18_446_744_073_709_551_615 v.requests (omega (arith, can.requests)) in
+      let c : nat_lt 256 (sum_by count_in v.snaps + new) ≡ false = lt-false 256 (sum_by count_in v.snaps + new) (omega (arith, counts, started, few)) in
+      let d : nat_lt 18_446_744_073_709_551_607 v.copies ≡ false = lt-false 18_446_744_073_709_551_607 v.copies (omega (arith, can.copies)) in
+      let many : are_too_many new v ≡ false = rw (a, b, c, d) refl in
+      rw many refl
+
+  -- its snapshot is spoiled
+  pub only_invalid : (refusal : Refusal) → submit_refusal size request v ≡ Some refusal → refusal ≡ Invalid
+  only_invalid refusal e =
+      let later : first_of_two (range_refusal (piece_of v.snaps) (size v.origin) request.range) (limit_refusal (starting (kind_of request) (request.range.first / piece_of v.snaps) v.snaps) v) ≡ None = rw range_none limit_none in
+      dev_refused request.dev v refusal can.there (first_only (dev_refusal request.dev v.snaps) _ refusal later e)

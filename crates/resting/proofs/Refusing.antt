@@ -1,0 +1,62 @@
+-- A request that was not accepted.
+use Rattle.std.proofs.Common.{◌≡◌, ◌≢◌, inl, inr, ℕ, Bool, ◌+◌, ◌≤◌, true, List, [], ◌∷◌, length, map, refl, sym, ◌∙◌, ap, arith}
+use Rattle.std.specs.Prelude.{◌&&◌}
+use Rattle.std.specs.List.{list_all}
+use Rattle.sector.specs.declared.refusal.Refusal.{Refusal}
+use Rattle.sector.specs.declared.refusal.Refusal.TheVariants.{NoMemory, Invalid}
+use Rattle.device.specs.Layers.{Layer, is_loud}
+use Rattle.plain.specs.declared.request.Request.{Request}
+use Rattle.snapshot.specs.Kept.{Kept}
+use Rattle.volume.specs.Volumed.{Volumed, is_loud_in_all}
+use Rattle.volume.specs.Leaving.{is_done_of, is_quiet_of}
+use Rattle.volume.specs.Submitting.{SameButRoom, unroomed, IsRefusedAs}
+use Rattle.resting.specs.Serving.{CanServe}
+use Rattle.resting.proofs.Limits.{only_invalid}
+
+same_room : {B : Type 0} (v : Volumed B) → SameButRoom v v
+same_room v = record { roomed = refl; becomes = refl }
+
+all_unroomed : {B : Type 0} (test : Kept B → Bool) (xs : List (Kept B)) → ((s : Kept B) → test (unroomed s) ≡ test s) → list_all test (map unroomed xs) ≡ list_all test xs
+all_unroomed test [] same = refl
+all_unroomed test (x ∷ xs) same = ap (λ b. b && list_all test (map unroomed xs)) (same x) ∙ ap (λ b. test x && b) (all_unroomed test xs same)
+
+all_roomed : {B : Type 0} (test : Kept B → Bool) (xs ys : List (Kept B)) → map unroomed xs ≡ map unroomed ys → ((s : Kept B) → test (unroomed s) ≡ test s) → list_all test xs ≡ list_all test ys
+all_roomed test xs ys e same = sym (all_unroomed test xs same) ∙ ap (list_all test) e ∙ all_unroomed test ys same
+
+-- where nothing but room was made, the volume is as quiet and as loud
+pub room_quiet : {B : Type 0} (old new : Volumed B) → SameButRoom old new → is_quiet_of new ≡ is_quiet_of old
+room_quiet {B} old new same =
+    ap (λ (v : Volumed B). is_quiet_of v) same.becomes ∙ ap (λ b. Rattle.std.specs.Prelude.◌==◌ (length old.flights) 0 && b) (all_roomed is_done_of new.snaps old.snaps same.roomed (λ s. refl))
+
+pub room_loud : {B : Type 0} (layers : B → List Layer) (old new : Volumed B) → SameButRoom old new → is_loud_in_all layers new ≡ is_loud_in_all layers old
+room_loud {B} layers old new same =
+    ap (λ (v : Volumed B). is_loud_in_all layers v) same.becomes ∙ ap (λ b. is_loud (layers old.origin) && b) (all_roomed (λ s. is_loud (layers s.device)) new.snaps old.snaps same.roomed (λ s. refl))
+
+module _ {B : Type 0} (contents : B → List ℕ) (layers : B → List Layer) (size : B → ℕ) (request : Request) (refusal : Refusal) (old new : Volumed B) (refused : IsRefusedAs contents layers size request refusal old new) where
+  -- refused for another reason than its snapshot: memory
+  pub starved_only : CanServe size request.dev request.op request.range old → is_quiet_of old ≡ true → length old.snaps ≤ 8 → refusal ≢ Invalid → (refusal ≡ NoMemory) × SameButRoom old new
+  starved_only can quiet few other = elim refused [
+    | inl first ↦ absurd (other (only_invalid size request old can quiet few refusal first.0))
+    | inr later ↦ elim later [
+      | inl starved ↦ (starved.1, starved.2)
+      | inr full ↦ absurd (other full.1)
+    ]
+  ]
+
+  pub refused_loud : is_loud_in_all layers new ≡ is_loud_in_all layers old
+  refused_loud = elim refused [
+    | inl first ↦ ap (λ (v : Volumed B). is_loud_in_all layers v) first.1
+    | inr later ↦ elim later [
+      | inl starved ↦ room_loud layers old new starved.2
+      | inr full ↦ full.2.2.loud
+    ]
+  ]
+
+  pub refused_requests : new.requests ≤ old.requests + 1
+  refused_requests = elim refused [
+    | inl first ↦ (let same : new.requests ≡ old.requests = ap (λ (v : Volumed B). v.requests) first.1 in omega (arith, same))
+    | inr later ↦ elim later [
+      | inl starved ↦ (let same : new.requests ≡ old.requests = ap (λ (v : Volumed B). v.requests) starved.2.becomes in omega (arith, same))
+      | inr full ↦ (let same : new.requests ≡ old.requests = ap (λ (v : Volumed B). v.requests) full.2.2.becomes in omega (arith, same))
+    ]
+  ]

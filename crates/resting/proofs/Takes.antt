@@ -1,0 +1,113 @@
+-- A snapshot is taken.
+use Rattle.std.proofs.Common.{◌≡◌, inl, inr, ℕ, ◌<◌, Bool, true, false, List, [], ◌∷◌, ◌++◌, length, map, Some, None, refl, sym, ◌∙◌, ap, subst, arith, length-append}
+use Rattle.std.specs.Prelude.{◌==◌, ◌&&◌, ◌||◌}
+use Rattle.std.specs.List.{list_all}
+use Rattle.std.proofs.lemmas.Bool.{cond-true}
+use Rattle.std.proofs.lemmas.Bool.Decides.{leb_tells}
+use Rattle.sector.specs.declared.refusal.Refusal.{Refusal}
+use Rattle.sector.specs.declared.refusal.Refusal.TheVariants.{TooMany}
+use Rattle.device.specs.Layers.{Layer, is_loud}
+use Rattle.settling.specs.Snaps.{Volume}
+use Rattle.settling.specs.Attaching.{attached, refused_attach}
+use Rattle.settling.specs.Rest.{IsAtRest}
+use Rattle.snapshot.specs.declared.opening.StoreDev.{StoreDev}
+use Rattle.volume.specs.Volumed.{Volumed, is_loud_in_all}
+use Rattle.volume.specs.Moved.{moving_of}
+use Rattle.volume.specs.Leaving.{is_done_of, is_quiet_of}
+use Rattle.volume.specs.Taking.{taking_refusal, attach_refusal}
+use Rattle.resting.specs.Rested.{attached_of, rested_of, settled_of, IsSettled}
+use Rattle.resting.specs.Between.{IsBetween}
+use Rattle.resting.specs.Taking.{IsTakenAs}
+use Rattle.volume.specs.Attached.{store_of, volume_in, IsGained, IsAttachedAs}
+use Rattle.resting.proofs.Seen.{settled_same, loud_same}
+
+all_one_more : {X : Type 0} (test : X → Bool) (xs : List X) (x : X) → list_all test (xs ++ x ∷ []) ≡ (list_all test xs && test x)
+all_one_more test [] x = both (test x)
+  where
+    both : (b : Bool) → (b && true) ≡ (true && b)
+    both true = refl
+    both false = refl
+all_one_more test (y ∷ ys) x = ap (λ b. test y && b) (all_one_more test ys x) ∙ assoc (test y) (list_all test ys) (test x)
+  where
+    assoc : (a b c : Bool) → (a && (b && c)) ≡ ((a && b) && c)
+    assoc true b c = refl
+    assoc false b c = refl
+
+map_one_more : {X Y : Type 0} (f : X → Y) (xs : List X) (x : X) → map f (xs ++ x ∷ []) ≡ map f xs ++ f x ∷ []
+map_one_more f [] x = refl
+map_one_more f (y ∷ ys) x = ap (λ (zs : List _). f y ∷ zs) (map_one_more f ys x)
+
+and_first : (a b : Bool) → (a && b) ≡ true → a ≡ true
+and_first true b e = refl
+and_first false b e = e
+
+and_second : (a b : Bool) → (a && b) ≡ true → b ≡ true
+and_second true b e = e
+and_second false b e = absurd (cc)
+
+-- fewer than eight before
+few_before : (stale quiet : Bool) (count attached chunk : ℕ) → taking_refusal stale quiet count attached chunk ≡ None → count < 8
+few_before true quiet count attached chunk e = absurd (cc)
+few_before false false count attached chunk e = absurd (cc)
+few_before false true count attached chunk e = elim (leb_tells 8 count) [
+  | inl t ↦ absurd (let got : Some TooMany ≡ None = sym (cond-true _ _ _ (ap (λ b. b || (attached == 4_294_967_295)) t.0)) ∙ e in cc)
+  | inr f ↦ f.1
+]
+
+module _ {B : Type 0} (contents : B → List ℕ) (layers : B → List Layer) (size : B → ℕ) (number chunk : ℕ) (store : StoreDev B) (old new : Volumed B) (gained : IsGained layers size number store old new) where
+  snaps_are : new.snaps ≡ old.snaps ++ gained.snap ∷ []
+  snaps_are = ap (λ (v : Volumed B). v.snaps) gained.becomes
+
+  done_snap : is_done_of gained.snap ≡ true
+  done_snap = rw (gained.copies, gained.marks, gained.untried) refl
+
+  pub taken_between : IsBetween old → attach_refusal store.stale chunk old ≡ None → IsBetween new
+  taken_between between admitted = record {
+    quiet = ap (λ (v : Volumed B). is_quiet_of v) gained.becomes ∙ ap (λ b. (length old.flights == 0) && b) (all_one_more is_done_of old.snaps gained.snap ∙ ap (λ b. list_all is_done_of old.snaps && b) done_snap ∙ and_true (list_all is_done_of old.snaps)) ∙ between.quiet;
+    few = (let lt = few_before store.stale (is_quiet_of old) (length old.snaps) old.attached chunk admitted in
+        let long : length new.snaps ≡ length (old.snaps ++ gained.snap ∷ []) = ap length snaps_are in
+        omega (arith, lt, long, length-append old.snaps (gained.snap ∷ [])));
+  }
+    where
+      and_true : (a : Bool) → (a && true) ≡ a
+      and_true true = refl
+      and_true false = refl
+
+  pub taken_as : IsTakenAs layers size number store (rested_of old) (rested_of new)
+  taken_as = record {
+    snap = attached_of gained.snap;
+    origin = ap (λ (v : Volumed B). v.origin) gained.becomes;
+    snaps = ap (λ (v : Volumed B). map attached_of v.snaps) gained.becomes ∙ map_one_more attached_of old.snaps gained.snap;
+    requests = ap (λ (v : Volumed B). v.requests) gained.becomes;
+    copies = ap (λ (v : Volumed B). v.copies) gained.becomes;
+    attached = ap (λ (v : Volumed B). v.attached) gained.becomes;
+    number_is = gained.number_is;
+    live = gained.live;
+    stale = gained.stale;
+    sizes = gained.sizes;
+    loud = gained.loud;
+  }
+
+  -- a settled volume and a store that drops no writes make a settled volume
+  pub taken_settles : (is_loud_in_all layers old ≡ true → is_loud (layers store.device) ≡ true → IsAttachedAs contents layers number chunk store old new)
+      → is_loud_in_all layers new ≡ (is_loud_in_all layers old && is_loud (layers store.device)) → IsSettled contents layers size (rested_of old) → is_loud (layers store.device) ≡ true → IsSettled contents layers size (rested_of new)
+  taken_settles attached_as both settled given =
+      let was : is_loud_in_all layers old ≡ true = sym (loud_same contents layers old) ∙ settled.loud in
+      let origin : size new.origin ≡ size old.origin = ap (λ (v : Volumed B). size v.origin) gained.becomes in
+      record {
+        loud = loud_same contents layers new ∙ both ∙ ap (λ b. b && is_loud (layers store.device)) was ∙ given;
+        rest = subst (λ (n : ℕ). IsAtRest n (moving_of contents layers None new)) (sym origin) ((attached_as was given).rests (size old.origin) None settled.rest);
+      }
+
+module _ {B : Type 0} (contents : B → List ℕ) (layers : B → List Layer) (number chunk : ℕ) where
+  -- in the words of what callers see
+  pub attached_seen : (store : StoreDev B) (old new : Volumed B) → IsAttachedAs contents layers number chunk store old new
+      → attached number chunk (store_of contents layers store) (settled_of contents layers (rested_of old)) ≡ record { volume = settled_of contents layers (rested_of new); refused = None; back = None }
+  attached_seen store old new a =
+      ap (attached number chunk (store_of contents layers store)) (settled_same contents layers None old) ∙ a.exact
+      ∙ ap (λ (v : Volume). record { volume = v; refused = None; back = None }) (sym (settled_same contents layers None new))
+
+  pub refused_seen : (refusal : Refusal) (store back : StoreDev B) (old : Volumed B) → attached number chunk (store_of contents layers store) (volume_in contents layers old) ≡ refused_attach refusal (store_of contents layers back) (volume_in contents layers old)
+      → attached number chunk (store_of contents layers store) (settled_of contents layers (rested_of old)) ≡ refused_attach refusal (store_of contents layers back) (settled_of contents layers (rested_of old))
+  refused_seen refusal store back old e =
+      ap (attached number chunk (store_of contents layers store)) (settled_same contents layers None old) ∙ e ∙ ap (refused_attach refusal (store_of contents layers back)) (sym (settled_same contents layers None old))

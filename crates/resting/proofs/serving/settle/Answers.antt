@@ -1,0 +1,33 @@
+-- One event more is done; and none is left.
+use Rattle.std.proofs.Common.{Some}
+use Rattle.volume.specs.Exact.{IsExact}
+use Rattle.resting.proofs.Settled.{runs_more}
+use Rattle.resting.proofs.Quiet.{quiet_is}
+use Rattle.resting.proofs.serving.settle.Goals as goal
+
+pub loop-event-preserved-in-Ok-Reply : goal.loop-event-preserved-in-Ok-Reply
+loop-event-preserved-in-Ok-Reply g c =
+    let exact = c.in-Ok-Reply.ensures.exact in
+    let is : IsExact g.B.Block.contents g.B.Block.layers c.in-Some.event _ c.loop-event.volume c.step.new.self = rw c.in-Ok-Reply.field-0-is at exact in
+    runs_more g.B.Block.contents g.B.Block.layers g.B.Block.size (Some c.args.reply) (Some c.loop-event.reply) c.args.volume.now c.loop-event.volume c.step.new.self c.in-Some.event _ c.loop-event.invariant
+    (c.in-Some.ensures.machine (Some c.loop-event.reply)) is c.in-Ok-Reply.ensures.loud c.in-Ok-Reply.ensures.kept c.in-Ok-Reply.ensures.counts
+
+pub loop-event-preserved-in-Ok-Done : goal.loop-event-preserved-in-Ok-Done
+loop-event-preserved-in-Ok-Done g c =
+    let exact = c.in-Ok-Done.ensures.exact in
+    let is : IsExact g.B.Block.contents g.B.Block.layers c.in-Some.event _ c.loop-event.volume c.step.new.self = rw c.in-Ok-Done.field-0-is at exact in
+    runs_more g.B.Block.contents g.B.Block.layers g.B.Block.size (Some c.args.reply) (Some c.loop-event.reply) c.args.volume.now c.loop-event.volume c.step.new.self c.in-Some.event _ c.loop-event.invariant
+    (c.in-Some.ensures.machine (Some c.loop-event.reply)) is c.in-Ok-Done.ensures.loud c.in-Ok-Done.ensures.kept c.in-Ok-Done.ensures.counts
+
+pub loop-event-preserved : goal.loop-event-preserved
+loop-event-preserved g c =
+    let exact = c.in-Ok-Fault.ensures.exact in
+    let is : IsExact g.B.Block.contents g.B.Block.layers c.in-Some.event _ c.loop-event.volume c.step.new.self = rw c.in-Ok-Fault.field-0-is at exact in
+    runs_more g.B.Block.contents g.B.Block.layers g.B.Block.size (Some c.args.reply) (Some c.loop-event.reply) c.args.volume.now c.loop-event.volume c.step.new.self c.in-Some.event _ c.loop-event.invariant
+    (c.in-Some.ensures.machine (Some c.loop-event.reply)) is c.in-Ok-Fault.ensures.loud c.in-Ok-Fault.ensures.kept c.in-Ok-Fault.ensures.counts
+
+pub returns-clause-none : goal.returns-clause-none
+returns-clause-none g c = λ replied. c.in_default.ensures.machine replied
+
+pub returns-clause-quiet : goal.returns-clause-quiet
+returns-clause-quiet g c = quiet_is g.B.Block.contents g.B.Block.layers g.B.Block.size c.loop-event.volume c.in_default.ensures.quiet

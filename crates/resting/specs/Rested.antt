@@ -1,0 +1,83 @@
+-- A volume between two commands, as its callers see it, and the settled machine's volume that it is. This project's own.
+use Rattle.std.specs.Prelude.{◌≡◌, ◌==◌, ◌&&◌, ℕ, Bool, true, List, [], ◌∷◌, Option, Some, None, map, if◌then◌else◌}
+use Rattle.std.specs.List.{list_any, list_all}
+use Rattle.device.specs.Layers.{Layer, is_loud}
+use Rattle.plain.specs.declared.request.Dev.{Dev}
+use Rattle.plain.specs.declared.request.Dev.TheVariants.{Origin, Snap as ToSnap}
+use Rattle.settling.specs.Rest.{IsAtRest}
+use Rattle.settling.specs.Snaps.{Snap, Volume}
+use Rattle.snapshot.specs.Kept.{Kept}
+use Rattle.volume.specs.Volumed.{Volumed}
+use Rattle.volume.specs.Moved.{device_of, moving_of}
+
+-- A snapshot: its number, the sectors of its chunks, whether it is live, whether its store is stale, and its store's device.
+pub record Attached (B : Type 0) : Type 0 where
+  pub number : ℕ
+  pub chunk : ℕ
+  pub live : Bool
+  pub stale : Bool
+  pub store : B
+
+-- requests, copies, attached: how many numbers of each kind were given; events: the volume of events that it is, of which
+-- callers need to know no more than whether it is settled.
+pub record Rested (B : Type 0) : Type 0 where
+  pub origin : B
+  -- in order of attaching
+  pub snaps : List (Attached B)
+  pub requests : ℕ
+  pub copies : ℕ
+  pub attached : ℕ
+  pub events : Volumed B
+
+abbrev pub attached_of : {B : Type 0} → Kept B → Attached B
+attached_of s = record { number = s.number; chunk = s.state.chunk; live = s.live; stale = s.stale; store = s.device }
+
+-- what callers see of a volume of events
+abbrev pub rested_of : {B : Type 0} → Volumed B → Rested B
+rested_of v = record { origin = v.origin; snaps = map attached_of v.snaps; requests = v.requests; copies = v.copies; attached = v.attached; events = v }
+
+abbrev pub snap_of : {B : Type 0} → (B → List ℕ) → (B → List Layer) → Attached B → Snap
+snap_of contents layers s = record { number = s.number; chunk = s.chunk; live = s.live; stale = s.stale; store = device_of contents layers s.store }
+
+-- the settled machine's volume: the devices' own bytes and layers
+abbrev pub settled_of : {B : Type 0} → (B → List ℕ) → (B → List Layer) → Rested B → Volume
+settled_of contents layers v = record { origin = device_of contents layers v.origin; snaps = map (snap_of contents layers) v.snaps }
+
+-- whether a write that is answered by one of its devices is done
+abbrev pub is_loud_in : {B : Type 0} → (B → List Layer) → Rested B → Bool
+is_loud_in layers v = is_loud (layers v.origin) && list_all (λ s. is_loud (layers s.store)) v.snaps
+
+-- No device drops writes, and what is kept of each live snapshot is what its store's own bytes say. A new volume over a disk
+-- that drops no writes is settled, and each call leaves a settled volume settled, but for the attach of a store that drops
+-- writes.
+pub record IsSettled {B : Type 0} (contents : B → List ℕ) (layers : B → List Layer) (size : B → ℕ) (v : Rested B) : Type 0 where
+  pub loud : is_loud_in layers v ≡ true
+  pub rest : IsAtRest (size v.origin) (moving_of contents layers None v.events)
+
+abbrev pub has_number : {B : Type 0} → ℕ → Attached B → Bool
+has_number number s = s.number == number
+
+-- whether a request's device is there
+abbrev pub has_dev : {B : Type 0} → Dev → Rested B → Bool
+has_dev Origin v = true
+has_dev (ToSnap number) v = list_any (has_number number) v.snaps
+
+-- what no command on a device changes: which snapshots there are, the sectors of their chunks, and of each device
+abbrev pub numbers_of : {B : Type 0} → Rested B → List ℕ
+numbers_of v = map (λ s. s.number) v.snaps
+
+abbrev pub chunks_of : {B : Type 0} → Rested B → List ℕ
+chunks_of v = map (λ s. s.chunk) v.snaps
+
+abbrev pub sizes_of : {B : Type 0} → (B → ℕ) → Rested B → List ℕ
+sizes_of size v = size v.origin ∷ map (λ s. size s.store) v.snaps
+
+-- the first snapshot with a number
+abbrev pub snap_at : {B : Type 0} → ℕ → List (Attached B) → Option (Attached B)
+snap_at number [] = None
+snap_at number (s ∷ snaps) = if s.number == number then Some s else snap_at number snaps
+
+-- and the others
+abbrev pub without : {B : Type 0} → ℕ → List (Attached B) → List (Attached B)
+without number [] = []
+without number (s ∷ snaps) = if s.number == number then snaps else s ∷ without number snaps

@@ -1,0 +1,118 @@
+// A snapshot is taken or leaves, and the volume is closed.
+ghost use Rattle.std.specs.Prelude.{◌≡◌, ◌≢◌, ℕ, ◌+◌, [], length, None, Some, Option, IfErr, IfOk, OnErr, Ok, Err, true, false};
+ghost use Rattle.sector.specs.declared.refusal.Refusal.TheVariants.{Busy, NoMemory, NoSuchDevice};
+ghost use Rattle.device.specs.Layers.{is_loud};
+ghost use Rattle.plain.specs.declared.request.Dev.TheVariants.{Snap};
+ghost use Rattle.settling.specs.Attaching.{attached, refused_attach};
+ghost use Rattle.resting.specs.Rested.{Attached, rested_of, settled_of, IsSettled, has_dev, snap_at};
+ghost use Rattle.resting.specs.Leaving.{IsDetachedAs};
+ghost use Rattle.resting.specs.Taking.{IsTakenAs};
+ghost use Rattle.resting.specs.Between.{IsBetween};
+ghost use Rattle.store.specs.Reading.{AreRead};
+ghost use Rattle.volume.specs.Attached.{store_of};
+
+use crate::Resting;
+use device::Block;
+use plain::SnapId;
+use sector::Refusal;
+use snapshot::StoreDev;
+use std::alloc::Global;
+use volume::Volume;
+
+/// Takes a snapshot of a volume between two commands.
+fn take<B: Block>(
+    volume: &mut Volume<B>,
+    alloc: Global,
+    store: StoreDev<B>,
+    chunk: u32,
+) -> Result<SnapId, (Refusal, StoreDev<B>)>
+    requires between { IsBetween volume.old }
+    ensures between { IsBetween volume.new }
+    ensures number { IfOk result (λ number. number ≡ volume.old.attached + 1) }
+    ensures taken { IfOk result (λ number. IsTakenAs B.layers B.size number store (rested_of volume.old) (rested_of volume.new)) }
+    ensures settled { IfOk result (λ number. IsSettled B.contents B.layers B.size (rested_of volume.old) → is_loud (B.layers store.device) ≡ true → IsSettled B.contents B.layers B.size (rested_of volume.new)) }
+    ensures exact { IfOk result (λ number. IsSettled B.contents B.layers B.size (rested_of volume.old) → is_loud (B.layers store.device) ≡ true → attached number chunk (store_of B.contents B.layers store) (settled_of B.contents B.layers (rested_of volume.old)) ≡ record { volume = settled_of B.contents B.layers (rested_of volume.new); refused = None; back = None }) }
+    ensures back { IfErr result (λ e. e.0 ≢ NoMemory → IsSettled B.contents B.layers B.size (rested_of volume.old) → is_loud (B.layers store.device) ≡ true → attached (volume.old.attached + 1) chunk (store_of B.contents B.layers store) (settled_of B.contents B.layers (rested_of volume.old)) ≡ refused_attach e.0 (store_of B.contents B.layers e.1) (settled_of B.contents B.layers (rested_of volume.old))) }
+    ensures starved { IfErr result (λ e. e.0 ≡ NoMemory → (B.contents e.1.device ≡ B.contents store.device) × AreRead (B.layers store.device) (B.layers e.1.device)) }
+    ensures same { OnErr result (volume.new ≡ volume.old) }
+    ensures stale { IfErr result (λ e. e.1.stale ≡ store.stale) }
+    ensures size { IfErr result (λ e. B.size e.1.device ≡ B.size store.device) }
+{
+    match volume.attach(alloc, store, chunk) {
+        Ok(number) => Ok(number),
+        Err(refused) => Err(refused),
+    }
+}
+
+/// A snapshot leaves a volume between two commands.
+fn leave<B: Block>(volume: &mut Volume<B>, number: SnapId) -> Result<StoreDev<B>, Refusal>
+    requires between { IsBetween volume.old }
+    ensures between { IsBetween volume.new }
+    ensures settled { IsSettled B.contents B.layers B.size (rested_of volume.old) → IsSettled B.contents B.layers B.size (rested_of volume.new) }
+    ensures left { IfOk result (λ store. IsDetachedAs B.contents B.layers number store (rested_of volume.old) (rested_of volume.new)) }
+    ensures err { IfErr result (λ refusal. (refusal ≡ NoSuchDevice) × (has_dev (Snap number) (rested_of volume.old) ≡ false) × (volume.new ≡ volume.old)) }
+{
+    match volume.detach(number) {
+        Ok(store) => Ok(store),
+        Err(refusal) => Err(refusal),
+    }
+}
+
+impl<B: Block> Resting<B> {
+    /// Takes a snapshot over a store, by a table line with this chunk size, and tells its number: over a settled volume, and
+    /// a store that drops no writes, it is the settled machine's attach. Where it is refused the store is given back, and
+    /// nothing else changed; after `NoMemory` some of the store's sectors were read.
+    pub fn attach(
+        &mut self,
+        alloc: Global,
+        store: StoreDev<B>,
+        chunk: u32,
+    ) -> Result<SnapId, (Refusal, StoreDev<B>)>
+        ensures number { IfOk result (λ number. number ≡ self.old.attached + 1) }
+        ensures taken { IfOk result (λ number. IsTakenAs B.layers B.size number store self.old self.new) }
+        ensures settled { IfOk result (λ number. IsSettled B.contents B.layers B.size self.old → is_loud (B.layers store.device) ≡ true → IsSettled B.contents B.layers B.size self.new) }
+        ensures exact { IfOk result (λ number. IsSettled B.contents B.layers B.size self.old → is_loud (B.layers store.device) ≡ true → attached number chunk (store_of B.contents B.layers store) (settled_of B.contents B.layers self.old) ≡ record { volume = settled_of B.contents B.layers self.new; refused = None; back = None }) }
+        ensures back { IfErr result (λ e. e.0 ≢ NoMemory → IsSettled B.contents B.layers B.size self.old → is_loud (B.layers store.device) ≡ true → attached (self.old.attached + 1) chunk (store_of B.contents B.layers store) (settled_of B.contents B.layers self.old) ≡ refused_attach e.0 (store_of B.contents B.layers e.1) (settled_of B.contents B.layers self.old)) }
+        ensures starved { IfErr result (λ e. e.0 ≡ NoMemory → (B.contents e.1.device ≡ B.contents store.device) × AreRead (B.layers store.device) (B.layers e.1.device)) }
+        ensures same { OnErr result (self.new ≡ self.old) }
+        ensures stale { IfErr result (λ e. e.1.stale ≡ store.stale) }
+        ensures size { IfErr result (λ e. B.size e.1.device ≡ B.size store.device) }
+    {
+        take(&mut self.volume, alloc, store, chunk)
+    }
+
+    /// Takes a snapshot away, and gives its store back, stale where its invalid mark failed. `NoSuchDevice` where there is no
+    /// such snapshot, and then nothing changed.
+    pub fn detach(&mut self, number: SnapId) -> Result<StoreDev<B>, Refusal>
+        ensures settled { IsSettled B.contents B.layers B.size self.old → IsSettled B.contents B.layers B.size self.new }
+        ensures left { IfOk result (λ store. IsDetachedAs B.contents B.layers number store self.old self.new) }
+        ensures err { IfErr result (λ refusal. (refusal ≡ NoSuchDevice) × (has_dev (Snap number) self.old ≡ false) × (self.new ≡ self.old)) }
+    {
+        leave(&mut self.volume, number)
+    }
+
+    /// The device of a snapshot's store. `NoSuchDevice` where there is no such snapshot.
+    pub fn store(&self, number: SnapId) -> Result<&B, Refusal>
+        ensures ok { IfOk result (λ device. (snap : Attached B) × (snap_at number self.now.snaps ≡ Some snap) × (device.now ≡ snap.store)) }
+        ensures err { IfErr result (λ refusal. (refusal ≡ NoSuchDevice) × (has_dev (Snap number) self.now ≡ false)) }
+    {
+        match self.volume.store(number) {
+            Ok(device) => Ok(device),
+            Err(refusal) => Err(refusal),
+        }
+    }
+}
+
+impl<B: Block + Drop> Resting<B> {
+    /// Gives the origin disk back. `Busy` where a snapshot is attached.
+    pub fn close(self) -> Result<B, (Refusal, Resting<B>)>
+        ensures ok { IfOk result (λ origin. (origin ≡ self.origin) × (self.snaps ≡ [])) }
+        ensures err { IfErr result (λ e. (e.0 ≡ Busy) × (self.snaps ≢ []) × (e.1 ≡ self)) }
+    {
+        let Resting { volume } = self;
+        match volume.close() {
+            Ok(origin) => Ok(origin),
+            Err((refusal, volume)) => Err((refusal, Resting { volume })),
+        }
+    }
+}

@@ -1,0 +1,124 @@
+// A volume between two commands, and what callers ask of it.
+ghost use Rattle.std.specs.Prelude.{◌≡◌, ◌+◌, ◌*◌, ◌<◌, ◌≤◌, true, [], length, IfErr, IfOk, OnOk, Ok, Err};
+ghost use Rattle.sector.specs.declared.refusal.Refusal.TheVariants.{NoMemory};
+ghost use Rattle.device.specs.Layers.{is_loud};
+ghost use Rattle.plain.specs.declared.request.Reply.TheVariants.{Data, Written};
+ghost use Rattle.chunk.specs.Pieces.{span_of};
+ghost use Rattle.settling.specs.Commands.{written, read};
+ghost use Rattle.resting.specs.Rested.{has_dev, rested_of, IsSettled};
+ghost use Rattle.resting.specs.Kept.{KeepsDevices};
+ghost use Rattle.resting.specs.Commands.{IsDoneBy, IsWriteRefused, IsReadRefused};
+
+use crate::pieces::{read_pieces, write_pieces};
+use crate::serving::is_there;
+use device::Block;
+use plain::Dev;
+use sector::{Buf, Range, Refusal};
+use std::alloc::Global;
+use std::marker::Model;
+use volume::Volume;
+
+/// An origin disk and the snapshots of it, in order of attaching, of which nothing is in flight or left to do. Contracts
+/// see the devices, each snapshot's number, chunk size and marks, how many numbers were given, and whether the volume is
+/// settled; what the devices' bytes and layers are is the settled machine's volume.
+#[derive(Drop)]
+pub struct Resting<B: Block> {
+    pub(crate) volume: Volume<B>,
+}
+
+impl<B: Block> Model for Resting<B> {
+    ghost use Rattle.resting.specs.Rested.{Rested, rested_of};
+
+    ghost Value = { Rested B };
+
+    ghost use Rattle.resting.specs.Between.{IsBetween};
+
+    ghost view = { λ v. rested_of v.volume };
+
+    ghost invariant = { λ v. IsBetween v.volume };
+}
+
+impl<B: Block> Resting<B> {
+    /// A volume over an origin disk, without snapshots. Where memory is refused, the disk is given back.
+    pub fn new(alloc: Global, origin: B) -> Result<Resting<B>, (Refusal, B)>
+        ensures ok { IfOk result (λ v. v ≡ rested_of (record { origin = origin; snaps = []; flights = []; requests = 0; copies = 0; attached = 0 })) }
+        ensures settled { IfOk result (λ v. is_loud (B.layers origin) ≡ true → IsSettled B.contents B.layers B.size v) }
+        ensures err { IfErr result (λ e. e ≡ record { 0 = NoMemory; 1 = origin }) }
+    {
+        match Volume::new(alloc, origin) {
+            Ok(volume) => Ok(Resting { volume }),
+            Err(refused) => Err(refused),
+        }
+    }
+
+    /// The origin disk.
+    pub fn origin(&self) -> &B
+        ensures { result.now ≡ self.now.origin }
+    {
+        self.volume.origin()
+    }
+
+    /// How many snapshots there are.
+    pub fn len(&self) -> usize
+        ensures { result ≡ length self.now.snaps }
+    {
+        self.volume.len()
+    }
+
+    /// Reads sectors of the origin or of a snapshot. The range is cut into pieces of the snapshots' chunk size, which are
+    /// read in order. Where the volume is settled, it is the settled machine's read.
+    ///
+    /// Refused: there is no such snapshot (`NoSuchDevice`), and then nothing changed; the snapshot is spoiled (`Invalid`), or
+    /// the device of a piece failed (`Io`), after the pieces before it were read; or memory is refused (`NoMemory`), after
+    /// some first pieces were read, but not all.
+    pub fn read(&mut self, alloc: Global, dev: Dev, range: Range) -> Result<Buf, Refusal>
+        requires some { 0 < range.count }
+        requires inside { range.first + range.count ≤ B.size self.old.origin }
+        requires requests { self.old.requests + range.count < 9_223_372_036_854_775_808 }
+        requires copies { self.old.copies + 8 * range.count < 9_223_372_036_854_775_808 }
+        ensures settled { IsSettled B.contents B.layers B.size self.old → IsSettled B.contents B.layers B.size self.new }
+        ensures done { IfOk result (λ bytes. IsDoneBy B.contents B.layers B.size (read dev (span_of range)) (Data bytes) self.old self.new) }
+        ensures there { OnOk result (has_dev dev self.old ≡ true) }
+        ensures refused { IfErr result (λ refusal. IsReadRefused B.contents B.layers B.size dev (span_of range) refusal self.old self.new) }
+        ensures kept { KeepsDevices B.layers B.size self.old self.new }
+        ensures requests { self.new.requests ≤ self.old.requests + range.count }
+        ensures copies { self.new.copies ≤ self.old.copies + 8 * range.count }
+    {
+        if !is_there(&self.volume, dev) {
+            return Err(Refusal::NoSuchDevice);
+        }
+        read_pieces(&mut self.volume, alloc, dev, range)
+    }
+
+    /// Writes sectors of the origin or of a snapshot. The range is cut into pieces of the snapshots' chunk size, which are
+    /// written in order. Where the volume is settled, it is the settled machine's write.
+    ///
+    /// Refused: there is no such snapshot (`NoSuchDevice`), and then nothing changed; the snapshot is spoiled (`Invalid`), or
+    /// the device of a piece failed (`Io`), and the pieces before it stand; or memory is refused (`NoMemory`), and some first
+    /// pieces stand, but not all.
+    pub fn write(
+        &mut self,
+        alloc: Global,
+        dev: Dev,
+        range: Range,
+        bytes: &[u8],
+    ) -> Result<(), Refusal>
+        requires some { 0 < range.count }
+        requires inside { range.first + range.count ≤ B.size self.old.origin }
+        requires room { length bytes.now ≡ 512 * range.count }
+        requires requests { self.old.requests + range.count < 9_223_372_036_854_775_808 }
+        requires copies { self.old.copies + 8 * range.count < 9_223_372_036_854_775_808 }
+        ensures settled { IsSettled B.contents B.layers B.size self.old → IsSettled B.contents B.layers B.size self.new }
+        ensures done { OnOk result (IsDoneBy B.contents B.layers B.size (written dev (span_of range) bytes.now) Written self.old self.new) }
+        ensures there { OnOk result (has_dev dev self.old ≡ true) }
+        ensures refused { IfErr result (λ refusal. IsWriteRefused B.contents B.layers B.size dev (span_of range) bytes.now refusal self.old self.new) }
+        ensures kept { KeepsDevices B.layers B.size self.old self.new }
+        ensures requests { self.new.requests ≤ self.old.requests + range.count }
+        ensures copies { self.new.copies ≤ self.old.copies + 8 * range.count }
+    {
+        if !is_there(&self.volume, dev) {
+            return Err(Refusal::NoSuchDevice);
+        }
+        write_pieces(&mut self.volume, alloc, dev, range, bytes)
+    }
+}
