@@ -1,23 +1,20 @@
 -- A volume that takes a snapshot does what the machine of `settling` does.
-use Rattle.std.proofs.Common.{◌≡◌, ◌≢◌, inl, inr, ℕ, zero, suc, ◌+◌, ◌*◌, ◌/◌, ◌<◌, ◌≤◌, Bool, true, false, List, [], ◌∷◌, ◌++◌, length, map, refl, sym, ap, ◌∙◌, subst, arith}
-use Rattle.std.specs.Prelude.{◌==◌, ◌&&◌, ◌||◌, not, nat_lt, nat_le, Option, Some, None, Ok, if◌then◌else◌}
+use Rattle.std.proofs.Common.{◌≡◌, inl, inr, ℕ, suc, ◌+◌, ◌*◌, ◌<◌, ◌≤◌, Bool, true, false, List, [], ◌∷◌, ◌++◌, length, map, refl, sym, ap, ◌∙◌, subst, arith}
+use Rattle.std.specs.Prelude.{◌==◌, ◌&&◌, ◌||◌, not, nat_lt, nat_le, Option, Some, None}
 use Rattle.std.specs.List.{All, list_all}
 use Rattle.std.proofs.lemmas.List.Folds.{list_all-append}
-use Rattle.std.proofs.lemmas.Bool.{cases_Bool, cases_lt, cases_eq, cond-true, cond-false, true≢false, false≢true, lt-ltb, le-ltb, lt-leb, le-leb, eq-eqb, ne_eqb}
+use Rattle.std.proofs.lemmas.Bool.{cases_Bool, cases_lt, cases_eq, cond-true, cond-false, false≢true, lt-ltb, le-ltb, lt-leb, le-leb, eq-eqb, ne_eqb}
 use Rattle.std.proofs.lemmas.List.Elements.{All-cons, All-push}
 use Rattle.sector.specs.declared.refusal.Refusal.{Refusal}
 use Rattle.sector.specs.declared.refusal.Refusal.TheVariants.{Stale, TooMany, BadChunk, NoMemory, NotQuiet}
 use Rattle.chunk.specs.Sizes.{is_chunk}
-use Rattle.chunk.proofs.Limits.{is_chunk-some}
 use Rattle.device.specs.Layers.{Layer, is_loud}
 use Rattle.model.specs.NextPlace.{IsNextPlace}
-use Rattle.model.specs.Pairs.{pairs_of}
 use Rattle.plain.specs.declared.request.Reply.{Reply}
-use Rattle.settled.specs.Order.{IsInOrder}
 use Rattle.settling.specs.Devices.{Device, sectors_of}
 use Rattle.settling.specs.Snaps.{Snap, Volume}
 use Rattle.settling.specs.Held.{Held}
-use Rattle.settling.specs.Rest.{IsKept, IsResting, IsAtRest}
+use Rattle.settling.specs.Rest.{IsResting, IsAtRest}
 use Rattle.settling.specs.Seen.{copying_of}
 use Rattle.settling.specs.Attaching.{Tried, Store, Attached, refuse, done, open_store, attached, with_tried, refused_attach}
 use Rattle.settling.proofs.Attaching.{size_of}

@@ -51,3 +51,7 @@ pub mod Accepts
 pub mod Declines
 pub mod Refusals
 pub mod Relayered
+pub mod Ranks
+pub mod Told
+pub mod Ran
+pub mod Peeked

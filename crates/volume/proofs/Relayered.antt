@@ -1,11 +1,10 @@
 -- Where layers alone change, and a device drops writes as before, a volume stays whole.
-use Rattle.std.proofs.Common.{◌≡◌, ◌≢◌, ◌⊎◌, inl, inr, ℕ, zero, suc, ◌+◌, ◌<◌, ◌≤◌, Bool, true, List, [], ◌∷◌, length, get_or, set, map, refl, sym, ◌∙◌, ap, subst, arith}
-use Rattle.std.specs.Prelude.{◌&&◌, AllPairs, sum_by}
+use Rattle.std.proofs.Common.{◌≡◌, ◌≢◌, inl, inr, ℕ, suc, ◌+◌, ◌<◌, ◌≤◌, Bool, List, [], ◌∷◌, length, get_or, set, map, refl, sym, ◌∙◌, ap, subst, arith}
+use Rattle.std.specs.Prelude.{sum_by}
 use Rattle.std.specs.List.{sum}
 use Rattle.std.proofs.lemmas.List.Sums.{sum-map}
 use Rattle.std.proofs.lemmas.List.{get_or-set_same, get_or-set_other, length-set, get_or_default}
 use Rattle.std.proofs.lemmas.Bool.{cases_eq}
-use Rattle.std.specs.List.{All, list_all}
 use Rattle.device.specs.Layers.{Layer, is_loud}
 use Rattle.layers.specs.Ticks.{layers_ticked}
 use Rattle.layers.specs.Loudness.{loud_ticked}
@@ -18,9 +17,9 @@ use Rattle.volume_laws.specs.Whole.{Holds}
 use Rattle.pending.specs.Due.{number_of_flight}
 use Rattle.volume_laws.specs.Waits.{Waits}
 use Rattle.snapshot.specs.Kept.{Kept, books_of as snap_books, due_of_kept}
-use Rattle.volume.specs.Volumed.{Volumed, books_of, dues_of, plain_of, is_loud_in_all, piece_of}
-use Rattle.volume.specs.Whole.{IsWhole, IsAttached, IsCounted, SharesNone, AreNumbers, number_of_snap, numbers_in, count_in}
-use Rattle.volume.specs.Moved.{moving_of, held_of, device_of}
+use Rattle.volume.specs.Volumed.{Volumed, books_of, dues_of, piece_of}
+use Rattle.volume.specs.Whole.{IsWhole, IsAttached, IsCounted, SharesNone, AreNumbers, number_of_snap, count_in}
+use Rattle.volume.specs.Moved.{moving_of, held_of}
 use Rattle.volume.specs.Layering.{Measures, IsLater, IsSnapLater, IsTicked, held_relayered, moving_relayered}
 
 -- maps that agree at each place
@@ -123,7 +122,7 @@ module _ {B : Type 0} (contents : B → List ℕ) (layers : B → List Layer) (s
         inside : (k : ℕ) → k < length w.snaps → k < length v.snaps
         inside k lt = omega (arith, lt, h.count)
 
-map_twice : {X Y Z : Type 0} (f : X → Y) (g : Y → Z) (xs : List X) → map g (map f xs) ≡ map (λ x. g (f x)) xs
+pub map_twice : {X Y Z : Type 0} (f : X → Y) (g : Y → Z) (xs : List X) → map g (map f xs) ≡ map (λ x. g (f x)) xs
 map_twice f g [] = refl
 map_twice f g (x ∷ xs) = ap (λ ys. g (f x) ∷ ys) (map_twice f g xs)
 

@@ -1,7 +1,7 @@
 -- The layers of a volume's devices become others, by the time or by a message, and nothing else: no request, no copy and no
 -- byte. What becomes of layers is said where layers are (`layers`).
-use Rattle.std.specs.Prelude.{◌≡◌, ◌==◌, ℕ, ◌<◌, Bool, List, length, map, if◌then◌else◌, slice_index_or}
-use Rattle.device.specs.Layers.{Layer, is_loud}
+use Rattle.std.specs.Prelude.{◌≡◌, ℕ, ◌<◌, List, length, map, slice_index_or}
+use Rattle.device.specs.Layers.{Layer}
 use Rattle.layers.specs.Ticks.{layers_ticked}
 use Rattle.settling.specs.Held.{Held, Moving}
 use Rattle.settling.specs.Moments.{relayered, store_relayered}

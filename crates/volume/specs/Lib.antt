@@ -11,3 +11,5 @@ pub mod Taking
 pub mod Attached
 pub mod Submitting
 pub mod Layering
+pub mod Telling
+pub mod Running

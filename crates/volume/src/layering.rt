@@ -29,6 +29,8 @@ impl<B: Layered> Volume<B> {
         ensures ticked { IsTicked (record { contents = B.contents; durable = B.durable; size = B.size; faults = B.fault_count; done = B.done_count }) B.layers seconds self.old self.new }
         ensures moving { (replied : Option Reply) → moving_of B.contents B.layers replied self.new ≡ moving_relayered (layers_ticked seconds) (moving_of B.contents B.layers replied self.old) }
         ensures books { books_of B.contents B.layers B.size self.new ≡ books_of B.contents B.layers B.size self.old }
+        ensures plain { plain_of B.contents B.layers self.new ≡ plain_of B.contents B.layers self.old }
+        ensures loud { is_loud_in_all B.layers self.new ≡ is_loud_in_all B.layers self.old }
     {
         self.origin.tick(seconds);
         tick_all(self.snaps.as_mut_slice(), seconds);

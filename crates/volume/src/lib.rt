@@ -9,24 +9,32 @@
 //!
 //! It promises that its devices' own bytes stand for one plain machine, of which every call is a step, and of each event
 //! when it is due, that a whole number falls with it, and what made it fail. Where no device drops writes, each event is
-//! exactly the event machine's, and so is each request that is accepted or found invalid, whatever is in flight.
+//! exactly the event machine's, and so is each request that is accepted or found invalid, whatever is in flight. The time and
+//! messages change layers, and nothing that callers see. A list of calls does what its calls do one after another, each with
+//! its answer, and `peek` copies what the origin or a snapshot shows.
 #![tactic(auto)]
 
 mod attaching;
+mod calls;
 mod closing;
 mod due;
 mod finding;
 mod issuing;
 mod layering;
+mod lending;
 mod machine;
+mod peeking;
 mod routing;
+mod running;
 mod step;
 mod stepping;
 mod submit;
 mod submitting;
 mod submitting_snaps;
+mod telling;
 mod volume;
 
+pub use calls::{Call, Returned};
 pub use volume::{LARGEST_PIECE, MAX_SNAPSHOTS, Volume};
 
 #[cfg(test)]

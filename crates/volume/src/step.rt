@@ -53,6 +53,7 @@ impl<B: Block> Volume<B> {
         ensures counts { OnOk result ((self.new.requests ≡ self.old.requests) × (self.new.copies ≡ self.old.copies)) }
         ensures same { OnErr result (self.new ≡ self.old) }
     {
+        // A look at a field: what the type keeps is known from here on.
         let _ = &self.flights;
         match self.step_by_kind(event) {
             Ok(outcome) => Ok(outcome),

@@ -39,6 +39,7 @@ impl<B: Block> Volume<B> {
         ensures declined { IfErr result (λ refusal. refusal ≡ Invalid → (number : ℕ) (replied : Option Reply) → submitted number request (moving_of B.contents B.layers replied self.old) ≡ moving_of B.contents B.layers (Some (Refused IsInvalid)) self.new) }
         ensures starved { IfErr result (λ refusal. refusal ≢ Invalid → (replied : Option Reply) → moving_of B.contents B.layers replied self.new ≡ moving_of B.contents B.layers replied self.old) }
     {
+        // A look at a field: what the type keeps is known from here on.
         let _ = &self.flights;
         match self.submit_refused(&request) {
             Some(refusal) => return Err(refusal),

@@ -1,8 +1,13 @@
-// Tests by calls: in which order the events of a write come, and which requests are refused.
+// Tests by calls: in which order the events of a write come, which requests are refused, that a list of calls leaves what
+// its calls leave, and what a message to a layer does.
+ghost use Rattle.std.specs.Prelude.{IfOk};
+ghost use Rattle.std.specs.List.{All};
+ghost use Rattle.volume.specs.Running.{IsFitCall};
 
-use crate::Volume;
-use device::MemDisk;
-use plain::{Dev, Event, NotDue, Op, Outcome, Reply, ReqId, Request};
+use crate::{Call, Returned, Volume};
+use device::{Block, MemDisk};
+use layers::{Answer, Dust, Layered, Message, Stack};
+use plain::{Dev, Event, Failure, NotDue, Op, Outcome, Reply, ReqId, Request};
 use sector::{Buf, Range, Refusal};
 use snapshot::StoreDev;
 use std::alloc::Global;
@@ -20,13 +25,17 @@ fn disk_with(alloc: Global, sectors: u64, number: u64, byte: u8) -> Result<MemDi
     Ok(disk)
 }
 
-// A volume of 128 sectors, with sector 7 filled with 0x11, and one snapshot over a fresh store with chunks of one sector.
-fn volume_with(rt: &impl Abort, alloc: Global, store: u64) -> Result<Volume<MemDisk>, Refusal> {
-    let mut volume = match Volume::new(alloc, disk_with(alloc, 128, 7, 0x11)?) {
+// A volume over these devices, with one snapshot over a fresh store with chunks of one sector.
+fn volume_over<B: Block + Drop>(
+    rt: &impl Abort,
+    alloc: Global,
+    origin: B,
+    device: B,
+) -> Result<Volume<B>, Refusal> {
+    let mut volume = match Volume::new(alloc, origin) {
         Ok(volume) => volume,
         Err((refusal, _)) => return Err(refusal),
     };
-    let device = disk_with(alloc, store, 0, 0)?;
     match volume.attach(
         alloc,
         StoreDev {
@@ -41,9 +50,16 @@ fn volume_with(rt: &impl Abort, alloc: Global, store: u64) -> Result<Volume<MemD
     Ok(volume)
 }
 
+// A volume of 128 sectors, with sector 7 filled with 0x11, and its snapshot over a store of so many.
+fn volume_with(rt: &impl Abort, alloc: Global, store: u64) -> Result<Volume<MemDisk>, Refusal> {
+    let origin = disk_with(alloc, 128, 7, 0x11)?;
+    let device = disk_with(alloc, store, 0, 0)?;
+    volume_over(rt, alloc, origin, device)
+}
+
 // Submits a write of one sector.
-fn submit_write(
-    volume: &mut Volume<MemDisk>,
+fn submit_write<B: Block>(
+    volume: &mut Volume<B>,
     alloc: Global,
     dev: Dev,
     sector: u64,
@@ -67,8 +83,8 @@ fn submit_write(
 }
 
 // Submits a read of one sector.
-fn submit_read(
-    volume: &mut Volume<MemDisk>,
+fn submit_read<B: Block>(
+    volume: &mut Volume<B>,
     alloc: Global,
     dev: Dev,
     sector: u64,
@@ -200,5 +216,154 @@ fn a_write_of_a_snapshot_whose_store_is_full_spoils_it(rt: HostRuntime) -> Resul
     );
     assert!(rt; is_done(&volume.step(Event::WriteInvalid(1))));
     assert!(rt; is_written(&volume.step(Event::Issue(2)), 2));
+    Ok(())
+}
+
+// A write of one sector of the origin, and the five events that it is done by.
+fn first_write_calls(alloc: Global) -> Result<Vec<Call>, Refusal>
+    ensures { IfOk result (λ calls. All IsFitCall calls.items) }
+{
+    let range = Range::new(5, 1, 128)?;
+    let Ok(bytes) = Buf::from_slice(alloc, &[0xaa; 512]) else {
+        return Err(Refusal::NoMemory);
+    };
+    if bytes.len() != 512 * range.count as usize {
+        return Err(Refusal::OutOfRange);
+    }
+    let request = Request {
+        dev: Dev::Origin,
+        op: Op::Write(bytes),
+        range,
+    };
+    let Ok(calls) = Vec::from_array(
+        alloc,
+        [
+            Call::Submit(request),
+            Call::Step(Event::CopyRead(1)),
+            Call::Step(Event::CopyWrite(1)),
+            Call::Step(Event::WriteArea(1)),
+            Call::Step(Event::Publish(1)),
+            Call::Step(Event::Issue(1)),
+        ],
+    ) else {
+        return Err(Refusal::NoMemory);
+    };
+    Ok(calls)
+}
+
+// Whether two disks have the same bytes.
+fn is_same_disk(one: &MemDisk, other: &MemDisk) -> Result<bool, Refusal> {
+    for sector in 0..one.sectors() {
+        let mut bytes = [0; 512];
+        one.raw(Range::new(sector, 1, one.sectors())?, &mut bytes);
+        let mut others = [0; 512];
+        other.raw(Range::new(sector, 1, other.sectors())?, &mut others);
+        if bytes != others {
+            return Ok(false);
+        }
+    }
+    Ok(one.sectors() == other.sectors())
+}
+
+// Does the events of the first write of an origin, one after another.
+fn do_first_write<B: Block>(volume: &mut Volume<B>) -> bool {
+    is_done(&volume.step(Event::CopyRead(1)))
+        && is_done(&volume.step(Event::CopyWrite(1)))
+        && is_done(&volume.step(Event::WriteArea(1)))
+        && is_done(&volume.step(Event::Publish(1)))
+        && is_written(&volume.step(Event::Issue(1)), 1)
+}
+
+#[test]
+fn a_run_leaves_the_disks_that_its_calls_leave(rt: HostRuntime) -> Result<(), Fail> {
+    let mut by_calls = volume_with(&rt, rt.alloc(), 64)?;
+    assert_eq!(rt;
+        submit_write(&mut by_calls, rt.alloc(), Dev::Origin, 5, 0xaa),
+        Ok(1)
+    );
+    assert!(rt; do_first_write(&mut by_calls));
+    let mut by_run = volume_with(&rt, rt.alloc(), 64)?;
+    let returned = by_run.run(rt.alloc(), first_write_calls(rt.alloc())?)?;
+    assert_eq!(rt; returned.len(), 6);
+    match returned.as_slice() {
+        [Returned::Submitted(number), .., Returned::Stepped(outcome)] => {
+            assert_eq!(rt; *number, Ok(1));
+            assert!(rt; is_written(outcome, 1));
+        }
+        _ => assert!(rt; false),
+    }
+    assert!(rt; is_same_disk(by_calls.origin(), by_run.origin())?);
+    assert!(rt; is_same_disk(by_calls.store(1)?, by_run.store(1)?)?);
+    Ok(())
+}
+
+// A disk under a dust layer, which is not enabled.
+fn dusty_with(alloc: Global, sectors: u64, number: u64, byte: u8) -> Result<Stack, Refusal> {
+    let disk = disk_with(alloc, sectors, number, byte)?;
+    let dust = Dust::new(alloc, disk.sectors(), 512);
+    match Stack::Disk(disk).under_dust(alloc, dust) {
+        Ok(stack) => Ok(stack),
+        Err((refusal, _)) => Err(refusal),
+    }
+}
+
+// Has reads of a block of the device under the origin, or of a snapshot's store, fail from now on.
+fn spoil_block(volume: &mut Volume<Stack>, dev: Dev, block: u64) -> bool {
+    volume.message(dev, 0, &Message::AddBadBlock(block)) == Ok(Answer::Done)
+        && volume.message(dev, 0, &Message::Enable) == Ok(Answer::Done)
+}
+
+// Whether a device shows one sector of this byte.
+fn shows<B: Layered>(volume: &Volume<B>, dev: Dev, sector: u64, byte: u8) -> Result<bool, Refusal> {
+    let range = Range::new(sector, 1, volume.origin().sectors())?;
+    let mut out = [0; 512];
+    volume.peek(dev, range, &mut out)?;
+    Ok(out == [byte; 512])
+}
+
+#[test]
+fn bad_blocks_fail_reads_and_copies_alone(rt: HostRuntime) -> Result<(), Fail> {
+    let origin = dusty_with(rt.alloc(), 128, 7, 0x11)?;
+    let store = dusty_with(rt.alloc(), 64, 0, 0)?;
+    let mut volume = volume_over(&rt, rt.alloc(), origin, store)?;
+    assert_eq!(rt;
+        submit_write(&mut volume, rt.alloc(), Dev::Origin, 7, 0xaa),
+        Ok(1)
+    );
+    assert!(rt; do_first_write(&mut volume));
+    assert_eq!(rt;
+        volume.message(Dev::Snap(2), 0, &Message::Enable),
+        Err(Refusal::NoSuchDevice)
+    );
+    assert_eq!(rt;
+        volume.message(Dev::Origin, 1, &Message::Enable),
+        Err(Refusal::BadTable)
+    );
+    // The copy stands at the first place after the header and the area.
+    assert!(rt; spoil_block(&mut volume, Dev::Snap(1), 2));
+    assert_eq!(rt;
+        submit_read(&mut volume, rt.alloc(), Dev::Snap(1), 7),
+        Ok(2)
+    );
+    match volume.step(Event::Issue(2)) {
+        Ok(Outcome::Reply(2, Reply::Refused(Failure::Io))) => {}
+        _ => assert!(rt; false),
+    }
+    assert!(rt; shows(&volume, Dev::Snap(1), 7, 0x11)?);
+    assert!(rt; shows(&volume, Dev::Snap(1), 8, 0)?);
+    assert!(rt; shows(&volume, Dev::Origin, 7, 0xaa)?);
+    assert!(rt; spoil_block(&mut volume, Dev::Origin, 9));
+    assert_eq!(rt;
+        submit_write(&mut volume, rt.alloc(), Dev::Origin, 9, 0x77),
+        Ok(3)
+    );
+    match volume.step(Event::CopyRead(2)) {
+        Ok(Outcome::Fault) => {}
+        _ => assert!(rt; false),
+    }
+    assert_eq!(rt;
+        shows(&volume, Dev::Snap(1), 7, 0x11),
+        Err(Refusal::Invalid)
+    );
     Ok(())
 }

@@ -1,10 +1,4 @@
-use Rattle.std.proofs.Common.{rules, ◌≡◌, ℕ, ◌<◌, length, slice_index_or, Option, ◌+◌, ◌-◌, ◌*◌, ◌≤◌, ◌/◌, ◌%◌, Bool, true, false, nat_eq, nat_lt, List, [], ◌∷◌, ◌++◌, slice_set, bit_and, bit_or, Fits, w8, w32, w64, Bor, MutBor}
-use Rattle.layers.specs.Ticks.{layers_ticked}
-use Rattle.plain.specs.declared.request.Reply.{Reply}
-use Rattle.snapshot.specs.Kept.{Kept}
-use Rattle.volume.specs.Volumed.{books_of, is_loud_in_all, plain_of}
-use Rattle.volume.specs.Moved.{moving_of}
-use Rattle.volume.specs.Layering.{IsSnapLater, IsTicked, moving_relayered}
+use Rattle.std.proofs.Common.{◌≡◌, ◌<◌, length}
 use Rattle.std.proofs.Common.{arith}
 use Rattle.volume.proofs.Relayered.{later_more, later_done}
 use Rattle.volume.proofs.layering.tick_all.Goals as goal

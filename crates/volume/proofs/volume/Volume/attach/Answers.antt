@@ -12,15 +12,11 @@ use Rattle.volume.specs.Taking.{wanted_of, attach_refusal}
 use Rattle.volume.proofs.Leaves.{quiet_none}
 use Rattle.volume.proofs.Attaches.{taking_none, whole_taken, plain_taken_as}
 use Rattle.chunk.proofs.Limits.{is_chunk-some}
-use Rattle.device.specs.Layers.{is_loud}
 use Rattle.snapshot.specs.Attaching.{AreSized}
-use Rattle.settling.specs.Attaching.{Store, with_tried, attached, open_store, done, refuse, refused_attach}
-use Rattle.settling.specs.Devices.{Device}
-use Rattle.settling.proofs.Attaching.{size_of}
-use Rattle.sector.specs.declared.refusal.Refusal.{Refusal}
+use Rattle.settling.specs.Attaching.{open_store, done}
 use Rattle.volume.specs.Moved.{device_of}
-use Rattle.volume.specs.Attached.{store_of, volume_in, IsAttachedAs}
-use Rattle.volume.proofs.AttachedAs.{number_left, refused_before, no_memory, admitted, count_in, sized, resting, attached_is, back_is, unzeroed_of, loud_taken_as}
+use Rattle.volume.specs.Attached.{store_of, volume_in}
+use Rattle.volume.proofs.AttachedAs.{number_left, refused_before, admitted, count_in, sized, resting, attached_is, back_is, unzeroed_of, loud_taken_as}
 use Rattle.volume.proofs.volume.Volume.attach.Goals as goal
 
 pub push_reserved-requires : goal.push_reserved-requires

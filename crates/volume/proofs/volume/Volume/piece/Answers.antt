@@ -1,7 +1,7 @@
 -- The largest chunk is allowed, and all snapshots have the first one's chunks.
-use Rattle.std.proofs.Common.{◌≡◌, ◌<◌, ◌≤◌, ℕ, List, [], ◌∷◌, length, get_or, refl, sym, ◌∙◌, ap, subst, arith}
+use Rattle.std.proofs.Common.{◌≡◌, ◌≤◌, List, [], ◌∷◌, length, get_or, refl, sym, ◌∙◌, ap, arith}
 use Rattle.snapshot.specs.Kept.{Kept}
-use Rattle.volume.specs.Volumed.{piece_of, Volumed}
+use Rattle.volume.specs.Volumed.{piece_of}
 use Rattle.volume.proofs.volume.Volume.piece.Goals as goal
 
 first_piece : {B : Type 0} (xs : List (Kept B)) (s : Kept B) → 1 ≤ length xs → s ≡ get_or xs 0 s → piece_of xs ≡ s.state.chunk

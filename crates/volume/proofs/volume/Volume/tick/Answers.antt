@@ -1,15 +1,13 @@
 -- Every device is later, and so the volume is whole.
-use Rattle.std.proofs.Common.{◌≡◌, ℕ, ◌+◌, ◌<◌, List, length, map, take, drop, get_or, refl, sym, ◌∙◌, ap, subst, arith}
+use Rattle.std.proofs.Common.{◌≡◌, ℕ, ◌<◌, List, length, get_or, refl, ◌∙◌, ap, subst}
 use Rattle.std.specs.Prelude.{Option}
-use Rattle.layers.specs.Ticks.{layers_ticked}
 use Rattle.plain.specs.declared.request.Reply.{Reply}
 use Rattle.snapshot.specs.Kept.{Kept}
-use Rattle.volume.specs.Volumed.{Volumed, books_of}
-use Rattle.volume.specs.Whole.{IsWhole}
-use Rattle.volume.specs.Moved.{moving_of}
-use Rattle.volume.specs.Layering.{Measures, IsSnapLater, IsTicked, moving_relayered}
+use Rattle.volume.specs.Volumed.{Volumed}
+use Rattle.volume.specs.Layering.{Measures, IsSnapLater, IsTicked}
 use Rattle.volume.proofs.Finishes.{back}
 use Rattle.volume.proofs.Relayered.{ticked_alike, ticked_moving, whole_alike, books_of_alike}
+use Rattle.volume.proofs.Told.{plain_alike, loud_alike}
 use Rattle.volume.proofs.volume.Volume.tick.Goals as goal
 
 pub invariant_of-self : goal.invariant_of-self
@@ -83,3 +81,39 @@ returns-clause-books g c =
       becomes = refl;
     } in
     rw (← c.self.view_is, there) (books_of_alike g.B.Block.contents g.B.Block.layers g.B.Block.size v w (ticked_alike m g.B.Block.layers c.args.seconds v w ticked))
+
+pub returns-clause-plain : goal.returns-clause-plain
+returns-clause-plain g c =
+    let m : Measures g.row.B.Denot = record { contents = g.B.Block.contents; durable = g.B.Block.durable; size = g.B.Block.size; faults = g.B.Block.fault_count; done = g.B.Block.done_count } in
+    let v : Volumed g.row.B.Denot = record { origin = c.self.inside.origin; snaps = c.self.inside.snaps.items; flights = c.self.inside.flights.items; requests = c.self.inside.requests; copies = c.self.inside.copies; attached = c.self.inside.attached } in
+    let w : Volumed g.row.B.Denot = record v { origin = c.tick.new.self; snaps = c.tick_all.new.snaps } in
+    let len : length c.tick_all.new.snaps ≡ c.self.inside.snaps.len = c.tick_all.ensures.count ∙ c.as_mut_slice.ensures.len in
+    let whole_len : length c.tick_all.new.snaps ≡ length c.self.inside.snaps.items = c.tick_all.ensures.count ∙ ap length c.as_mut_slice.ensures.value in
+    let there = back c.self.inside.snaps.len c.tick_all.new.snaps c.self.inside.snaps.items len in
+    let each : (k : ℕ) (d : Kept g.row.B.Denot) → k < length c.self.inside.snaps.items → IsSnapLater m g.B.Block.layers c.args.seconds (get_or c.self.inside.snaps.items k d) (get_or c.tick_all.new.snaps k d) =
+    subst (λ (xs : List (Kept g.row.B.Denot)). (k : ℕ) (d : Kept g.row.B.Denot) → k < length xs → IsSnapLater m g.B.Block.layers c.args.seconds (get_or xs k d) (get_or c.tick_all.new.snaps k d)) c.as_mut_slice.ensures.value c.tick_all.ensures.each in
+    let ticked : IsTicked m g.B.Block.layers c.args.seconds v w = record {
+      origin = record { moved = c.tick.ensures.layers; rest = record { contents_are = c.tick.ensures.contents; durable_are = c.tick.ensures.durable; size_is = c.tick.ensures.size; faults_are = c.tick.ensures.faults; done_are = c.tick.ensures.done } };
+      count = whole_len;
+      snaps = each;
+      becomes = refl;
+    } in
+    rw (← c.self.view_is, there) (plain_alike g.B.Block.contents g.B.Block.layers g.B.Block.size v w (ticked_alike m g.B.Block.layers c.args.seconds v w ticked))
+
+pub returns-clause-loud : goal.returns-clause-loud
+returns-clause-loud g c =
+    let m : Measures g.row.B.Denot = record { contents = g.B.Block.contents; durable = g.B.Block.durable; size = g.B.Block.size; faults = g.B.Block.fault_count; done = g.B.Block.done_count } in
+    let v : Volumed g.row.B.Denot = record { origin = c.self.inside.origin; snaps = c.self.inside.snaps.items; flights = c.self.inside.flights.items; requests = c.self.inside.requests; copies = c.self.inside.copies; attached = c.self.inside.attached } in
+    let w : Volumed g.row.B.Denot = record v { origin = c.tick.new.self; snaps = c.tick_all.new.snaps } in
+    let len : length c.tick_all.new.snaps ≡ c.self.inside.snaps.len = c.tick_all.ensures.count ∙ c.as_mut_slice.ensures.len in
+    let whole_len : length c.tick_all.new.snaps ≡ length c.self.inside.snaps.items = c.tick_all.ensures.count ∙ ap length c.as_mut_slice.ensures.value in
+    let there = back c.self.inside.snaps.len c.tick_all.new.snaps c.self.inside.snaps.items len in
+    let each : (k : ℕ) (d : Kept g.row.B.Denot) → k < length c.self.inside.snaps.items → IsSnapLater m g.B.Block.layers c.args.seconds (get_or c.self.inside.snaps.items k d) (get_or c.tick_all.new.snaps k d) =
+    subst (λ (xs : List (Kept g.row.B.Denot)). (k : ℕ) (d : Kept g.row.B.Denot) → k < length xs → IsSnapLater m g.B.Block.layers c.args.seconds (get_or xs k d) (get_or c.tick_all.new.snaps k d)) c.as_mut_slice.ensures.value c.tick_all.ensures.each in
+    let ticked : IsTicked m g.B.Block.layers c.args.seconds v w = record {
+      origin = record { moved = c.tick.ensures.layers; rest = record { contents_are = c.tick.ensures.contents; durable_are = c.tick.ensures.durable; size_is = c.tick.ensures.size; faults_are = c.tick.ensures.faults; done_are = c.tick.ensures.done } };
+      count = whole_len;
+      snaps = each;
+      becomes = refl;
+    } in
+    rw (← c.self.view_is, there) (loud_alike g.B.Block.contents g.B.Block.layers g.B.Block.size v w (ticked_alike m g.B.Block.layers c.args.seconds v w ticked))

@@ -1,0 +1,80 @@
+-- What a volume's devices show, by their own bytes.
+use Rattle.std.proofs.Common.{◌≡◌, ℕ, zero, suc, ◌+◌, ◌*◌, ◌%◌, ◌<◌, ◌≤◌, Bool, true, false, List, [], ◌∷◌, Some, None, length, get_or, map, refl, sym, ◌∙◌, ap, subst, arith}
+use Rattle.std.specs.Prelude.{◌==◌, if◌then◌else◌}
+use Rattle.std.proofs.lemmas.List.{get_or-map, length-map}
+use Rattle.device.specs.Layers.{Layer}
+use Rattle.model.specs.Pairs.{pairs_of, IsInside}
+use Rattle.model.specs.Picture.{picture, place_of}
+use Rattle.plain.specs.declared.request.Dev.{Dev}
+use Rattle.plain.specs.declared.request.Dev.TheVariants.{Snap}
+use Rattle.plain.specs.Plain.{Entry, Live, Invalid, saved_under}
+use Rattle.settled.proofs.Shown.{all_front, place_inside}
+use Rattle.snapshot.specs.Kept.{Kept, books_of as snap_books}
+use Rattle.volume_laws.specs.Books.{SnapBooks}
+use Rattle.volume_laws.specs.Held.{LiveHolds, SnapHolds}
+use Rattle.volume_laws.specs.Shape.{shown_entry}
+use Rattle.volume.specs.Volumed.{Volumed, is_loud_in_all, snap_shape}
+use Rattle.volume.specs.Whole.{IsWhole}
+use Rattle.volume.specs.Leaving.{place_of_snap}
+use Rattle.volume.specs.Submitting.{dev_refusal, refusal_at}
+use Rattle.volume.proofs.MovedLists.{IsFirst}
+use Rattle.volume.proofs.Named.{found_within}
+use Rattle.volume.proofs.Shown.{loud_books}
+use Rattle.volume.proofs.Told.{later_first}
+
+-- sectors of a chunk's place lie inside a device that has the whole chunk
+pub place_low : (chunk k n size : ℕ) → k ≡ chunk → chunk * (n + 1) ≤ size → k * n ≤ size
+place_low chunk k n size same room = let end : chunk * (n + 1) ≡ chunk * n + chunk = grind arith in rw same (omega (arith, end, room))
+
+pub place_high : (chunk k n size first count : ℕ) → k ≡ chunk → first % chunk + count ≤ chunk → chunk * (n + 1) ≤ size → k * n + first % k + count ≤ size
+place_high chunk k n size first count same fits room = let end : chunk * (n + 1) ≡ chunk * n + chunk = grind arith in rw same (omega (arith, end, room, fits))
+
+-- of a live snapshot
+module _ {B : Type 0} (contents : B → List ℕ) (layers : B → List Layer) (size : B → ℕ) (v : Volumed B) (whole : IsWhole contents layers size v) (k : ℕ) (s : Kept B) (within : k < length v.snaps) (is : s ≡ get_or v.snaps k s) (live : s.live ≡ true) where
+  snap_holds : SnapHolds (contents v.origin) v.flights (snap_books contents layers s)
+  snap_holds =
+      let held : SnapHolds (contents v.origin) v.flights (get_or (map (snap_books contents layers) v.snaps) k (snap_books contents layers s)) =
+      whole.holds.snaps k (snap_books contents layers s) (omega (arith, within, length-map v.snaps (snap_books contents layers))) in
+      subst (SnapHolds (contents v.origin) v.flights) (get_or-map (snap_books contents layers) v.snaps k s (snap_books contents layers s) within ∙ ap (snap_books contents layers) (sym is)) held
+
+  live_holds : LiveHolds (contents v.origin) v.flights (snap_books contents layers s)
+  live_holds = snap_holds.alive live
+
+  -- the places of its pairs lie inside its device
+  pub places_inside : ((d : B) → length (contents d) ≡ 512 * size d) → (c n : ℕ) → place_of s.pairs c ≡ Some n → s.state.chunk * (n + 1) ≤ size s.device
+  places_inside wholes c n found =
+      let low = place_inside s.state.chunk s.state.origin s.state.size c n s.pairs (all_front (IsInside s.state.chunk s.state.origin s.state.size) s.pairs s.begun live_holds.text.inside) found in
+      omega (arith, low, wholes s.device, live_holds.text.whole)
+
+  -- its pairs are those of its store's bytes
+  pub pairs_stored : is_loud_in_all layers v ≡ true → pairs_of s.state.chunk (contents s.device) ≡ s.pairs
+  pairs_stored loud =
+      let all = (loud_books contents layers size v loud).snaps in
+      let mine : (get_or (map (snap_books contents layers) v.snaps) k (snap_books contents layers s)).loud ≡ true = all k (snap_books contents layers s) (omega (arith, within, length-map v.snaps (snap_books contents layers))) in
+      live_holds.stored (ap (λ (b : SnapBooks). b.loud) (sym (get_or-map (snap_books contents layers) v.snaps k s (snap_books contents layers s) within ∙ ap (snap_books contents layers) (sym is))) ∙ mine)
+
+-- what the snapshot with a number shows
+abbrev pub entries_in : {B : Type 0} → (B → List ℕ) → List ℕ → List (Kept B) → List Entry
+entries_in contents origin xs = map (shown_entry contents origin) (map snap_shape xs)
+
+saved_first : {B : Type 0} (contents : B → List ℕ) (origin : List ℕ) (number k : ℕ) (s : Kept B) (xs : List (Kept B)) → IsFirst (λ (x : Kept B). x.number == number) k s xs
+    → saved_under number (entries_in contents origin xs) ≡ Some (shown_entry contents origin (snap_shape s)).saved
+saved_first contents origin number k s [] first = absurd (omega (arith, first.within))
+saved_first contents origin number zero s (y ∷ ys) first =
+    rw (subst (λ (x : Kept _). (x.number == number) ≡ true) first.is first.passes) (ap (λ (x : Kept _). Some (shown_entry contents origin (snap_shape x)).saved) (sym first.is))
+saved_first contents origin number (suc k) s (y ∷ ys) first = rw (first.before 0 y (omega arith)) (saved_first contents origin number k s ys (later_first number k s y ys first))
+
+live_saved : (b : Bool) (array other : List ℕ) → b ≡ true → Some (if b then Live array else Invalid) ≡ Some (Live other) → other ≡ array
+live_saved true array other is same = cc
+live_saved false array other is same = absurd (cc)
+
+pub shown_snap : {B : Type 0} (contents : B → List ℕ) (origin : List ℕ) (number k : ℕ) (s : Kept B) (xs : List (Kept B)) (array : List ℕ) → IsFirst (λ (x : Kept B). x.number == number) k s xs → s.live ≡ true
+    → saved_under number (entries_in contents origin xs) ≡ Some (Live array) → array ≡ picture s.state.chunk origin (contents s.device)
+shown_snap contents origin number k s xs array first live shown = live_saved s.live (picture s.state.chunk origin (contents s.device)) array live (sym (saved_first contents origin number k s xs first) ∙ shown)
+
+-- a snapshot that is found and live is not refused
+pub live_refusal : {B : Type 0} (snaps : List (Kept B)) (dev : Dev) (number k : ℕ) (s : Kept B) → dev ≡ Snap number → Some k ≡ place_of_snap number snaps → s ≡ get_or snaps k s → s.live ≡ true → dev_refusal dev snaps ≡ None
+live_refusal snaps dev number k s is found at live =
+    let within = found_within number snaps k found in
+    let alive : get_or (map (λ (x : Kept _). x.live) snaps) k false ≡ true = get_or-map (λ (x : Kept _). x.live) snaps k s false within ∙ ap (λ (x : Kept _). x.live) (sym at) ∙ live in
+    ap (λ d. dev_refusal d snaps) is ∙ ap (refusal_at snaps) (sym found) ∙ rw alive refl

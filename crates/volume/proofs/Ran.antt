@@ -1,0 +1,112 @@
+-- Calls one after another: what callers see of them, and that no call changes which devices drop writes.
+use Rattle.std.proofs.Common.{◌≡◌, inl, inr, ℕ, true, List, [], ◌∷◌, ◌++◌, map, refl, sym, ◌∙◌, ap, subst}
+use Rattle.std.proofs.lemmas.List.{map-id}
+use Rattle.std.specs.Prelude.{Result, Ok, Err}
+use Rattle.device.specs.Layers.{Layer}
+use Rattle.layers.specs.declared.message.Answer.{Answer}
+use Rattle.layers.specs.declared.message.Message.{Message}
+use Rattle.plain.specs.Plain.{Plain}
+use Rattle.plain.specs.Runs.{IsRun, MayStep, MaySubmit}
+use Rattle.plain.specs.declared.event.Event.{Event}
+use Rattle.plain.specs.declared.event.NotDue.{NotDue}
+use Rattle.plain.specs.declared.event.Outcome.{Outcome}
+use Rattle.plain.specs.declared.request.Dev.{Dev}
+use Rattle.plain.specs.declared.request.Request.{Request}
+use Rattle.sector.specs.declared.refusal.Refusal.{Refusal}
+use Rattle.volume.specs.declared.calls.Call.{Call}
+use Rattle.volume.specs.declared.calls.Call.TheVariants.{Submit, Step, Tick, Message as Tell}
+use Rattle.volume.specs.declared.calls.Returned.{Returned}
+use Rattle.volume.specs.declared.calls.Returned.TheVariants.{Submitted, Stepped, Ticked, Told}
+use Rattle.volume.specs.Volumed.{Volumed, plain_of, is_loud_in_all}
+use Rattle.volume.specs.Layering.{Measures}
+use Rattle.volume.specs.Running.{IsSubmitReturned, IsStepReturned, IsMessageReturned, IsReturned, AreReturned, MayCall}
+use Rattle.volume.proofs.Declines.{refused_declined, refused_loud}
+use Rattle.volume.proofs.Relayered.{IsVolumeAlike, ticked_alike}
+use Rattle.volume.proofs.Told.{plain_alike, loud_alike, told_alike, untold_alike}
+
+module _ {B : Type 0} (m : Measures B) (layers : B → List Layer) where
+  abbrev plain : Volumed B → Plain
+  plain v = plain_of m.contents layers v
+
+  -- one call
+  submit_loud : (request : Request) (result : Result ℕ Refusal) (v w : Volumed B) → IsSubmitReturned m layers request result v w → is_loud_in_all layers w ≡ is_loud_in_all layers v
+  submit_loud request (Ok number) v w e = e.0.loud
+  submit_loud request (Err refusal) v w e = refused_loud m.contents layers m.size v w request refusal e
+
+  submit_legal : (request : Request) (result : Result ℕ Refusal) (v w : Volumed B) → is_loud_in_all layers v ≡ true → IsSubmitReturned m layers request result v w → MaySubmit request (plain v) (plain w)
+  submit_legal request (Ok number) v w loud e = (let (which, is) = e.0.legal loud in inl (number, which, is))
+  submit_legal request (Err refusal) v w loud e = inr (refusal, refused_declined m.contents layers m.size v w request refusal e loud)
+
+  step_loud : (event : Event) (result : Result Outcome NotDue) (v w : Volumed B) → IsStepReturned m layers event result v w → is_loud_in_all layers w ≡ is_loud_in_all layers v
+  step_loud event (Ok outcome) v w e = e.0.0.loud
+  step_loud event (Err early) v w e = ap (is_loud_in_all layers) e.0
+
+  step_legal : (event : Event) (result : Result Outcome NotDue) (v w : Volumed B) → is_loud_in_all layers v ≡ true → IsStepReturned m layers event result v w → MayStep event (plain v) (plain w)
+  step_legal event (Ok outcome) v w loud e = inl (outcome, e.0.0.legal loud)
+  step_legal event (Err early) v w loud e = inr (ap plain e.0)
+
+  message_alike : (dev : Dev) (depth : ℕ) (message : Message) (result : Result Answer Refusal) (v w : Volumed B) → IsMessageReturned m layers dev depth message result v w → IsVolumeAlike m.contents layers m.size v w
+  message_alike dev depth message (Ok answer) v w e = told_alike m layers dev depth message v w answer e
+  message_alike dev depth message (Err refusal) v w e = untold_alike m layers dev depth message v w refusal e
+
+  returned_loud : (call : Call) (returned : Returned) (v w : Volumed B) → IsReturned m layers call returned v w → is_loud_in_all layers w ≡ is_loud_in_all layers v
+  returned_loud (Submit request) (Submitted result) v w e = submit_loud request result v w e
+  returned_loud (Step event) (Stepped result) v w e = step_loud event result v w e
+  returned_loud (Tick seconds) Ticked v w e = loud_alike m.contents layers m.size v w (ticked_alike m layers seconds v w e)
+  returned_loud (Tell dev depth message) (Told result) v w e = loud_alike m.contents layers m.size v w (message_alike dev depth message result v w e)
+  returned_loud (Submit request) (Stepped result) v w e = absurd e
+  returned_loud (Submit request) Ticked v w e = absurd e
+  returned_loud (Submit request) (Told result) v w e = absurd e
+  returned_loud (Step event) (Submitted result) v w e = absurd e
+  returned_loud (Step event) Ticked v w e = absurd e
+  returned_loud (Step event) (Told result) v w e = absurd e
+  returned_loud (Tick seconds) (Submitted result) v w e = absurd e
+  returned_loud (Tick seconds) (Stepped result) v w e = absurd e
+  returned_loud (Tick seconds) (Told result) v w e = absurd e
+  returned_loud (Tell dev depth message) (Submitted result) v w e = absurd e
+  returned_loud (Tell dev depth message) (Stepped result) v w e = absurd e
+  returned_loud (Tell dev depth message) Ticked v w e = absurd e
+
+  returned_legal : (call : Call) (returned : Returned) (v w : Volumed B) → is_loud_in_all layers v ≡ true → IsReturned m layers call returned v w → MayCall call (plain v) (plain w)
+  returned_legal (Submit request) (Submitted result) v w loud e = submit_legal request result v w loud e
+  returned_legal (Step event) (Stepped result) v w loud e = step_legal event result v w loud e
+  returned_legal (Tick seconds) Ticked v w loud e = plain_alike m.contents layers m.size v w (ticked_alike m layers seconds v w e)
+  returned_legal (Tell dev depth message) (Told result) v w loud e = plain_alike m.contents layers m.size v w (message_alike dev depth message result v w e)
+  returned_legal (Submit request) (Stepped result) v w loud e = absurd e
+  returned_legal (Submit request) Ticked v w loud e = absurd e
+  returned_legal (Submit request) (Told result) v w loud e = absurd e
+  returned_legal (Step event) (Submitted result) v w loud e = absurd e
+  returned_legal (Step event) Ticked v w loud e = absurd e
+  returned_legal (Step event) (Told result) v w loud e = absurd e
+  returned_legal (Tick seconds) (Submitted result) v w loud e = absurd e
+  returned_legal (Tick seconds) (Stepped result) v w loud e = absurd e
+  returned_legal (Tick seconds) (Told result) v w loud e = absurd e
+  returned_legal (Tell dev depth message) (Submitted result) v w loud e = absurd e
+  returned_legal (Tell dev depth message) (Stepped result) v w loud e = absurd e
+  returned_legal (Tell dev depth message) Ticked v w loud e = absurd e
+
+  -- all of them
+  pub are_loud : (calls : List Call) (returned : List Returned) (v w : Volumed B) → AreReturned m layers calls returned v w → is_loud_in_all layers w ≡ is_loud_in_all layers v
+  are_loud [] [] v w e = ap (is_loud_in_all layers) e
+  are_loud [] (r ∷ rs) v w e = absurd e
+  are_loud (c ∷ cs) [] v w e = absurd e
+  are_loud (c ∷ cs) (r ∷ rs) v w (mid, one, rest) = are_loud cs rs mid w rest ∙ returned_loud c r v mid one
+
+  pub are_legal : (calls : List Call) (returned : List Returned) (v w : Volumed B) → is_loud_in_all layers v ≡ true → AreReturned m layers calls returned v w → IsRun MayCall calls (plain v) (plain w)
+  are_legal [] [] v w loud e = ap plain e
+  are_legal [] (r ∷ rs) v w loud e = absurd e
+  are_legal (c ∷ cs) [] v w loud e = absurd e
+  are_legal (c ∷ cs) (r ∷ rs) v w loud (mid, one, rest) =
+      (plain mid, returned_legal c r v mid loud one, are_legal cs rs mid w (returned_loud c r v mid one ∙ loud) rest)
+
+  -- one call more
+  pub are_more : (calls : List Call) (returned : List Returned) (call : Call) (answer : Returned) (v w x : Volumed B) → AreReturned m layers calls returned v w → IsReturned m layers call answer w x
+      → AreReturned m layers (calls ++ call ∷ []) (returned ++ answer ∷ []) v x
+  are_more [] [] call answer v w x e one = (x, subst (λ (y : Volumed B). IsReturned m layers call answer y x) e one, refl)
+  are_more [] (r ∷ rs) call answer v w x e one = absurd e
+  are_more (c ∷ cs) [] call answer v w x e one = absurd e
+  are_more (c ∷ cs) (r ∷ rs) call answer v w x (mid, first, rest) one = (mid, first, are_more cs rs call answer mid w x rest one)
+
+  -- those that a loop went over are all of them
+  pub all_returned : (seen calls : List Call) (returned : List Returned) (v w : Volumed B) → map (λ c. c) seen ≡ calls → AreReturned m layers seen returned v w → AreReturned m layers calls returned v w
+  all_returned seen calls returned v w all e = subst (λ (cs : List Call). AreReturned m layers cs returned v w) (sym (map-id seen) ∙ all) e

@@ -1,0 +1,70 @@
+-- Calls of a volume, one after another: what each does and answers, and what callers see of a whole list. This project's own.
+use Rattle.std.specs.Prelude.{◌≡◌, ℕ, ◌*◌, List, [], ◌∷◌, length, None, Result, MatchResult, is_ok}
+use Rattle.sector.specs.declared.refusal.Refusal.{Refusal}
+use Rattle.device.specs.Layers.{Layer}
+use Rattle.layers.specs.declared.message.Answer.{Answer}
+use Rattle.layers.specs.declared.message.Message.{Message}
+use Rattle.plain.specs.Plain.{Plain}
+use Rattle.plain.specs.Runs.{MayStep, MaySubmit}
+use Rattle.plain.specs.declared.event.Event.{Event}
+use Rattle.plain.specs.declared.event.NotDue.{NotDue}
+use Rattle.plain.specs.declared.event.Outcome.{Outcome}
+use Rattle.plain.specs.declared.request.Dev.{Dev}
+use Rattle.plain.specs.declared.request.Op.TheVariants.{Write}
+use Rattle.plain.specs.declared.request.Request.{Request}
+use Rattle.volume_laws.specs.Due.{is_due}
+use Rattle.volume.specs.declared.calls.Call.{Call}
+use Rattle.volume.specs.declared.calls.Call.TheVariants.{Submit, Step, Tick, Message as Tell}
+use Rattle.volume.specs.declared.calls.Returned.{Returned}
+use Rattle.volume.specs.declared.calls.Returned.TheVariants.{Submitted, Stepped, Ticked, Told}
+use Rattle.volume.specs.Volumed.{Volumed, dues_of}
+use Rattle.volume.specs.Exact.{IsExact}
+use Rattle.volume.specs.Layering.{Measures, IsTicked}
+use Rattle.volume.specs.Stepping.{IsStepped}
+use Rattle.volume.specs.Submitting.{submit_refusal, IsAcceptedAs, IsRefusedAs}
+use Rattle.volume.specs.Telling.{IsTold, IsNotTold}
+
+-- what is asked of a call: a write brings as many bytes as its range has
+abbrev pub IsFitCall : Call → Type 0
+IsFitCall (Submit request) = (bytes : List ℕ) → request.op ≡ Write bytes → length bytes ≡ 512 * request.range.count
+IsFitCall (Step event) = Unit {0}
+IsFitCall (Tick seconds) = Unit {0}
+IsFitCall (Tell dev depth message) = Unit {0}
+
+-- a request was accepted or refused
+abbrev pub IsSubmitReturned : {B : Type 0} → Measures B → (B → List Layer) → Request → Result ℕ Refusal → Volumed B → Volumed B → Type 0
+IsSubmitReturned m layers request result old new =
+    MatchResult result (λ number. IsAcceptedAs m.contents layers request number old new × (submit_refusal m.size request old ≡ None)) (λ refusal. IsRefusedAs m.contents layers m.size request refusal old new)
+
+-- an event was done, or was not due
+abbrev pub IsStepReturned : {B : Type 0} → Measures B → (B → List Layer) → Event → Result Outcome NotDue → Volumed B → Volumed B → Type 0
+IsStepReturned m layers event result old new =
+    MatchResult result (λ outcome. IsStepped m.contents layers m.size m.faults m.done event outcome old new × IsExact m.contents layers event outcome old new) (λ early. new ≡ old)
+    × (is_ok result ≡ is_due (dues_of m.contents layers old) old.flights event)
+
+-- a layer was told something, or was not
+abbrev pub IsMessageReturned : {B : Type 0} → Measures B → (B → List Layer) → Dev → ℕ → Message → Result Answer Refusal → Volumed B → Volumed B → Type 0
+IsMessageReturned m layers dev depth message result old new =
+    MatchResult result (λ answer. IsTold m layers dev depth message answer old new) (λ refusal. IsNotTold m layers dev depth message refusal old new)
+
+-- a call was done, with this answer
+abbrev pub IsReturned : {B : Type 0} → Measures B → (B → List Layer) → Call → Returned → Volumed B → Volumed B → Type 0
+IsReturned m layers (Submit request) (Submitted result) old new = IsSubmitReturned m layers request result old new
+IsReturned m layers (Step event) (Stepped result) old new = IsStepReturned m layers event result old new
+IsReturned m layers (Tick seconds) Ticked old new = IsTicked m layers seconds old new
+IsReturned m layers (Tell dev depth message) (Told result) old new = IsMessageReturned m layers dev depth message result old new
+IsReturned m layers call returned old new = ⊥
+
+-- all of these calls were done, in their order
+abbrev pub AreReturned : {B : Type 0} → Measures B → (B → List Layer) → List Call → List Returned → Volumed B → Volumed B → Type 0
+AreReturned m layers [] [] old new = new ≡ old
+AreReturned m layers [] (r ∷ rs) old new = ⊥
+AreReturned m layers (c ∷ cs) [] old new = ⊥
+AreReturned {B} m layers (c ∷ cs) (r ∷ rs) old new = (mid : Volumed B) × IsReturned m layers c r old mid × AreReturned m layers cs rs mid new
+
+-- what callers see of a call: neither the time nor a message is seen
+abbrev pub MayCall : Call → Plain → Plain → Type 0
+MayCall (Submit request) old new = MaySubmit request old new
+MayCall (Step event) old new = MayStep event old new
+MayCall (Tick seconds) old new = new ≡ old
+MayCall (Tell dev depth message) old new = new ≡ old

@@ -1,0 +1,104 @@
+// What a volume's devices show, by their own bytes: for tests and audits.
+ghost use Rattle.std.specs.Prelude.{◌≡◌, ℕ, ◌+◌, ◌-◌, ◌*◌, ◌/◌, ◌<◌, ◌≤◌, IfErr, List, None, OnOk, Some, length, true};
+ghost use Rattle.sector.specs.Bytes.{sectors_at};
+ghost use Rattle.model.specs.Pairs.{pairs_of};
+ghost use Rattle.model.specs.Picture.{picture, place_of as place_in};
+ghost use Rattle.plain.specs.Serves.{Shows};
+ghost use Rattle.volume.specs.Volumed.{is_loud_in_all, plain_of};
+ghost use Rattle.volume.specs.Submitting.{dev_refusal};
+
+use crate::Volume;
+use crate::finding::snap_at;
+use chunk::Geometry;
+use layers::Layered;
+use plain::Dev;
+use sector::{Range, Refusal, SECTOR_BYTES};
+use snapshot::Snapshot;
+
+/// Copies a piece of what a snapshot shows: from its store where the piece's chunk has a copy, else from the origin disk.
+fn peek_piece<B: Layered>(
+    snap: &Snapshot<B>,
+    origin: &B,
+    geometry: &Geometry,
+    piece: Range,
+    out: &mut [u8],
+)
+    requires chunk { geometry.now.chunk ≡ snap.now.state.chunk }
+    requires places { (c n : ℕ) → place_in snap.now.pairs c ≡ Some n → snap.now.state.chunk * (n + 1) ≤ B.size snap.now.device }
+    requires some { 0 < piece.count }
+    requires one { (piece.first + piece.count - 1) / geometry.now.chunk ≡ piece.first / geometry.now.chunk }
+    requires inside { piece.first + piece.count ≤ B.size origin.now }
+    requires room { length out.old ≡ 512 * piece.count }
+    ensures { pairs_of snap.now.state.chunk (B.contents snap.now.device) ≡ snap.now.pairs → out.new ≡ sectors_at (picture snap.now.state.chunk (B.contents origin.now) (B.contents snap.now.device)) piece.first piece.count }
+{
+    match snap.place_of(geometry.chunk_of(piece.first)) {
+        None => origin.peek(piece, out),
+        Some(place) => {
+            let chunk = u64::from(geometry.chunk);
+            let range = Range {
+                first: chunk * place + piece.first % chunk,
+                count: piece.count,
+                size: snap.device().sectors(),
+            };
+            snap.device().peek(range, out)
+        }
+    }
+}
+
+/// Copies a range of what a snapshot shows, piece after piece.
+fn peek_pieces<B: Layered>(
+    snap: &Snapshot<B>,
+    origin: &B,
+    geometry: &Geometry,
+    range: Range,
+    out: &mut [u8],
+)
+    requires chunk { geometry.now.chunk ≡ snap.now.state.chunk }
+    requires places { (c n : ℕ) → place_in snap.now.pairs c ≡ Some n → snap.now.state.chunk * (n + 1) ≤ B.size snap.now.device }
+    requires inside { range.first + range.count ≤ B.size origin.now }
+    requires room { length out.old ≡ 512 * range.count }
+    ensures { pairs_of snap.now.state.chunk (B.contents snap.now.device) ≡ snap.now.pairs → out.new ≡ sectors_at (picture snap.now.state.chunk (B.contents origin.now) (B.contents snap.now.device)) range.first range.count }
+{
+    let mut from = 0;
+    for piece in geometry.pieces(range) {
+        let to = from + piece.count as usize * SECTOR_BYTES;
+        peek_piece(snap, origin, geometry, piece, &mut out[from..to]);
+        from = to;
+    }
+}
+
+impl<B: Layered> Volume<B> {
+    /// Copies sectors of what the origin or a live snapshot shows into a buffer that is as long: the bytes on the devices,
+    /// whatever their layers would answer now. No device fails at it, and no operation is counted. `NoSuchDevice` where
+    /// there is no such snapshot, `Invalid` where it is spoiled.
+    pub fn peek(&self, dev: Dev, range: Range, out: &mut [u8]) -> Result<(), Refusal>
+        requires some { 0 < range.count }
+        requires inside { range.first + range.count ≤ B.size self.now.origin }
+        requires room { length out.old ≡ 512 * range.count }
+        ensures there { OnOk result (dev_refusal dev self.now.snaps ≡ None) }
+        ensures bytes { OnOk result (is_loud_in_all B.layers self.now ≡ true → (array : List ℕ) → Shows (plain_of B.contents B.layers self.now) dev array → out.new ≡ sectors_at array range.first range.count) }
+        ensures err { IfErr result (λ refusal. (dev_refusal dev self.now.snaps ≡ Some refusal) × (out.new ≡ out.old)) }
+    {
+        match dev {
+            Dev::Origin => {
+                self.origin.peek(range, out);
+                Ok(())
+            }
+            Dev::Snap(number) => {
+                let Some(k) = snap_at(self.snaps.as_slice(), number) else {
+                    return Err(Refusal::NoSuchDevice);
+                };
+                let snap = &self.snaps[k];
+                if !snap.is_live() {
+                    return Err(Refusal::Invalid);
+                }
+                let geometry = Geometry {
+                    chunk: snap.chunk(),
+                    sectors: self.origin.sectors(),
+                };
+                peek_pieces(snap, &self.origin, &geometry, range, out);
+                Ok(())
+            }
+        }
+    }
+}
