@@ -14,3 +14,13 @@ pub mod Leaves
 pub mod Takes
 pub mod Closes
 pub mod Started
+pub mod Alike
+pub mod Lends
+pub mod Unread
+pub mod Tells
+pub mod Rests
+pub mod ShownReads
+pub mod PlainReads
+pub mod Parts
+pub mod SnapWrites
+pub mod PlainWrites

@@ -5,3 +5,7 @@ pub mod Commands
 pub mod Taking
 pub mod Serving
 pub mod Leaving
+pub mod Using
+pub mod Unread
+pub mod Telling
+pub mod Showing

@@ -37,6 +37,7 @@ fn take<B: Block>(
     ensures same { OnErr result (volume.new ≡ volume.old) }
     ensures stale { IfErr result (λ e. e.1.stale ≡ store.stale) }
     ensures size { IfErr result (λ e. B.size e.1.device ≡ B.size store.device) }
+    ensures loud { IfErr result (λ e. is_loud (B.layers e.1.device) ≡ is_loud (B.layers store.device)) }
 {
     match volume.attach(alloc, store, chunk) {
         Ok(number) => Ok(number),
@@ -77,6 +78,7 @@ impl<B: Block> Resting<B> {
         ensures same { OnErr result (self.new ≡ self.old) }
         ensures stale { IfErr result (λ e. e.1.stale ≡ store.stale) }
         ensures size { IfErr result (λ e. B.size e.1.device ≡ B.size store.device) }
+        ensures loud { IfErr result (λ e. is_loud (B.layers e.1.device) ≡ is_loud (B.layers store.device)) }
     {
         take(&mut self.volume, alloc, store, chunk)
     }

@@ -1,19 +1,25 @@
 //! A volume between two commands: no request is in flight, and nothing is left to do. A read or a write of any range is cut
 //! into pieces; each is submitted, and then the events that are due are done, the one that is due first, until none is.
 //!
-//! It stands on `volume`, whose events it does, and on `settling`, which has the laws by which those events settle. It
-//! promises that each command on a settled volume is the settled machine's one big step over the devices' own bytes and
-//! layers, and leaves it settled. A new volume is settled where its disk drops no writes; the attach of a store that drops
-//! writes alone makes one that is not. Where a volume is not settled, it promises which snapshots there are, and of what
-//! sizes.
+//! It stands on `volume`, whose events it does, on `settling`, which has the laws by which those events settle, and on
+//! `layers`, whose time and messages it passes on. It promises that each command on a settled volume is the settled machine's
+//! one big step over the devices' own bytes and layers, and leaves it settled; that time and messages change layers alone;
+//! and that the numbers of a status line are those of a store's own bytes. A new volume is settled where its disk drops no
+//! writes; the attach of a store that drops writes alone makes one that is not. Where a volume is not settled, it promises
+//! which snapshots there are, and of what sizes.
 #![tactic(auto)]
 
 mod changing;
+mod layering;
+mod lending;
 mod pieces;
 mod resting;
 mod serving;
+mod telling;
 
 pub use resting::Resting;
 
+#[cfg(test)]
+mod stack_tests;
 #[cfg(test)]
 mod tests;

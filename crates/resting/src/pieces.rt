@@ -8,6 +8,7 @@ ghost use Rattle.resting.specs.Rested.{rested_of, IsSettled};
 ghost use Rattle.resting.specs.Kept.{KeepsDevices};
 ghost use Rattle.resting.specs.Between.{IsBetween};
 ghost use Rattle.resting.specs.Commands.{refusal_of, IsDoneBy, IsWriteRefused, IsReadRefused};
+ghost use Rattle.resting.specs.Showing.{arrays_in, pieces_for, IsPlainRead, IsPlainReadRefused, IsPlainWrite, IsPlainWriteRefused};
 ghost use Rattle.resting.specs.Serving.{CanAsk, CanServe, IsPieceDone, IsPieceRead, IsPieceRefused};
 
 use crate::serving::serve;
@@ -119,6 +120,8 @@ pub(crate) fn write_pieces<B: Block>(
     ensures settled { IsSettled B.contents B.layers B.size (rested_of volume.old) → IsSettled B.contents B.layers B.size (rested_of volume.new) }
     ensures done { OnOk result (IsDoneBy B.contents B.layers B.size (written dev (span_of range) bytes.now) Written (rested_of volume.old) (rested_of volume.new)) }
     ensures refused { IfErr result (λ refusal. IsWriteRefused B.contents B.layers B.size dev (span_of range) bytes.now refusal (rested_of volume.old) (rested_of volume.new)) }
+    ensures shows { OnOk result (IsSettled B.contents B.layers B.size (rested_of volume.old) → IsPlainWrite dev (span_of range) bytes.now (arrays_in B.contents B.layers (rested_of volume.old)) (arrays_in B.contents B.layers (rested_of volume.new))) }
+    ensures loses { IfErr result (λ refusal. IsSettled B.contents B.layers B.size (rested_of volume.old) → IsPlainWriteRefused dev (span_of range) (pieces_for B.contents B.layers (span_of range) (rested_of volume.old)) bytes.now refusal (arrays_in B.contents B.layers (rested_of volume.old)) (arrays_in B.contents B.layers (rested_of volume.new))) }
     ensures kept { KeepsDevices B.layers B.size (rested_of volume.old) (rested_of volume.new) }
     ensures requests { volume.new.requests ≤ volume.old.requests + range.count }
     ensures copies { volume.new.copies ≤ volume.old.copies + 8 * range.count }
@@ -152,6 +155,8 @@ pub(crate) fn read_pieces<B: Block>(
     ensures settled { IsSettled B.contents B.layers B.size (rested_of volume.old) → IsSettled B.contents B.layers B.size (rested_of volume.new) }
     ensures done { IfOk result (λ bytes. IsDoneBy B.contents B.layers B.size (read dev (span_of range)) (Data bytes) (rested_of volume.old) (rested_of volume.new)) }
     ensures refused { IfErr result (λ refusal. IsReadRefused B.contents B.layers B.size dev (span_of range) refusal (rested_of volume.old) (rested_of volume.new)) }
+    ensures shows { IfOk result (λ bytes. IsSettled B.contents B.layers B.size (rested_of volume.old) → IsPlainRead dev (span_of range) bytes (arrays_in B.contents B.layers (rested_of volume.old)) (arrays_in B.contents B.layers (rested_of volume.new))) }
+    ensures loses { IfErr result (λ refusal. IsSettled B.contents B.layers B.size (rested_of volume.old) → IsPlainReadRefused dev refusal (arrays_in B.contents B.layers (rested_of volume.old)) (arrays_in B.contents B.layers (rested_of volume.new))) }
     ensures kept { KeepsDevices B.layers B.size (rested_of volume.old) (rested_of volume.new) }
     ensures requests { volume.new.requests ≤ volume.old.requests + range.count }
     ensures copies { volume.new.copies ≤ volume.old.copies + 8 * range.count }

@@ -8,6 +8,7 @@ ghost use Rattle.settling.specs.Commands.{written, read};
 ghost use Rattle.resting.specs.Rested.{has_dev, rested_of, IsSettled};
 ghost use Rattle.resting.specs.Kept.{KeepsDevices};
 ghost use Rattle.resting.specs.Commands.{IsDoneBy, IsWriteRefused, IsReadRefused};
+ghost use Rattle.resting.specs.Showing.{arrays_in, pieces_for, IsPlainRead, IsPlainReadRefused, IsPlainWrite, IsPlainWriteRefused};
 
 use crate::pieces::{read_pieces, write_pieces};
 use crate::serving::is_there;
@@ -66,7 +67,8 @@ impl<B: Block> Resting<B> {
     }
 
     /// Reads sectors of the origin or of a snapshot. The range is cut into pieces of the snapshots' chunk size, which are
-    /// read in order. Where the volume is settled, it is the settled machine's read.
+    /// read in order. Where the volume is settled, it is the settled machine's read: it gives the bytes of the array that
+    /// the device shows, and changes nothing that the origin or a snapshot shows, answered or refused.
     ///
     /// Refused: there is no such snapshot (`NoSuchDevice`), and then nothing changed; the snapshot is spoiled (`Invalid`), or
     /// the device of a piece failed (`Io`), after the pieces before it were read; or memory is refused (`NoMemory`), after
@@ -80,6 +82,8 @@ impl<B: Block> Resting<B> {
         ensures done { IfOk result (λ bytes. IsDoneBy B.contents B.layers B.size (read dev (span_of range)) (Data bytes) self.old self.new) }
         ensures there { OnOk result (has_dev dev self.old ≡ true) }
         ensures refused { IfErr result (λ refusal. IsReadRefused B.contents B.layers B.size dev (span_of range) refusal self.old self.new) }
+        ensures shows { IfOk result (λ bytes. IsSettled B.contents B.layers B.size self.old → IsPlainRead dev (span_of range) bytes (arrays_in B.contents B.layers self.old) (arrays_in B.contents B.layers self.new)) }
+        ensures loses { IfErr result (λ refusal. IsSettled B.contents B.layers B.size self.old → IsPlainReadRefused dev refusal (arrays_in B.contents B.layers self.old) (arrays_in B.contents B.layers self.new)) }
         ensures kept { KeepsDevices B.layers B.size self.old self.new }
         ensures requests { self.new.requests ≤ self.old.requests + range.count }
         ensures copies { self.new.copies ≤ self.old.copies + 8 * range.count }
@@ -91,7 +95,9 @@ impl<B: Block> Resting<B> {
     }
 
     /// Writes sectors of the origin or of a snapshot. The range is cut into pieces of the snapshots' chunk size, which are
-    /// written in order. Where the volume is settled, it is the settled machine's write.
+    /// written in order. Where the volume is settled, it is the settled machine's write: the bytes stand in the array of its
+    /// device. Of a write to the origin, each snapshot shows what it showed, or is spoiled; one to a snapshot changes what
+    /// that shows alone.
     ///
     /// Refused: there is no such snapshot (`NoSuchDevice`), and then nothing changed; the snapshot is spoiled (`Invalid`), or
     /// the device of a piece failed (`Io`), and the pieces before it stand; or memory is refused (`NoMemory`), and some first
@@ -112,6 +118,8 @@ impl<B: Block> Resting<B> {
         ensures done { OnOk result (IsDoneBy B.contents B.layers B.size (written dev (span_of range) bytes.now) Written self.old self.new) }
         ensures there { OnOk result (has_dev dev self.old ≡ true) }
         ensures refused { IfErr result (λ refusal. IsWriteRefused B.contents B.layers B.size dev (span_of range) bytes.now refusal self.old self.new) }
+        ensures shows { OnOk result (IsSettled B.contents B.layers B.size self.old → IsPlainWrite dev (span_of range) bytes.now (arrays_in B.contents B.layers self.old) (arrays_in B.contents B.layers self.new)) }
+        ensures loses { IfErr result (λ refusal. IsSettled B.contents B.layers B.size self.old → IsPlainWriteRefused dev (span_of range) (pieces_for B.contents B.layers (span_of range) self.old) bytes.now refusal (arrays_in B.contents B.layers self.old) (arrays_in B.contents B.layers self.new)) }
         ensures kept { KeepsDevices B.layers B.size self.old self.new }
         ensures requests { self.new.requests ≤ self.old.requests + range.count }
         ensures copies { self.new.copies ≤ self.old.copies + 8 * range.count }

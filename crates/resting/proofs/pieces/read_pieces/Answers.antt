@@ -12,6 +12,7 @@ use Rattle.resting.proofs.Going.{goes_none, goes_can, goes_more, goes_within, pi
 use Rattle.resting.proofs.WriteRuns.{answer}
 use Rattle.resting.proofs.ReadRuns.{ReadsTo, reads_none}
 use Rattle.resting.proofs.Reading.{got_more, got_refused, got_all, refused_first}
+use Rattle.resting.proofs.PlainReads.{plain_read, plain_read_refused}
 use Rattle.resting.proofs.pieces.read_pieces.Goals as goal
 
 pub returns-in_default-clause-refused : goal.returns-in_default-clause-refused
@@ -140,3 +141,18 @@ pub returns-clause-copies : goal.returns-clause-copies
 returns-clause-copies g c =
     let end = stands_last _ _ _ _ _ c.loop-piece.invariant.place.stands c.in-None.ensures.steps.0 (omega arith) in
     (goes_within g.B.Block.contents g.B.Block.layers g.B.Block.size c.loop-piece.invariant.place.from c.args.range.count c.args.volume.now c.loop-piece.volume c.loop-piece.invariant.place.so (omega (arith, end))).1
+
+pub returns-clause-shows : goal.returns-clause-shows
+returns-clause-shows g c =
+    let chunk = chunks_by c.args.volume.now c.piece.result c.piece.ensures.piece c.piece.ensures.same c.piece.ensures.allowed in
+    plain_read g.B.Block.contents g.B.Block.layers g.B.Block.size c.args.dev c.args.range (piece_of c.args.volume.now.snaps) c.args.volume.now c.loop-piece.volume (is_chunk-some (piece_of c.args.volume.now.snaps) chunk.1) c.requires.can.some c.requires.can.inside
+    chunk.0 (piece_least g.B.Block.contents g.B.Block.layers c.args.volume.now chunk.1 chunk.0) c.from_vec.result (returns-clause-done g c)
+
+pub returns-in-Err-clause-loses : goal.returns-in-Err-clause-loses
+returns-in-Err-clause-loses g c =
+    let chunk = chunks_by c.args.volume.now c.piece.result c.piece.ensures.piece c.piece.ensures.same c.piece.ensures.allowed in
+    plain_read_refused g.B.Block.contents g.B.Block.layers g.B.Block.size c.args.dev c.args.range (piece_of c.args.volume.now.snaps) c.args.volume.now c.read_piece.new.volume (is_chunk-some (piece_of c.args.volume.now.snaps) chunk.1) c.requires.can.some c.requires.can.inside
+    chunk.0 (piece_least g.B.Block.contents g.B.Block.layers c.args.volume.now chunk.1 chunk.0) c.in-Err.refusal (returns-in-Err-clause-refused g c)
+
+pub returns-in_default-clause-loses : goal.returns-in_default-clause-loses
+returns-in_default-clause-loses g c = λ settled. (tt, refl)

@@ -10,6 +10,7 @@ use Rattle.resting.proofs.Going.{chunks_by}
 use Rattle.resting.proofs.Going.{goes_none, goes_can, goes_more, goes_within, piece_least}
 use Rattle.resting.proofs.WriteRuns.{writes_none}
 use Rattle.resting.proofs.Writing.{part_is, part_fits, wrote_more, wrote_refused, wrote_all}
+use Rattle.resting.proofs.PlainWrites.{plain_write, plain_write_lost}
 use Rattle.resting.proofs.pieces.write_pieces.Goals as goal
 
 pub invariant_of-geometry : goal.invariant_of-geometry
@@ -125,3 +126,15 @@ pub returns-clause-copies : goal.returns-clause-copies
 returns-clause-copies g c =
     let end = stands_last _ _ _ _ _ c.loop-piece.invariant.stands c.in-None.ensures.steps.0 (omega arith) in
     (goes_within g.B.Block.contents g.B.Block.layers g.B.Block.size c.loop-piece.from c.args.range.count c.args.volume.now c.loop-piece.volume c.loop-piece.invariant.so (omega arith)).1
+
+pub returns-clause-shows : goal.returns-clause-shows
+returns-clause-shows g c =
+    let chunk = chunks_by c.args.volume.now c.piece.result c.piece.ensures.piece c.piece.ensures.same c.piece.ensures.allowed in
+    plain_write g.B.Block.contents g.B.Block.layers g.B.Block.size c.args.dev c.args.range (piece_of c.args.volume.now.snaps) c.args.bytes.now c.args.volume.now c.loop-piece.volume (is_chunk-some (piece_of c.args.volume.now.snaps) chunk.1) c.requires.can.some c.requires.can.inside
+    c.requires.room chunk.0 (piece_least g.B.Block.contents g.B.Block.layers c.args.volume.now chunk.1 chunk.0) (returns-clause-done g c)
+
+pub returns-in-Err-clause-loses : goal.returns-in-Err-clause-loses
+returns-in-Err-clause-loses g c =
+    let chunk = chunks_by c.args.volume.now c.piece.result c.piece.ensures.piece c.piece.ensures.same c.piece.ensures.allowed in
+    plain_write_lost g.B.Block.contents g.B.Block.layers g.B.Block.size c.args.dev c.args.range (piece_of c.args.volume.now.snaps) c.args.bytes.now c.args.volume.now c.write_piece.new.volume (is_chunk-some (piece_of c.args.volume.now.snaps) chunk.1) c.requires.can.some c.requires.can.inside
+    c.requires.room chunk.0 (piece_least g.B.Block.contents g.B.Block.layers c.args.volume.now chunk.1 chunk.0) c.in-Err.refusal (returns-in-Err-clause-refused g c)

@@ -1,0 +1,195 @@
+-- A write of one piece of a snapshot changes what that snapshot shows at that place, and nothing else.
+use Rattle.std.proofs.Common.{◌≡◌, ◌≢◌, inl, inr, ℕ, ◌+◌, ◌*◌, ◌/◌, ◌%◌, ◌<◌, ◌≤◌, Bool, true, false, List, [], ◌∷◌, length, map, Option, Some, None, arith, refl, ap, ◌∙◌, sym, subst}
+use Rattle.std.specs.Prelude.{◌==◌, ◌||◌, not}
+use Rattle.std.proofs.lemmas.Bool.{cases_Bool, cond-true, cond-false, true≢false}
+use Rattle.sector.specs.Bytes.{with_sectors}
+use Rattle.sector.specs.declared.pair.Pair.{Pair}
+use Rattle.device.specs.declared.operation.Operation.TheVariants.{Writes}
+use Rattle.chunk.specs.Pieces.{Span}
+use Rattle.model.specs.Pairs.{pairs_of}
+use Rattle.model.specs.Picture.{place_of, picture}
+use Rattle.plain.specs.Plain.{Saved, Live, Invalid, Entry}
+use Rattle.plain.specs.declared.request.Reply.{Reply}
+use Rattle.plain.specs.declared.request.Reply.TheVariants.{Data, Written, Refused}
+use Rattle.plain.specs.declared.request.Failure.TheVariants.{Invalid as Declined, Io}
+use Rattle.volume_laws.proofs.PlaceWrites.{picture_placed}
+use Rattle.settled.specs.Saves.{Saving as Stored, next_of, saved}
+use Rattle.settled.specs.Order.{IsInOrder}
+use Rattle.settled.proofs.Saved.{AfterSaving, IsSavedTo}
+use Rattle.settled.proofs.Laws.{saving_law, option_cases}
+use Rattle.settled.proofs.Writes.{piece_low}
+use Rattle.settled.proofs.Shown.{place_inside, one_of}
+use Rattle.settling.specs.Devices.{Device, answers, written_by}
+use Rattle.settling.specs.Snaps.{Snap, shown}
+use Rattle.settling.specs.Saving.{Saving, next_place, is_full, has_chunk, save}
+use Rattle.settling.specs.Pieces.{Answered, Served, write_place, write_snap, in_snap}
+use Rattle.settling.specs.Held.{Held}
+use Rattle.settling.specs.Rest.{IsResting}
+use Rattle.settling.proofs.Lists.{Each}
+use Rattle.settling.proofs.Chunks.{HasChunks, save_chunk}
+use Rattle.settling.proofs.Saves.{saves_nothing, saves_full, saves_copy, chunk_read, stored_of, save_live}
+use Rattle.settling.proofs.Resting.{copy_keeps}
+use Rattle.settling.proofs.PlaceRests.{place_rests}
+use Rattle.settling.proofs.WritesSettle.{save_bytes}
+use Rattle.resting.specs.Showing.{entry_of, saved_at, with_bytes, changed_at}
+use Rattle.resting.proofs.Rests.{IsOrderly, IsInside}
+
+-- saving a chunk keeps a snapshot's number
+pub save_number : (c : ℕ) (origin : Device) (s : Snap) → (save c origin s).snap.number ≡ s.number
+save_number c origin s = elim (cases_Bool (not s.live || has_chunk c s)) [
+  | inl none ↦ ap (λ (x : Saving). x.snap.number) (saves_nothing c origin s none)
+  | inr some ↦ elim (cases_Bool (is_full s)) [
+    | inl full ↦ ap (λ (x : Saving). x.snap.number) (saves_full c origin s some full)
+    | inr room ↦ (let q : Pair = record { old = c; new = next_place s } in
+        ap (λ (x : Saving). x.snap.number) (saves_copy c origin s some room) ∙ elim (cases_Bool (answers origin (chunk_read c origin s))) [
+          | inl ok ↦ ap (λ (t : Snap). t.number) (cond-true _ _ _ ok) ∙ copy_keeps (λ (t : Snap). t.number) (λ t d. refl) (λ t. refl) origin.bytes q s
+          | inr failed ↦ ap (λ (t : Snap). t.number) (cond-false _ _ _ failed)
+        ])
+  ]
+]
+
+-- a snapshot that is live after a chunk was saved was live before, and has it as `settled` saves it
+live_saved : (c : ℕ) (origin : Device) (s : Snap) → (save c origin s).snap.live ≡ true → (s.live ≡ true) × (stored_of (save c origin s).snap ≡ saved s.chunk origin.bytes s.store.bytes c)
+unfolding saved
+live_saved c origin s live = elim (cases_Bool s.live) [
+  | inr out ↦ (let is = saves_nothing c origin s (rw out refl) in absurd (true≢false (sym live ∙ ap (λ (x : Saving). x.snap.live) is ∙ out)))
+  | inl on ↦ elim (cases_Bool (has_chunk c s)) [
+    | inl some ↦ (let is = saves_nothing c origin s (rw (on, some) refl) in
+        let mk : Bool → Stored = λ (b : Bool). record { store = s.store.bytes; live = b } in
+        (on, ap (λ (x : Saving). stored_of x.snap) is ∙ ap mk on ∙ sym (cond-true _ _ _ some)))
+    | inr lacks ↦ elim (cases_Bool (is_full s)) [
+      | inl full ↦ (let is = saves_full c origin s (rw (on, lacks) refl) full in absurd (true≢false (sym live ∙ ap (λ (x : Saving). x.snap.live) is)))
+      | inr room ↦ (let is = saves_copy c origin s (rw (on, lacks) refl) room in
+          (on, ap (λ (x : Saving). stored_of x.snap) is ∙ save_live c origin s on lacks room (sym (ap (λ (x : Saving). x.snap.live) is) ∙ live)))
+    ]
+  ]
+]
+
+-- what one snapshot shows after a write of a piece
+abbrev pub IsShownBy : Span → List ℕ → Saved → Saved → Reply → Type 0
+IsShownBy piece part old new (Data bytes) = ⊥
+IsShownBy piece part old new Written = (array : List ℕ) × (old ≡ Live array) × (new ≡ Live (with_sectors array piece.first part))
+IsShownBy piece part old new (Refused Declined) = new ≡ Invalid
+IsShownBy piece part old new (Refused Io) = (array : List ℕ) × (old ≡ Live array) × (new ≡ old)
+
+module _ (sectors chunk : ℕ) (pos : 0 < chunk) (piece : Span) (part : List ℕ) (fits : IsInside sectors chunk piece) (len : length part ≡ 512 * piece.count) where
+  -- at a copy's place
+  placed : (o array : List ℕ) (origin : Device) (t : Snap) (size n : ℕ) (old : Saved) → length o ≡ 512 * sectors → t.chunk ≡ chunk → t.live ≡ true → IsInOrder t.chunk sectors size t.store.bytes → place_of (pairs_of t.chunk t.store.bytes) (piece.first / t.chunk) ≡ Some n
+      → old ≡ Live array → picture t.chunk o t.store.bytes ≡ array → (let a = write_place piece part origin t (Some n) in IsShownBy piece part old (shown o a.snap) a.reply)
+  placed o array origin t size n old whole same live order some was is =
+      let pos' : 0 < t.chunk = order.some in
+      let off : ℕ = piece.first % t.chunk in
+      let first : ℕ = t.chunk * n + off in
+      let room : off + piece.count ≤ t.chunk = one_of chunk t.chunk piece.first piece.count pos' (sym same) fits.one.some fits.one.one in
+      let at : t.chunk * (piece.first / t.chunk) + off ≡ piece.first = omega arith in
+      let here : t.chunk * (n + 1) ≤ size = place_inside t.chunk sectors size (piece.first / t.chunk) n (pairs_of t.chunk t.store.bytes) order.pairs.inside some in
+      let wide : t.chunk * (n + 1) ≡ t.chunk * n + t.chunk = grind arith in
+      let high : piece.first + piece.count ≤ t.chunk * (piece.first / t.chunk) + t.chunk = omega (arith, at, room) in
+      let bytes : List ℕ = with_sectors t.store.bytes first part in
+      let h : Held = record { snap = t; untried = false; pairs = pairs_of t.chunk t.store.bytes; next = next_of t.chunk (pairs_of t.chunk t.store.bytes); zeroed = false; copies = []; marks = [] } in
+      let rest : IsResting sectors h = record { tried = refl; copies = refl; marks = refl; live = λ l. record { order = (size, order); pairs = refl; next = refl; zeroed = refl } } in
+      let after : IsResting sectors _ = place_rests sectors n piece.first piece.count part h rest live some high len in
+      let old_is : old ≡ Live array = was in
+      elim (cases_Bool (answers t.store (Writes first piece.count))) [
+        | inl ok ↦ (let now : (written_by t.store (Writes first piece.count) bytes).bytes ≡ bytes = cond-true _ _ _ ok in
+            let pairs : pairs_of t.chunk bytes ≡ pairs_of t.chunk t.store.bytes = ap (pairs_of t.chunk) (sym now) ∙ (after.live live).pairs in
+            let pic : picture t.chunk o bytes ≡ with_sectors (picture t.chunk o t.store.bytes) (t.chunk * (piece.first / t.chunk) + off) part =
+            picture_placed t.chunk (piece.first / t.chunk) n off piece.count o t.store.bytes bytes part (pairs_of t.chunk t.store.bytes) pos' order.pairs.apart refl pairs some room len
+            (let w = order.whole in omega (arith, here, wide, w, len, room)) (let i = fits.inside in omega (arith, at, whole, i)) refl in
+            subst (IsShownBy piece part old _) (sym (cond-true _ _ _ ok))
+            (array, old_is, cond-true _ _ _ live ∙ ap (λ (b : List ℕ). Live (picture t.chunk o b)) now ∙ ap Live (pic ∙ ap (λ (k : ℕ). with_sectors (picture t.chunk o t.store.bytes) k part) at ∙ ap (λ (b : List ℕ). with_sectors b piece.first part) is)))
+        | inr failed ↦ (let now : (written_by t.store (Writes first piece.count) bytes).bytes ≡ t.store.bytes = cond-false _ _ _ failed in
+            subst (IsShownBy piece part old _) (sym (cond-false _ _ _ failed))
+            (array, old_is, cond-true _ _ _ live ∙ ap (λ (b : List ℕ). Live (picture t.chunk o b)) now ∙ ap Live is ∙ sym old_is))
+      ]
+
+  -- one snapshot
+  pub snap_written : (origin : Device) (s : Snap) → length origin.bytes ≡ 512 * sectors → s.chunk ≡ chunk → IsOrderly sectors s → IsShownBy piece part (shown origin.bytes s) (shown origin.bytes (write_snap piece part origin s).snap) (write_snap piece part origin s).reply
+  snap_written origin s whole same orderly =
+      let c : ℕ = piece.first / s.chunk in
+      let a : Saving = save c origin s in
+      let t : Snap = a.snap in
+      let old : Saved = shown origin.bytes s in
+      let By : Served → Type 0 = λ (x : Served). IsShownBy piece part old (shown origin.bytes x.snap) x.reply in
+      elim (cases_Bool t.live) [
+        | inr out ↦ subst By (sym (cond-false _ _ _ out)) (cond-false _ _ _ out)
+        | inl live ↦ (let both = live_saved c origin s live in
+            let (size, order) = orderly both.0 in
+            let low : s.chunk * c ≤ piece.first = piece_low s.chunk piece.first in
+            let law : AfterSaving s.chunk sectors size c origin.bytes s.store.bytes (saved s.chunk origin.bytes s.store.bytes c) = saving_law s.chunk sectors size c origin.bytes s.store.bytes whole order (let i = fits.inside in let m = fits.one.some in omega (arith, low, i, m)) in
+            let alive : (saved s.chunk origin.bytes s.store.bytes c).live ≡ true = sym (ap (λ (x : Stored). x.live) both.1) ∙ live in
+            let done : IsSavedTo s.chunk sectors size c origin.bytes s.store.bytes t.store.bytes = subst (IsSavedTo s.chunk sectors size c origin.bytes s.store.bytes) (sym (ap (λ (x : Stored). x.store) both.1)) (law.1 alive) in
+            let kept : t.chunk ≡ s.chunk = save_chunk c origin s in
+            let order' : IsInOrder t.chunk sectors size t.store.bytes = subst (λ (k : ℕ). IsInOrder k sectors size t.store.bytes) (sym kept) done.order in
+            let copy : place_of (pairs_of t.chunk t.store.bytes) (piece.first / t.chunk) ≢ None = subst (λ (k : ℕ). place_of (pairs_of k t.store.bytes) (piece.first / k) ≢ None) (sym kept) done.copy in
+            let is : picture t.chunk origin.bytes t.store.bytes ≡ picture s.chunk origin.bytes s.store.bytes = ap (λ (k : ℕ). picture k origin.bytes t.store.bytes) kept ∙ done.same in
+            subst By (sym (cond-true _ _ _ live)) (elim (option_cases (place_of (pairs_of t.chunk t.store.bytes) (piece.first / t.chunk))) [
+              | inl none ↦ absurd (copy none)
+              | inr (n, some) ↦ subst (λ (o : Option ℕ). By (write_place piece part a.origin t o)) (sym some)
+                  (placed origin.bytes (picture s.chunk origin.bytes s.store.bytes) a.origin t size n old whole (kept ∙ same) live order' some (cond-true _ _ _ both.0) is)
+            ]))
+      ]
+
+-- its number and the origin's bytes stay
+place_origin : (piece : Span) (part : List ℕ) (origin : Device) (s : Snap) (o : Option ℕ) → ((write_place piece part origin s o).origin.bytes ≡ origin.bytes) × ((write_place piece part origin s o).snap.number ≡ s.number)
+place_origin piece part origin s None = (refl, refl)
+place_origin piece part origin s (Some n) = (refl, refl)
+
+snap_stays : (piece : Span) (part : List ℕ) (origin : Device) (s : Snap) → ((write_snap piece part origin s).origin.bytes ≡ origin.bytes) × ((write_snap piece part origin s).snap.number ≡ s.number)
+snap_stays piece part origin s =
+    let c : ℕ = piece.first / s.chunk in
+    let a : Saving = save c origin s in
+    let Stays : Served → Type 0 = λ (x : Served). (x.origin.bytes ≡ origin.bytes) × (x.snap.number ≡ s.number) in
+    elim (cases_Bool a.snap.live) [
+      | inl live ↦ (let p = place_origin piece part a.origin a.snap (place_of (pairs_of a.snap.chunk a.snap.store.bytes) (piece.first / a.snap.chunk)) in
+          subst Stays (sym (cond-true _ _ _ live)) (p.0 ∙ save_bytes c origin s, p.1 ∙ save_number c origin s))
+      | inr out ↦ subst Stays (sym (cond-false _ _ _ out)) (save_bytes c origin s, save_number c origin s)
+    ]
+
+-- what all snapshots show after a write of one
+abbrev pub AreShownBy : ℕ → Span → List ℕ → List Entry → List Entry → Reply → Type 0
+AreShownBy number piece part old new (Data bytes) = ⊥
+AreShownBy number piece part old new Written = ((array : List ℕ) × (saved_at number old ≡ Live array)) × (new ≡ changed_at number (with_bytes piece.first part) old)
+AreShownBy number piece part old new (Refused Declined) = new ≡ changed_at number (λ saved. Invalid) old
+AreShownBy number piece part old new (Refused Io) = ((array : List ℕ) × (saved_at number old ≡ Live array)) × (new ≡ old)
+
+shown_first : (number : ℕ) (piece : Span) (part : List ℕ) (old new : Entry) (es : List Entry) (reply : Reply) → (old.number == number) ≡ true → new.number ≡ old.number → IsShownBy piece part old.saved new.saved reply → AreShownBy number piece part (old ∷ es) (new ∷ es) reply
+shown_first number piece part old new es (Data bytes) this same by = by
+shown_first number piece part old new es Written this same by =
+    let mk : ℕ → Saved → List Entry = λ (n : ℕ) (s : Saved). (record { number = n; saved = s }) ∷ es in
+    ((by.0, cond-true _ _ _ this ∙ by.1), ap (λ (n : ℕ). mk n new.saved) same ∙ ap (mk old.number) (by.2 ∙ sym (ap (with_bytes piece.first part) by.1)) ∙ sym (cond-true _ _ _ this))
+shown_first number piece part old new es (Refused Declined) this same by =
+    let mk : ℕ → Saved → List Entry = λ (n : ℕ) (s : Saved). (record { number = n; saved = s }) ∷ es in
+    ap (λ (n : ℕ). mk n new.saved) same ∙ ap (mk old.number) by ∙ sym (cond-true _ _ _ this)
+shown_first number piece part old new es (Refused Io) this same by =
+    let mk : ℕ → Saved → List Entry = λ (n : ℕ) (s : Saved). (record { number = n; saved = s }) ∷ es in
+    ((by.0, cond-true _ _ _ this ∙ by.1), ap (λ (n : ℕ). mk n new.saved) same ∙ ap (mk old.number) by.2)
+
+shown_later : (number : ℕ) (piece : Span) (part : List ℕ) (e : Entry) (old new : List Entry) (reply : Reply) → (e.number == number) ≡ false → AreShownBy number piece part old new reply → AreShownBy number piece part (e ∷ old) (e ∷ new) reply
+shown_later number piece part e old new (Data bytes) other by = by
+shown_later number piece part e old new Written other by = ((by.0.0, cond-false _ _ _ other ∙ by.0.1), ap (λ (es : List Entry). e ∷ es) by.1 ∙ sym (cond-false _ _ _ other))
+shown_later number piece part e old new (Refused Declined) other by = ap (λ (es : List Entry). e ∷ es) by ∙ sym (cond-false _ _ _ other)
+shown_later number piece part e old new (Refused Io) other by = ((by.0.0, cond-false _ _ _ other ∙ by.0.1), ap (λ (es : List Entry). e ∷ es) by.1)
+
+pub in_stays : (number : ℕ) (piece : Span) (part : List ℕ) (origin : Device) (snaps : List Snap) → (in_snap number (write_snap piece part) origin snaps).volume.origin.bytes ≡ origin.bytes
+in_stays number piece part origin [] = refl
+in_stays number piece part origin (s ∷ snaps) = elim (cases_Bool (s.number == number)) [
+  | inl this ↦ ap (λ (a : Answered). a.volume.origin.bytes) (cond-true _ _ _ this) ∙ (snap_stays piece part origin s).0
+  | inr other ↦ ap (λ (a : Answered). a.volume.origin.bytes) (cond-false _ _ _ other) ∙ in_stays number piece part origin snaps
+]
+
+-- the first with a number
+module _ (sectors chunk : ℕ) (pos : 0 < chunk) (number : ℕ) (piece : Span) (part : List ℕ) (fits : IsInside sectors chunk piece) (len : length part ≡ 512 * piece.count) where
+  pub in_written : (origin : Device) (snaps : List Snap) → length origin.bytes ≡ 512 * sectors → Each (HasChunks chunk) snaps → Each (IsOrderly sectors) snaps
+      → AreShownBy number piece part (map (entry_of origin.bytes) snaps) (map (entry_of origin.bytes) (in_snap number (write_snap piece part) origin snaps).volume.snaps) (in_snap number (write_snap piece part) origin snaps).reply
+  in_written origin [] whole chunks orders = refl
+  in_written origin (s ∷ snaps) whole chunks orders =
+      let By : Answered → Type 0 = λ (a : Answered). AreShownBy number piece part (map (entry_of origin.bytes) (s ∷ snaps)) (map (entry_of origin.bytes) a.volume.snaps) a.reply in
+      elim (cases_Bool (s.number == number)) [
+        | inl this ↦ subst By (sym (cond-true _ _ _ this))
+            (shown_first number piece part (entry_of origin.bytes s) (entry_of origin.bytes (write_snap piece part origin s).snap) (map (entry_of origin.bytes) snaps) (write_snap piece part origin s).reply this (snap_stays piece part origin s).1
+            (snap_written sectors chunk pos piece part fits len origin s whole chunks.0 orders.0))
+        | inr other ↦ subst By (sym (cond-false _ _ _ other))
+            (shown_later number piece part (entry_of origin.bytes s) (map (entry_of origin.bytes) snaps) (map (entry_of origin.bytes) (in_snap number (write_snap piece part) origin snaps).volume.snaps) (in_snap number (write_snap piece part) origin snaps).reply other
+            (in_written origin snaps whole chunks.1 orders.1))
+      ]

@@ -1,0 +1,116 @@
+-- A read changes nothing where no read changes the layers of a device.
+use Rattle.std.proofs.Common.{◌≡◌, inl, inr, ℕ, ◌+◌, ◌*◌, ◌%◌, ◌/◌, Bool, true, false, List, [], ◌∷◌, ◌++◌, map, Option, Some, None, refl, sym, ◌∙◌, ap, subst}
+use Rattle.std.specs.Prelude.{◌==◌, if◌then◌else◌}
+use Rattle.std.specs.List.{All}
+use Rattle.std.proofs.lemmas.List.Elements.{All-nil, All-cons, All-head, All-tail}
+use Rattle.device.specs.declared.operation.Operation.TheVariants.{Reads}
+use Rattle.device.specs.Layers.{Layer, layers_after}
+use Rattle.chunk.specs.Pieces.{Span}
+use Rattle.model.specs.Pairs.{pairs_of}
+use Rattle.model.specs.Picture.{place_of}
+use Rattle.plain.specs.declared.request.Dev.{Dev}
+use Rattle.plain.specs.declared.request.Dev.TheVariants.{Origin, Snap as ToSnap}
+use Rattle.plain.specs.declared.request.Reply.{Reply}
+use Rattle.plain.specs.declared.request.Reply.TheVariants.{Data, Written, Refused}
+use Rattle.settling.specs.Devices.{Device, met}
+use Rattle.settling.specs.Snaps.{Snap, Volume}
+use Rattle.settling.specs.Pieces.{Answered, Served, read_place, read_snap, in_snap}
+use Rattle.settling.specs.Commands.{read_piece, read_pieces, go_on, bytes_in, read}
+use Rattle.resting.specs.Rested.{Attached, Rested, snap_of, settled_of, IsSettled}
+use Rattle.resting.specs.Commands.{read_first, pieces_first, IsDoneBy, IsReadRefused}
+use Rattle.resting.specs.Unread.{IsUnmoved, AreUnmoved}
+
+met_same : (device : Device) (first count : ℕ) → IsUnmoved device → met device (Reads first count) ≡ device
+met_same device first count still = ap (λ (ls : List Layer). let d : Device = record { bytes = device.bytes; layers = ls } in d) (still first count)
+
+-- a device and a snapshot that were served are as before
+record IsSame (o : Device) (s : Snap) (a : Served) : Type 0 where
+  pub origin : a.origin ≡ o
+  pub snap : a.snap ≡ s
+
+place_same : (piece : Span) (o : Device) (s : Snap) (at : Option ℕ) → IsUnmoved o → IsUnmoved s.store → IsSame o s (read_place piece o s at)
+place_same piece o s None ho hs = record { origin = met_same o piece.first piece.count ho; snap = refl }
+place_same piece o s (Some n) ho hs = record {
+  origin = refl;
+  snap = ap (λ (d : Device). let t : Snap = record s { store = d } in t) (met_same s.store (s.chunk * n + piece.first % s.chunk) piece.count hs);
+}
+
+either_same : (b : Bool) (o : Device) (s : Snap) (x y : Served) → IsSame o s x → IsSame o s y → IsSame o s (if b then x else y)
+either_same true o s x y hx hy = hx
+either_same false o s x y hx hy = hy
+
+snap_same : (piece : Span) (o : Device) (s : Snap) → IsUnmoved o → IsUnmoved s.store → IsSame o s (read_snap piece o s)
+snap_same piece o s ho hs = either_same s.live o s _ _ (place_same piece o s (place_of (pairs_of s.chunk s.store.bytes) (piece.first / s.chunk)) ho hs) (record { origin = refl; snap = refl })
+
+here_same : (o : Device) (s : Snap) (ss : List Snap) (a : Served) → IsSame o s a → (let v : Volume = record { origin = a.origin; snaps = a.snap ∷ ss } in v) ≡ record { origin = o; snaps = s ∷ ss }
+here_same o s ss a h =
+    ap (λ (d : Device). let v : Volume = record { origin = d; snaps = a.snap ∷ ss } in v) h.origin
+    ∙ ap (λ (t : Snap). let v : Volume = record { origin = o; snaps = t ∷ ss } in v) h.snap
+
+later_same : (o : Device) (s : Snap) (ss : List Snap) (v : Volume) → v ≡ record { origin = o; snaps = ss } → (let w : Volume = record { origin = v.origin; snaps = s ∷ v.snaps } in w) ≡ record { origin = o; snaps = s ∷ ss }
+later_same o s ss v h = ap (λ (u : Volume). let w : Volume = record { origin = u.origin; snaps = s ∷ u.snaps } in w) h
+
+either_volume : (b : Bool) (v : Volume) (x y : Answered) → x.volume ≡ v → y.volume ≡ v → (if b then x else y).volume ≡ v
+either_volume true v x y hx hy = hx
+either_volume false v x y hx hy = hy
+
+in_same : (number : ℕ) (piece : Span) (o : Device) (ss : List Snap) → IsUnmoved o → All (λ (s : Snap). IsUnmoved s.store) ss → (in_snap number (read_snap piece) o ss).volume ≡ record { origin = o; snaps = ss }
+in_same number piece o [] ho hs = refl
+in_same number piece o (s ∷ ss) ho hs =
+    either_volume (s.number == number) _ _ _
+    (here_same o s ss (read_snap piece o s) (snap_same piece o s ho (All-head (λ (x : Snap). IsUnmoved x.store) s ss hs)))
+    (later_same o s ss (in_snap number (read_snap piece) o ss).volume (in_same number piece o ss ho (All-tail (λ (x : Snap). IsUnmoved x.store) s ss hs)))
+
+piece_same : (dev : Dev) (piece : Span) (v : Volume) → AreUnmoved v → (read_piece dev piece v).volume ≡ v
+piece_same Origin piece v h = ap (λ (d : Device). let w : Volume = record { origin = d; snaps = v.snaps } in w) (met_same v.origin piece.first piece.count h.origin)
+piece_same (ToSnap number) piece v h = in_same number piece v.origin v.snaps h.origin h.snaps
+
+goes_on : (reply : Reply) (v : Volume) (here rest : Answered) → here.volume ≡ v → rest.volume ≡ v → (go_on reply here rest).volume ≡ v
+goes_on (Data bytes) v here rest h r = r
+goes_on Written v here rest h r = r
+goes_on (Refused failure) v here rest h r = h
+
+pieces_same : (dev : Dev) (pieces : List Span) (before : List ℕ) (v : Volume) → AreUnmoved v → (read_pieces dev pieces before v).volume ≡ v
+pieces_same dev [] before v h = refl
+pieces_same dev (piece ∷ pieces) before v h =
+    let here : Answered = read_piece dev piece v in
+    let stays : here.volume ≡ v = piece_same dev piece v h in
+    let rest = pieces_same dev pieces (before ++ bytes_in here.reply) here.volume (subst AreUnmoved (sym stays) h) in
+    goes_on here.reply v here (read_pieces dev pieces (before ++ bytes_in here.reply) here.volume) stays (rest ∙ stays)
+
+-- a read
+pub read_changes_nothing : (dev : Dev) (span : Span) (v : Volume) → AreUnmoved v → (read dev span v).volume ≡ v
+unfolding read
+read_changes_nothing dev span v h = pieces_same dev _ [] v h
+
+-- and the first pieces of one
+pub read_first_changes_nothing : (count : ℕ) (dev : Dev) (span : Span) (v : Volume) → AreUnmoved v → (read_first count dev span v).volume ≡ v
+read_first_changes_nothing count dev span v h = pieces_same dev (pieces_first count span v) [] v h
+
+-- a volume over devices whose layers no read changes
+module _ {B : Type 0} (contents : B → List ℕ) (layers : B → List Layer) (size : B → ℕ) (reads : (d : B) (first count : ℕ) → layers_after (layers d) (Reads first count) ≡ layers d) where
+  snaps_unmoved : (xs : List (Attached B)) → All (λ (s : Snap). IsUnmoved s.store) (map (snap_of contents layers) xs)
+  snaps_unmoved [] = All-nil (λ (s : Snap). IsUnmoved s.store)
+  snaps_unmoved (x ∷ xs) = All-cons (λ (s : Snap). IsUnmoved s.store) (snap_of contents layers x) (map (snap_of contents layers) xs) (reads x.store) (snaps_unmoved xs)
+
+  pub are_unmoved : (v : Rested B) → AreUnmoved (settled_of contents layers v)
+  are_unmoved v = record { origin = reads v.origin; snaps = snaps_unmoved v.snaps }
+
+  -- a command that leaves the settled machine's volume as it is
+  by_command : (command : Volume → Answered) (reply : Reply) (old new : Rested B) → ((v : Volume) → AreUnmoved v → (command v).volume ≡ v) → IsDoneBy contents layers size command reply old new
+      → IsSettled contents layers size old → settled_of contents layers new ≡ settled_of contents layers old
+  by_command command reply old new still done settled = ap (λ (a : Answered). a.volume) (sym (done settled)) ∙ still (settled_of contents layers old) (are_unmoved old)
+
+  -- a read that is done
+  pub read_leaves : (dev : Dev) (span : Span) (reply : Reply) (old new : Rested B) → IsDoneBy contents layers size (read dev span) reply old new → IsSettled contents layers size old → settled_of contents layers new ≡ settled_of contents layers old
+  read_leaves dev span reply old new = by_command (read dev span) reply old new (read_changes_nothing dev span)
+
+  -- and one that is refused
+  pub refused_read_leaves : (dev : Dev) (span : Span) (refusal : _) (old new : Rested B) → IsReadRefused contents layers size dev span refusal old new → IsSettled contents layers size old → settled_of contents layers new ≡ settled_of contents layers old
+  refused_read_leaves dev span refusal old new why settled = elim why [
+    | inl missing ↦ ap (settled_of contents layers) missing.2
+    | inr there ↦ elim there [
+      | inl failed ↦ read_leaves dev span _ old new failed.1.2 settled
+      | inr starved ↦ by_command (read_first starved.2.0 dev span) (Data starved.2.1) old new (read_first_changes_nothing starved.2.0 dev span) starved.2.3 settled
+    ]
+  ]

@@ -1,0 +1,67 @@
+-- The store at that place has other layers, or nothing changed.
+use Rattle.plain.specs.declared.request.Dev.TheVariants.{Snap}
+use Rattle.volume.specs.Layering.{Measures}
+use Rattle.volume.proofs.Told.{told_alike, untold_alike}
+use Rattle.resting.proofs.Alike.{alike_between, alike_kept, alike_settles, alike_requests, alike_copies}
+use Rattle.resting.proofs.Tells.{store_told, store_untold}
+use Rattle.resting.proofs.telling.tell_store.Goals as goal
+
+pub returns-in-Ok-clause-ok : goal.returns-in-Ok-clause-ok
+returns-in-Ok-clause-ok g c =
+    let m : Measures g.row.B.Denot = record { contents = g.B.Block.contents; durable = g.B.Block.durable; size = g.B.Block.size; faults = g.B.Block.fault_count; done = g.B.Block.done_count } in
+    store_told m g.B.Block.layers c.args.depth c.args.message.now c.args.volume.now c.message.new.self c.number-number.result c.args.k (rw c.number-number.ensures c.snap.ensures.first) c.in-Ok.answer c.in-Ok.ensures.ok
+
+pub returns-in-Err-clause-err : goal.returns-in-Err-clause-err
+returns-in-Err-clause-err g c =
+    let m : Measures g.row.B.Denot = record { contents = g.B.Block.contents; durable = g.B.Block.durable; size = g.B.Block.size; faults = g.B.Block.fault_count; done = g.B.Block.done_count } in
+    store_untold m g.B.Block.layers c.args.depth c.args.message.now c.args.volume.now c.message.new.self c.number-number.result c.args.k (rw c.number-number.ensures c.snap.ensures.first) c.snap.result.now (c.snap.ensures.value c.snap.result.now) c.in-Err.refusal c.in-Err.ensures.err
+
+pub returns-in-Ok-clause-between : goal.returns-in-Ok-clause-between
+returns-in-Ok-clause-between g c =
+    let m : Measures g.row.B.Denot = record { contents = g.B.Block.contents; durable = g.B.Block.durable; size = g.B.Block.size; faults = g.B.Block.fault_count; done = g.B.Block.done_count } in
+    alike_between g.B.Block.contents g.B.Block.layers g.B.Block.size c.args.volume.now c.message.new.self (told_alike m g.B.Block.layers (Snap c.number-number.result) c.args.depth c.args.message.now c.args.volume.now c.message.new.self c.in-Ok.answer c.in-Ok.ensures.ok) c.requires.between
+
+pub returns-in-Ok-clause-settled : goal.returns-in-Ok-clause-settled
+returns-in-Ok-clause-settled g c =
+    let m : Measures g.row.B.Denot = record { contents = g.B.Block.contents; durable = g.B.Block.durable; size = g.B.Block.size; faults = g.B.Block.fault_count; done = g.B.Block.done_count } in
+    alike_settles g.B.Block.contents g.B.Block.layers g.B.Block.size c.args.volume.now c.message.new.self (told_alike m g.B.Block.layers (Snap c.number-number.result) c.args.depth c.args.message.now c.args.volume.now c.message.new.self c.in-Ok.answer c.in-Ok.ensures.ok)
+
+pub returns-in-Ok-clause-kept : goal.returns-in-Ok-clause-kept
+returns-in-Ok-clause-kept g c =
+    let m : Measures g.row.B.Denot = record { contents = g.B.Block.contents; durable = g.B.Block.durable; size = g.B.Block.size; faults = g.B.Block.fault_count; done = g.B.Block.done_count } in
+    alike_kept g.B.Block.contents g.B.Block.layers g.B.Block.size c.args.volume.now c.message.new.self (told_alike m g.B.Block.layers (Snap c.number-number.result) c.args.depth c.args.message.now c.args.volume.now c.message.new.self c.in-Ok.answer c.in-Ok.ensures.ok)
+
+pub returns-in-Ok-clause-requests : goal.returns-in-Ok-clause-requests
+returns-in-Ok-clause-requests g c =
+    let m : Measures g.row.B.Denot = record { contents = g.B.Block.contents; durable = g.B.Block.durable; size = g.B.Block.size; faults = g.B.Block.fault_count; done = g.B.Block.done_count } in
+    alike_requests g.B.Block.contents g.B.Block.layers g.B.Block.size c.args.volume.now c.message.new.self (told_alike m g.B.Block.layers (Snap c.number-number.result) c.args.depth c.args.message.now c.args.volume.now c.message.new.self c.in-Ok.answer c.in-Ok.ensures.ok)
+
+pub returns-in-Ok-clause-copies : goal.returns-in-Ok-clause-copies
+returns-in-Ok-clause-copies g c =
+    let m : Measures g.row.B.Denot = record { contents = g.B.Block.contents; durable = g.B.Block.durable; size = g.B.Block.size; faults = g.B.Block.fault_count; done = g.B.Block.done_count } in
+    alike_copies g.B.Block.contents g.B.Block.layers g.B.Block.size c.args.volume.now c.message.new.self (told_alike m g.B.Block.layers (Snap c.number-number.result) c.args.depth c.args.message.now c.args.volume.now c.message.new.self c.in-Ok.answer c.in-Ok.ensures.ok)
+
+pub returns-in-Err-clause-between : goal.returns-in-Err-clause-between
+returns-in-Err-clause-between g c =
+    let m : Measures g.row.B.Denot = record { contents = g.B.Block.contents; durable = g.B.Block.durable; size = g.B.Block.size; faults = g.B.Block.fault_count; done = g.B.Block.done_count } in
+    alike_between g.B.Block.contents g.B.Block.layers g.B.Block.size c.args.volume.now c.message.new.self (untold_alike m g.B.Block.layers (Snap c.number-number.result) c.args.depth c.args.message.now c.args.volume.now c.message.new.self c.in-Err.refusal c.in-Err.ensures.err) c.requires.between
+
+pub returns-in-Err-clause-settled : goal.returns-in-Err-clause-settled
+returns-in-Err-clause-settled g c =
+    let m : Measures g.row.B.Denot = record { contents = g.B.Block.contents; durable = g.B.Block.durable; size = g.B.Block.size; faults = g.B.Block.fault_count; done = g.B.Block.done_count } in
+    alike_settles g.B.Block.contents g.B.Block.layers g.B.Block.size c.args.volume.now c.message.new.self (untold_alike m g.B.Block.layers (Snap c.number-number.result) c.args.depth c.args.message.now c.args.volume.now c.message.new.self c.in-Err.refusal c.in-Err.ensures.err)
+
+pub returns-in-Err-clause-kept : goal.returns-in-Err-clause-kept
+returns-in-Err-clause-kept g c =
+    let m : Measures g.row.B.Denot = record { contents = g.B.Block.contents; durable = g.B.Block.durable; size = g.B.Block.size; faults = g.B.Block.fault_count; done = g.B.Block.done_count } in
+    alike_kept g.B.Block.contents g.B.Block.layers g.B.Block.size c.args.volume.now c.message.new.self (untold_alike m g.B.Block.layers (Snap c.number-number.result) c.args.depth c.args.message.now c.args.volume.now c.message.new.self c.in-Err.refusal c.in-Err.ensures.err)
+
+pub returns-in-Err-clause-requests : goal.returns-in-Err-clause-requests
+returns-in-Err-clause-requests g c =
+    let m : Measures g.row.B.Denot = record { contents = g.B.Block.contents; durable = g.B.Block.durable; size = g.B.Block.size; faults = g.B.Block.fault_count; done = g.B.Block.done_count } in
+    alike_requests g.B.Block.contents g.B.Block.layers g.B.Block.size c.args.volume.now c.message.new.self (untold_alike m g.B.Block.layers (Snap c.number-number.result) c.args.depth c.args.message.now c.args.volume.now c.message.new.self c.in-Err.refusal c.in-Err.ensures.err)
+
+pub returns-in-Err-clause-copies : goal.returns-in-Err-clause-copies
+returns-in-Err-clause-copies g c =
+    let m : Measures g.row.B.Denot = record { contents = g.B.Block.contents; durable = g.B.Block.durable; size = g.B.Block.size; faults = g.B.Block.fault_count; done = g.B.Block.done_count } in
+    alike_copies g.B.Block.contents g.B.Block.layers g.B.Block.size c.args.volume.now c.message.new.self (untold_alike m g.B.Block.layers (Snap c.number-number.result) c.args.depth c.args.message.now c.args.volume.now c.message.new.self c.in-Err.refusal c.in-Err.ensures.err)

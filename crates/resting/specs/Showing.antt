@@ -1,0 +1,118 @@
+-- What a settled volume shows, in words of saved arrays alone, and what reads and writes of many sectors do to that. This
+-- project's own; the kernel's admin-guide page on snapshots says in words what a snapshot keeps, and where reads and writes go.
+use Rattle.std.specs.Prelude.{◌≡◌, ◌⊎◌, ◌==◌, ℕ, ◌+◌, ◌*◌, ◌<◌, List, [], ◌∷◌, length, map, take, if◌then◌else◌}
+use Rattle.sector.specs.Bytes.{sectors_at, with_sectors}
+use Rattle.sector.specs.declared.refusal.Refusal.{Refusal}
+use Rattle.sector.specs.declared.refusal.Refusal.TheVariants.{NoSuchDevice, NoMemory, Invalid as InvalidRefusal, Io as IoRefusal}
+use Rattle.chunk.specs.Pieces.{Span, pieces_of}
+use Rattle.plain.specs.Plain.{Saved, Live, Invalid, Entry}
+use Rattle.plain.specs.declared.request.Dev.{Dev}
+use Rattle.plain.specs.declared.request.Dev.TheVariants.{Origin, Snap as ToSnap}
+use Rattle.device.specs.Layers.{Layer}
+use Rattle.settling.specs.Snaps.{Snap, Volume, shown}
+use Rattle.settling.specs.Commands.{piece_of}
+use Rattle.resting.specs.Rested.{Rested, settled_of}
+
+-- the origin's array, and what each snapshot shows, in order of attaching
+pub record Arrays : Type 0 where
+  pub origin : List ℕ
+  pub saved : List Entry
+
+-- those of a volume's own bytes
+abbrev pub entry_of : List ℕ → Snap → Entry
+entry_of origin s = record { number = s.number; saved = shown origin s }
+
+abbrev pub arrays_of : Volume → Arrays
+arrays_of v = record { origin = v.origin.bytes; saved = map (entry_of v.origin.bytes) v.snaps }
+
+abbrev pub arrays_in : {B : Type 0} → (B → List ℕ) → (B → List Layer) → Rested B → Arrays
+arrays_in contents layers v = arrays_of (settled_of contents layers v)
+
+-- what the first snapshot with a number shows
+abbrev pub saved_at : ℕ → List Entry → Saved
+saved_at number [] = Invalid
+saved_at number (entry ∷ entries) = if entry.number == number then entry.saved else saved_at number entries
+
+-- what a request's device shows
+abbrev pub saved_of : Dev → Arrays → Saved
+saved_of Origin a = Live a.origin
+saved_of (ToSnap number) a = saved_at number a.saved
+
+-- it has an array
+abbrev pub IsLive : Dev → Arrays → Type 0
+IsLive dev a = (array : List ℕ) × (saved_of dev a ≡ Live array)
+
+-- A read of these sectors gave these bytes: they are those of the device's array, and what is shown is as it was.
+pub record IsPlainRead (dev : Dev) (span : Span) (bytes : List ℕ) (old new : Arrays) : Type 0 where
+  pub array : List ℕ
+  pub live : saved_of dev old ≡ Live array
+  pub read : bytes ≡ sectors_at array span.first span.count
+  pub same : new ≡ old
+
+-- why a read is refused: its snapshot is not live, or a device failed, or memory was refused, or its device is not there
+abbrev pub IsReadLost : Dev → Refusal → Arrays → Type 0
+IsReadLost dev InvalidRefusal old = saved_of dev old ≡ Invalid
+IsReadLost dev IoRefusal old = IsLive dev old
+IsReadLost dev NoMemory old = Unit {0}
+IsReadLost dev NoSuchDevice old = saved_of dev old ≡ Invalid
+IsReadLost dev other old = ⊥
+
+-- what is shown is as it was
+abbrev pub IsPlainReadRefused : Dev → Refusal → Arrays → Arrays → Type 0
+IsPlainReadRefused dev refusal old new = IsReadLost dev refusal old × (new ≡ old)
+
+-- an array with these bytes from a sector on
+abbrev pub with_bytes : ℕ → List ℕ → Saved → Saved
+with_bytes first bytes (Live array) = Live (with_sectors array first bytes)
+with_bytes first bytes Invalid = Invalid
+
+-- the first snapshot with a number shows something else, and every other what it showed
+abbrev pub changed_at : ℕ → (Saved → Saved) → List Entry → List Entry
+changed_at number f [] = []
+changed_at number f (entry ∷ entries) =
+    if entry.number == number then (record { number = entry.number; saved = f entry.saved }) ∷ entries else entry ∷ changed_at number f entries
+
+-- each shows what it showed, or is lost for good
+abbrev pub AreKept : List Entry → List Entry → Type 0
+AreKept [] [] = Unit {0}
+AreKept [] (t ∷ ts) = ⊥
+AreKept (s ∷ ss) [] = ⊥
+AreKept (s ∷ ss) (t ∷ ts) = (t.number ≡ s.number) × ((t.saved ≡ s.saved) ⊎ (t.saved ≡ Invalid)) × AreKept ss ts
+
+-- These bytes stand from this sector on. Of a write to the origin, snapshots may be lost; one to a snapshot changes what that
+-- shows alone.
+abbrev pub IsWritten : Dev → ℕ → List ℕ → Arrays → Arrays → Type 0
+IsWritten Origin first bytes old new = (new.origin ≡ with_sectors old.origin first bytes) × AreKept old.saved new.saved
+IsWritten (ToSnap number) first bytes old new = (new.origin ≡ old.origin) × (new.saved ≡ changed_at number (with_bytes first bytes) old.saved)
+
+-- the snapshot is lost, and nothing else changed
+abbrev pub IsLost : Dev → Arrays → Arrays → Type 0
+IsLost Origin old new = ⊥
+IsLost (ToSnap number) old new = (new.origin ≡ old.origin) × (new.saved ≡ changed_at number (λ saved. Invalid) old.saved)
+
+-- a write of all these bytes
+abbrev pub IsPlainWrite : Dev → Span → List ℕ → Arrays → Arrays → Type 0
+IsPlainWrite dev span bytes old new = IsLive dev old × IsWritten dev span.first bytes old new
+
+-- the pieces of a range, by the snapshots' chunks
+abbrev pub pieces_for : {B : Type 0} → (B → List ℕ) → (B → List Layer) → Span → Rested B → List Span
+pieces_for contents layers span v = pieces_of (piece_of (settled_of contents layers v).snaps) span
+
+-- the sectors of these pieces
+abbrev pub sectors_in : List Span → ℕ
+sectors_in [] = 0
+sectors_in (piece ∷ pieces) = piece.count + sectors_in pieces
+
+-- some first pieces stand, but not all
+abbrev pub IsWrittenInPart : Dev → Span → List Span → List ℕ → Arrays → Arrays → Type 0
+IsWrittenInPart dev span pieces bytes old new =
+    (count : ℕ) × (count < length pieces) × IsWritten dev span.first (take (512 * sectors_in (take count pieces)) bytes) old new
+
+-- A write in these pieces is refused: its snapshot is lost; or a device failed, or memory was refused, and some first pieces
+-- stand; or its device is not there.
+abbrev pub IsPlainWriteRefused : Dev → Span → List Span → List ℕ → Refusal → Arrays → Arrays → Type 0
+IsPlainWriteRefused dev span pieces bytes InvalidRefusal old new = IsLost dev old new
+IsPlainWriteRefused dev span pieces bytes IoRefusal old new = IsLive dev old × IsWrittenInPart dev span pieces bytes old new
+IsPlainWriteRefused dev span pieces bytes NoMemory old new = IsWrittenInPart dev span pieces bytes old new
+IsPlainWriteRefused dev span pieces bytes NoSuchDevice old new = (saved_of dev old ≡ Invalid) × (new ≡ old)
+IsPlainWriteRefused dev span pieces bytes other old new = ⊥

@@ -1,0 +1,37 @@
+// The layers of a volume's devices, which know of time.
+ghost use Rattle.std.specs.Prelude.{◌≡◌};
+ghost use Rattle.layers.specs.Ticks.{layers_ticked};
+ghost use Rattle.settling.specs.Moments.{all_relayered};
+ghost use Rattle.resting.specs.Rested.{rested_of, settled_of, IsSettled};
+ghost use Rattle.resting.specs.Between.{IsBetween};
+ghost use Rattle.resting.specs.Kept.{KeepsDevices};
+
+use crate::Resting;
+use layers::Layered;
+use volume::Volume;
+
+/// Lets so many seconds pass for a volume between two commands.
+fn pass<B: Layered>(volume: &mut Volume<B>, seconds: u32)
+    requires between { IsBetween volume.old }
+    ensures between { IsBetween volume.new }
+    ensures moved { settled_of B.contents B.layers (rested_of volume.new) ≡ all_relayered (layers_ticked seconds) (settled_of B.contents B.layers (rested_of volume.old)) }
+    ensures settled { IsSettled B.contents B.layers B.size (rested_of volume.old) → IsSettled B.contents B.layers B.size (rested_of volume.new) }
+    ensures kept { KeepsDevices B.layers B.size (rested_of volume.old) (rested_of volume.new) }
+    ensures requests { volume.new.requests ≡ volume.old.requests }
+    ensures copies { volume.new.copies ≡ volume.old.copies }
+{
+    volume.tick(seconds)
+}
+
+impl<B: Layered> Resting<B> {
+    /// Lets so many seconds pass for the layers of every device. Nothing else that callers see changes.
+    pub fn tick(&mut self, seconds: u32)
+        ensures moved { settled_of B.contents B.layers self.new ≡ all_relayered (layers_ticked seconds) (settled_of B.contents B.layers self.old) }
+        ensures settled { IsSettled B.contents B.layers B.size self.old → IsSettled B.contents B.layers B.size self.new }
+        ensures kept { KeepsDevices B.layers B.size self.old self.new }
+        ensures requests { self.new.requests ≡ self.old.requests }
+        ensures copies { self.new.copies ≡ self.old.copies }
+    {
+        pass(&mut self.volume, seconds)
+    }
+}

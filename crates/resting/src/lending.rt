@@ -1,0 +1,64 @@
+// What callers ask of the snapshot at a place, counted from 0 in order of attaching.
+ghost use Rattle.std.specs.Prelude.{◌≡◌, ℕ, ◌<◌, length, slice_index_or, is_some, IfSome, Some};
+ghost use Rattle.std.specs.List.{remove};
+ghost use Rattle.snapshot.specs.Kept.{Kept};
+ghost use Rattle.volume.specs.Leaving.{usage_of};
+ghost use Rattle.resting.specs.Rested.{Attached, IsSettled, snap_at, without};
+ghost use Rattle.resting.specs.Using.{IsUsed};
+
+use crate::Resting;
+use chunk_alloc::Usage;
+use device::Block;
+use plain::SnapId;
+
+impl<B: Block> Resting<B> {
+    /// Its number: no snapshot before it has the same.
+    pub fn number(&self, k: usize) -> SnapId
+        requires { k < length self.now.snaps }
+        ensures value { (d : Attached B) → result ≡ (slice_index_or self.now.snaps k d).number }
+        ensures first { (d : Attached B) → snap_at result self.now.snaps ≡ Some (slice_index_or self.now.snaps k d) }
+        ensures rest { without result self.now.snaps ≡ remove self.now.snaps k }
+    {
+        self.volume.snap(k).number()
+    }
+
+    /// The sectors of its chunks.
+    pub fn chunk(&self, k: usize) -> u32
+        requires { k < length self.now.snaps }
+        ensures { (d : Attached B) → result ≡ (slice_index_or self.now.snaps k d).chunk }
+    {
+        self.volume.snap(k).chunk()
+    }
+
+    /// Whether it is live: it was not spoiled.
+    pub fn is_live(&self, k: usize) -> bool
+        requires { k < length self.now.snaps }
+        ensures { (d : Attached B) → result ≡ (slice_index_or self.now.snaps k d).live }
+    {
+        self.volume.snap(k).is_live()
+    }
+
+    /// The device of its store.
+    pub fn store_at(&self, k: usize) -> &B
+        requires { k < length self.now.snaps }
+        ensures { (d : Attached B) → result.now ≡ (slice_index_or self.now.snaps k d).store }
+    {
+        self.volume.snap(k).device()
+    }
+
+    /// The sectors in use on its store, by the numbers that are kept in memory; none of a snapshot that is spoiled. Where
+    /// the volume is settled, they are those of the store's own bytes.
+    pub fn usage(&self, k: usize) -> Option<Usage>
+        requires { k < length self.now.snaps }
+        ensures is { (d : Kept B) → result ≡ usage_of (slice_index_or self.now.events.snaps k d) }
+        ensures live { (d : Attached B) → is_some result ≡ (slice_index_or self.now.snaps k d).live }
+        ensures used { IfSome result (λ usage. IsSettled B.contents B.layers B.size self.now → (d : Attached B) → IsUsed B.contents B.size (slice_index_or self.now.snaps k d) usage) }
+    {
+        let snap = self.volume.snap(k);
+        if snap.is_live() {
+            Some(snap.usage())
+        } else {
+            None
+        }
+    }
+}

@@ -1,0 +1,92 @@
+// Messages to the layers of a volume's devices.
+ghost use Rattle.std.specs.Prelude.{◌≡◌, ◌<◌, length, slice_index_or, IfOk, IfErr};
+ghost use Rattle.resting.specs.Rested.{Attached, rested_of, settled_of, IsSettled};
+ghost use Rattle.resting.specs.Between.{IsBetween};
+ghost use Rattle.resting.specs.Kept.{KeepsDevices};
+ghost use Rattle.resting.specs.Telling.{IsOriginTold, IsStoreTold, IsTellRefused};
+
+use crate::Resting;
+use device::Block;
+use layers::{Answer, Layered, Message};
+use plain::Dev;
+use sector::Refusal;
+use volume::Volume;
+
+/// Tells a layer of the device under the origin of a volume between two commands.
+fn tell_origin<B: Layered>(
+    volume: &mut Volume<B>,
+    depth: usize,
+    message: &Message,
+) -> Result<Answer, Refusal>
+    requires between { IsBetween volume.old }
+    ensures between { IsBetween volume.new }
+    ensures ok { IfOk result (λ answer. IsOriginTold B.contents B.layers depth message.now answer (rested_of volume.old) (rested_of volume.new)) }
+    ensures err { IfErr result (λ refusal. IsTellRefused (B.layers volume.old.origin) depth message.now refusal × (settled_of B.contents B.layers (rested_of volume.new) ≡ settled_of B.contents B.layers (rested_of volume.old))) }
+    ensures settled { IsSettled B.contents B.layers B.size (rested_of volume.old) → IsSettled B.contents B.layers B.size (rested_of volume.new) }
+    ensures kept { KeepsDevices B.layers B.size (rested_of volume.old) (rested_of volume.new) }
+    ensures requests { volume.new.requests ≡ volume.old.requests }
+    ensures copies { volume.new.copies ≡ volume.old.copies }
+{
+    match volume.message(Dev::Origin, depth, message) {
+        Ok(answer) => Ok(answer),
+        Err(refusal) => Err(refusal),
+    }
+}
+
+/// Tells a layer of the store of the snapshot at a place.
+fn tell_store<B: Layered>(
+    volume: &mut Volume<B>,
+    k: usize,
+    depth: usize,
+    message: &Message,
+) -> Result<Answer, Refusal>
+    requires between { IsBetween volume.old }
+    requires place { k < length volume.old.snaps }
+    ensures between { IsBetween volume.new }
+    ensures ok { IfOk result (λ answer. IsStoreTold B.contents B.layers k depth message.now answer (rested_of volume.old) (rested_of volume.new)) }
+    ensures err { IfErr result (λ refusal. ((d : Attached B) → IsTellRefused (B.layers (slice_index_or (rested_of volume.old).snaps k d).store) depth message.now refusal) × (settled_of B.contents B.layers (rested_of volume.new) ≡ settled_of B.contents B.layers (rested_of volume.old))) }
+    ensures settled { IsSettled B.contents B.layers B.size (rested_of volume.old) → IsSettled B.contents B.layers B.size (rested_of volume.new) }
+    ensures kept { KeepsDevices B.layers B.size (rested_of volume.old) (rested_of volume.new) }
+    ensures requests { volume.new.requests ≡ volume.old.requests }
+    ensures copies { volume.new.copies ≡ volume.old.copies }
+{
+    let number = volume.snap(k).number();
+    match volume.message(Dev::Snap(number), depth, message) {
+        Ok(answer) => Ok(answer),
+        Err(refusal) => Err(refusal),
+    }
+}
+
+impl<B: Layered> Resting<B> {
+    /// Tells the layer at a depth, counted from the top, from 0, of the device under the origin. In this order: `BadTable`
+    /// where that is no dust layer or there is none, `OutOfRange` for a block past its end, `NoMemory` where a block is added
+    /// and the allocator refuses room. No other layer and no byte changes, and what is refused changes none.
+    pub fn message_origin(&mut self, depth: usize, message: &Message) -> Result<Answer, Refusal>
+        ensures ok { IfOk result (λ answer. IsOriginTold B.contents B.layers depth message.now answer self.old self.new) }
+        ensures err { IfErr result (λ refusal. IsTellRefused (B.layers self.old.origin) depth message.now refusal × (settled_of B.contents B.layers self.new ≡ settled_of B.contents B.layers self.old)) }
+        ensures settled { IsSettled B.contents B.layers B.size self.old → IsSettled B.contents B.layers B.size self.new }
+        ensures kept { KeepsDevices B.layers B.size self.old self.new }
+        ensures requests { self.new.requests ≡ self.old.requests }
+        ensures copies { self.new.copies ≡ self.old.copies }
+    {
+        tell_origin(&mut self.volume, depth, message)
+    }
+
+    /// Tells the layer at a depth of the store of the snapshot at a place, counted from 0. Refused as for the origin.
+    pub fn message_store(
+        &mut self,
+        k: usize,
+        depth: usize,
+        message: &Message,
+    ) -> Result<Answer, Refusal>
+        requires { k < length self.old.snaps }
+        ensures ok { IfOk result (λ answer. IsStoreTold B.contents B.layers k depth message.now answer self.old self.new) }
+        ensures err { IfErr result (λ refusal. ((d : Attached B) → IsTellRefused (B.layers (slice_index_or self.old.snaps k d).store) depth message.now refusal) × (settled_of B.contents B.layers self.new ≡ settled_of B.contents B.layers self.old)) }
+        ensures settled { IsSettled B.contents B.layers B.size self.old → IsSettled B.contents B.layers B.size self.new }
+        ensures kept { KeepsDevices B.layers B.size self.old self.new }
+        ensures requests { self.new.requests ≡ self.old.requests }
+        ensures copies { self.new.copies ≡ self.old.copies }
+    {
+        tell_store(&mut self.volume, k, depth, message)
+    }
+}
