@@ -1,5 +1,5 @@
-pub mod AtPlace
-pub mod Below
-pub mod DiskBelow
-pub mod InTable
-pub mod StackSizes
+pub mod Places
+pub mod InVolume
+pub mod Meeting
+pub mod Leaving
+pub mod Closing

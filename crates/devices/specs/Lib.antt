@@ -1,11 +1,1 @@
-pub mod State
-pub mod Places
-pub mod Changes
-pub mod Disks
-pub mod Stacks
 pub mod Devices
-pub mod Layers
-pub mod Messages
-pub mod Removing
-pub mod Raw
-pub mod Lines

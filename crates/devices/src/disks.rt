@@ -1,21 +1,26 @@
 // Raw disks: making one.
-ghost use Rattle.std.specs.Prelude.{◌≡◌, ◌≤◌, length};
-ghost use Rattle.devices.specs.Changes.{Changes};
+ghost use Rattle.std.specs.Prelude.{◌≡◌, ◌≤◌, length, true};
+ghost use Rattle.named.specs.Changes.{Changes};
 ghost use Rattle.devices.specs.Devices.{table_of};
-ghost use Rattle.devices.specs.Disks.{make};
+ghost use Rattle.named.specs.Disks.{make};
+ghost use Rattle.named.specs.Naming.{AreNamed};
+ghost use Rattle.named.specs.Sound.{is_sound};
 
 use crate::find::{find, is_full};
-use crate::free_stack::FreeStack;
 use crate::held::Held;
 use device::{MAX_SECTORS, MemDisk};
+use named_stack::NamedStack;
 use sector::Refusal;
 use std::alloc::Global;
 use words::Name;
 
-/// `disk NAME N`: a disk of N zero sectors.
-#[tactic(auto, unfolding(crate::specs::Disks::make))]
+/// `disk NAME N`: a disk of N zero sectors. In this order: `Busy` for a name that a device has, `OutOfRange` for a number of
+/// sectors outside 1 to 2^24, `TooMany` where there are 64 devices, `NoMemory` where the allocator refuses room.
+#[tactic(auto, unfolding(named::specs::Disks::make))]
 pub fn make_disk(alloc: Global, held: &mut Held, name: Name, sectors: u32) -> Result<(), Refusal>
-    ensures { Changes result (table_of held.old) (table_of held.new) (make name sectors (table_of held.old)) }
+    ensures done { Changes result (table_of held.old) (table_of held.new) (make name sectors (table_of held.old)) }
+    ensures sound { is_sound (table_of held.old) ≡ true → is_sound (table_of held.new) ≡ true }
+    ensures named { AreNamed (table_of held.old) → AreNamed (table_of held.new) }
 {
     if find(held, &name).is_some() {
         return Err(Refusal::Busy);
@@ -27,7 +32,7 @@ pub fn make_disk(alloc: Global, held: &mut Held, name: Name, sectors: u32) -> Re
         return Err(Refusal::TooMany);
     }
     let disk = MemDisk::new(alloc, u64::from(sectors))?;
-    let stack = FreeStack::of_disk(alloc, name, disk).map_err(|_| Refusal::NoMemory)?;
+    let stack = NamedStack::of_disk(alloc, name, disk).map_err(|_| Refusal::NoMemory)?;
     held.stacks.push(stack).map_err(|_| Refusal::NoMemory)?;
     Ok(())
 }

@@ -1,25 +1,25 @@
 // Finding a device by its name.
 ghost use Rattle.std.specs.Prelude.{◌≡◌, ◌<◌, ◌-◌, length, IfSome, IfOk, nat_le, sum_by, slice_get, is_some, Some, position};
 ghost use Rattle.devices.specs.Devices.{table_of};
-ghost use Rattle.devices.specs.Places.{place_of, place_free, place_among, found, role_of, is_among, IsDepthAt, IsRoleAt, IsPlaceIn};
-ghost use Rattle.devices.specs.declared.place.Place.TheVariants.{Free, In};
-ghost use Rattle.devices.specs.Disks.{device_count, devices_in, devices_of};
+ghost use Rattle.named.specs.Places.{place_of, place_free, place_among, found, role_of, is_among, IsDepthAt, IsRoleAt, IsPlaceIn};
+ghost use Rattle.named.specs.declared.place.Place.TheVariants.{Free, In};
+ghost use Rattle.named.specs.Disks.{device_count, devices_in, devices_of};
 
-use crate::free_stack::FreeStack;
 use crate::held::{Held, MOST_DEVICES};
-use crate::mounted::Mounted;
-use crate::place::Place;
+use named::Place;
+use named_stack::NamedStack;
+use named_volume::NamedVolume;
 use sector::Refusal;
 use words::Name;
 
-fn stack_of(stacks: &[FreeStack], name: &Name) -> Option<usize>
+fn stack_of(stacks: &[NamedStack], name: &Name) -> Option<usize>
     ensures place { result ≡ position (λ s. is_among name.now s.names) stacks.now }
     ensures within { IfSome result (λ i. i < length stacks.now) }
 {
     stacks.iter().position(|stack| stack.has(name))
 }
 
-fn volume_of(volumes: &[Mounted], name: &Name) -> Option<usize>
+fn volume_of(volumes: &[NamedVolume], name: &Name) -> Option<usize>
     ensures place { result ≡ position (λ v. is_some (role_of name.now v)) volumes.now }
     ensures within { IfSome result (λ v. v < length volumes.now) }
 {
@@ -27,7 +27,7 @@ fn volume_of(volumes: &[Mounted], name: &Name) -> Option<usize>
 }
 
 /// Where a name stands among the stacks that nothing uses.
-#[tactic(auto, unfolding(crate::specs::Places::place_free))]
+#[tactic(auto, unfolding(named::specs::Places::place_free))]
 fn place_free(held: &Held, name: &Name) -> Option<Place>
     ensures place { result ≡ place_free name.now held.now.stacks.items }
     ensures within { IfSome result (λ place. IsPlaceIn place (table_of held.now)) }
@@ -42,7 +42,7 @@ fn place_free(held: &Held, name: &Name) -> Option<Place>
 }
 
 /// Where a name stands among the volumes.
-#[tactic(auto, unfolding(crate::specs::Places::place_among))]
+#[tactic(auto, unfolding(named::specs::Places::place_among))]
 fn place_among(held: &Held, name: &Name) -> Option<Place>
     ensures place { result ≡ place_among name.now held.now.volumes.items }
     ensures within { IfSome result (λ place. IsPlaceIn place (table_of held.now)) }
@@ -57,7 +57,7 @@ fn place_among(held: &Held, name: &Name) -> Option<Place>
 }
 
 /// Where a name stands.
-#[tactic(auto, unfolding(crate::specs::Places::place_of))]
+#[tactic(auto, unfolding(named::specs::Places::place_of))]
 pub fn find(held: &Held, name: &Name) -> Option<Place>
     ensures place { result ≡ place_of name.now (table_of held.now) }
     ensures within { IfSome result (λ place. IsPlaceIn place (table_of held.now)) }
@@ -80,7 +80,7 @@ pub fn find_device(held: &Held, name: &Name) -> Result<Place, Refusal>
 }
 
 /// What is left of so many devices, those of some stacks taken away.
-fn left_after_stacks(stacks: &[FreeStack], most: usize) -> usize
+fn left_after_stacks(stacks: &[NamedStack], most: usize) -> usize
     ensures { result ≡ most - sum_by devices_of stacks.now }
 {
     let mut left = most;
@@ -91,7 +91,7 @@ fn left_after_stacks(stacks: &[FreeStack], most: usize) -> usize
 }
 
 /// What is left of so many devices, those of some volumes taken away.
-fn left_after_volumes(volumes: &[Mounted], most: usize) -> usize
+fn left_after_volumes(volumes: &[NamedVolume], most: usize) -> usize
     ensures { result ≡ most - sum_by devices_in volumes.now }
 {
     let mut left = most;

@@ -2,8 +2,8 @@
 ghost use Rattle.std.specs.Prelude.{◌≡◌, [], IfOk};
 ghost use Rattle.devices.specs.Devices.{table_of};
 
-use crate::free_stack::FreeStack;
-use crate::mounted::Mounted;
+use named_stack::NamedStack;
+use named_volume::NamedVolume;
 use std::alloc::{AllocError, Global};
 
 /// The most devices that there may be.
@@ -12,8 +12,8 @@ pub const MOST_DEVICES: usize = 64;
 /// All devices: the stacks that nothing uses, and the volumes with those that they use.
 #[derive(Drop)]
 pub struct Held {
-    pub stacks: Vec<FreeStack>,
-    pub volumes: Vec<Mounted>,
+    pub stacks: Vec<NamedStack>,
+    pub volumes: Vec<NamedVolume>,
 }
 
 impl Held {

@@ -9,30 +9,31 @@
 //! lines of an origin and of a snapshot are `BadTable`, and `remove` of a device of a volume is `Busy`.
 #![tactic(auto)]
 
-mod bottom;
+mod back;
 mod create;
 mod disks;
 mod find;
-mod free_stack;
 mod held;
+mod lay;
 mod lines;
 mod messages;
-mod mounted;
-mod names;
-mod parked;
-mod place;
+mod origins;
 mod raw;
 mod remove;
-mod sizes;
-mod told;
+mod sectors;
+mod shown;
+mod snapshots;
 
 pub use create::create_device;
 pub use disks::make_disk;
+pub use find::find_device;
 pub use held::Held;
 pub use lines::line_text;
 pub use messages::{tell, tick};
 pub use raw::{load_disk, save_disk};
 pub use remove::remove_device;
+pub use sectors::{read_device, write_device};
+pub use shown::status_text;
 
 #[cfg(test)]
 mod tests;

@@ -1,122 +1,20 @@
 // Table lines of devices that are there.
-ghost use Rattle.std.specs.Prelude.{◌≡◌, ◌<◌, ◌≤◌, Some, None, Ok, Err, MatchResult, IfNone, IfSome, length};
-ghost use Rattle.std.specs.Option.{option_copied};
-ghost use Rattle.layers.specs.Layer.{features_of};
-ghost use Rattle.layers.specs.Stack.{stack_layers};
-ghost use Rattle.table.specs.declared.lines.Target.TheVariants.{Flakey as FlakeyLine};
+ghost use Rattle.std.specs.Prelude.{◌≡◌};
 ghost use Rattle.words.specs.Given.{Gives};
-ghost use Rattle.settling.specs.Devices.{sectors_of};
 ghost use Rattle.devices.specs.Devices.{table_of};
-ghost use Rattle.devices.specs.Lines.{device_at, line_at, line_in, line_of, line_text, target_of, words_of};
-ghost use Rattle.devices.specs.Places.{IsPlaceIn};
-ghost use Rattle.devices.specs.Stacks.{device_of};
+ghost use Rattle.named.specs.Lines.{line_at, line_text};
+ghost use Rattle.named.specs.Places.{IsPlaceIn};
 
 use crate::find::find_device;
 use crate::held::Held;
-use crate::place::Place;
-use device::Block;
-use layers::{Flakey, Stack};
+use named::Place;
 use sector::Refusal;
 use std::alloc::Global;
-use table::{Features, Line, Target, print};
+use table::{Line, print};
 use words::{Name, Text};
 
-/// The features of a flakey layer, as a line has them.
-fn words_of(flakey: &Flakey) -> Features
-    ensures { result ≡ words_of (features_of flakey.now.features) }
-{
-    Features {
-        error_reads: flakey.features.error_reads,
-        error_writes: flakey.features.error_writes,
-        drop_writes: flakey.features.drop_writes,
-    }
-}
-
-/// What a flakey layer does, over the device of a name.
-fn flakey_target(flakey: &Flakey, below: &Name) -> Target
-    ensures { result ≡ FlakeyLine below.now flakey.now.offset flakey.now.up flakey.now.down (words_of (features_of flakey.now.features)) }
-{
-    Target::Flakey {
-        device: below.copy(),
-        offset: flakey.offset as u32,
-        up: flakey.up,
-        down: flakey.down,
-        features: words_of(flakey),
-    }
-}
-
-/// What the top of a stack does, over the device of a name. `BadTable` for a disk.
-fn target_of(stack: &Stack, below: Option<&Name>) -> Result<Target, Refusal>
-    ensures { result ≡ target_of (stack_layers stack.now) (option_copied below.entry) }
-{
-    match stack {
-        Stack::Disk(_) => Err(Refusal::BadTable),
-        Stack::Flakey(flakey, _) => match below {
-            None => Err(Refusal::BadTable),
-            Some(name) => Ok(flakey_target(flakey, name)),
-        },
-        Stack::Dust(dust, _) => match below {
-            None => Err(Refusal::BadTable),
-            Some(name) => Ok(Target::Dust {
-                device: name.copy(),
-                block: dust.block_size,
-            }),
-        },
-        Stack::Error(_) => Ok(Target::Error),
-    }
-}
-
-/// How many sectors a stack has.
-#[tactic(auto, using(crate::proofs::StackSizes::size_of, crate::proofs::StackSizes::small))]
-pub fn sectors_of(stack: &Stack) -> u32
-    ensures { result ≡ sectors_of (device_of stack.now) }
-{
-    stack.sectors() as u32
-}
-
-/// The line of the top of a stack, over the device of a name. `BadTable` for a disk.
-fn line_of(stack: &Stack, below: Option<&Name>) -> Result<Line, Refusal>
-    ensures { result ≡ line_of (device_of stack.now) (option_copied below.entry) }
-{
-    match target_of(stack, below) {
-        Ok(target) => Ok(Line {
-            sectors: sectors_of(stack),
-            target,
-        }),
-        Err(refusal) => Err(refusal),
-    }
-}
-
-/// A stack without so many of its top layers; `None` where it has fewer.
-#[tactic(auto, using(crate::proofs::Below::at_top, crate::proofs::Below::at_disk, crate::proofs::Below::at_error))]
-fn layer_at(stack: &Stack, depth: usize) -> Option<&Stack>
-    ensures there { IfSome result (λ s. device_at depth (Some (device_of stack.now)) ≡ Some (device_of s.now)) }
-    ensures none { IfNone result (device_at depth (Some (device_of stack.now)) ≡ None) }
-{
-    if depth == 0 {
-        return Some(stack);
-    }
-    match stack {
-        Stack::Disk(_) | Stack::Error(_) => None,
-        Stack::Flakey(_, below) => layer_at(below, depth - 1),
-        Stack::Dust(_, below) => layer_at(below, depth - 1),
-    }
-}
-
-/// The line of the device so deep in a stack with these names. `BadTable` for a disk.
-#[tactic(auto, unfolding(crate::specs::Lines::line_in))]
-pub fn line_in(depth: usize, names: &[Name], stack: &Stack) -> Result<Line, Refusal>
-    requires { depth < length names.now }
-    ensures { result ≡ line_in depth names.now (device_of stack.now) }
-{
-    match layer_at(stack, depth) {
-        None => Err(Refusal::BadTable),
-        Some(layer) => line_of(layer, names.get(depth + 1)),
-    }
-}
-
 /// The line of the device at a place. `BadTable` for a disk.
-#[tactic(auto, unfolding(crate::specs::Lines::line_at))]
+#[tactic(auto, unfolding(named::specs::Lines::line_at))]
 fn line_at(held: &Held, place: Place) -> Result<Line, Refusal>
     requires { IsPlaceIn place (table_of held.now) }
     ensures { result ≡ line_at place (table_of held.now) }
@@ -129,7 +27,7 @@ fn line_at(held: &Held, place: Place) -> Result<Line, Refusal>
 
 /// `table DEV`: the line of a device, as it is printed. In this order: `NoSuchDevice` for a name that no device has,
 /// `BadTable` for a disk, `NoMemory` where the allocator refuses the bytes.
-#[tactic(auto, unfolding(crate::specs::Lines::line_text))]
+#[tactic(auto, unfolding(named::specs::Lines::line_text))]
 pub fn line_text(alloc: Global, held: &Held, name: &Name) -> Result<Text, Refusal>
     ensures { Gives result (line_text name.now (table_of held.now)) }
 {

@@ -1,17 +1,19 @@
 // Messages to dust layers, and the time.
-ghost use Rattle.std.specs.Prelude.{◌≡◌, ◌<◌, length, map};
-ghost use Rattle.devices.specs.Changes.{Steps};
+ghost use Rattle.std.specs.Prelude.{◌≡◌, ◌<◌, length, map, true};
+ghost use Rattle.named.specs.Changes.{Steps};
+ghost use Rattle.named.specs.Naming.{AreNamed};
+ghost use Rattle.named.specs.Sound.{is_sound};
 ghost use Rattle.devices.specs.Devices.{table_of};
-ghost use Rattle.devices.specs.Messages.{stack_ticked, tell, ticked, told_at, volume_ticked};
-ghost use Rattle.devices.specs.Places.{IsPlaceIn};
-ghost use Rattle.devices.specs.declared.place.Place.TheVariants.{Free, In};
+ghost use Rattle.named.specs.Messages.{stack_ticked, tell, ticked, told_at, volume_ticked};
+ghost use Rattle.named.specs.Places.{IsPlaceIn};
+ghost use Rattle.named.specs.declared.place.Place.TheVariants.{Free, In};
 
 use crate::find::find_device;
-use crate::free_stack::FreeStack;
 use crate::held::Held;
-use crate::mounted::Mounted;
-use crate::place::{Place, Role};
 use layers::{Answer, Message};
+use named::{Place, Role};
+use named_stack::NamedStack;
+use named_volume::NamedVolume;
 use sector::Refusal;
 use words::Name;
 
@@ -34,9 +36,11 @@ fn tell_in(held: &mut Held, v: usize, role: Role, message: &Message) -> Result<A
 /// `message DEV 0 WORDS`: a message to a dust layer, wherever its stack is used. In this order: `NoSuchDevice` for a name
 /// that no device has, `BadTable` for a device that is no dust layer, `OutOfRange` for a block past its end, `NoMemory`
 /// where a block is added and the allocator refuses room.
-#[tactic(auto, unfolding(crate::specs::Messages::tell))]
+#[tactic(auto, unfolding(named::specs::Messages::tell))]
 pub fn tell(held: &mut Held, name: &Name, message: &Message) -> Result<Answer, Refusal>
-    ensures { Steps result (table_of held.old) (table_of held.new) (tell name.now message.now (table_of held.old)) }
+    ensures done { Steps result (table_of held.old) (table_of held.new) (tell name.now message.now (table_of held.old)) }
+    ensures sound { is_sound (table_of held.old) ≡ true → is_sound (table_of held.new) ≡ true }
+    ensures named { AreNamed (table_of held.old) → AreNamed (table_of held.new) }
 {
     match find_device(held, name)? {
         Place::Free(i, depth) => tell_free(held, i, depth, message),
@@ -44,7 +48,7 @@ pub fn tell(held: &mut Held, name: &Name, message: &Message) -> Result<Answer, R
     }
 }
 
-fn tick_stacks(stacks: &mut [FreeStack], seconds: u32)
+fn tick_stacks(stacks: &mut [NamedStack], seconds: u32)
     ensures { stacks.new ≡ map (stack_ticked seconds) stacks.old }
 {
     for stack in stacks.iter_mut() {
@@ -52,7 +56,7 @@ fn tick_stacks(stacks: &mut [FreeStack], seconds: u32)
     }
 }
 
-fn tick_volumes(volumes: &mut [Mounted], seconds: u32)
+fn tick_volumes(volumes: &mut [NamedVolume], seconds: u32)
     ensures { volumes.new ≡ map (volume_ticked seconds) volumes.old }
 {
     for volume in volumes.iter_mut() {
@@ -61,7 +65,7 @@ fn tick_volumes(volumes: &mut [Mounted], seconds: u32)
 }
 
 /// `tick N`: so many seconds pass for every flakey layer.
-#[tactic(auto, unfolding(crate::specs::Messages::ticked))]
+#[tactic(auto, unfolding(named::specs::Messages::ticked))]
 pub fn tick(held: &mut Held, seconds: u32)
     ensures { table_of held.new ≡ ticked seconds (table_of held.old) }
 {

@@ -1,25 +1,27 @@
 // Loading and saving raw sectors of disks, past all layers.
-ghost use Rattle.std.specs.Prelude.{◌≡◌, ◌≤◌, ◌<◌, ◌+◌, ◌*◌, ◌/◌, length, slice_get, MatchResult, Ok, Err};
+ghost use Rattle.std.specs.Prelude.{◌≡◌, ◌≤◌, ◌<◌, ◌+◌, ◌*◌, ◌/◌, length, slice_get, MatchResult, Ok, Err, true};
 ghost use Rattle.device.specs.Disk.{disk_contents};
 ghost use Rattle.words.specs.Given.{Gives};
-ghost use Rattle.devices.specs.Changes.{Changes};
+ghost use Rattle.named.specs.Changes.{Changes};
+ghost use Rattle.named.specs.Naming.{AreNamed};
+ghost use Rattle.named.specs.Sound.{is_sound};
 ghost use Rattle.devices.specs.Devices.{table_of};
-ghost use Rattle.devices.specs.Places.{IsPlaceIn, IsRoleIn};
-ghost use Rattle.devices.specs.Raw.{cut, in_use, load, loaded_at, raw_at, save};
-ghost use Rattle.devices.specs.declared.place.Place.TheVariants.{Free};
+ghost use Rattle.named.specs.Places.{IsPlaceIn, IsRoleIn};
+ghost use Rattle.named.specs.Raw.{cut, in_use, load, loaded_at, raw_at, save};
+ghost use Rattle.named.specs.declared.place.Place.TheVariants.{Free};
 
 use crate::find::find_device;
 use crate::held::Held;
-use crate::mounted::Mounted;
-use crate::place::{Place, Role};
-use crate::sizes::{range_in, some_sectors, whole_sectors};
 use device::{Block, MemDisk};
+use named::{Place, Role};
+use named_stack::{range_in, some_sectors, whole_sectors};
+use named_volume::NamedVolume;
 use sector::{Buf, Refusal, SECTOR_BYTES};
 use std::alloc::Global;
 use words::Name;
 
 /// The disk at a place. `BadTable` for another device.
-#[tactic(auto, unfolding(crate::specs::Raw::raw_at))]
+#[tactic(auto, unfolding(named::specs::Raw::raw_at))]
 fn disk_at(held: &Held, place: Place) -> Result<&MemDisk, Refusal>
     requires { IsPlaceIn place (table_of held.now) }
     ensures { MatchResult result (λ disk. raw_at place (table_of held.now) ≡ Ok (disk_contents disk.now)) (λ e. raw_at place (table_of held.now) ≡ Err e) }
@@ -45,7 +47,7 @@ fn raw_sectors(alloc: Global, disk: &MemDisk, first: u32, count: u32) -> Result<
 /// `save DISK S N`: raw sectors of a disk, used or not. In this order: `OutOfRange` for a number of sectors outside 1 to
 /// 2048, `NoSuchDevice` for a name that no device has, `BadTable` for a device that is no disk, `OutOfRange` where the
 /// sectors don't lie inside it, `NoMemory` where the allocator refuses the bytes.
-#[tactic(auto, unfolding(crate::specs::Raw::save))]
+#[tactic(auto, unfolding(named::specs::Raw::save))]
 pub fn save_disk(
     alloc: Global,
     held: &Held,
@@ -78,8 +80,8 @@ fn load_free(
 }
 
 /// Refuses to write raw sectors of a device of a volume.
-#[tactic(auto, unfolding(crate::specs::Raw::in_use))]
-fn refuse_load(volume: &Mounted, role: Role, first: u32, count: u32) -> Refusal
+#[tactic(auto, unfolding(named::specs::Raw::in_use))]
+fn refuse_load(volume: &NamedVolume, role: Role, first: u32, count: u32) -> Refusal
     requires { IsRoleIn role volume.now }
     ensures { in_use role first count volume.now ≡ Err result }
 {
@@ -97,9 +99,11 @@ fn refuse_load(volume: &Mounted, role: Role, first: u32, count: u32) -> Refusal
 /// mark could not be written. In this order: `BadTable` for bytes that are no whole sectors, `OutOfRange` where they are
 /// not 1 to 2048, `NoSuchDevice` for a name that no device has, `BadTable` for a device that is no disk, `OutOfRange` where
 /// the sectors don't lie inside it, `Busy` where a layer, an origin or a snapshot uses it.
-#[tactic(auto, unfolding(crate::specs::Raw::load, crate::specs::Raw::loaded_at))]
+#[tactic(auto, unfolding(named::specs::Raw::load, named::specs::Raw::loaded_at))]
 pub fn load_disk(held: &mut Held, name: &Name, first: u32, bytes: &Buf) -> Result<(), Refusal>
-    ensures { Changes result (table_of held.old) (table_of held.new) (load name.now first bytes.now (table_of held.old)) }
+    ensures done { Changes result (table_of held.old) (table_of held.new) (load name.now first bytes.now (table_of held.old)) }
+    ensures sound { is_sound (table_of held.old) ≡ true → is_sound (table_of held.new) ≡ true }
+    ensures named { AreNamed (table_of held.old) → AreNamed (table_of held.new) }
 {
     let bytes = bytes.as_slice();
     let count = whole_sectors(bytes)?;

@@ -1,14 +1,18 @@
 // Taking devices away.
-ghost use Rattle.std.specs.Prelude.{◌≡◌, ◌<◌, length};
-ghost use Rattle.devices.specs.Changes.{Changes};
+ghost use Rattle.std.specs.Prelude.{◌≡◌, ◌<◌, length, true};
+ghost use Rattle.named.specs.Changes.{Changes};
+ghost use Rattle.named.specs.Naming.{AreNamed};
+ghost use Rattle.named.specs.Places.{IsPlaceIn};
+ghost use Rattle.named.specs.Removing.{lowered, take_away};
+ghost use Rattle.named.specs.Sound.{is_sound};
+ghost use Rattle.named.specs.declared.place.Place.TheVariants.{Free};
 ghost use Rattle.devices.specs.Devices.{table_of};
-ghost use Rattle.devices.specs.Places.{IsPlaceIn};
-ghost use Rattle.devices.specs.Removing.{lowered, removed_at, take_away};
-ghost use Rattle.devices.specs.declared.place.Place.TheVariants.{Free};
 
 use crate::find::find_device;
 use crate::held::Held;
-use crate::place::Place;
+use crate::origins::close;
+use crate::snapshots::detach;
+use named::{Place, Role};
 use sector::Refusal;
 use words::Name;
 
@@ -24,17 +28,22 @@ fn take_top(held: &mut Held, i: usize)
     }
 }
 
-/// `remove NAME`: takes a device away that no other uses. In this order: `NoSuchDevice` for a name that no device has,
-/// `Busy` where another device uses it.
-#[tactic(auto, unfolding(crate::specs::Removing::take_away))]
+/// `remove NAME`: takes a device away that no other uses; what an origin or a snapshot stood on is left as it is. In this
+/// order: `NoSuchDevice` for a name that no device has, `Busy` where another device uses it, `NoMemory` where the allocator
+/// refuses room for what is left.
+#[tactic(auto, unfolding(named::specs::Removing::take_away))]
 pub fn remove_device(held: &mut Held, name: &Name) -> Result<(), Refusal>
-    ensures { Changes result (table_of held.old) (table_of held.new) (take_away name.now (table_of held.old)) }
+    ensures done { Changes result (table_of held.old) (table_of held.new) (take_away name.now (table_of held.old)) }
+    ensures sound { is_sound (table_of held.old) ≡ true → is_sound (table_of held.new) ≡ true }
+    ensures named { AreNamed (table_of held.old) → AreNamed (table_of held.new) }
 {
     match find_device(held, name)? {
         Place::Free(i, 0) => {
             take_top(held, i);
             Ok(())
         }
-        _ => Err(Refusal::Busy),
+        Place::In(v, Role::Origin) => close(held, v),
+        Place::In(v, Role::Snapshot(k)) => detach(held, v, k),
+        Place::Free(_, _) | Place::In(_, Role::Under(_) | Role::Store(_, _)) => Err(Refusal::Busy),
     }
 }

@@ -1,13 +1,14 @@
 // Devices by calls.
 use crate::{
-    Held, create_device, line_text, load_disk, make_disk, remove_device, save_disk, tell, tick,
+    Held, create_device, line_text, load_disk, make_disk, read_device, remove_device, save_disk,
+    status_text, tell, tick, write_device,
 };
 use layers::{Answer, Message};
 use sector::{Buf, Refusal};
 use std::alloc::Global;
 use std::test::Fail;
 use table::parse;
-use words::Name;
+use words::{Name, Text};
 
 /// Makes a device of a table line.
 fn made(alloc: Global, held: &mut Held, name: &[u8], line: &[u8]) -> Result<(), Refusal> {
@@ -34,6 +35,33 @@ fn filled(
 ) -> Result<(), Refusal> {
     let bytes = Buf::from_slice(alloc, bytes).map_err(|_| Refusal::NoMemory)?;
     load_disk(held, &Name::new(name)?, sector, &bytes)
+}
+
+/// A sector of an origin or of a snapshot.
+fn shown(alloc: Global, held: &mut Held, name: &[u8], sector: u32) -> Result<Buf, Refusal> {
+    read_device(alloc, held, &Name::new(name)?, sector, 1)
+}
+
+/// Writes sectors of an origin or of a snapshot.
+fn written(
+    alloc: Global,
+    held: &mut Held,
+    name: &[u8],
+    sector: u32,
+    bytes: &[u8],
+) -> Result<(), Refusal> {
+    let bytes = Buf::from_slice(alloc, bytes).map_err(|_| Refusal::NoMemory)?;
+    write_device(alloc, held, &Name::new(name)?, sector, &bytes)
+}
+
+/// Takes a device away.
+fn gone(held: &mut Held, name: &[u8]) -> Result<(), Refusal> {
+    remove_device(held, &Name::new(name)?)
+}
+
+/// The status line of a device.
+fn status(alloc: Global, held: &Held, name: &[u8]) -> Result<Text, Refusal> {
+    status_text(alloc, held, &Name::new(name)?)
 }
 
 #[test]
@@ -127,5 +155,100 @@ fn messages_reach_their_layer_alone(rt: HostRuntime) -> Result<(), Fail> {
     );
     let refused = tell(&mut held, &Name::new(b"fl")?, &Message::Enable).err();
     assert_eq!(rt; refused, Some(Refusal::BadTable), "no dust layer");
+    Ok(())
+}
+
+#[test]
+fn a_snapshot_keeps_what_its_origin_was(rt: HostRuntime) -> Result<(), Fail> {
+    let alloc = rt.alloc();
+    let mut held = Held::new(alloc)?;
+    disk(alloc, &mut held, b"base", 8)?;
+    disk(alloc, &mut held, b"cow", 16)?;
+    filled(alloc, &mut held, b"base", 5, &[1; 512])?;
+    made(
+        alloc,
+        &mut held,
+        b"fl",
+        b"0 8 flakey base 0 1 1 1 error_writes",
+    )?;
+    let refused = made(alloc, &mut held, b"vol", b"0 6 snapshot-origin fl").err();
+    assert_eq!(rt; refused, Some(Refusal::BadTable), "another size");
+    made(alloc, &mut held, b"vol", b"0 8 snapshot-origin fl")?;
+    made(alloc, &mut held, b"snap", b"0 8 snapshot fl cow P 1")?;
+    let refused = made(alloc, &mut held, b"more", b"0 8 snapshot fl cow P 1").err();
+    assert_eq!(rt; refused, Some(Refusal::Busy), "the store is in use");
+    tick(&mut held, 1);
+    let refused = written(alloc, &mut held, b"vol", 5, &[2; 512]).err();
+    assert_eq!(rt; refused, Some(Refusal::Io));
+    tick(&mut held, 1);
+    written(alloc, &mut held, b"vol", 5, &[2; 512])?;
+    let bytes = shown(alloc, &mut held, b"vol", 5)?;
+    assert_eq!(rt; bytes.as_slice(), [2; 512].as_slice());
+    let bytes = shown(alloc, &mut held, b"snap", 5)?;
+    assert_eq!(rt; bytes.as_slice(), [1; 512].as_slice());
+    let text = status(alloc, &held, b"snap")?;
+    assert_eq!(rt; text.as_slice(), b"0 8 snapshot 3/16 2".as_slice());
+    let text = status(alloc, &held, b"vol")?;
+    assert_eq!(rt; text.as_slice(), b"0 8 snapshot-origin".as_slice());
+    let refused = status(alloc, &held, b"fl").err();
+    assert_eq!(rt; refused, Some(Refusal::BadTable), "a layer");
+    let refused = shown(alloc, &mut held, b"cow", 0).err();
+    assert_eq!(rt; refused, Some(Refusal::BadTable), "a disk");
+    Ok(())
+}
+
+#[test]
+fn what_an_origin_and_a_snapshot_stood_on_is_left(rt: HostRuntime) -> Result<(), Fail> {
+    let alloc = rt.alloc();
+    let mut held = Held::new(alloc)?;
+    disk(alloc, &mut held, b"base", 8)?;
+    disk(alloc, &mut held, b"cow", 16)?;
+    made(alloc, &mut held, b"vol", b"0 8 snapshot-origin base")?;
+    made(alloc, &mut held, b"snap", b"0 8 snapshot base cow P 1")?;
+    written(alloc, &mut held, b"snap", 1, &[3; 512])?;
+    assert_eq!(rt; gone(&mut held, b"vol").err(), Some(Refusal::Busy));
+    assert_eq!(rt; gone(&mut held, b"cow").err(), Some(Refusal::Busy));
+    gone(&mut held, b"snap")?;
+    gone(&mut held, b"vol")?;
+    let bytes = raw(alloc, &held, b"cow", 2)?;
+    assert_eq!(rt; bytes.as_slice(), [3; 512].as_slice(), "the first copy");
+    made(alloc, &mut held, b"vol", b"0 8 snapshot-origin base")?;
+    made(alloc, &mut held, b"snap", b"0 8 snapshot base cow P 1")?;
+    let bytes = shown(alloc, &mut held, b"snap", 1)?;
+    assert_eq!(rt; bytes.as_slice(), [3; 512].as_slice(), "it is loaded again");
+    let bytes = shown(alloc, &mut held, b"vol", 1)?;
+    assert_eq!(rt; bytes.as_slice(), [0; 512].as_slice());
+    Ok(())
+}
+
+#[test]
+fn a_store_whose_mark_failed_is_stale(rt: HostRuntime) -> Result<(), Fail> {
+    let alloc = rt.alloc();
+    let mut held = Held::new(alloc)?;
+    disk(alloc, &mut held, b"base", 8)?;
+    disk(alloc, &mut held, b"cow", 16)?;
+    made(
+        alloc,
+        &mut held,
+        b"fl",
+        b"0 16 flakey cow 0 1 1 1 error_writes",
+    )?;
+    made(alloc, &mut held, b"vol", b"0 8 snapshot-origin base")?;
+    made(alloc, &mut held, b"snap", b"0 8 snapshot base fl P 1")?;
+    tick(&mut held, 1);
+    written(alloc, &mut held, b"vol", 5, &[2; 512])?;
+    let text = status(alloc, &held, b"snap")?;
+    assert_eq!(rt; text.as_slice(), b"0 8 snapshot Invalid".as_slice());
+    let refused = shown(alloc, &mut held, b"snap", 5).err();
+    assert_eq!(rt; refused, Some(Refusal::Invalid));
+    gone(&mut held, b"snap")?;
+    tick(&mut held, 1);
+    let refused = made(alloc, &mut held, b"snap", b"0 8 snapshot base fl P 1").err();
+    assert_eq!(rt; refused, Some(Refusal::Stale));
+    gone(&mut held, b"fl")?;
+    filled(alloc, &mut held, b"cow", 0, &[0; 512])?;
+    made(alloc, &mut held, b"snap", b"0 8 snapshot base cow P 1")?;
+    let bytes = shown(alloc, &mut held, b"snap", 5)?;
+    assert_eq!(rt; bytes.as_slice(), [2; 512].as_slice());
     Ok(())
 }

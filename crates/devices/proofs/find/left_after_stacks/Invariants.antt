@@ -1,6 +1,6 @@
 use Rattle.std.proofs.Common.{◌≡◌, ◌-◌, drop}
 use Rattle.std.specs.Prelude.{sum_by}
-use Rattle.devices.specs.Disks.{devices_of}
+use Rattle.named.specs.Disks.{devices_of}
 use Rattle.devices.proofs.find.left_after_stacks.Given as goal
 
 abbrev pub invariant-loop-stack : goal.invariant-loop-stack

@@ -1,6 +1,6 @@
 use Rattle.std.proofs.Common.{◌≡◌, ◌-◌, drop}
 use Rattle.std.specs.Prelude.{sum_by}
-use Rattle.devices.specs.Disks.{devices_in}
+use Rattle.named.specs.Disks.{devices_in}
 use Rattle.devices.proofs.find.left_after_volumes.Given as goal
 
 abbrev pub invariant-loop-volume : goal.invariant-loop-volume

@@ -1,5 +1,5 @@
 use Rattle.devices.specs.Devices.{table_of}
-use Rattle.devices.proofs.InTable.{told_in_at}
+use Rattle.named.proofs.InTable.{told_in_at}
 use Rattle.devices.proofs.messages.tell_in.Goals as goal
 
 pub returns : goal.returns

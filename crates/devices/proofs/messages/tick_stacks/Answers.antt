@@ -1,5 +1,5 @@
-use Rattle.devices.proofs.AtPlace.{map_step}
-use Rattle.devices.specs.Messages.{stack_ticked}
+use Rattle.named.proofs.AtPlace.{map_step}
+use Rattle.named.specs.Messages.{stack_ticked}
 use Rattle.devices.proofs.messages.tick_stacks.Goals as goal
 
 pub loop-stack-preserved : goal.loop-stack-preserved

@@ -1,5 +1,5 @@
 use Rattle.std.proofs.Common.{◌≡◌, ◌++◌, map, take, drop}
-use Rattle.devices.specs.Messages.{stack_ticked}
+use Rattle.named.specs.Messages.{stack_ticked}
 use Rattle.devices.proofs.messages.tick_stacks.Given as goal
 
 abbrev pub invariant-loop-stack : goal.invariant-loop-stack

@@ -1,5 +1,5 @@
-use Rattle.devices.proofs.AtPlace.{map_step}
-use Rattle.devices.specs.Messages.{volume_ticked}
+use Rattle.named.proofs.AtPlace.{map_step}
+use Rattle.named.specs.Messages.{volume_ticked}
 use Rattle.devices.proofs.messages.tick_volumes.Goals as goal
 
 pub loop-volume-preserved : goal.loop-volume-preserved

@@ -1,5 +1,5 @@
 use Rattle.std.proofs.Common.{◌≡◌, ◌++◌, map, take, drop}
-use Rattle.devices.specs.Messages.{volume_ticked}
+use Rattle.named.specs.Messages.{volume_ticked}
 use Rattle.devices.proofs.messages.tick_volumes.Given as goal
 
 abbrev pub invariant-loop-volume : goal.invariant-loop-volume

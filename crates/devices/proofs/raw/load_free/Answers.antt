@@ -1,5 +1,5 @@
 use Rattle.devices.specs.Devices.{table_of}
-use Rattle.devices.proofs.InTable.{loaded_at_free}
+use Rattle.named.proofs.InTable.{loaded_at_free}
 use Rattle.devices.proofs.raw.load_free.Goals as goal
 
 pub returns : goal.returns

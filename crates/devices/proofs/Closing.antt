@@ -1,0 +1,55 @@
+-- An origin that goes, and whose stack is left.
+use Rattle.std.proofs.Common.{◌≡◌, ◌≢◌, ℕ, ◌<◌, List, [], ◌∷◌, ◌++◌, Bool, true, false, length, get_or, refl, sym, ap, ◌∙◌, subst, arith}
+use Rattle.std.specs.Prelude.{Result, Ok, Err, nat_lt, if◌then◌else◌}
+use Rattle.std.specs.List.{remove, insert}
+use Rattle.std.proofs.lemmas.Bool.{lt-ltb}
+use Rattle.sector.specs.declared.refusal.Refusal.{Refusal}
+use Rattle.sector.specs.declared.refusal.Refusal.TheVariants.{Busy, NoMemory}
+use Rattle.device.specs.Layers.{is_loud}
+use Rattle.words.specs.Given.{◌>>=◌}
+use Rattle.named.specs.State.{Stacked, Names, Volume, Table}
+use Rattle.named.specs.Changes.{Changes}
+use Rattle.named.specs.Origins.{closed, stack_under}
+use Rattle.named.specs.Sound.{is_sound}
+use Rattle.named.proofs.AtPlace.{volume_here}
+use Rattle.named.proofs.SoundFrames.{left_over_sound, volume_sound}
+use Rattle.devices.proofs.Places.{restored}
+
+without : (snaps : List Names) (rule : Result Table Refusal) → snaps ≡ [] → (if nat_lt 0 (length snaps) then Err Busy else rule) ≡ rule
+without [] rule none = refl
+without (names ∷ snaps) rule none = absurd (cc)
+
+busy_where : (b : Bool) (rule : Result Table Refusal) → b ≡ true → (if b then Err Busy else rule) ≡ Err Busy
+busy_where true rule is = refl
+busy_where false rule is = absurd (cc)
+
+with_one : (snaps : List Names) (rule : Result Table Refusal) → snaps ≢ [] → (if nat_lt 0 (length snaps) then Err Busy else rule) ≡ Err Busy
+with_one [] rule some = absurd (some refl)
+with_one (names ∷ snaps) rule some = busy_where (nat_lt 0 (length (names ∷ snaps))) rule (lt-ltb 0 (length (names ∷ snaps)) (omega arith))
+
+pub closed_is : (table : Table) (v : ℕ) (old : Volume) (stacked : Stacked) (stacks : List Stacked) (volumes : List Volume) → v < length table.volumes → old ≡ get_or table.volumes v old → (old.snaps ≡ []) × (stacked ≡ stack_under old) → stacks ≡ table.stacks ++ stacked ∷ [] → volumes ≡ remove table.volumes v → closed v table ≡ Ok (record { stacks = stacks; volumes = volumes })
+unfolding closed
+closed_is table v old stacked stacks volumes lt at left more less =
+    let there = volume_here table v old lt at in
+    let by_stack : Stacked → Result Table Refusal = λ s. Ok (record { stacks = table.stacks ++ s ∷ []; volumes = remove table.volumes v }) in
+    let by_stacks : List Stacked → Result Table Refusal = λ ss. Ok (record { stacks = ss; volumes = remove table.volumes v }) in
+    let by_volumes : List Volume → Result Table Refusal = λ ws. Ok (record { stacks = stacks; volumes = ws }) in
+    rw there (without old.snaps (by_stack (stack_under old)) left.0 ∙ ap by_stack (sym left.1) ∙ ap by_stacks (sym more) ∙ ap by_volumes (sym less))
+
+closed_busy : (table : Table) (v : ℕ) (old : Volume) → v < length table.volumes → old ≡ get_or table.volumes v old → old.snaps ≢ [] → closed v table ≡ Err Busy
+unfolding closed
+closed_busy table v old lt at some = let there = volume_here table v old lt at in rw there (with_one old.snaps _ some)
+
+-- a volume that has snapshots goes back to its place
+pub stays : (table : Table) (v : ℕ) (old back : Volume) (stacks : List Stacked) (volumes new : List Volume) (e : Refusal) → v < length table.volumes → old ≡ get_or table.volumes v old → (e ≡ Busy) × (old.snaps ≢ []) × (back ≡ old) → stacks ≡ table.stacks → volumes ≡ remove table.volumes v → new ≡ insert volumes v back → Changes (Err e) table (record { stacks = stacks; volumes = new }) (closed v table)
+stays table v old back stacks volumes new e lt at busy same out put = (
+  ap (λ (ss : List Stacked). record { stacks = ss; volumes = new }) same
+      ∙ ap (λ (ws : List Volume). record { stacks = table.stacks; volumes = ws }) (restored table.volumes volumes new v old back lt out at busy.2 put),
+  λ other. closed_busy table v old lt at busy.1 ∙ ap (λ (r : Refusal). Err r) (sym busy.0),
+)
+
+pub closed_sound : (table : Table) (v : ℕ) (old : Volume) (stacked : Stacked) (stacks : List Stacked) (volumes : List Volume) → v < length table.volumes → old ≡ get_or table.volumes v old → (old.sound ≡ true → is_loud stacked.device.layers ≡ true) → stacks ≡ table.stacks ++ stacked ∷ [] → volumes ≡ remove table.volumes v → is_sound table ≡ true → is_sound (record { stacks = stacks; volumes = volumes }) ≡ true
+closed_sound table v old stacked stacks volumes lt at loud more less sound =
+    let P : List Stacked → Type 0 = λ ss. is_sound (record { stacks = ss; volumes = remove table.volumes v }) ≡ true in
+    let Q : List Volume → Type 0 = λ ws. is_sound (record { stacks = stacks; volumes = ws }) ≡ true in
+    subst Q (sym less) (subst P (sym more) (left_over_sound table v stacked (loud (volume_sound table v old sound lt at)) sound))

@@ -1,0 +1,36 @@
+// Status lines.
+ghost use Rattle.std.specs.Prelude.{◌≡◌, true};
+ghost use Rattle.words.specs.Given.{Gives};
+ghost use Rattle.named.specs.Places.{IsPlaceIn};
+ghost use Rattle.named.specs.Sound.{is_sound};
+ghost use Rattle.named.specs.Status.{status_at, status_text};
+ghost use Rattle.named.specs.declared.place.Place.TheVariants.{In};
+ghost use Rattle.devices.specs.Devices.{table_of};
+
+use crate::find::find_device;
+use crate::held::Held;
+use named::{Place, Role};
+use sector::Refusal;
+use std::alloc::Global;
+use words::{Name, Text};
+
+/// The status line of a device of a volume.
+#[tactic(auto, unfolding(named::specs::Status::status_at))]
+fn status_at(alloc: Global, held: &Held, v: usize, role: Role) -> Result<Text, Refusal>
+    requires { IsPlaceIn (In v role) (table_of held.now) }
+    ensures { is_sound (table_of held.now) ≡ true → Gives result (status_at (In v role) (table_of held.now)) }
+{
+    held.volumes[v].status(alloc, role)
+}
+
+/// `status DEV`: the status line of an origin or of a snapshot. In this order: `NoSuchDevice` for a name that no device
+/// has, `BadTable` for a disk or a layer, `NoMemory` where the allocator refuses the bytes.
+#[tactic(auto, unfolding(named::specs::Status::status_text, named::specs::Status::status_at))]
+pub fn status_text(alloc: Global, held: &Held, name: &Name) -> Result<Text, Refusal>
+    ensures { is_sound (table_of held.now) ≡ true → Gives result (status_text name.now (table_of held.now)) }
+{
+    match find_device(held, name)? {
+        Place::Free(_, _) => Err(Refusal::BadTable),
+        Place::In(v, role) => status_at(alloc, held, v, role),
+    }
+}

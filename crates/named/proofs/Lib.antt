@@ -1,0 +1,11 @@
+pub mod AtPlace
+pub mod InTable
+pub mod Sums
+pub mod Unused
+pub mod NamedFrames
+pub mod Keeping
+pub mod SoundFrames
+pub mod NamedRules
+pub mod LoudAttach
+pub mod SoundRules
+pub mod Starving

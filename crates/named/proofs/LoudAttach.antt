@@ -1,0 +1,140 @@
+-- An attach leaves a store's layers as loud as they were.
+use Rattle.std.proofs.Common.{◌≡◌, ℕ, zero, suc, ◌+◌, ◌*◌, Bool, true, false, ◌&&◌, List, [], ◌∷◌, refl, ap, ◌∙◌}
+use Rattle.std.specs.Prelude.{not, nat_lt, length, Option, Some, None, Result, Ok, Err, if◌then◌else◌}
+use Rattle.sector.specs.Bytes.{with_part, sector_at}
+use Rattle.sector.specs.declared.refusal.Refusal.{Refusal}
+use Rattle.device.specs.declared.operation.Operation.{Operation}
+use Rattle.device.specs.declared.operation.Operation.TheVariants.{Reads, Writes, Flushes}
+use Rattle.device.specs.Layers.{Layer, Flaky, Dusty, Broken, Counted, Window, layer_after, layer_fate, layers_after, passed_on, fate, is_answered, is_passed, is_loud, is_loud_layer}
+use Rattle.sector.specs.declared.refusal.Refusal.TheVariants.{TooMany, BadChunk, StoreTooSmall, Damaged, Stale, ChunkMismatch}
+use Rattle.chunk.specs.Sizes.{is_chunk}
+use Rattle.model.specs.Places.{area_place}
+use Rattle.model.specs.Pairs.{pairs_of}
+use Rattle.settled.specs.Saves.{zeroed}
+use Rattle.settled.specs.Loads.{trimmed, is_loadable, is_too_small}
+use Rattle.cow_header.specs.HeaderText.{header_bytes, found_in}
+use Rattle.cow_header.specs.declared.found.Found.{Found}
+use Rattle.cow_header.specs.declared.found.Found.TheVariants.{Fresh, Header}
+use Rattle.settling.specs.Devices.{Device, sectors_of, answers, met, written_by}
+use Rattle.settling.specs.Snaps.{Snap, Volume as Settled}
+use Rattle.settling.specs.Attaching.{Tried, read_on, write_on, done, read_areas, last_area, has_tail, is_wanted, make, clear, load, load_as, open_store, Store, Attached, refused_attach, taken_by, attached}
+
+loud_layer_after : (l : Layer) (op : Operation) (done : Bool) → is_loud_layer (layer_after l op done) ≡ is_loud_layer l
+loud_layer_after (Flaky moment up down features offset) op done = refl
+loud_layer_after (Dusty sectors size enabled bad) (Reads first count) done = refl
+loud_layer_after (Dusty sectors size enabled bad) (Writes first count) done = refl
+loud_layer_after (Dusty sectors size enabled bad) Flushes done = refl
+loud_layer_after Broken op done = refl
+loud_layer_after (Counted left) op done = refl
+loud_layer_after (Window aside) op done = refl
+
+either_loud : (b : Bool) (xs ys : List Layer) → is_loud xs ≡ is_loud ys → is_loud (if b then xs else ys) ≡ is_loud ys
+either_loud true xs ys same = same
+either_loud false xs ys same = refl
+
+-- an operation
+pub loud_after : (ls : List Layer) (op : Operation) → is_loud (layers_after ls op) ≡ is_loud ls
+loud_after [] op = refl
+loud_after (l ∷ ls) op =
+    let below = either_loud (is_passed (layer_fate l op)) (layers_after ls (passed_on l op)) ls (loud_after ls (passed_on l op)) in
+    ap (λ b. b && is_loud (if is_passed (layer_fate l op) then layers_after ls (passed_on l op) else ls)) (loud_layer_after l op (is_answered (fate ls (passed_on l op))))
+    ∙ ap (λ b. is_loud_layer l && b) below
+
+-- what was tried left a device as loud
+record IsAsLoud (loud : Bool) (tried : Tried) : Type 0 where
+  same : is_loud tried.device.layers ≡ loud
+
+-- whatever is tried leaves one as loud
+abbrev KeepsLoud : Bool → (Device → Tried) → Type 0
+KeepsLoud loud next = (device : Device) → is_loud device.layers ≡ loud → IsAsLoud loud (next device)
+
+either_tried : (b loud : Bool) (x y : Tried) → IsAsLoud loud x → IsAsLoud loud y → IsAsLoud loud (if b then x else y)
+either_tried true loud x y hx hy = hx
+either_tried false loud x y hx hy = hy
+
+-- one that was refused, and one that is done
+stays_loud : (loud : Bool) (device : Device) (outcome : Result ℕ Refusal) → is_loud device.layers ≡ loud → IsAsLoud loud (record { device = device; outcome = outcome })
+stays_loud loud device outcome h = record { same = h }
+
+read_loud : (loud : Bool) (op : Operation) (next : Device → Tried) → KeepsLoud loud next → KeepsLoud loud (λ device. read_on device op next)
+read_loud loud op next keeps device h =
+    let after : is_loud (met device op).layers ≡ loud = loud_after device.layers op ∙ h in
+    either_tried (answers device op) loud _ _ (keeps (met device op) after) (stays_loud loud (met device op) _ after)
+
+write_loud : (loud : Bool) (device : Device) (op : Operation) (bytes : List ℕ) (next : Device → Tried) → KeepsLoud loud next → is_loud device.layers ≡ loud → IsAsLoud loud (write_on device op bytes next)
+write_loud loud device op bytes next keeps h =
+    let after : is_loud (written_by device op bytes).layers ≡ loud = loud_after device.layers op ∙ h in
+    either_tried (answers device op) loud _ _ (keeps (written_by device op bytes) after) (stays_loud loud (written_by device op bytes) _ after)
+
+done_loud : (loud : Bool) (chunk : ℕ) → KeepsLoud loud (done chunk)
+done_loud loud chunk device h = stays_loud loud device (Ok chunk) h
+
+areas_loud : (loud : Bool) (chunk a n : ℕ) (next : Device → Tried) → KeepsLoud loud next → KeepsLoud loud (read_areas chunk a n next)
+areas_loud loud chunk a zero next keeps device h = keeps device h
+areas_loud loud chunk a (suc n) next keeps device h =
+    either_tried _ loud _ _ (stays_loud loud device _ h) (read_loud loud _ (read_areas chunk (a + 1) n next) (areas_loud loud chunk (a + 1) n next keeps) device h)
+
+make_loud : (loud : Bool) (snaps : List Snap) (chunk : ℕ) → KeepsLoud loud (make snaps chunk)
+make_loud loud snaps chunk device h =
+    let header : Device → Tried = λ d. write_on d (Writes 0 chunk) (with_part d.bytes 0 (header_bytes (512 * chunk) true chunk)) (done chunk) in
+    either_tried (is_too_small chunk device.bytes) loud _ _ (stays_loud loud device (Err StoreTooSmall) h)
+    (either_tried (not (is_wanted snaps chunk)) loud _ _ (stays_loud loud device (Err ChunkMismatch) h)
+    (write_loud loud device (Writes (chunk * area_place chunk 0) chunk) (zeroed chunk device.bytes 0) header
+    (λ d at. write_loud loud d (Writes 0 chunk) (with_part d.bytes 0 (header_bytes (512 * chunk) true chunk)) (done chunk) (done_loud loud chunk) at) h))
+
+clear_loud : (loud : Bool) (snaps : List Snap) (sectors chunk : ℕ) → KeepsLoud loud (clear snaps sectors chunk)
+clear_loud loud snaps sectors chunk device h =
+    either_tried (not (is_loadable chunk sectors (sectors_of device) (pairs_of chunk device.bytes))) loud _ _ (stays_loud loud device (Err Damaged) h)
+    (either_tried (not (is_wanted snaps chunk)) loud _ _ (stays_loud loud device (Err ChunkMismatch) h)
+    (either_tried (has_tail chunk device.bytes) loud _ _
+    (write_loud loud device (Writes (chunk * area_place chunk (last_area chunk device.bytes)) chunk) (trimmed chunk device.bytes) (done chunk) (done_loud loud chunk) h)
+    (done_loud loud chunk device h)))
+
+load_loud : (loud : Bool) (snaps : List Snap) (sectors chunk : ℕ) → KeepsLoud loud (load snaps sectors chunk)
+load_loud loud snaps sectors chunk device h =
+    either_tried _ loud _ _ (stays_loud loud device _ h) (areas_loud loud chunk 0 _ (clear snaps sectors chunk) (clear_loud loud snaps sectors chunk) device h)
+
+load_as_loud : (loud : Bool) (snaps : List Snap) (sectors chunk : ℕ) (is : Result Found Refusal) → KeepsLoud loud (load_as snaps sectors chunk is)
+load_as_loud loud snaps sectors chunk (Err refusal) device h = stays_loud loud device _ h
+load_as_loud loud snaps sectors chunk (Ok Fresh) device h = make_loud loud snaps chunk device h
+load_as_loud loud snaps sectors chunk (Ok (Header own)) device h = load_loud loud snaps sectors own device h
+
+open_loud : (loud : Bool) (snaps : List Snap) (sectors chunk : ℕ) → KeepsLoud loud (open_store snaps sectors chunk)
+unfolding open_store
+open_loud loud snaps sectors chunk device h =
+    either_tried _ loud _ _ (stays_loud loud device _ h) (read_loud loud (Reads 0 1) _ (load_as_loud loud snaps sectors chunk (found_in (sector_at device.bytes 0))) device h)
+
+-- the store that is given back, if one is, is as loud
+abbrev pub IsBackLoud : Bool → Option Store → Type 0
+IsBackLoud loud None = Unit {0}
+IsBackLoud loud (Some store) = is_loud store.device.layers ≡ loud
+
+record IsGivenLoud (loud : Bool) (a : Attached) : Type 0 where
+  back : IsBackLoud loud a.back
+
+either_back : (b loud : Bool) (x y : Attached) → IsGivenLoud loud x → IsGivenLoud loud y → IsGivenLoud loud (if b then x else y)
+either_back true loud x y hx hy = hx
+either_back false loud x y hx hy = hy
+
+refused_loud : (refusal : Refusal) (store : Store) (v : Settled) → IsGivenLoud (is_loud store.device.layers) (refused_attach refusal store v)
+refused_loud refusal store v = record { back = refl }
+
+taken_loud : (loud : Bool) (number : ℕ) (device : Device) (outcome : Result ℕ Refusal) (v : Settled) → is_loud device.layers ≡ loud → IsGivenLoud loud (taken_by number device outcome v)
+taken_loud loud number device (Err refusal) v h = record { back = h }
+taken_loud loud number device (Ok chunk) v h = record { back = tt }
+
+given_loud : (number chunk : ℕ) (store : Store) (v : Settled) → IsGivenLoud (is_loud store.device.layers) (attached number chunk store v)
+unfolding attached
+given_loud number chunk store v =
+    let loud = is_loud store.device.layers in
+    let tried = open_store v.snaps (sectors_of v.origin) chunk store.device in
+    either_back store.stale loud _ _ (refused_loud Stale store v)
+    (either_back (nat_lt (length v.snaps) 8 && nat_lt number 4_294_967_296) loud _ _
+    (either_back (is_chunk chunk) loud _ _
+    (taken_loud loud number tried.device tried.outcome v (open_loud loud v.snaps (sectors_of v.origin) chunk store.device refl).same)
+    (refused_loud BadChunk store v))
+    (refused_loud TooMany store v))
+
+-- an attach
+pub loud_back : (number chunk : ℕ) (store : Store) (v : Settled) → IsBackLoud (is_loud store.device.layers) (attached number chunk store v).back
+loud_back number chunk store v = (given_loud number chunk store v).back

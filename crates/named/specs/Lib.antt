@@ -1,0 +1,17 @@
+pub mod State
+pub mod Stacks
+pub mod Changes
+pub mod Places
+pub mod Disks
+pub mod Layers
+pub mod Messages
+pub mod Raw
+pub mod Origins
+pub mod Snapshots
+pub mod Creating
+pub mod Removing
+pub mod Lines
+pub mod Sectors
+pub mod Status
+pub mod Sound
+pub mod Naming

@@ -1,0 +1,101 @@
+-- Table lines of devices that are there. The lines are those of the kernel's pages on dm-flakey and dm-dust; that a disk has
+-- none is this project's own.
+use Rattle.std.specs.Prelude.{ℕ, zero, suc, ◌+◌, List, ◌∷◌, drop, slice_get, Option, Some, None, Result, Ok, Err}
+use Rattle.sector.specs.declared.refusal.Refusal.{Refusal}
+use Rattle.sector.specs.declared.refusal.Refusal.TheVariants.{BadTable}
+use Rattle.device.specs.Layers.{Layer, Flaky, Dusty, Broken, Features as Kinds}
+use Rattle.words.specs.Given.{◌>>=◌}
+use Rattle.table.specs.declared.lines.Features.{Features}
+use Rattle.table.specs.declared.lines.Line.{Line}
+use Rattle.table.specs.declared.lines.Target.{Target}
+use Rattle.table.specs.declared.lines.Target.TheVariants as targets
+use Rattle.table.specs.Printed.{text_of}
+use Rattle.settling.specs.Devices.{Device, sectors_of}
+use Rattle.named.specs.declared.place.Role.{Role}
+use Rattle.named.specs.declared.place.Role.TheVariants.{Origin, Under, Snapshot, Store}
+use Rattle.named.specs.declared.place.Place.{Place}
+use Rattle.named.specs.declared.place.Place.TheVariants.{Free, In}
+use Rattle.named.specs.State.{Stacked, Volume, Table}
+use Rattle.named.specs.Places.{place_of, found, stack_at, volume_at}
+use Rattle.named.specs.Removing.{lowered_device}
+use Rattle.named.specs.Raw.{names_at}
+use Rattle.named.specs.Messages.{snap_at}
+
+-- the features of a line
+abbrev pub words_of : Kinds → Features
+words_of f = record { error_reads = f.error_reads; error_writes = f.error_writes; drop_writes = f.drop_writes }
+
+-- a name that is there
+abbrev pub named : Option (List ℕ) → Result (List ℕ) Refusal
+named None = Err BadTable
+named (Some name) = Ok name
+
+-- a target over the device of a name
+abbrev pub over : Option (List ℕ) → (List ℕ → Target) → Result Target Refusal
+over below target = named below >>= λ name. Ok (target name)
+
+-- what the top of these layers does, over the device of a name; a disk has no line
+abbrev pub target_of : List Layer → Option (List ℕ) → Result Target Refusal
+target_of (Flaky moment up down features offset ∷ layers) below = over below (λ name. targets.Flakey name offset up down (words_of features))
+target_of (Dusty sectors size enabled bad ∷ layers) below = over below (λ name. targets.Dust name size)
+target_of (Broken ∷ layers) below = Ok targets.Error
+target_of layers below = Err BadTable
+
+-- the line of the top of a device, over the device of a name
+abbrev pub line_of : Device → Option (List ℕ) → Result Line Refusal
+line_of device below = target_of device.layers below >>= λ target. Ok (record { sectors = sectors_of device; target = target })
+
+-- a device without so many of its top layers
+abbrev pub device_at : ℕ → Option Device → Option Device
+device_at depth None = None
+device_at zero (Some device) = Some device
+device_at (suc depth) (Some device) = device_at depth (lowered_device device)
+
+-- the line of a device that is there
+abbrev pub line_if : Option Device → Option (List ℕ) → Result Line Refusal
+line_if None below = Err BadTable
+line_if (Some device) below = line_of device below
+
+-- the line of the device so deep in a stack with these names
+unfoldable pub line_in : ℕ → List (List ℕ) → Device → Result Line Refusal
+line_in depth names device = line_if (device_at depth (Some device)) (slice_get names (depth + 1))
+
+-- the line of the device so deep in the store of snapshot k
+unfoldable pub line_in_store : ℕ → ℕ → Volume → Result Line Refusal
+line_in_store k depth volume = do
+  names ← names_at k volume
+  snap ← snap_at k volume.state
+  line_in depth names.store snap.store
+
+-- the line of an origin over the top of its stack
+unfoldable pub origin_line : Volume → Result Line Refusal
+origin_line volume = do
+  target ← over (slice_get volume.under 0) targets.Origin
+  Ok (record { sectors = sectors_of volume.state.origin; target = target })
+
+-- the line of a snapshot, of the top of the stack under the origin, over the top of its store
+unfoldable pub snapshot_line : ℕ → Volume → Result Line Refusal
+snapshot_line k volume = do
+  names ← names_at k volume
+  snap ← snap_at k volume.state
+  device ← named (slice_get volume.under 0)
+  store ← named (slice_get names.store 0)
+  Ok (record { sectors = sectors_of volume.state.origin; target = targets.Snapshot device store snap.chunk })
+
+abbrev pub line_of_role : Role → Volume → Result Line Refusal
+line_of_role Origin volume = origin_line volume
+line_of_role (Under depth) volume = line_in depth volume.under volume.state.origin
+line_of_role (Snapshot k) volume = snapshot_line k volume
+line_of_role (Store k depth) volume = line_in_store k depth volume
+
+-- the line of the device at a place
+unfoldable pub line_at : Place → Table → Result Line Refusal
+line_at (Free i depth) table = stack_at i table >>= λ stacked. line_in depth stacked.names stacked.device
+line_at (In v role) table = volume_at v table >>= line_of_role role
+
+-- `table DEV`: the line of a device as it is printed
+unfoldable pub line_text : List ℕ → Table → Result (List ℕ) Refusal
+line_text name table = do
+  place ← found (place_of name table)
+  line ← line_at place table
+  Ok (text_of line)

@@ -1,0 +1,51 @@
+-- Which device has which status line. The lines are those of the kernel's admin-guide page on snapshots; that the numbers
+-- are those of the store's next place and areas is this project's own.
+use Rattle.std.specs.Prelude.{ℕ, ◌+◌, ◌*◌, ◌/◌, List, length, Result, Ok, Err, if◌then◌else◌}
+use Rattle.sector.specs.declared.refusal.Refusal.{Refusal}
+use Rattle.sector.specs.declared.refusal.Refusal.TheVariants.{BadTable}
+use Rattle.words.specs.Given.{◌>>=◌}
+use Rattle.model.specs.Pairs.{pairs_of}
+use Rattle.status.specs.declared.State.{State}
+use Rattle.status.specs.declared.State.TheVariants.{Invalid, Used}
+use Rattle.status.specs.Lines.{origin_text, snapshot_text}
+use Rattle.settled.specs.Saves.{next_of}
+use Rattle.settling.specs.Devices.{Device, sectors_of}
+use Rattle.settling.specs.Snaps.{Snap}
+use Rattle.named.specs.declared.place.Role.{Role}
+use Rattle.named.specs.declared.place.Role.TheVariants.{Origin, Under, Snapshot, Store}
+use Rattle.named.specs.declared.place.Place.{Place}
+use Rattle.named.specs.declared.place.Place.TheVariants.{Free, In}
+use Rattle.named.specs.State.{Volume, Table}
+use Rattle.named.specs.Places.{place_of, found, volume_at}
+use Rattle.named.specs.Messages.{snap_at}
+
+-- What is used of a store: all up to the next place, and the header and the areas, which hold no copies.
+abbrev pub used_of : ℕ → Device → State
+used_of chunk store =
+    Used (chunk * next_of chunk (pairs_of chunk store.bytes)) (sectors_of store) (chunk * (length (pairs_of chunk store.bytes) / (32 * chunk) + 2))
+
+-- what a status line says of a snapshot
+abbrev pub state_of : Snap → State
+state_of snap = if snap.live then used_of snap.chunk snap.store else Invalid
+
+-- the state of snapshot k
+unfoldable pub state_at : ℕ → Volume → Result State Refusal
+state_at k volume = snap_at k volume.state >>= λ snap. Ok (state_of snap)
+
+-- the status line of a device of a volume; a snapshot has as many sectors as its origin
+unfoldable pub status_in : Role → Volume → Result (List ℕ) Refusal
+status_in Origin volume = Ok (origin_text (sectors_of volume.state.origin))
+status_in (Under depth) volume = Err BadTable
+status_in (Snapshot k) volume = state_at k volume >>= λ state. Ok (snapshot_text (sectors_of volume.state.origin) state)
+status_in (Store k depth) volume = Err BadTable
+
+-- disks and layers have none
+unfoldable pub status_at : Place → Table → Result (List ℕ) Refusal
+status_at (Free i depth) table = Err BadTable
+status_at (In v role) table = volume_at v table >>= status_in role
+
+-- `status DEV`
+unfoldable pub status_text : List ℕ → Table → Result (List ℕ) Refusal
+status_text name table = do
+  place ← found (place_of name table)
+  status_at place table

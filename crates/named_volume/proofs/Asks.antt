@@ -1,0 +1,53 @@
+-- What a command asks of a volume, or why it is refused.
+use Rattle.std.proofs.Common.{◌≡◌, ◌≢◌, ℕ, ◌+◌, Bool, true, false, refl, sym, ap, ◌∙◌}
+use Rattle.std.specs.Prelude.{Result, Ok, Err, nat_lt, if◌then◌else◌}
+use Rattle.sector.specs.declared.refusal.Refusal.{Refusal}
+use Rattle.sector.specs.declared.refusal.Refusal.TheVariants.{NoMemory, OutOfRange}
+use Rattle.chunk.specs.Pieces.{Span}
+use Rattle.plain.specs.declared.request.Dev.{Dev}
+use Rattle.settling.specs.Devices.{sectors_of as size_of}
+use Rattle.settling.specs.Snaps.{Volume as Settled}
+use Rattle.named.specs.declared.place.Role.{Role}
+use Rattle.named.specs.State.{Volume}
+use Rattle.named.specs.Raw.{fits}
+use Rattle.named.specs.Sectors.{Asked, dev_of, takes, asked_of}
+
+module _ (role : Role) (first count : ℕ) (v : Volume) (state : Settled) (same : v.state ≡ state) where
+  -- the device takes no request
+  pub no_dev : (e : Refusal) → dev_of role state ≡ Err e → asked_of role first count v ≡ Err e
+  unfolding asked_of
+  no_dev e is = let here : dev_of role v.state ≡ Err e = ap (dev_of role) same ∙ is in rw here refl
+
+  -- or has not all of the sectors
+  pub no_range : (dev : Dev) (e : Refusal) → dev_of role state ≡ Ok dev → fits (size_of state.origin) first count ≡ Err e → asked_of role first count v ≡ Err e
+  unfolding asked_of
+  no_range dev e is out =
+      let here : dev_of role v.state ≡ Ok dev = ap (dev_of role) same ∙ is in
+      let past : fits (size_of v.state.origin) first count ≡ Err e = ap (λ (s : Settled). fits (size_of s.origin) first count) same ∙ out in
+      rw here (rw past refl)
+
+  -- or too many were asked for
+  pub no_more : (dev : Dev) (e : Refusal) → dev_of role state ≡ Ok dev → fits (size_of state.origin) first count ≡ Ok tt → takes count v ≡ Err e → asked_of role first count v ≡ Err e
+  unfolding asked_of
+  no_more dev e is inside many =
+      let here : dev_of role v.state ≡ Ok dev = ap (dev_of role) same ∙ is in
+      let fit : fits (size_of v.state.origin) first count ≡ Ok tt = ap (λ (s : Settled). fits (size_of s.origin) first count) same ∙ inside in
+      rw here (rw fit (rw many refl))
+
+  -- else these are asked for
+  pub asks : (dev : Dev) (span : Span) → dev_of role state ≡ Ok dev → fits (size_of state.origin) first count ≡ Ok tt → takes count v ≡ Ok tt → span ≡ record { first = first; count = count; size = size_of state.origin } → asked_of role first count v ≡ Ok (record { dev = dev; span = span })
+  unfolding asked_of
+  asks dev span is inside more whole =
+      let here : dev_of role v.state ≡ Ok dev = ap (dev_of role) same ∙ is in
+      let fit : fits (size_of v.state.origin) first count ≡ Ok tt = ap (λ (s : Settled). fits (size_of s.origin) first count) same ∙ inside in
+      let all : (let r : Result Asked Refusal = Ok (record { dev = dev; span = record { first = first; count = count; size = size_of v.state.origin } }) in r) ≡ Ok (record { dev = dev; span = span }) =
+      ap (λ (s : Settled). let r : Result Asked Refusal = Ok (record { dev = dev; span = record { first = first; count = count; size = size_of s.origin } }) in r) same ∙ ap (λ (s : Span). let r : Result Asked Refusal = Ok (record { dev = dev; span = s }) in r) (sym whole) in
+      rw here (rw fit (rw more all))
+
+not_for_memory : (b : Bool) (e : Refusal) → (let r : Result (Unit {0}) Refusal = if b then Err OutOfRange else Ok tt in r) ≡ Err e → e ≢ NoMemory
+not_for_memory true e is none = absurd (cc)
+not_for_memory false e is none = absurd (cc)
+
+-- sectors past the end are not refused for want of memory
+pub fits_known : (size first count : ℕ) (e : Refusal) → fits size first count ≡ Err e → e ≢ NoMemory
+fits_known size first count e is = not_for_memory (nat_lt size (first + count)) e is

@@ -1,0 +1,106 @@
+-- A read and a write, as the volume does them.
+use Rattle.std.proofs.Common.{◌≡◌, ◌≢◌, ◌⊎◌, ℕ, ◌+◌, Bool, true, false, List, refl, sym, ap, ◌∙◌, inl, inr, subst, ◌<◌}
+use Rattle.std.specs.Prelude.{Result, Ok, Err, IfOk, IfErr, OnOk}
+use Rattle.sector.specs.declared.refusal.Refusal.{Refusal}
+use Rattle.sector.specs.declared.refusal.Refusal.TheVariants.{NoMemory}
+use Rattle.layers.specs.declared.stack.Stack.{Stack}
+use Rattle.layers.specs.Stack.{stack_contents, stack_layers, stack_size}
+use Rattle.layers.specs.Beneath.{stack_reads}
+use Rattle.chunk.specs.Pieces.{Span}
+use Rattle.plain.specs.declared.request.Dev.{Dev}
+use Rattle.plain.specs.declared.request.Reply.{Reply}
+use Rattle.plain.specs.declared.request.Reply.TheVariants.{Data, Written, Refused}
+use Rattle.plain.specs.declared.request.Failure.{Failure}
+use Rattle.plain.specs.declared.request.Failure.TheVariants.{Invalid, Io}
+use Rattle.settling.specs.Snaps.{Volume as Settled}
+use Rattle.settling.specs.Pieces.{Answered}
+use Rattle.settling.specs.Commands.{read, written}
+use Rattle.resting.specs.Rested.{Rested, has_dev}
+use Rattle.resting.specs.Commands.{refusal_of, written_first, pieces_in, IsDoneBy, IsReadRefused, IsWriteRefused}
+use Rattle.resting.proofs.Unread.{read_leaves, refused_read_leaves}
+use Rattle.named.specs.declared.place.Role.{Role}
+use Rattle.named.specs.State.{Volume}
+use Rattle.named.specs.Changes.{Did, Does}
+use Rattle.named.specs.Sectors.{Asked, asked_of, after_asking, read_answer, read_by, read_in, IsReadAsked, write_answer, write_by, written_in, ArePartWritten, IsPartWritten, IsPartWrittenBy}
+use Rattle.named_volume.specs.Held.{settled_in, IsSettledIn}
+
+-- the same answer, and the same left
+did : {A T : Type 0} (a b : Result A Refusal) (x y : T) → a ≡ b → x ≡ y → (let d : Did A T = record { answer = a; left = x } in d) ≡ record { answer = b; left = y }
+did a b x y ab xy = rw ab (rw xy refl)
+
+memory : (failure : Failure) → refusal_of failure ≢ NoMemory
+memory Invalid none = absurd (cc)
+memory Io none = absurd (cc)
+
+-- what a command asks for is refused, and nothing changed
+pub read_refused : (role : Role) (first count : ℕ) (volume new : Volume) (e : Refusal) → asked_of role first count volume ≡ Err e → new ≡ volume → e ≢ NoMemory → Does {A = List ℕ} (Err e) new (λ v. (v ≡ volume) ⊎ IsReadAsked count volume v) (read_in role first count volume)
+unfolding read_in
+read_refused role first count volume new e why same known =
+    (λ other. ap (read_by count volume) why ∙ did (Err e) (Err e) volume new refl (sym same), λ none. inl same)
+
+pub write_refused : (role : Role) (first count : ℕ) (bytes : List ℕ) (volume new : Volume) (e : Refusal) → asked_of role first count volume ≡ Err e → new ≡ volume → e ≢ NoMemory → Does {A = Unit {0}} (Err e) new (λ v. (v ≡ volume) ⊎ IsPartWritten role first count bytes volume v) (written_in role first count bytes volume)
+unfolding written_in
+write_refused role first count bytes volume new e why same known =
+    (λ other. ap (write_by count bytes volume) why ∙ did (Err e) (Err e) volume new refl (sym same), λ none. inl same)
+
+-- A command that asks for these sectors of a settled volume.
+module _ (role : Role) (first count : ℕ) (volume new : Volume) (dev : Dev) (span : Span) (before after : Rested Stack) (asked : asked_of role first count volume ≡ Ok (record { dev = dev; span = span })) (state : volume.state ≡ settled_in before) (left : new ≡ after_asking count (settled_in after) volume) (settled : IsSettledIn before) (there : has_dev dev before ≡ true) where
+  -- a read leaves the state
+  read_left : settled_in after ≡ settled_in before → after_asking count volume.state volume ≡ new
+  read_left same = ap (λ (s : Settled). after_asking count s volume) (state ∙ sym same) ∙ sym left
+
+  read_by_reply : (reply : Reply) (answer : Result (List ℕ) Refusal) → IsDoneBy stack_contents stack_layers stack_size (read dev span) reply before after → read_answer reply ≡ answer → read_in role first count volume ≡ record { answer = answer; left = new }
+  unfolding read_in
+  read_by_reply reply answer done is =
+      ap (read_by count volume) asked
+      ∙ did (read_answer (read dev span volume.state).reply) answer (after_asking count volume.state volume) new
+      (ap (λ (s : Settled). read_answer (read dev span s).reply) state ∙ ap (λ (a : Answered). read_answer a.reply) (done settled) ∙ is)
+      (read_left (read_leaves stack_contents stack_layers stack_size stack_reads dev span reply before after done settled))
+
+  pub read_does : (result : Result (List ℕ) Refusal) → IfOk result (λ bytes. IsDoneBy stack_contents stack_layers stack_size (read dev span) (Data bytes) before after) → IfErr result (λ refusal. IsReadRefused stack_contents stack_layers stack_size dev span refusal before after)
+      → Does result new (λ v. (v ≡ volume) ⊎ IsReadAsked count volume v) (read_in role first count volume)
+  read_does (Ok bytes) done why = read_by_reply (Data bytes) (Ok bytes) done refl
+  read_does (Err e) done why =
+      let same = sym (read_left (refused_read_leaves stack_contents stack_layers stack_size stack_reads dev span e before after why settled)) in (
+        λ other. elim why [
+          | inl missing ↦ absurd (cc)
+          | inr more ↦ elim more [
+            | inl failed ↦ read_by_reply (Refused failed.1.0) (Err e) failed.1.2 (ap (λ (r : Refusal). let x : Result (List ℕ) Refusal = Err r in x) (sym failed.1.1))
+            | inr starved ↦ absurd (other starved.1)
+          ]
+        ],
+        λ none. inr same,
+      )
+
+  write_by_reply : (bytes : List ℕ) (reply : Reply) (answer : Result (Unit {0}) Refusal) → IsDoneBy stack_contents stack_layers stack_size (written dev span bytes) reply before after → write_answer reply ≡ answer → written_in role first count bytes volume ≡ record { answer = answer; left = new }
+  unfolding written_in
+  write_by_reply bytes reply answer done is =
+      let here : written dev span bytes volume.state ≡ record { volume = settled_in after; reply = reply } = ap (written dev span bytes) state ∙ done settled in
+      ap (write_by count bytes volume) asked
+      ∙ did (write_answer (written dev span bytes volume.state).reply) answer (after_asking count (written dev span bytes volume.state).volume volume) new
+      (ap (λ (a : Answered). write_answer a.reply) here ∙ is)
+      (ap (λ (a : Answered). after_asking count a.volume volume) here ∙ sym left)
+
+  part : (bytes : List ℕ) (pieces : ℕ) → pieces < pieces_in span (settled_in before) → IsDoneBy stack_contents stack_layers stack_size (written_first pieces dev span bytes) Written before after → IsPartWritten role first count bytes volume new
+  unfolding IsPartWritten
+  part bytes pieces fewer done =
+      let asks : Asked = record { dev = dev; span = span } in
+      let here : written_first pieces dev span bytes volume.state ≡ record { volume = settled_in after; reply = Written } = ap (written_first pieces dev span bytes) state ∙ done settled in
+      let some : ArePartWritten count bytes asks volume new = record {
+        pieces = pieces;
+        fewer = subst (λ (s : Settled). pieces < pieces_in span s) (sym state) fewer;
+        done = ap (λ (a : Answered). a.reply) here;
+        left = left ∙ ap (λ (a : Answered). after_asking count a.volume volume) (sym here);
+      } in
+      subst (λ (r : Result Asked Refusal). IsPartWrittenBy count bytes volume new r) (sym asked) some
+
+  pub write_does : (bytes : List ℕ) (result : Result (Unit {0}) Refusal) → OnOk result (IsDoneBy stack_contents stack_layers stack_size (written dev span bytes) Written before after) → IfErr result (λ refusal. IsWriteRefused stack_contents stack_layers stack_size dev span bytes refusal before after)
+      → Does result new (λ v. (v ≡ volume) ⊎ IsPartWritten role first count bytes volume v) (written_in role first count bytes volume)
+  write_does bytes (Ok unit) done why = write_by_reply bytes Written (Ok unit) done refl
+  write_does bytes (Err e) done why = elim why [
+    | inl missing ↦ absurd (cc)
+    | inr more ↦ elim more [
+      | inl failed ↦ (λ other. write_by_reply bytes (Refused failed.1.0) (Err e) failed.1.2 (ap (λ (r : Refusal). let x : Result (Unit {0}) Refusal = Err r in x) (sym failed.1.1)), λ none. absurd (memory failed.1.0 (sym failed.1.1 ∙ none)))
+      | inr starved ↦ (λ other. absurd (other starved.1), λ none. inr (part bytes starved.2.0 starved.2.1 starved.2.2))
+    ]
+  ]

@@ -1,0 +1,44 @@
+-- What a status line says of a snapshot, by what its volume tells.
+use Rattle.std.proofs.Common.{◌≡◌, ℕ, ◌<◌, List, length, get_or, true, false, refl, sym, ap, ◌∙◌}
+use Rattle.std.specs.Prelude.{Result, Ok, IfOk}
+use Rattle.std.proofs.lemmas.Result.{IfOk-at_ok}
+use Rattle.std.specs.declared.alloc.AllocError.{AllocError}
+use Rattle.layers.specs.declared.stack.Stack.{Stack}
+use Rattle.layers.specs.Stack.{stack_contents, stack_size}
+use Rattle.chunk_alloc.specs.declared.usage.Usage.{Usage}
+use Rattle.status.specs.declared.State.{State}
+use Rattle.status.specs.declared.State.TheVariants.{Invalid, Used}
+use Rattle.status.specs.Lines.{origin_text, snapshot_text}
+use Rattle.settling.specs.Devices.{sectors_of as size_of}
+use Rattle.settling.specs.Snaps.{Snap}
+use Rattle.resting.specs.Rested.{Attached, Rested}
+use Rattle.resting.specs.Using.{IsUsed}
+use Rattle.named.specs.declared.place.Role.TheVariants.{Origin, Snapshot}
+use Rattle.named.specs.State.{Volume}
+use Rattle.named.specs.Messages.{snap_at}
+use Rattle.named.specs.Status.{state_of, state_at, status_in}
+use Rattle.named_stack.proofs.StackSizes.{size_of as size_of_stack}
+use Rattle.named_volume.specs.Held.{settled_in}
+use Rattle.named_volume.proofs.Places.{at_place, stack_snap}
+
+-- one that is spoiled
+pub invalid_is : (s : Attached Stack) → false ≡ s.live → Invalid ≡ state_of (stack_snap s)
+invalid_is s dead = rw (sym dead) refl
+
+-- one that is live
+pub used_is : (s : Attached Stack) (usage : Usage) → true ≡ s.live → IsUsed stack_contents stack_size s usage → Used usage.allocated usage.total usage.metadata ≡ state_of (stack_snap s)
+used_is s usage live used = rw (sym live) (rw used.allocated (rw used.metadata (rw (used.total ∙ sym (size_of_stack s.store)) refl)))
+
+-- the status line of an origin
+pub origin_says : (sectors : ℕ) (text : List ℕ) (volume : Volume) (r : Result (List ℕ) AllocError) → r ≡ Ok text → IfOk r (λ t. t ≡ origin_text sectors) → sectors ≡ size_of volume.state.origin → status_in Origin volume ≡ Ok text
+unfolding status_in
+origin_says sectors text volume r is says size = rw (sym size) (rw (IfOk-at_ok (λ (t : List ℕ). t ≡ origin_text sectors) is says) refl)
+
+-- and of a snapshot
+pub snapshot_says : (k sectors : ℕ) (state : State) (text : List ℕ) (volume : Volume) (before : Rested Stack) (r : Result (List ℕ) AllocError) → volume.state ≡ settled_in before → k < length before.snaps → ((d : Snap) → state ≡ state_of (get_or (settled_in before).snaps k d)) → r ≡ Ok text → IfOk r (λ t. t ≡ snapshot_text sectors state) → sectors ≡ size_of volume.state.origin → status_in (Snapshot k) volume ≡ Ok text
+unfolding status_in state_at
+snapshot_says k sectors state text volume before r in_state lt of is says size =
+    let at = at_place before k lt in
+    let seen : snap_at k volume.state ≡ Ok (stack_snap at.0) = ap (snap_at k) in_state ∙ at.1.seen in
+    let same : state ≡ state_of (stack_snap at.0) = of (stack_snap at.0) ∙ ap state_of (at.1.held (stack_snap at.0)) in
+    rw seen (rw (sym size) (rw (sym same) (rw (IfOk-at_ok (λ (t : List ℕ). t ≡ snapshot_text sectors state) is says) refl)))

@@ -1,0 +1,23 @@
+-- What holds of a volume with the names of its devices. This project's own.
+use Rattle.std.specs.Prelude.{◌≡◌, ◌*◌, ◌<◌, ◌≤◌, ℕ, Bool, true, List, length}
+use Rattle.layers.specs.declared.stack.Stack.{Stack}
+use Rattle.layers.specs.Stack.{stack_contents, stack_layers, stack_size}
+use Rattle.settling.specs.Snaps.{Volume as Settled}
+use Rattle.resting.specs.Rested.{Rested, settled_of, IsSettled}
+use Rattle.named.specs.State.{Names}
+
+-- the settled machine's volume of a volume over stacks
+abbrev pub settled_in : Rested Stack → Settled
+settled_in volume = settled_of stack_contents stack_layers volume
+
+abbrev pub IsSettledIn : Rested Stack → Type 0
+IsSettledIn volume = IsSettled stack_contents stack_layers stack_size volume
+
+-- There is a name for each snapshot; all numbers that were given are bounded by the sectors that were asked for; and where
+-- no device drops writes, the volume is settled.
+pub record IsHeld (names : List Names) (volume : Rested Stack) (asked : ℕ) (sound : Bool) : Type 0 where
+  pub many : length names ≡ length volume.snaps
+  pub requests : volume.requests ≤ asked
+  pub copies : volume.copies ≤ 8 * asked
+  pub few : asked < 1_152_921_504_606_846_976
+  pub settled : sound ≡ true → IsSettledIn volume

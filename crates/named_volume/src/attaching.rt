@@ -1,0 +1,70 @@
+// Snapshots are taken and leave.
+ghost use Rattle.std.specs.Prelude.{◌≡◌, ◌≢◌, ◌&&◌, ◌<◌, true, length, Some, None, Ok, IfErr, OnOk, OnErr};
+ghost use Rattle.sector.specs.declared.refusal.Refusal.TheVariants.{NoMemory};
+ghost use Rattle.device.specs.Layers.{is_loud};
+ghost use Rattle.named.specs.Snapshots.{meet, parted};
+ghost use Rattle.named_volume.specs.Names.{IsNamedMore};
+
+use crate::names::SnapNames;
+use crate::origin::NamedVolume;
+use named_stack::NamedStack;
+use sector::Refusal;
+use snapshot::StoreDev;
+use std::alloc::Global;
+use words::Name;
+
+impl NamedVolume {
+    /// Takes a snapshot of the origin, with a stack as its store, by a table line with this chunk size.
+    pub fn attach(
+        &mut self,
+        alloc: Global,
+        name: Name,
+        stack: NamedStack,
+        chunk: u32,
+    ) -> Result<(), (Refusal, NamedStack)>
+        ensures ok { OnOk result (self.old.sound ≡ true → is_loud stack.device.layers ≡ true → ((meet name chunk stack self.old).refused ≡ None) × ((meet name chunk stack self.old).volume ≡ self.new)) }
+        ensures err { IfErr result (λ e. e.0 ≢ NoMemory → self.old.sound ≡ true → is_loud stack.device.layers ≡ true → ((meet name chunk stack self.old).refused ≡ Some e.0) × ((meet name chunk stack self.old).stacked ≡ e.1)) }
+        ensures starved { IfErr result (λ e. e.0 ≡ NoMemory → e.1 ≡ stack) }
+        ensures named { OnOk result (IsNamedMore name stack self.old self.new) }
+        ensures names { IfErr result (λ e. e.1.names ≡ stack.names) }
+        ensures same { OnErr result (self.new ≡ self.old) }
+        ensures sound { OnOk result (self.new.sound ≡ self.old.sound && is_loud stack.device.layers) }
+        ensures loud { IfErr result (λ e. is_loud e.1.device.layers ≡ is_loud stack.device.layers) }
+    {
+        match self.snaps.reserve(1) {
+            Ok(()) => {}
+            Err(_) => return Err((Refusal::NoMemory, stack)),
+        }
+        let loud = stack.is_loud();
+        let (names, device, stale) = stack.into_parts();
+        match self.volume.attach(alloc, StoreDev { device, stale }, chunk) {
+            Ok(_) => {
+                self.snaps.push_reserved(SnapNames {
+                    snapshot: name,
+                    store: names,
+                });
+                self.sound = self.sound && loud;
+                Ok(())
+            }
+            Err((refusal, store)) => Err((
+                refusal,
+                NamedStack::of_parts(names, store.device, store.stale),
+            )),
+        }
+    }
+
+    /// Takes the snapshot at a place away, and gives its store back, with a mark where the invalid mark failed.
+    pub fn detach(&mut self, k: usize) -> NamedStack
+        requires { k < length self.old.snaps }
+        ensures parted { parted k self.old ≡ Ok (result, self.new) }
+        ensures loud { self.old.sound ≡ true → is_loud result.device.layers ≡ true }
+        ensures sound { self.new.sound ≡ self.old.sound }
+    {
+        let number = self.volume.number(k);
+        let SnapNames { snapshot: _, store } = self.snaps.remove(k);
+        match self.volume.detach(number) {
+            Ok(given) => NamedStack::of_parts(store, given.device, given.stale),
+            Err(_) => unreachable!(),
+        }
+    }
+}

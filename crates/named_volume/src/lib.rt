@@ -1,0 +1,19 @@
+//! A volume with the names of its devices: an origin, the stack under it, and its snapshots with the stacks of their stores.
+//!
+//! It stands on `named` for definitions, on `named_stack` for stacks that nothing uses, and on `resting` for what a volume
+//! does. It promises that each call answers and leaves exactly what its definition says, where no device drops writes, with
+//! the first refusal in the stated order.
+#![tactic(auto)]
+
+mod attaching;
+mod names;
+mod origin;
+mod reporting;
+mod sectors;
+mod stored;
+mod telling;
+
+pub use origin::NamedVolume;
+
+#[cfg(test)]
+mod tests;

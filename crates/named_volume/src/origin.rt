@@ -1,0 +1,190 @@
+// A volume with the names of its devices.
+ghost use Rattle.std.specs.Prelude.{◌≡◌, ◌≢◌, ◌<◌, ◌-◌, true, [], sum_by, IfOk, IfErr, IfSome, is_some, length, position};
+ghost use Rattle.std.specs.Str.{bytes_eq};
+ghost use Rattle.sector.specs.declared.refusal.Refusal.TheVariants.{NoMemory, Busy};
+ghost use Rattle.device.specs.Layers.{is_loud};
+ghost use Rattle.settling.specs.Devices.{sectors_of as size_of};
+ghost use Rattle.named.specs.Places.{role_of, role_among, store_among, is_among, IsRoleAmong, IsRoleIn};
+ghost use Rattle.named.specs.Disks.{devices_in, devices_under};
+ghost use Rattle.named.specs.Origins.{origin_on, stack_under};
+
+use crate::names::SnapNames;
+use layers::Stack;
+use named::Role;
+use named_stack::{NamedStack, depth_in, sectors_of};
+use resting::Resting;
+use sector::Refusal;
+use std::alloc::Global;
+use std::marker::Model;
+use words::Name;
+
+/// An origin with its snapshots, and the names of all their devices.
+#[derive(Drop)]
+pub struct NamedVolume {
+    pub(crate) origin: Name,
+    pub(crate) under: Vec<Name>,
+    pub(crate) stale: bool,
+    pub(crate) snaps: Vec<SnapNames>,
+    pub(crate) volume: Resting<Stack>,
+    pub(crate) asked: u64,
+    pub(crate) sound: bool,
+}
+
+impl Model for NamedVolume {
+    ghost use Rattle.named.specs.State.{Volume};
+    ghost use Rattle.named_volume.specs.Held.{settled_in, IsHeld};
+
+    ghost Value = { Volume };
+
+    ghost view = { λ m. record { origin = m.origin; under = m.under.items; stale = m.stale; snaps = m.snaps.items; state = settled_in m.volume; given = m.volume.attached; asked = m.asked; sound = m.sound } };
+
+    ghost invariant = { λ m. IsHeld m.snaps.items m.volume m.asked m.sound };
+}
+
+fn snapshot_of(snaps: &[SnapNames], name: &Name) -> Option<usize>
+    ensures place { result ≡ position (λ n. bytes_eq n.snapshot name.now) snaps.now }
+    ensures within { IfSome result (λ k. k < length snaps.now) }
+{
+    snaps.iter().position(|names| names.is_snapshot(name))
+}
+
+fn store_of(snaps: &[SnapNames], name: &Name) -> Option<usize>
+    ensures place { result ≡ position (λ n. is_among name.now n.store) snaps.now }
+    ensures within { IfSome result (λ k. k < length snaps.now) }
+{
+    snaps.iter().position(|names| names.depth(name).is_some())
+}
+
+/// What a name is among the stores.
+#[tactic(auto, unfolding(named::specs::Places::store_among))]
+fn store_among(snaps: &[SnapNames], name: &Name) -> Option<Role>
+    ensures role { result ≡ store_among name.now snaps.now }
+    ensures within { IfSome result (λ role. IsRoleAmong role snaps.now) }
+{
+    match store_of(snaps, name) {
+        None => None,
+        Some(k) => match snaps[k].depth(name) {
+            None => None,
+            Some(depth) => Some(Role::Store(k, depth)),
+        },
+    }
+}
+
+/// What a name is among the snapshots and their stores.
+#[tactic(auto, unfolding(named::specs::Places::role_among))]
+fn role_among(snaps: &[SnapNames], name: &Name) -> Option<Role>
+    ensures role { result ≡ role_among name.now snaps.now }
+    ensures within { IfSome result (λ role. IsRoleAmong role snaps.now) }
+{
+    match snapshot_of(snaps, name) {
+        Some(k) => Some(Role::Snapshot(k)),
+        None => store_among(snaps, name),
+    }
+}
+
+/// What is left of so many devices, those of some snapshots and their stores taken away.
+fn left_after(snaps: &[SnapNames], most: usize) -> usize
+    ensures { result ≡ most - sum_by devices_under snaps.now }
+{
+    let mut left = most;
+    for names in snaps {
+        left = left.saturating_sub(1).saturating_sub(names.devices());
+    }
+    left
+}
+
+impl NamedVolume {
+    /// An origin over a stack. `NoMemory` where the allocator refuses room; then the stack is given back.
+    pub fn open(
+        alloc: Global,
+        name: Name,
+        stack: NamedStack,
+    ) -> Result<NamedVolume, (Refusal, NamedStack)>
+        ensures ok { IfOk result (λ v. v ≡ origin_on name stack) }
+        ensures err { IfErr result (λ e. e ≡ record { 0 = NoMemory; 1 = stack }) }
+    {
+        let sound = stack.is_loud();
+        let (under, device, stale) = stack.into_parts();
+        match Resting::new(alloc, device) {
+            Ok(volume) => Ok(NamedVolume {
+                origin: name,
+                under,
+                stale,
+                snaps: Vec::new(alloc),
+                volume,
+                asked: 0,
+                sound,
+            }),
+            Err((refusal, device)) => Err((refusal, NamedStack::of_parts(under, device, stale))),
+        }
+    }
+
+    /// Gives the stack under the origin back. `Busy` where there is a snapshot.
+    pub fn close(self) -> Result<NamedStack, (Refusal, NamedVolume)>
+        ensures ok { IfOk result (λ stack. (self.snaps ≡ []) × (stack ≡ stack_under self)) }
+        ensures sound { IfOk result (λ stack. self.sound ≡ true → is_loud stack.device.layers ≡ true) }
+        ensures err { IfErr result (λ e. (e.0 ≡ Busy) × (self.snaps ≢ []) × (e.1 ≡ self)) }
+    {
+        let NamedVolume {
+            origin,
+            under,
+            stale,
+            snaps,
+            volume,
+            asked,
+            sound,
+        } = self;
+        match volume.close() {
+            Ok(stack) => Ok(NamedStack::of_parts(under, stack, stale)),
+            Err((refusal, volume)) => Err((
+                refusal,
+                NamedVolume {
+                    origin,
+                    under,
+                    stale,
+                    snaps,
+                    volume,
+                    asked,
+                    sound,
+                },
+            )),
+        }
+    }
+
+    /// How many sectors the origin has.
+    pub fn sectors(&self) -> u32
+        ensures { result ≡ size_of self.now.state.origin }
+    {
+        sectors_of(self.volume.origin())
+    }
+
+    /// What is left of so many devices, its own taken away.
+    pub fn left_of(&self, most: usize) -> usize
+        ensures { result ≡ most - devices_in self.now }
+    {
+        let left = most.saturating_sub(1).saturating_sub(self.under.len());
+        left_after(&self.snaps, left)
+    }
+
+    /// What a name is in the volume.
+    #[tactic(auto, unfolding(named::specs::Places::role_of))]
+    pub fn role(&self, name: &Name) -> Option<Role>
+        ensures role { result ≡ role_of name.now self.now }
+        ensures within { IfSome result (λ role. IsRoleIn role self.now) }
+    {
+        if self.origin.is_same(name) {
+            return Some(Role::Origin);
+        }
+        match depth_in(&self.under, name) {
+            Some(depth) => Some(Role::Under(depth)),
+            None => role_among(&self.snaps, name),
+        }
+    }
+
+    /// Whether one of its devices has a name.
+    pub fn has(&self, name: &Name) -> bool
+        ensures { result ≡ is_some (role_of name.now self.now) }
+    {
+        self.role(name).is_some()
+    }
+}

@@ -1,0 +1,138 @@
+// Reads and writes of the origin and of snapshots.
+ghost use Rattle.std.specs.Prelude.{◌≡◌, ◌≢◌, ◌⊎◌, ◌+◌, ◌*◌, ◌<◌, ◌≤◌, length, true, Ok, Err, IfOk, IfErr, OnOk, OnErr};
+ghost use Rattle.sector.specs.declared.refusal.Refusal.TheVariants.{NoMemory, BadTable, TooMany};
+ghost use Rattle.chunk.specs.Pieces.{span_of};
+ghost use Rattle.layers.specs.Stack.{stack_size};
+ghost use Rattle.resting.specs.Rested.{has_dev};
+ghost use Rattle.named.specs.State.{Volume};
+ghost use Rattle.named.specs.Changes.{Does};
+ghost use Rattle.named.specs.Places.{HasRole, IsRoleIn};
+ghost use Rattle.named.specs.Sectors.{asked_of, dev_of, takes, read_in, written_in, IsReadAsked, IsPartWritten};
+ghost use Rattle.named_volume.specs.Held.{settled_in};
+ghost use Rattle.named_volume.specs.Names.{KeepsNames};
+
+use crate::origin::NamedVolume;
+use layers::Stack;
+use named::Role;
+use named_stack::{range_in, sectors_of};
+use plain::Dev;
+use resting::Resting;
+use sector::{Buf, Range, Refusal};
+use std::alloc::Global;
+
+/// One more than the most sectors that a volume is asked for in all.
+const ASKED_END: u64 = 1_152_921_504_606_846_976;
+
+/// What a request to this role is sent to. `BadTable` for disks and layers.
+#[tactic(auto, unfolding(named::specs::Sectors::dev_of))]
+fn dev_of(volume: &Resting<Stack>, role: Role) -> Result<Dev, Refusal>
+    requires { HasRole role (length volume.now.snaps) }
+    ensures value { result ≡ dev_of role (settled_in volume.now) }
+    ensures there { IfOk result (λ dev. has_dev dev volume.now ≡ true) }
+    ensures known { IfErr result (λ e. e ≡ BadTable) }
+{
+    match role {
+        Role::Origin => Ok(Dev::Origin),
+        Role::Snapshot(k) => Ok(Dev::Snap(volume.number(k))),
+        Role::Under(_) | Role::Store(_, _) => Err(Refusal::BadTable),
+    }
+}
+
+/// Counts sectors that are asked for. `TooMany` where they would be 2^60 in all.
+fn count_asked(asked: &mut u64, count: u32) -> Result<(), Refusal>
+    requires { asked.old < 1_152_921_504_606_846_976 }
+    ensures value { (v : Volume) → v.asked ≡ asked.old → result ≡ takes count v }
+    ensures ok { OnOk result ((asked.new ≡ asked.old + count) × (asked.new < 1_152_921_504_606_846_976)) }
+    ensures err { OnErr result (asked.new ≡ asked.old) }
+    ensures known { IfErr result (λ e. e ≡ TooMany) }
+{
+    let all = *asked + u64::from(count);
+    if all < ASKED_END {
+        *asked = all;
+        Ok(())
+    } else {
+        Err(Refusal::TooMany)
+    }
+}
+
+/// What a command asks of a volume that was asked for so many sectors: of which device, and which sectors. They are counted
+/// then. In this order: `BadTable` for disks and layers, `OutOfRange` for sectors past the end, `TooMany`.
+fn ask(
+    volume: &Resting<Stack>,
+    asked: &mut u64,
+    role: Role,
+    first: u32,
+    count: u32,
+) -> Result<(Dev, Range), Refusal>
+    requires role { HasRole role (length volume.now.snaps) }
+    requires few { asked.old < 1_152_921_504_606_846_976 }
+    ensures ok { IfOk result (λ asks. (v : Volume) → v.state ≡ settled_in volume.now → v.asked ≡ asked.old → asked_of role first count v ≡ Ok (record { dev = asks.0; span = span_of asks.1 })) }
+    ensures err { IfErr result (λ e. (v : Volume) → v.state ≡ settled_in volume.now → v.asked ≡ asked.old → asked_of role first count v ≡ Err e) }
+    ensures known { IfErr result (λ e. e ≢ NoMemory) }
+    ensures there { IfOk result (λ asks. has_dev asks.0 volume.now ≡ true) }
+    ensures inside { IfOk result (λ asks. asks.1.first + asks.1.count ≤ stack_size volume.now.origin) }
+    ensures count { IfOk result (λ asks. asks.1.count ≡ count) }
+    ensures more { OnOk result ((asked.new ≡ asked.old + count) × (asked.new < 1_152_921_504_606_846_976)) }
+    ensures same { OnErr result (asked.new ≡ asked.old) }
+{
+    let dev = match dev_of(volume, role) {
+        Ok(dev) => dev,
+        Err(refusal) => return Err(refusal),
+    };
+    let range = match range_in(u64::from(sectors_of(volume.origin())), first, count) {
+        Ok(range) => range,
+        Err(refusal) => return Err(refusal),
+    };
+    match count_asked(asked, count) {
+        Ok(()) => Ok((dev, range)),
+        Err(refusal) => Err(refusal),
+    }
+}
+
+impl NamedVolume {
+    /// Reads so many sectors of the origin or of a snapshot, from `first` on. In this order: `BadTable` for disks and layers,
+    /// `OutOfRange` for sectors past the end, `TooMany` where 2^60 sectors were asked for in all; then, as the volume reads,
+    /// `Invalid`, `Io` and `NoMemory`.
+    pub fn read(
+        &mut self,
+        alloc: Global,
+        role: Role,
+        first: u32,
+        count: u32,
+    ) -> Result<Buf, Refusal>
+        requires role { IsRoleIn role self.old }
+        requires some { 0 < count }
+        requires few { count ≤ 2048 }
+        ensures done { self.old.sound ≡ true → Does result self.new (λ v. (v ≡ self.old) ⊎ IsReadAsked count self.old v) (read_in role first count self.old) }
+        ensures kept { KeepsNames self.old self.new }
+    {
+        let (dev, range) = match ask(&self.volume, &mut self.asked, role, first, count) {
+            Ok(asks) => asks,
+            Err(refusal) => return Err(refusal),
+        };
+        self.volume.read(alloc, dev, range)
+    }
+
+    /// Writes sectors of the origin or of a snapshot, from `first` on. Refused as a read is.
+    pub fn write(
+        &mut self,
+        alloc: Global,
+        role: Role,
+        first: u32,
+        count: u32,
+        bytes: &[u8],
+    ) -> Result<(), Refusal>
+        requires role { IsRoleIn role self.old }
+        requires some { 0 < count }
+        requires few { count ≤ 2048 }
+        requires room { length bytes.now ≡ 512 * count }
+        ensures done { self.old.sound ≡ true → Does result self.new (λ v. (v ≡ self.old) ⊎ IsPartWritten role first count bytes.now self.old v) (written_in role first count bytes.now self.old) }
+        ensures kept { KeepsNames self.old self.new }
+    {
+        let (dev, range) = match ask(&self.volume, &mut self.asked, role, first, count) {
+            Ok(asks) => asks,
+            Err(refusal) => return Err(refusal),
+        };
+        self.volume.write(alloc, dev, range, bytes)
+    }
+}

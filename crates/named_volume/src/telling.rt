@@ -1,0 +1,47 @@
+// Messages to the layers of a volume, and the time.
+ghost use Rattle.std.specs.Prelude.{◌≡◌, length};
+ghost use Rattle.layers.specs.Stack.{stack_layers, stack_size};
+ghost use Rattle.resting.specs.Kept.{KeepsDevices};
+ghost use Rattle.named.specs.Changes.{Steps};
+ghost use Rattle.named.specs.Places.{HasRole, IsRoleIn};
+ghost use Rattle.named.specs.Messages.{told_mounted, told_role, volume_ticked};
+ghost use Rattle.named_volume.specs.Held.{settled_in, IsSettledIn};
+
+use crate::origin::NamedVolume;
+use layers::{Answer, Message, Stack};
+use named::Role;
+use resting::Resting;
+use sector::Refusal;
+
+/// Tells the layer of this role. `BadTable` for the origin and a snapshot, then as for a stack.
+fn tell_role(volume: &mut Resting<Stack>, role: Role, message: &Message) -> Result<Answer, Refusal>
+    requires { HasRole role (length volume.old.snaps) }
+    ensures steps { Steps result (settled_in volume.old) (settled_in volume.new) (told_role role message.now (settled_in volume.old)) }
+    ensures settled { IsSettledIn volume.old → IsSettledIn volume.new }
+    ensures kept { KeepsDevices stack_layers stack_size volume.old volume.new }
+    ensures requests { volume.new.requests ≡ volume.old.requests }
+    ensures copies { volume.new.copies ≡ volume.old.copies }
+{
+    match role {
+        Role::Origin | Role::Snapshot(_) => Err(Refusal::BadTable),
+        Role::Under(depth) => volume.message_origin(depth, message),
+        Role::Store(k, depth) => volume.message_store(k, depth, message),
+    }
+}
+
+impl NamedVolume {
+    /// Tells the layer of this role. `BadTable` for the origin and a snapshot, then as for a stack.
+    pub fn tell(&mut self, role: Role, message: &Message) -> Result<Answer, Refusal>
+        requires { IsRoleIn role self.old }
+        ensures { Steps result self.old self.new (told_mounted role message.now self.old) }
+    {
+        tell_role(&mut self.volume, role, message)
+    }
+
+    /// Lets so many seconds pass for all devices.
+    pub fn tick(&mut self, seconds: u32)
+        ensures { self.new ≡ volume_ticked seconds self.old }
+    {
+        self.volume.tick(seconds);
+    }
+}
