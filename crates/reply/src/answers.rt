@@ -1,5 +1,6 @@
 // Replies to messages.
-ghost use Rattle.std.specs.Prelude.{◌≡◌, IfOk};
+ghost use Rattle.std.specs.Prelude.{◌≡◌, ◌≢◌, IfOk, IfErr};
+ghost use Rattle.layers.specs.declared.message.Answer.TheVariants as answers;
 ghost use Rattle.reply.specs.declared.Reply.TheVariants.{Said};
 ghost use Rattle.reply.specs.Answers.{reply_to};
 
@@ -18,9 +19,10 @@ fn saying(alloc: Global, text: &[u8]) -> Result<Reply, AllocError>
 
 impl Reply {
     /// The reply to a message, by the answer of the layer that it was for. An error says that the allocator refused
-    /// memory for its text.
+    /// memory for its text; `Done` has none.
     pub fn to_message(alloc: Global, answer: Answer) -> Result<Reply, AllocError>
-        ensures { IfOk result (λ reply. reply ≡ reply_to answer) }
+        ensures reply { IfOk result (λ reply. reply ≡ reply_to answer) }
+        ensures text { IfErr result (λ _. answer ≢ answers.Done) }
     {
         match answer {
             Answer::Done => Ok(Reply::Done),

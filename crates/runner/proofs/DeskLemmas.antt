@@ -1,5 +1,5 @@
 -- One line of a desk.
-use Rattle.std.proofs.Common.{◌≡◌, ◌≢◌, ◌⊎◌, ℕ, List, [], ◌∷◌, Option, Some, refl, sym, ap, ◌∙◌, inl, inr, subst}
+use Rattle.std.proofs.Common.{◌≡◌, ◌≢◌, ◌⊎◌, ℕ, List, [], ◌∷◌, Option, Some, refl, sym, ap, ◌∙◌, inl, inr, subst, arith, true}
 use Rattle.std.specs.Prelude.{Ok, Err}
 use Rattle.std.specs.Io.KnownBytes.{Appends}
 use Rattle.std.proofs.lemmas.List.{append-nil}
@@ -10,9 +10,12 @@ use Rattle.reply.specs.declared.Reply.{Reply}
 use Rattle.reply.specs.declared.Reply.TheVariants.{Refused}
 use Rattle.reply.specs.Texts.{text_of}
 use Rattle.runner.specs.declared.summary.Summary.{Summary}
-use Rattle.runner.specs.State.{Table}
+use Rattle.named.specs.Changes.{Does}
+use Rattle.named.specs.Naming.{AreNamed}
+use Rattle.named.specs.Sound.{is_sound}
+use Rattle.named.specs.State.{Table}
 use Rattle.runner.specs.Steps.{answer_of}
-use Rattle.runner.specs.Output.{Outcome, Standing, answered, counted, outcome, outcome_of, MayBe, printed, followed}
+use Rattle.runner.specs.Output.{Outcome, Standing, answered, counted, empty, outcome, outcome_of, IsStarved, MayBe, printed, followed}
 
 -- a refusal is want of memory, or it isn't
 memory_or_not : (e : Refusal) → (e ≡ NoMemory) ⊎ (e ≢ NoMemory)
@@ -41,16 +44,16 @@ memory_or_not NotFinished = inr (λ h. cc)
 memory_or_not Overflow = inr (λ h. cc)
 
 -- a line that was done has its outcome
-pub may_ok : (line : List ℕ) (old new : Table) (reply : Option Reply) → answer_of line old ≡ Ok (reply, new) → MayBe line old (record { replies = answered reply; table = new })
+pub may_ok : (line : List ℕ) (old new : Table) (reply : Option Reply) → Does (Ok reply) new (IsStarved line old) (answer_of line old) → MayBe line old (record { replies = answered reply; table = new })
 unfolding outcome_of
-may_ok line old new reply is = inl (sym (ap (outcome old) is))
+may_ok line old new reply is = inl (sym (ap outcome is))
 
 -- so has one that was refused, unless memory ran out
-pub may_err : (line : List ℕ) (old new : Table) (e : Refusal) → new ≡ old → (e ≢ NoMemory → answer_of line old ≡ Err e) → MayBe line old (record { replies = answered (Some (Refused e)); table = new })
+pub may_err : (line : List ℕ) (old new : Table) (e : Refusal) → Does (Err e) new (IsStarved line old) (answer_of line old) → MayBe line old (record { replies = answered (Some (Refused e)); table = new })
 unfolding outcome_of
-may_err line old new e same is = elim (memory_or_not e) [
-  | inl memory ↦ inr (ap (λ (t : Table). record { replies = Refused e ∷ []; table = t }) same ∙ ap (λ r. outcome old (Err r)) memory)
-  | inr other ↦ inl (ap (λ (t : Table). record { replies = Refused e ∷ []; table = t }) same ∙ sym (ap (outcome old) (is other)))
+may_err line old new e is = elim (memory_or_not e) [
+  | inl memory ↦ inr (ap (λ r. Refused r ∷ []) memory, is.1 memory)
+  | inr other ↦ inl (sym (ap outcome (is.0 other)))
 ]
 
 -- one reply is printed
@@ -61,11 +64,17 @@ one_printed before after reply more =
     subst P (sym text) more
 
 -- what a line did, as its desk shows it
-pub line_done : (line : List ℕ) (old : Standing) (was table : Table) (summary now : Summary) (replies : List Reply) (P : List Reply → Type 0) → old ≡ record { table = was; summary = summary } → MayBe line was (record { replies = replies; table = table }) → now ≡ counted replies summary → P replies → (done : Outcome) × MayBe line old.table done × (record { table = table; summary = now } ≡ followed old done) × P done.replies
+pub line_done : (line : List ℕ) (old : Standing) (was table : Table) (summary now : Summary) (replies : List Reply) (P : List Reply → Type 0) → old ≡ record { table = was; summary = summary } → (is_sound was ≡ true → MayBe line was (record { replies = replies; table = table })) → now ≡ counted replies summary → P replies → (done : Outcome) × (is_sound old.table ≡ true → MayBe line old.table done) × (record { table = table; summary = now } ≡ followed old done) × P done.replies
 line_done line old was table summary now replies P view may is last =
-    let Q : Table → Type 0 = λ t. MayBe line t (record { replies = replies; table = table }) in (
+    let Q : Table → Type 0 = λ t. is_sound t ≡ true → MayBe line t (record { replies = replies; table = table }) in (
       record { replies = replies; table = table },
       subst Q (sym (ap (λ (s : Standing). s.table) view)) may,
       ap (λ n. record { table = table; summary = n }) (is ∙ ap (λ (s : Standing). counted replies s.summary) (sym view)),
       last,
     )
+
+-- no devices are named apart
+pub none_named : (table : Table) → table ≡ empty → AreNamed table
+none_named table is =
+    let none : AreNamed empty = record { apart = λ name. omega arith; few = omega arith } in
+    let P : Table → Type 0 = λ t. AreNamed t in subst P (sym is) none

@@ -1,9 +1,6 @@
-pub mod Lengths
-pub mod Kept
+pub mod Lawful
+pub mod Quiet
+pub mod StepLemmas
 pub mod CountLemmas
 pub mod DeskLemmas
 pub mod RunLemmas
-pub mod Snaps
-pub mod Sums
-pub mod Unused
-pub mod Named

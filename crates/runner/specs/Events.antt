@@ -1,5 +1,5 @@
 -- Events, one by one. Each command settles all of its own events, so between two commands none is due.
-use Rattle.std.specs.Prelude.{◌==◌, ℕ, Bool, true, false, List, Option, Some, None, if◌then◌else◌, Result, Ok, Err}
+use Rattle.std.specs.Prelude.{ℕ, Bool, true, false, List, Option, Some, None, if◌then◌else◌, Result, Ok, Err}
 use Rattle.sector.specs.declared.refusal.Refusal.{Refusal}
 use Rattle.sector.specs.declared.refusal.Refusal.TheVariants.{BadTable, NotDue}
 use Rattle.words.specs.Given.{◌>>=◌}
@@ -7,32 +7,27 @@ use Rattle.command.specs.declared.events.Event.{Event}
 use Rattle.command.specs.declared.events.Event.TheVariants.{Issue, CopyRead, CopyWrite, Publish, ZeroNext, WriteArea, WriteInvalid}
 use Rattle.reply.specs.declared.Reply.{Reply}
 use Rattle.reply.specs.declared.Reply.TheVariants.{Done}
-use Rattle.runner.specs.declared.place.Role.TheVariants.{Origin, Under, Snapshot, Store}
-use Rattle.runner.specs.declared.place.Place.{Place}
-use Rattle.runner.specs.declared.place.Place.TheVariants.{Free, In}
-use Rattle.runner.specs.State.{Table}
-use Rattle.runner.specs.Places.{place_of, found}
+use Rattle.named.specs.declared.place.Role.TheVariants.{Origin, Under, Snapshot, Store}
+use Rattle.named.specs.declared.place.Place.{Place}
+use Rattle.named.specs.declared.place.Place.TheVariants.{Free, In}
+use Rattle.named.specs.State.{Table}
+use Rattle.named.specs.Places.{place_of, found}
 
 -- the place of an origin
 abbrev pub is_origin : Place → Bool
-is_origin (Free i) = false
+is_origin (Free i depth) = false
 is_origin (In v Origin) = true
-is_origin (In v Under) = false
+is_origin (In v (Under depth)) = false
 is_origin (In v (Snapshot k)) = false
-is_origin (In v (Store k)) = false
+is_origin (In v (Store k depth)) = false
 
--- the place of a snapshot of volume v
-abbrev pub is_snapshot_in : ℕ → Place → Bool
-is_snapshot_in v (Free i) = false
-is_snapshot_in v (In w Origin) = false
-is_snapshot_in v (In w Under) = false
-is_snapshot_in v (In w (Snapshot k)) = v == w
-is_snapshot_in v (In w (Store k)) = false
-
--- the place of a snapshot of the volume at a place
-abbrev pub is_snapshot_of : Place → Place → Bool
-is_snapshot_of (Free i) place = false
-is_snapshot_of (In v role) place = is_snapshot_in v place
+-- the place of a snapshot
+abbrev pub is_snapshot : Place → Bool
+is_snapshot (Free i depth) = false
+is_snapshot (In v Origin) = false
+is_snapshot (In v (Under depth)) = false
+is_snapshot (In v (Snapshot k)) = true
+is_snapshot (In v (Store k depth)) = false
 
 -- the snapshot that an event names
 abbrev pub snapshot_named : Event → Option (List ℕ)
@@ -50,12 +45,13 @@ settle volume table = do
   place ← found (place_of volume table)
   if is_origin place then Ok (Done, table) else Err BadTable
 
--- an event of the volume at a place, about the snapshot of a name if it names one
+-- An event of the volume at a place, about the snapshot of a name if it names one. One of another volume is a snapshot too,
+-- and its events are never due here.
 abbrev pub stepped : Place → Option (List ℕ) → Table → Result (Reply × Table) Refusal
 stepped place None table = if is_origin place then Err NotDue else Err BadTable
 stepped place (Some snapshot) table = do
   other ← found (place_of snapshot table)
-  if is_origin place then (if is_snapshot_of place other then Err NotDue else Err BadTable) else Err BadTable
+  if is_origin place then (if is_snapshot other then Err NotDue else Err BadTable) else Err BadTable
 
 -- `step VOL EVENT`: a name that is not there comes before a device of the wrong kind
 unfoldable pub step_event : List ℕ → Event → Table → Result (Reply × Table) Refusal

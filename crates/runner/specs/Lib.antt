@@ -1,15 +1,7 @@
-pub mod State
-pub mod Devices
-pub mod Places
-pub mod Disks
-pub mod Volumes
-pub mod Sectors
-pub mod Status
-pub mod TableLines
-pub mod Layers
 pub mod Events
 pub mod Steps
+pub mod Lawful
+pub mod Sound
 pub mod Counts
 pub mod Output
-pub mod Naming
 pub mod Exit

@@ -4,11 +4,16 @@ use Rattle.std.specs.List.{flat_map}
 use Rattle.sector.specs.declared.refusal.Refusal.{Refusal}
 use Rattle.sector.specs.declared.refusal.Refusal.TheVariants.{NoMemory}
 use Rattle.lines.specs.Lines.{lines_of}
+use Rattle.command.specs.Line.{said_of}
+use Rattle.command.specs.declared.grammar.Command.{Command}
+use Rattle.command.specs.declared.grammar.Command.TheVariants as commands
 use Rattle.reply.specs.declared.Reply.{Reply}
 use Rattle.reply.specs.declared.Reply.TheVariants.{Refused}
 use Rattle.reply.specs.Texts.{text_of}
+use Rattle.named.specs.State.{Table}
+use Rattle.named.specs.Changes.{Did}
+use Rattle.named.specs.Sectors.{IsReadStarved, IsWriteStarved}
 use Rattle.runner.specs.declared.summary.Summary.{Summary}
-use Rattle.runner.specs.State.{Table}
 use Rattle.runner.specs.Steps.{answer_of}
 use Rattle.runner.specs.Counts.{with_reply}
 
@@ -22,13 +27,17 @@ abbrev pub answered : Option Reply → List Reply
 answered None = []
 answered (Some reply) = reply ∷ []
 
--- a refusal is answered, and changes nothing
-abbrev pub outcome : Table → Result (Option Reply × Table) Refusal → Outcome
-outcome table (Ok done) = record { replies = answered done.0; table = done.1 }
-outcome table (Err refusal) = record { replies = Refused refusal ∷ []; table = table }
+-- a refusal is answered
+abbrev pub told : Result (Option Reply) Refusal → List Reply
+told (Ok reply) = answered reply
+told (Err refusal) = Refused refusal ∷ []
+
+-- a line that is refused may leave other devices all the same: those that failed were met
+abbrev pub outcome : Did (Option Reply) Table → Outcome
+outcome done = record { replies = told done.answer; table = done.left }
 
 unfoldable pub outcome_of : List ℕ → Table → Outcome
-outcome_of line table = outcome table (answer_of line table)
+outcome_of line table = outcome (answer_of line table)
 
 -- what the lines answer, one after the other
 abbrev pub replies_from : Table → List (List ℕ) → List Reply
@@ -37,7 +46,7 @@ replies_from table (line ∷ lines) = (outcome_of line table).replies ++ replies
 
 -- no devices
 abbrev pub empty : Table
-empty = record { disks = []; volumes = [] }
+empty = record { stacks = []; volumes = [] }
 
 -- what is answered for a text
 unfoldable pub replies_of : List ℕ → List Reply
@@ -51,9 +60,34 @@ printed replies = flat_map text_of replies
 unfoldable pub output_of : List ℕ → List ℕ
 output_of text = printed (replies_of text)
 
--- A line has its outcome, or, where memory ran out for it, it answers that alone and changes nothing.
+-- What want of memory leaves of a command: the devices as they were, or a read or a write of which some part was done.
+abbrev pub IsPartDone : Command → Table → Table → Type 0
+IsPartDone (commands.Read device first count) old new = (new ≡ old) ⊎ IsReadStarved device first count old new
+IsPartDone (commands.Write device first bytes) old new = (new ≡ old) ⊎ IsWriteStarved device first bytes old new
+IsPartDone (commands.Disk name sectors) old new = new ≡ old
+IsPartDone (commands.Create name line) old new = new ≡ old
+IsPartDone (commands.Remove name) old new = new ≡ old
+IsPartDone (commands.Load disk first bytes) old new = new ≡ old
+IsPartDone (commands.Save disk first count) old new = new ≡ old
+IsPartDone (commands.Message device message) old new = new ≡ old
+IsPartDone (commands.Tick seconds) old new = new ≡ old
+IsPartDone (commands.Step volume event) old new = new ≡ old
+IsPartDone (commands.Settle volume) old new = new ≡ old
+IsPartDone (commands.Status device) old new = new ≡ old
+IsPartDone (commands.Table device) old new = new ≡ old
+
+abbrev pub IsPartSaid : Result (Option Command) Refusal → Table → Table → Type 0
+IsPartSaid (Ok None) old new = new ≡ old
+IsPartSaid (Ok (Some command)) old new = IsPartDone command old new
+IsPartSaid (Err refusal) old new = new ≡ old
+
+-- the same of a line
+unfoldable pub IsStarved : List ℕ → Table → Table → Type 0
+IsStarved line old new = IsPartSaid (said_of 65536 line) old new
+
+-- A line has its outcome, or memory ran out for it, and it answers that alone.
 abbrev pub MayBe : List ℕ → Table → Outcome → Type 0
-MayBe line table done = (done ≡ outcome_of line table) ⊎ (done ≡ outcome table (Err NoMemory))
+MayBe line old done = (done ≡ outcome_of line old) ⊎ ((done.replies ≡ Refused NoMemory ∷ []) × IsStarved line old done.table)
 
 -- The lines may answer this, each what it may.
 abbrev pub MayAnswer : Table → List (List ℕ) → List Reply → Type 0

@@ -1,52 +1,62 @@
 -- What each command answers, and the devices after it.
-use Rattle.std.specs.Prelude.{◌≡◌, ◌≢◌, ℕ, List, Option, Some, None, Result, Ok, Err}
+use Rattle.std.specs.Prelude.{ℕ, List, Option, Some, None, Result, Ok, Err}
 use Rattle.sector.specs.declared.refusal.Refusal.{Refusal}
-use Rattle.sector.specs.declared.refusal.Refusal.TheVariants.{NoMemory}
-use Rattle.words.specs.Given.{◌>>=◌}
 use Rattle.command.specs.Line.{said_of}
 use Rattle.command.specs.declared.grammar.Command.{Command}
 use Rattle.command.specs.declared.grammar.Command.TheVariants as commands
 use Rattle.reply.specs.declared.Reply.{Reply}
-use Rattle.runner.specs.State.{Table}
-use Rattle.runner.specs.Disks.{make, save, load}
-use Rattle.runner.specs.Volumes.{create, take_away}
-use Rattle.runner.specs.Sectors.{read, write}
-use Rattle.runner.specs.Status.{status}
-use Rattle.runner.specs.TableLines.{show}
-use Rattle.runner.specs.Layers.{tell, tick}
+use Rattle.reply.specs.declared.Reply.TheVariants.{Done, Data, Said}
+use Rattle.reply.specs.Answers.{reply_to}
+use Rattle.named.specs.State.{Table}
+use Rattle.named.specs.Changes.{Did, refused, kept, changed}
+use Rattle.named.specs.Disks.{make}
+use Rattle.named.specs.Creating.{create}
+use Rattle.named.specs.Removing.{take_away}
+use Rattle.named.specs.Raw.{load, save}
+use Rattle.named.specs.Messages.{tell, ticked}
+use Rattle.named.specs.Sectors.{read, write}
+use Rattle.named.specs.Status.{status_text}
+use Rattle.named.specs.Lines.{line_text}
 use Rattle.runner.specs.Events.{settle, step_event}
 
--- What the call answered and left is what the rule says, unless memory ran out. A refusal changes nothing.
-abbrev pub Steps : {A : Type 0} → Result A Refusal → Table → Table → Result (A × Table) Refusal → Type 0
-Steps (Ok answer) old new rule = rule ≡ Ok (answer, new)
-Steps (Err e) old new rule = (new ≡ old) × (e ≢ NoMemory → rule ≡ Err e)
+-- an answer in other words, unless there is a refusal
+abbrev pub reworded : {A B : Type 0} → (A → B) → Result A Refusal → Result B Refusal
+reworded words (Ok answer) = Ok (words answer)
+reworded words (Err refusal) = Err refusal
 
--- the same of a call that only changes a value
-abbrev pub Changes : {A : Type 0} → Result (Unit {0}) Refusal → A → A → Result A Refusal → Type 0
-Changes (Ok _) old new rule = rule ≡ Ok new
-Changes (Err e) old new rule = (new ≡ old) × (e ≢ NoMemory → rule ≡ Err e)
+abbrev pub told_as : {A B T : Type 0} → (A → B) → Did A T → Did B T
+told_as words done = record { answer = reworded words done.answer; left = done.left }
+
+-- what is there to be done is done
+abbrev pub done_as : Did (Unit {0}) Table → Did Reply Table
+done_as done = told_as (λ _. Done) done
+
+-- a look at the devices changes none
+abbrev pub seen : {A : Type 0} → Table → Result A Refusal → Did A Table
+seen table answer = record { answer = answer; left = table }
 
 -- what a command answers, and the devices after it
-unfoldable pub step : Command → Table → Result (Reply × Table) Refusal
-step (commands.Disk name sectors) table = make name sectors table
-step (commands.Create name line) table = create name line table
-step (commands.Remove name) table = take_away name table
-step (commands.Load disk first bytes) table = load disk first bytes table
-step (commands.Save disk first count) table = save disk first count table
-step (commands.Message device message) table = tell device table
-step (commands.Tick seconds) table = tick table
-step (commands.Read device first count) table = read device first count table
-step (commands.Write device first bytes) table = write device first bytes table
-step (commands.Step volume event) table = step_event volume event table
-step (commands.Settle volume) table = settle volume table
-step (commands.Status device) table = status device table
-step (commands.Table device) table = show device table
+unfoldable pub step : Command → Table → Did Reply Table
+step (commands.Disk name sectors) table = done_as (changed table (make name sectors table))
+step (commands.Create name line) table = done_as (create name line table)
+step (commands.Remove name) table = done_as (changed table (take_away name table))
+step (commands.Load disk first bytes) table = done_as (changed table (load disk first bytes table))
+step (commands.Save disk first count) table = told_as Data (seen table (save disk first count table))
+step (commands.Message device message) table = told_as reply_to (kept table (tell device message table))
+step (commands.Tick seconds) table = record { answer = Ok Done; left = ticked seconds table }
+step (commands.Read device first count) table = told_as Data (read device first count table)
+step (commands.Write device first bytes) table = done_as (write device first bytes table)
+step (commands.Step volume event) table = kept table (step_event volume event table)
+step (commands.Settle volume) table = kept table (settle volume table)
+step (commands.Status device) table = told_as Said (seen table (status_text device table))
+step (commands.Table device) table = told_as Said (seen table (line_text device table))
 
 -- a line that says nothing answers nothing
-abbrev pub obeyed : Table → Option Command → Result (Option Reply × Table) Refusal
-obeyed table None = Ok (None, table)
-obeyed table (Some command) = step command table >>= λ done. Ok (Some done.0, done.1)
+abbrev pub obeyed : Table → Result (Option Command) Refusal → Did (Option Reply) Table
+obeyed table (Ok None) = record { answer = Ok None; left = table }
+obeyed table (Ok (Some command)) = told_as Some (step command table)
+obeyed table (Err refusal) = refused table refusal
 
 -- what a line answers, and the devices after it; a line has at most 65,536 bytes
-unfoldable pub answer_of : List ℕ → Table → Result (Option Reply × Table) Refusal
-answer_of line table = said_of 65536 line >>= obeyed table
+unfoldable pub answer_of : List ℕ → Table → Did (Option Reply) Table
+answer_of line table = obeyed table (said_of 65536 line)

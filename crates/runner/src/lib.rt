@@ -1,34 +1,23 @@
-//! The command program: a table of named devices, the commands that make, change and show them, and whole texts of
-//! command lines.
+//! The command program: what each line of commands does to the named devices, and whole texts of command lines.
 //!
-//! It stands on `command`, which says what a line says, on `settled`, which says what a volume does, and on `table`,
-//! `status`, `reply` and `lines` for what is printed and read. It promises that a text of lines prints exactly the answers of the definition
+//! It stands on `devices`, which does each command, on `command`, which says what a line says, and on `reply` and `lines`
+//! for what is printed and read. It promises that a text of lines prints exactly the answers of the definition
 //! `output_of`, one command after the other, from no devices on: each command's own definition says what it answers and
-//! which devices it leaves, with the first refusal in the stated order, and a refusal leaves every device as it was.
-//! Since a volume's arrays are computed from its disks' own bytes, this says too that the raw bytes of a live
-//! snapshot's store give what it shows. Want of memory alone may change an answer; then the line says so, nothing else
-//! changed, and the summary counts it.
+//! which devices it leaves, with the first refusal in the stated order. Since a volume's arrays are computed from its
+//! disks' own bytes, this says too that the raw bytes of a live snapshot's store give what it shows. Want of memory alone
+//! may change an answer; then the line says so, the summary counts it, and no device changed but by a read or a write of
+//! which some part was done.
+//!
+//! All that is said of texts in which no line makes a layer that drops writes. Of every text it is promised that whole
+//! replies are printed and counted.
 #![tactic(auto)]
 
 mod desk;
-mod devices;
-mod disks;
 mod error;
 mod events;
-mod find;
-mod free_disk;
-mod messages;
-mod mounted;
-mod names;
-mod place;
-mod sectors;
-mod sizes;
-mod status_line;
 mod step;
 mod summary;
-mod table_line;
 mod text;
-mod volumes;
 
 pub use desk::Desk;
 pub use error::{RunError, exit_status};

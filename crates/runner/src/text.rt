@@ -1,11 +1,12 @@
 // A whole text of lines.
-ghost use Rattle.std.specs.Prelude.{◌≡◌, ◌++◌, List, IfOk, IfErr, IfSome};
+ghost use Rattle.std.specs.Prelude.{◌≡◌, ◌++◌, true, List, IfOk, IfErr, IfSome};
 ghost use Rattle.std.specs.Io.KnownBytes.{Appends};
 ghost use Rattle.lines.specs.Lines.{lines_of};
 ghost use Rattle.reply.specs.declared.Reply.{Reply};
 ghost use Rattle.runner.specs.Counts.{summary_of};
 ghost use Rattle.runner.specs.Exit.{IsWriters};
 ghost use Rattle.runner.specs.Output.{output_of, replies_of, printed, MayAnswer, empty};
+ghost use Rattle.runner.specs.Sound.{is_sound_text};
 
 use crate::desk::Desk;
 use crate::error::RunError;
@@ -17,28 +18,28 @@ use std::io::{Read, Write};
 
 /// Does the lines of a text to its end, prints what each answers and nothing else, and counts what was printed. `workers`
 /// is the number of copy workers, 1 to 4; it has no effect on what is printed.
-#[tactic(auto, using(crate::proofs::RunLemmas::starts, crate::proofs::RunLemmas::goes_on))]
 pub fn run<R: Read, W: Write>(
     alloc: Global,
     reader: &mut R,
     writer: &mut W,
     workers: u32,
 ) -> Result<Summary, RunError>
-    // Where memory ran out for no line, the text alone says what is printed.
-    ensures exact { IfOk result (λ summary. summary.no_memory ≡ 0 → IfSome (R.remaining reader.old) (λ text.
-        Appends (W.contents writer.old) (W.contents writer.new) (output_of text))) }
+    // Where no line makes a layer that drops writes, and memory ran out for no line, the text alone says what is printed.
+    ensures exact { IfOk result (λ summary. IfSome (R.remaining reader.old) (λ text. is_sound_text text ≡ true
+        → summary.no_memory ≡ 0 → Appends (W.contents writer.old) (W.contents writer.new) (output_of text))) }
     // Then it says too how many lines there are of each kind.
-    ensures counts { IfOk result (λ summary. summary.no_memory ≡ 0 → IfSome (R.remaining reader.old) (λ text.
-        summary ≡ summary_of (replies_of text))) }
-    // In any case whole replies are printed and counted, and each line answers its outcome, or that memory ran out, and
-    // then it changed nothing.
+    ensures counts { IfOk result (λ summary. IfSome (R.remaining reader.old) (λ text. is_sound_text text ≡ true
+        → summary.no_memory ≡ 0 → summary ≡ summary_of (replies_of text))) }
+    // In any case whole replies are printed and counted, and of such a text each line answers its outcome, or that memory
+    // ran out; then it changed nothing, or is a read or a write of which some part was done.
     ensures any { IfOk result (λ summary. (replies : List Reply)
         × Appends (W.contents writer.old) (W.contents writer.new) (printed replies) × (summary ≡ summary_of replies)
-        × IfSome (R.remaining reader.old) (λ text. MayAnswer empty (lines_of text) replies)) }
+        × IfSome (R.remaining reader.old) (λ text. is_sound_text text ≡ true → MayAnswer empty (lines_of text) replies)) }
     // A run that ended early, and not for its writer, printed whole replies too: the first of what the lines may answer.
     ensures early { IfErr result (λ e. (IsWriters e → ⊥) → (replies : List Reply)
         × Appends (W.contents writer.old) (W.contents writer.new) (printed replies)
-        × IfSome (R.remaining reader.old) (λ text. (rest : List Reply) × MayAnswer empty (lines_of text) (replies ++ rest))) }
+        × IfSome (R.remaining reader.old) (λ text. is_sound_text text ≡ true
+        → (rest : List Reply) × MayAnswer empty (lines_of text) (replies ++ rest))) }
 {
     let mut line = Vec::with_capacity(alloc, LINE_LIMIT + 1).map_err(|_| RunError::Memory)?;
     let mut desk = Desk::new(alloc, workers)?;

@@ -38,6 +38,30 @@ const LINES: [(&str, &str); 18] = [
     ("remove vol", "ok\n"),
 ];
 
+/// What shows all of some layers and the disk under them.
+const LAYERED: [&str; 4] = [
+    "save base 0 8",
+    "table fl",
+    "table du",
+    "message du 0 countbadblocks",
+];
+
+/// Lines about layers, and what each answers; the words of an answer take memory too.
+const LAYERS: [(&str, &str); 12] = [
+    ("disk base 8", "ok\n"),
+    ("create fl 0 8 flakey base 0 1 1", "ok\n"),
+    ("create du 0 8 dust fl 0 512", "ok\n"),
+    ("message du 0 addbadblock 2", "ok\n"),
+    ("message du 0 addbadblock 2", "ok already\n"),
+    ("message du 0 removebadblock 3", "ok absent\n"),
+    ("message du 0 queryblock 2", "ok bad\n"),
+    ("message du 0 countbadblocks", "ok 1\n"),
+    ("message du 0 removebadblock 2", "ok\n"),
+    ("message du 0 queryblock 2", "ok good\n"),
+    ("tick 3", "ok\n"),
+    ("remove du", "ok\n"),
+];
+
 /// A desk; the second try meets no refusal where the first did.
 fn new_desk(alloc: Global) -> Result<Desk, RunError> {
     match Desk::new(alloc, 1) {
@@ -47,23 +71,23 @@ fn new_desk(alloc: Global) -> Result<Desk, RunError> {
 }
 
 /// The answers to all queries.
-fn asked(desk: &mut Desk) -> Result<[u8; 4096], RunError> {
+fn asked(desk: &mut Desk, queries: &[&str]) -> Result<[u8; 4096], RunError> {
     let mut text = [0u8; 4096];
     let mut writer = &mut text[..];
-    for query in QUERIES {
+    for query in queries {
         desk.line(query.as_bytes(), &mut writer)?;
     }
     Ok(text)
 }
 
 /// What the devices hold, asked again where memory was refused for that.
-fn held(desk: &mut Desk) -> Result<[u8; 4096], RunError> {
+fn held(desk: &mut Desk, queries: &[&str]) -> Result<[u8; 4096], RunError> {
     let refused = desk.summary().no_memory;
-    let text = asked(desk)?;
+    let text = asked(desk, queries)?;
     if desk.summary().no_memory == refused {
         Ok(text)
     } else {
-        asked(desk)
+        asked(desk, queries)
     }
 }
 
@@ -83,21 +107,35 @@ fn padded(rt: &impl Abort, text: &str) -> [u8; 64] {
     bytes
 }
 
-#[test]
-fn says_so_and_changes_no_device(rt: HostRuntime) -> Result<(), Fail> {
+/// Does the lines, each again where memory was refused for it, which is to have changed nothing that the queries show.
+fn done(
+    rt: &(impl Abort + AllocGlobal),
+    lines: &[(&str, &str)],
+    queries: &[&str],
+) -> Result<(), RunError> {
     let mut desk = new_desk(rt.alloc())?;
-    for (line, want) in LINES {
-        let before = held(&mut desk)?;
+    for (line, want) in lines {
+        let before = held(&mut desk, queries)?;
         let refused = desk.summary().no_memory;
         let mut text = printed(&mut desk, line)?;
         if desk.summary().no_memory != refused {
-            assert_eq!(rt; text, padded(&rt, "err 5 NoMemory\n"), "{line}");
-            assert!(rt; held(&mut desk)? == before, "{line}");
+            assert_eq!(rt; text, padded(rt, "err 5 NoMemory\n"), "{line}");
+            assert!(rt; held(&mut desk, queries)? == before, "{line}");
             text = printed(&mut desk, line)?;
         }
-        assert_eq!(rt; text, padded(&rt, want), "{line}");
+        assert_eq!(rt; text, padded(rt, want), "{line}");
     }
     Ok(())
+}
+
+#[test]
+fn says_so_and_changes_no_device(rt: HostRuntime) -> Result<(), Fail> {
+    Ok(done(&rt, &LINES, &QUERIES)?)
+}
+
+#[test]
+fn says_so_and_changes_no_layer(rt: HostRuntime) -> Result<(), Fail> {
+    Ok(done(&rt, &LAYERS, &LAYERED)?)
 }
 
 #[test]

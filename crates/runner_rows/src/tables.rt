@@ -1,4 +1,4 @@
-// Table lines that are printed, and commands about layers and single events, of which there are none.
+// Table lines that are printed, which devices are told, and commands about single events, of which none is due.
 
 use crate::texts::printed;
 use std::test::Fail;
@@ -84,11 +84,12 @@ fn prints_the_table_line_of_each_device_that_has_one(rt: HostRuntime) -> Result<
 }
 
 #[test]
-fn makes_no_layers_and_no_merge(rt: HostRuntime) -> Result<(), Fail> {
+fn makes_layers_and_no_merge(rt: HostRuntime) -> Result<(), Fail> {
     let text = "\
         disk base 128\n\
         create fl 0 128 flakey base 0 1 1 1 error_writes\n\
         create du 0 128 dust base 0 1024\n\
+        create du 0 128 dust fl 0 1024\n\
         create er 0 64 error\n\
         create m 0 128 snapshot-merge base cow P 1\n\
         create m 0 128 snapshot-merge base cow P 3\n\
@@ -96,17 +97,28 @@ fn makes_no_layers_and_no_merge(rt: HostRuntime) -> Result<(), Fail> {
         status fl\n\
         create base 0 64 error\n\
         create base 0 64 snapshot-merge base cow P 1\n\
+        create far 0 129 flakey du 0 1 1\n\
+        create vol 0 128 snapshot-origin fl\n\
+        create vol 0 127 snapshot-origin du\n\
+        create vol 0 128 snapshot-origin du\n\
+        create top 0 128 dust vol 0 512\n\
         ";
     let want = "\
         ok\n\
-        err 10 BadTable\n\
-        err 10 BadTable\n\
-        err 10 BadTable\n\
+        ok\n\
+        err 3 Busy\n\
+        ok\n\
+        ok\n\
         err 10 BadTable\n\
         err 10 BadTable\n\
         err 11 BadChunk\n\
-        err 1 NoSuchDevice\n\
+        err 10 BadTable\n\
         err 3 Busy\n\
+        err 10 BadTable\n\
+        err 10 BadTable\n\
+        err 3 Busy\n\
+        err 10 BadTable\n\
+        ok\n\
         err 10 BadTable\n\
         ";
     let (out, status) = printed(rt.alloc(), text)?;
@@ -116,7 +128,7 @@ fn makes_no_layers_and_no_merge(rt: HostRuntime) -> Result<(), Fail> {
 }
 
 #[test]
-fn tells_no_device_anything(rt: HostRuntime) -> Result<(), Fail> {
+fn tells_nothing_to_disks_and_origins(rt: HostRuntime) -> Result<(), Fail> {
     let text = "\
         tick 1\n\
         tick 4294967295\n\
@@ -156,9 +168,6 @@ fn leaves_no_event_due(rt: HostRuntime) -> Result<(), Fail> {
         create snap 0 128 snapshot base cow P 1\n\
         write vol 5 512*aa\n\
         settle vol\n\
-        settle snap\n\
-        settle cow\n\
-        settle nosuch\n\
         step vol issue 1\n\
         step vol copy-read 1\n\
         step vol copy-write 1\n\
@@ -166,6 +175,33 @@ fn leaves_no_event_due(rt: HostRuntime) -> Result<(), Fail> {
         step vol zero-next snap\n\
         step vol write-area snap\n\
         step vol write-invalid snap\n\
+        ";
+    let want = "\
+        ok\nok\nok\nok\nok\nok\n\
+        err 19 NotDue\n\
+        err 19 NotDue\n\
+        err 19 NotDue\n\
+        err 19 NotDue\n\
+        err 19 NotDue\n\
+        err 19 NotDue\n\
+        err 19 NotDue\n\
+        ";
+    let (out, status) = printed(rt.alloc(), text)?;
+    assert_eq!(rt; out.as_slice(), want.as_bytes());
+    assert_eq!(rt; status, 1);
+    Ok(())
+}
+
+#[test]
+fn asks_for_a_volume_and_for_snapshots(rt: HostRuntime) -> Result<(), Fail> {
+    let text = "\
+        disk base 128\n\
+        disk cow 64\n\
+        create vol 0 128 snapshot-origin base\n\
+        create snap 0 128 snapshot base cow P 1\n\
+        settle snap\n\
+        settle cow\n\
+        settle nosuch\n\
         step vol write-area cow\n\
         step vol write-area vol\n\
         step vol write-area nosuch\n\
@@ -176,22 +212,10 @@ fn leaves_no_event_due(rt: HostRuntime) -> Result<(), Fail> {
         step nosuch issue\n\
         ";
     let want = "\
-        ok\n\
-        ok\n\
-        ok\n\
-        ok\n\
-        ok\n\
-        ok\n\
+        ok\nok\nok\nok\n\
         err 10 BadTable\n\
         err 10 BadTable\n\
         err 1 NoSuchDevice\n\
-        err 19 NotDue\n\
-        err 19 NotDue\n\
-        err 19 NotDue\n\
-        err 19 NotDue\n\
-        err 19 NotDue\n\
-        err 19 NotDue\n\
-        err 19 NotDue\n\
         err 10 BadTable\n\
         err 10 BadTable\n\
         err 1 NoSuchDevice\n\
@@ -201,6 +225,24 @@ fn leaves_no_event_due(rt: HostRuntime) -> Result<(), Fail> {
         err 1 NoSuchDevice\n\
         err 10 BadTable\n\
         ";
+    let (out, status) = printed(rt.alloc(), text)?;
+    assert_eq!(rt; out.as_slice(), want.as_bytes());
+    assert_eq!(rt; status, 1);
+    Ok(())
+}
+
+#[test]
+fn finds_no_event_due_for_a_snapshot_of_another_volume(rt: HostRuntime) -> Result<(), Fail> {
+    let text = "\
+        disk base 128\n\
+        disk cow 64\n\
+        disk other 8\n\
+        create vol 0 128 snapshot-origin base\n\
+        create snap 0 128 snapshot base cow P 1\n\
+        create vol2 0 8 snapshot-origin other\n\
+        step vol2 write-area snap\n\
+        ";
+    let want = "ok\nok\nok\nok\nok\nok\nerr 19 NotDue\n";
     let (out, status) = printed(rt.alloc(), text)?;
     assert_eq!(rt; out.as_slice(), want.as_bytes());
     assert_eq!(rt; status, 1);

@@ -550,6 +550,146 @@ fn takes_no_store_of_one_sector(rt: HostRuntime) -> Result<(), Fail> {
 }
 
 #[test]
+fn spoils_a_snapshot_whose_write_finds_the_store_full(rt: HostRuntime) -> Result<(), Fail> {
+    let text = "\
+        disk base 128\n\
+        disk cow 3\n\
+        create vol 0 128 snapshot-origin base\n\
+        write vol 0 65536*11\n\
+        create snap 0 128 snapshot base cow P 1\n\
+        write snap 0 512*77\n\
+        status snap\n\
+        write snap 1 512*77\n\
+        status snap\n\
+        ";
+    let want = "\
+        ok\n\
+        ok\n\
+        ok\n\
+        ok\n\
+        ok\n\
+        ok\n\
+        ok 0 128 snapshot 3/3 2\n\
+        err 6 Invalid\n\
+        ok 0 128 snapshot Invalid\n\
+        ";
+    let (out, status) = printed(rt.alloc(), text)?;
+    assert_eq!(rt; out.as_slice(), want.as_bytes());
+    assert_eq!(rt; status, 1);
+    Ok(())
+}
+
+#[test]
+fn saves_no_chunk_for_a_write_of_another_snapshot(rt: HostRuntime) -> Result<(), Fail> {
+    let text = "\
+        disk base 128\n\
+        disk cow 64\n\
+        create vol 0 128 snapshot-origin base\n\
+        write vol 0 65536*11\n\
+        create snap 0 128 snapshot base cow P 1\n\
+        disk cow2 64\n\
+        create s2 0 128 snapshot base cow2 P 1\n\
+        write snap 9 512*77\n\
+        write vol 5 512*aa\n\
+        status s2\n\
+        ";
+    let want = "\
+        ok\n\
+        ok\n\
+        ok\n\
+        ok\n\
+        ok\n\
+        ok\n\
+        ok\n\
+        ok\n\
+        ok\n\
+        ok 0 128 snapshot 3/64 2\n\
+        ";
+    let (out, status) = printed(rt.alloc(), text)?;
+    assert_eq!(rt; out.as_slice(), want.as_bytes());
+    assert_eq!(rt; status, 0);
+    Ok(())
+}
+
+#[test]
+fn takes_no_store_that_may_overflow(rt: HostRuntime) -> Result<(), Fail> {
+    let text = "\
+        disk base 128\n\
+        disk cow 3\n\
+        create vol 0 128 snapshot-origin base\n\
+        write vol 0 65536*11\n\
+        create snap 0 128 snapshot base cow PO 1\n\
+        ";
+    let want = "\
+        ok\n\
+        ok\n\
+        ok\n\
+        ok\n\
+        err 10 BadTable\n\
+        ";
+    let (out, status) = printed(rt.alloc(), text)?;
+    assert_eq!(rt; out.as_slice(), want.as_bytes());
+    assert_eq!(rt; status, 1);
+    Ok(())
+}
+
+#[test]
+fn takes_no_ninth_snapshot(rt: HostRuntime) -> Result<(), Fail> {
+    let text = "\
+        disk base 128\n\
+        disk cow 64\n\
+        create vol 0 128 snapshot-origin base\n\
+        write vol 0 65536*11\n\
+        create snap 0 128 snapshot base cow P 1\n\
+        disk c2 8\n\
+        create s2 0 128 snapshot base c2 P 1\n\
+        disk c3 8\n\
+        create s3 0 128 snapshot base c3 P 1\n\
+        disk c4 8\n\
+        create s4 0 128 snapshot base c4 P 1\n\
+        disk c5 8\n\
+        create s5 0 128 snapshot base c5 P 1\n\
+        disk c6 8\n\
+        create s6 0 128 snapshot base c6 P 1\n\
+        disk c7 8\n\
+        create s7 0 128 snapshot base c7 P 1\n\
+        disk c8 8\n\
+        create s8 0 128 snapshot base c8 P 1\n\
+        disk c9 8\n\
+        create s9 0 128 snapshot base c9 P 1\n\
+        save c9 0 8\n\
+        ";
+    let want = "\
+        ok\n\
+        ok\n\
+        ok\n\
+        ok\n\
+        ok\n\
+        ok\n\
+        ok\n\
+        ok\n\
+        ok\n\
+        ok\n\
+        ok\n\
+        ok\n\
+        ok\n\
+        ok\n\
+        ok\n\
+        ok\n\
+        ok\n\
+        ok\n\
+        ok\n\
+        ok\n\
+        err 9 TooMany\n\
+        ok 4096*00\n\
+        ";
+    let (out, status) = printed(rt.alloc(), text)?;
+    assert_eq!(rt; out.as_slice(), want.as_bytes());
+    assert_eq!(rt; status, 1);
+    Ok(())
+}
+
+#[test]
 fn prints_nothing_for_nothing(rt: HostRuntime) -> Result<(), Fail> {
     let text = "";
     let want = "";

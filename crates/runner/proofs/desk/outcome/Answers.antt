@@ -1,9 +1,9 @@
-use Rattle.runner.specs.Devices.{table_of}
+use Rattle.devices.specs.Devices.{table_of}
 use Rattle.runner.proofs.DeskLemmas.{may_ok, may_err}
 use Rattle.runner.proofs.desk.outcome.Goals as goal
 
-pub returns-in-Ok : goal.returns-in-Ok
-returns-in-Ok c = may_ok c.args.line.now (table_of c.args.devices.now) (table_of c.answer.new.devices) c.in-Ok.reply c.in-Ok.ensures
+pub returns-in-Ok-clause-done : goal.returns-in-Ok-clause-done
+returns-in-Ok-clause-done c = λ sound. may_ok c.args.line.now (table_of c.args.held.now) (table_of c.answer.new.held) c.in-Ok.reply (c.in-Ok.ensures.done sound)
 
-pub returns-in-Err : goal.returns-in-Err
-returns-in-Err c = may_err c.args.line.now (table_of c.args.devices.now) (table_of c.answer.new.devices) c.in-Err.refusal c.in-Err.ensures.0 c.in-Err.ensures.1
+pub returns-in-Err-clause-done : goal.returns-in-Err-clause-done
+returns-in-Err-clause-done c = λ sound. may_err c.args.line.now (table_of c.args.held.now) (table_of c.answer.new.held) c.in-Err.refusal (c.in-Err.ensures.done sound)

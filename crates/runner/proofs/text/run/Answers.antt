@@ -1,7 +1,19 @@
-use Rattle.std.proofs.Common.{◌≡◌, rules, true, false}
+use Rattle.std.proofs.Common.{◌≡◌, rules, true, false, []}
+use Rattle.std.specs.Prelude.{IfErr}
 use Rattle.lines.specs.Lines.{ReadsLine}
-use Rattle.runner.proofs.RunLemmas.{goes_on, ends, ends_exact, ends_counted, Early, ends_early, never_began, at_error}
+use Rattle.runner.specs.Counts.{summary_of}
+use Rattle.runner.specs.Exit.{IsWriters}
+use Rattle.runner.specs.Output.{empty}
+use Rattle.runner.proofs.RunLemmas.{starts, goes_on, ends, ends_exact, ends_counted, Early, ends_early, never_began, at_error, at_writers}
 use Rattle.runner.proofs.text.run.Goals as goal
+
+pub loop-init : goal.loop-init
+loop-init g c =
+    let none : c.in_ok-desk.desk ≡ record { table = empty; summary = summary_of [] } = search rules in
+    record {
+      room = search rules;
+      follows = starts (g.R.Read.remaining c.args.reader.now) (g.W.Write.contents c.args.writer.now) c.in_ok-desk.desk none;
+    }
 
 pub loop-preserved : goal.loop-preserved
 loop-preserved g c =
@@ -9,20 +21,20 @@ loop-preserved g c =
     let over : ReadsLine 65536 (g.R.Read.remaining c.loop.reader) (g.R.Read.remaining c.read_line.new.reader) true c.deref.result.now = search rules in
     record {
       room = search rules;
-      follows = goes_on _ _ _ _ _ _ c.deref.result.now c.loop.desk c.line.new.self d.0 c.loop.invariant.follows over d.1 d.2 d.3;
+      follows = goes_on _ _ _ _ _ _ c.deref.result.now c.loop.desk c.line.new.self d.0 c.loop.invariant.follows over d.1 c.in_ok-line-2.ensures.sound d.2 d.3;
     }
 
 pub returns-then-not-branch-clause-exact : goal.returns-then-not-branch-clause-exact
-returns-then-not-branch-clause-exact g c = λ none.
+returns-then-not-branch-clause-exact g c =
     let over : ReadsLine 65536 (g.R.Read.remaining c.loop.reader) (g.R.Read.remaining c.read_line.new.reader) false c.read_line.new.line.items = search rules in
     let same : c.summary.result ≡ c.loop.desk.summary = search rules in
-    ends_exact _ _ _ c.summary.result (ends _ _ _ _ _ c.read_line.new.line.items c.loop.desk c.summary.result c.loop.invariant.follows over same) none
+    ends_exact _ _ _ c.summary.result (ends _ _ _ _ _ c.read_line.new.line.items c.loop.desk c.summary.result c.loop.invariant.follows over same)
 
 pub returns-then-not-branch-clause-counts : goal.returns-then-not-branch-clause-counts
-returns-then-not-branch-clause-counts g c = λ none.
+returns-then-not-branch-clause-counts g c =
     let over : ReadsLine 65536 (g.R.Read.remaining c.loop.reader) (g.R.Read.remaining c.read_line.new.reader) false c.read_line.new.line.items = search rules in
     let same : c.summary.result ≡ c.loop.desk.summary = search rules in
-    ends_counted _ (g.W.Write.contents c.args.writer.now) (g.W.Write.contents c.loop.writer) c.summary.result (ends _ _ _ _ _ c.read_line.new.line.items c.loop.desk c.summary.result c.loop.invariant.follows over same) none
+    ends_counted _ (g.W.Write.contents c.args.writer.now) (g.W.Write.contents c.loop.writer) c.summary.result (ends _ _ _ _ _ c.read_line.new.line.items c.loop.desk c.summary.result c.loop.invariant.follows over same)
 
 pub returns-then-not-branch-clause-any : goal.returns-then-not-branch-clause-any
 returns-then-not-branch-clause-any g c =
@@ -44,6 +56,11 @@ pub returns-in_err-map_err-clause-early : goal.returns-in_err-map_err-clause-ear
 returns-in_err-map_err-clause-early g c =
     at_error c.from_residual-in_err-map_err.result (Early (g.R.Read.remaining c.args.reader.now) (g.W.Write.contents c.args.writer.now) (g.W.Write.contents c.loop.writer))
     (ends_early (g.R.Read.remaining c.args.reader.now) (g.R.Read.remaining c.loop.reader) (g.W.Write.contents c.args.writer.now) (g.W.Write.contents c.loop.writer) c.loop.desk c.loop.invariant.follows)
+
+pub returns-in_err-line-2-clause-early : goal.returns-in_err-line-2-clause-early
+returns-in_err-line-2-clause-early g c =
+    let writers : IfErr c.from_residual-in_err-line-2.result IsWriters = search rules in
+    at_writers c.from_residual-in_err-line-2.result _ writers
 
 pub returns-clause-early : goal.returns-clause-early
 returns-clause-early g c = λ other.

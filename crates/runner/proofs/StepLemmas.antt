@@ -1,0 +1,73 @@
+-- What a line does beside what its command does.
+use Rattle.std.proofs.Common.{◌≡◌, ◌≢◌, ℕ, true, List, Option, Some, None, refl, sym, ap, ◌∙◌, inl, subst}
+use Rattle.std.specs.Prelude.{MatchResult, Result, Ok, Err}
+use Rattle.sector.specs.declared.refusal.Refusal.{Refusal}
+use Rattle.sector.specs.declared.refusal.Refusal.TheVariants.{NoMemory}
+use Rattle.layers.specs.declared.message.Message.{Message}
+use Rattle.layers.specs.declared.message.Answer.{Answer}
+use Rattle.layers.specs.declared.message.Answer.TheVariants.{Done}
+use Rattle.command.specs.Line.{said_of}
+use Rattle.command.specs.declared.grammar.Command.{Command}
+use Rattle.command.specs.declared.grammar.Command.TheVariants as commands
+use Rattle.reply.specs.declared.Reply.{Reply}
+use Rattle.reply.specs.Answers.{reply_to}
+use Rattle.named.specs.State.{Table}
+use Rattle.named.specs.Changes.{Does, kept}
+use Rattle.named.specs.Messages.{tell}
+use Rattle.runner.specs.Steps.{reworded, told_as, step, obeyed, answer_of}
+use Rattle.runner.specs.Sound.{is_sound_command, is_sound_said, is_sound_line}
+use Rattle.runner.specs.Output.{IsPartDone, IsPartSaid, IsStarved}
+use Rattle.runner.proofs.Quiet.{tell_quiet}
+
+-- a message that was answered, and its answer put into words
+pub told_done : (call : Result Reply Refusal) (name : List ℕ) (message : Message) (old new : Table) (answer : Answer) → tell name message old ≡ Ok (answer, new) → MatchResult call (λ reply. reply ≡ reply_to answer) (λ e. (e ≡ NoMemory) × (answer ≢ Done)) → Does call new (λ t. t ≡ old) (told_as reply_to (kept old (tell name message old)))
+told_done (Ok reply) name message old new answer is words =
+    ap (λ r. told_as reply_to (kept old r)) is ∙ ap (λ (x : Reply). record { answer = Ok x; left = new }) (sym words)
+told_done (Err e) name message old new answer is words =
+    ((λ other. absurd (other words.0)), λ memory. tell_quiet name message old new answer is words.1)
+
+-- nothing was done of a command
+none_done : (command : Command) (table : Table) → IsPartDone command table table
+none_done (commands.Read device first count) table = inl refl
+none_done (commands.Write device first bytes) table = inl refl
+none_done (commands.Disk name sectors) table = refl
+none_done (commands.Create name line) table = refl
+none_done (commands.Remove name) table = refl
+none_done (commands.Load disk first bytes) table = refl
+none_done (commands.Save disk first count) table = refl
+none_done (commands.Message device message) table = refl
+none_done (commands.Tick seconds) table = refl
+none_done (commands.Step volume event) table = refl
+none_done (commands.Settle volume) table = refl
+none_done (commands.Status device) table = refl
+none_done (commands.Table device) table = refl
+
+none_said : (said : Result (Option Command) Refusal) (table : Table) → IsPartSaid said table table
+none_said (Ok None) table = refl
+none_said (Ok (Some command)) table = none_done command table
+none_said (Err refusal) table = refl
+
+-- a line that says nothing
+pub silent_does : (line : List ℕ) (table : Table) → said_of 65536 line ≡ Ok None → Does (Ok None) table (IsStarved line table) (answer_of line table)
+unfolding answer_of
+silent_does line table is = ap (obeyed table) is
+
+-- a line that is refused, or for which memory ran out before its command
+pub refused_does : (line : List ℕ) (table : Table) (e : Refusal) → (e ≢ NoMemory → said_of 65536 line ≡ Err e) → Does (Err e) table (IsStarved line table) (answer_of line table)
+unfolding answer_of IsStarved
+refused_does line table e is = ((λ other. ap (obeyed table) (is other)), λ memory. none_said (said_of 65536 line) table)
+
+-- a line that says a command
+pub obeyed_does : (line : List ℕ) (command : Command) (old new : Table) (call : Result Reply Refusal) → said_of 65536 line ≡ Ok (Some command) → Does call new (IsPartDone command old) (step command old) → Does (reworded Some call) new (IsStarved line old) (answer_of line old)
+unfolding answer_of IsStarved
+obeyed_does line command old new (Ok reply) is does = ap (obeyed old) is ∙ ap (told_as Some) does
+obeyed_does line command old new (Err e) is does =
+    ((λ other. ap (obeyed old) is ∙ ap (told_as Some) (does.0 other)), λ memory. starved (does.1 memory))
+  where
+    starved : IsPartDone command old new → IsStarved line old new
+    starved part = let P : Result (Option Command) Refusal → Type 0 = λ said. IsPartSaid said old new in subst P (sym is) part
+
+-- such a line is sound where its command is
+pub sound_said : (line : List ℕ) (command : Command) → said_of 65536 line ≡ Ok (Some command) → is_sound_line line ≡ true → is_sound_command command ≡ true
+unfolding is_sound_line
+sound_said line command is sound = sym (ap is_sound_said is) ∙ sound

@@ -1,0 +1,43 @@
+-- Of which lines contracts say what they answer. A layer that drops writes answers Ok and does nothing (dm-flakey's
+-- `drop_writes`), so once a line has made such a layer nothing is said of answers.
+use Rattle.std.specs.Prelude.{ℕ, Bool, true, not, List, Option, Some, None, Result, Ok, Err}
+use Rattle.std.specs.List.{list_all}
+use Rattle.sector.specs.declared.refusal.Refusal.{Refusal}
+use Rattle.lines.specs.Lines.{lines_of}
+use Rattle.command.specs.Line.{said_of}
+use Rattle.command.specs.declared.grammar.Command.{Command}
+use Rattle.command.specs.declared.grammar.Command.TheVariants as commands
+use Rattle.named.specs.Sound.{drops_writes}
+
+-- a command that makes no layer that drops writes
+abbrev pub is_sound_command : Command → Bool
+is_sound_command (commands.Create name line) = not (drops_writes line.target)
+is_sound_command (commands.Disk name sectors) = true
+is_sound_command (commands.Remove name) = true
+is_sound_command (commands.Load disk first bytes) = true
+is_sound_command (commands.Save disk first count) = true
+is_sound_command (commands.Message device message) = true
+is_sound_command (commands.Tick seconds) = true
+is_sound_command (commands.Read device first count) = true
+is_sound_command (commands.Write device first bytes) = true
+is_sound_command (commands.Step volume event) = true
+is_sound_command (commands.Settle volume) = true
+is_sound_command (commands.Status device) = true
+is_sound_command (commands.Table device) = true
+
+abbrev pub is_sound_said : Result (Option Command) Refusal → Bool
+is_sound_said (Ok None) = true
+is_sound_said (Ok (Some command)) = is_sound_command command
+is_sound_said (Err refusal) = true
+
+-- a line that makes no such layer
+unfoldable pub is_sound_line : List ℕ → Bool
+is_sound_line line = is_sound_said (said_of 65536 line)
+
+-- none of the lines makes one
+abbrev pub are_sound_lines : List (List ℕ) → Bool
+are_sound_lines lines = list_all is_sound_line lines
+
+-- a text that makes none
+unfoldable pub is_sound_text : List ℕ → Bool
+is_sound_text text = are_sound_lines (lines_of text)
