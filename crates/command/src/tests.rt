@@ -2,12 +2,25 @@
 use super::*;
 use layers::Message;
 use sector::Refusal;
+use std::alloc::Global;
+use std::process::Abort;
 use std::test::Fail;
 use table::Target;
 
+// Whether each of these lines has this refusal.
+fn refuse(rt: &impl Abort, alloc: Global, lines: &[&str], refusal: Refusal) {
+    for line in lines {
+        assert_eq!(rt;
+            refusal_of(alloc, line.as_bytes()),
+            Some(refusal),
+            "in {line}"
+        );
+    }
+}
+
 #[test]
-fn refuses_each_line_with_its_first_refusal(rt: HostRuntime) {
-    let bad_table = [
+fn refuses_words_names_and_numbers_of_another_form(rt: HostRuntime) {
+    let lines = [
         "start",
         "disk",
         "disk d",
@@ -23,6 +36,23 @@ fn refuses_each_line_with_its_first_refusal(rt: HostRuntime) {
         "disk d 8\r",
         "Disk d 8",
         " # disk d 8",
+        "remove",
+        "remove a b",
+        "status",
+        "status a b",
+        "tick",
+        "tick x",
+        "tick 1 1",
+        "table",
+        "table Vol",
+        "table a b",
+    ];
+    refuse(&rt, rt.alloc(), &lines, Refusal::BadTable);
+}
+
+#[test]
+fn refuses_sectors_and_data_of_another_form(rt: HostRuntime) {
+    let lines = [
         "read vol 0",
         "read vol 0 0 0",
         "read Vol 0 0",
@@ -38,10 +68,13 @@ fn refuses_each_line_with_its_first_refusal(rt: HostRuntime) {
         "write vol 0 512*aa x",
         "write vol 0 1048576*00 1048576*00 1*00",
         "load Disk 0 1048576*00 1048576*00",
-        "remove",
-        "remove a b",
-        "status",
-        "status a b",
+    ];
+    refuse(&rt, rt.alloc(), &lines, Refusal::BadTable);
+}
+
+#[test]
+fn refuses_table_lines_of_another_form(rt: HostRuntime) {
+    let lines = [
         "create",
         "create o",
         "create o 0 128",
@@ -64,6 +97,13 @@ fn refuses_each_line_with_its_first_refusal(rt: HostRuntime) {
         "create f 0 8 linear base 0",
         "create d 0 8 dust base 1 512",
         "create e 0 8 error 0",
+    ];
+    refuse(&rt, rt.alloc(), &lines, Refusal::BadTable);
+}
+
+#[test]
+fn refuses_messages_of_another_form(rt: HostRuntime) {
+    let lines = [
         "message",
         "message du",
         "message du 0",
@@ -79,51 +119,35 @@ fn refuses_each_line_with_its_first_refusal(rt: HostRuntime) {
         "message du 0 addbadblock x",
         "message du 0 addbadblock 1 2",
         "message du 0 queryblock 4294967296",
-        "tick",
-        "tick x",
-        "tick 1 1",
-        "table",
-        "table Vol",
-        "table a b",
     ];
-    let bad_chunk = [
+    refuse(&rt, rt.alloc(), &lines, Refusal::BadTable);
+}
+
+#[test]
+fn refuses_chunks_that_are_no_size(rt: HostRuntime) {
+    let lines = [
         "create s 0 128 snapshot base cow P 3",
         "create s 0 128 snapshot base cow P 0",
         "create s 0 128 snapshot base cow P 2048",
         "create s 0 128 snapshot base cow P 3 0",
     ];
-    let out_of_range = [
+    refuse(&rt, rt.alloc(), &lines, Refusal::BadChunk);
+}
+
+#[test]
+fn refuses_numbers_of_sectors_that_no_command_moves(rt: HostRuntime) {
+    let lines = [
         "read nosuch 0 0",
         "read vol 0 2049",
         "save d 0 4294967295",
         "write nosuch 0 1048576*00 1048576*00",
         "load d 0 1048576*00 512*00",
     ];
-    for line in bad_table {
-        assert_eq!(rt;
-            refusal_of(&rt, line.as_bytes()),
-            Some(Refusal::BadTable),
-            "in {line}"
-        );
-    }
-    for line in bad_chunk {
-        assert_eq!(rt;
-            refusal_of(&rt, line.as_bytes()),
-            Some(Refusal::BadChunk),
-            "in {line}"
-        );
-    }
-    for line in out_of_range {
-        assert_eq!(rt;
-            refusal_of(&rt, line.as_bytes()),
-            Some(Refusal::OutOfRange),
-            "in {line}"
-        );
-    }
+    refuse(&rt, rt.alloc(), &lines, Refusal::OutOfRange);
 }
 
-fn refusal_of(rt: &HostRuntime, line: &[u8]) -> Option<Refusal> {
-    said(rt.alloc(), line, LINE_LIMIT).err()
+fn refusal_of(alloc: Global, line: &[u8]) -> Option<Refusal> {
+    said(alloc, line, LINE_LIMIT).err()
 }
 
 #[test]
@@ -137,12 +161,12 @@ fn looks_at_the_length_then_at_comments_then_at_odd_bytes(rt: HostRuntime) -> Re
     let mut comment = vec![in rt.alloc(); b'#'; 65_536]?;
     assert!(rt; said(rt.alloc(), &comment, LINE_LIMIT)?.is_none());
     comment.push(b'#')?;
-    assert_eq!(rt; refusal_of(&rt, &comment), Some(Refusal::BadTable));
+    assert_eq!(rt; refusal_of(rt.alloc(), &comment), Some(Refusal::BadTable));
     Ok(())
 }
 
 #[test]
-fn reads_each_command(rt: HostRuntime) -> Result<(), Fail> {
+fn reads_the_bytes_of_a_load(rt: HostRuntime) -> Result<(), Fail> {
     let line = b"load cow 0 1*53 1*6e 1*41 1*70 1*01 3*00 1*01 3*00 1*01 499*00";
     let mut header = vec![in rt.alloc(); 0u8; 512]?;
     header[..13].copy_from_slice(&[0x53, 0x6e, 0x41, 0x70, 1, 0, 0, 0, 1, 0, 0, 0, 1]);
@@ -153,7 +177,11 @@ fn reads_each_command(rt: HostRuntime) -> Result<(), Fail> {
     assert_eq!(rt; disk.as_slice(), b"cow".as_slice());
     assert_eq!(rt; *first, 0);
     assert_eq!(rt; bytes.as_slice(), header.as_slice());
+    Ok(())
+}
 
+#[test]
+fn reads_a_table_line(rt: HostRuntime) -> Result<(), Fail> {
     let line = b"  create snap 0 0128  snapshot base cow P 16 0 ";
     let created = said(rt.alloc(), line, LINE_LIMIT)?;
     let Some(Command::Create { name, line }) = &created else {
@@ -171,6 +199,11 @@ fn reads_each_command(rt: HostRuntime) -> Result<(), Fail> {
     assert_eq!(rt; device.as_slice(), b"base".as_slice());
     assert_eq!(rt; store.as_slice(), b"cow".as_slice());
     assert_eq!(rt; (line.sectors, *chunk), (128, 16));
+    Ok(())
+}
+
+#[test]
+fn reads_each_command(rt: HostRuntime) -> Result<(), Fail> {
     let kinds = [
         ("disk abcdefghijklmnop 4294967295", "disk"),
         ("create vol 0 128 snapshot-origin base", "origin"),
@@ -302,7 +335,7 @@ fn refuses_other_words_of_events(rt: HostRuntime) {
     ];
     for line in lines {
         assert_eq!(rt;
-            refusal_of(&rt, line.as_bytes()),
+            refusal_of(rt.alloc(), line.as_bytes()),
             Some(Refusal::BadTable),
             "in {line}"
         );

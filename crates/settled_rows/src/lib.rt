@@ -1,12 +1,17 @@
 //! Volumes run beside plain programs: slow and obvious, over whole lists of bytes.
 //!
-//! It stands on `settled` and has tests only: pseudo-random commands over small volumes, after each of which every array
-//! and every disk's raw bytes are those of the plain programs, which read and write the store's format on their own.
+//! It stands on `settled` and has tests: pseudo-random commands over small volumes, after each of which every array and
+//! every disk's raw bytes are those of the plain programs, which read and write the store's format on their own; and stores
+//! with one byte replaced, which are taken or refused as the plain programs do. The plain programs over a store's bytes are
+//! there for other tests too.
 #![tactic(auto)]
 
 #[cfg(test)]
 mod commands;
 #[cfg(test)]
-mod plain_store;
+mod comparing;
+#[cfg(test)]
+mod damaged;
+pub mod plain_store;
 #[cfg(test)]
 mod plain_volume;

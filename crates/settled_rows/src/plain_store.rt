@@ -19,7 +19,7 @@ pub fn put(bytes: &mut [u8], at: usize, part: &[u8]) {
 }
 
 /// The bytes of a sector; none past the end.
-fn sector_of(bytes: &[u8], sector: usize) -> &[u8] {
+pub fn sector_of(bytes: &[u8], sector: usize) -> &[u8] {
     let at = SECTOR_BYTES.saturating_mul(sector);
     if at < bytes.len() {
         let len = SECTOR_BYTES.min(bytes.len() - at);
@@ -37,7 +37,7 @@ fn clear(bytes: &mut [u8], at: usize, count: usize) {
 }
 
 /// The little-endian number of up to eight bytes from a place on.
-fn number_at(bytes: &[u8], at: usize, len: usize) -> u64 {
+pub fn number_at(bytes: &[u8], at: usize, len: usize) -> u64 {
     let mut value = 0u64;
     for i in 0..len {
         let place = at.saturating_add(len - 1 - i);
@@ -56,7 +56,7 @@ pub fn start_of(chunk: usize, number: usize) -> usize
 }
 
 /// The chunk of an area's place.
-fn area_place(chunk: usize, area: usize) -> usize
+pub fn area_place(chunk: usize, area: usize) -> usize
     requires { chunk ≤ 1024 }
 {
     (32 * chunk + 1).saturating_mul(area).saturating_add(1)
@@ -69,7 +69,7 @@ fn is_area_place(chunk: usize, number: u64) -> bool
 }
 
 /// The byte at which a slot begins, where the slots of all areas are counted on.
-fn slot_start(chunk: usize, slot: usize) -> usize
+pub fn slot_start(chunk: usize, slot: usize) -> usize
     requires some { 0 < chunk }
     requires few { chunk ≤ 1024 }
 {
@@ -222,7 +222,7 @@ fn are_apart(pairs: &[Pair]) -> bool {
 }
 
 /// Whether a store with these pairs may be loaded.
-fn is_loadable(chunk: usize, origin: &[u8], store: &[u8], pairs: &[Pair]) -> bool
+pub fn is_loadable(chunk: usize, origin: &[u8], store: &[u8], pairs: &[Pair]) -> bool
     requires some { 0 < chunk }
     requires few { chunk ≤ 1024 }
 {
@@ -235,7 +235,7 @@ fn is_loadable(chunk: usize, origin: &[u8], store: &[u8], pairs: &[Pair]) -> boo
 }
 
 /// What the first sector says: the chunk size of a written store, `None` of a fresh one.
-fn header_of(store: &[u8]) -> Result<Option<u64>, Refusal> {
+pub fn header_of(store: &[u8]) -> Result<Option<u64>, Refusal> {
     let chunk = number_at(store, 12, 4);
     match number_at(store, 0, 4) {
         0 => Ok(None),
