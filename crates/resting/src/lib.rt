@@ -20,6 +20,8 @@ mod telling;
 pub use resting::Resting;
 
 #[cfg(test)]
+mod fault_tests;
+#[cfg(test)]
 mod stack_tests;
 #[cfg(test)]
 mod tests;

@@ -10,7 +10,7 @@ use std::alloc::Global;
 use std::test::Fail;
 
 // A disk of so many zero sectors, which fails at its operation `k`.
-fn disk_of(alloc: Global, sectors: u64, k: u64) -> Result<FailAt<MemDisk>, Refusal> {
+pub(crate) fn disk_of(alloc: Global, sectors: u64, k: u64) -> Result<FailAt<MemDisk>, Refusal> {
     if sectors < 1 || 128 < sectors {
         return Err(Refusal::OutOfRange);
     }
@@ -41,7 +41,7 @@ fn volume_of(alloc: Global, origin: u64, store: u64) -> Result<Resting<FailAt<Me
 }
 
 // Writes so many sectors.
-fn write_of(
+pub(crate) fn write_of(
     volume: &mut Resting<FailAt<MemDisk>>,
     alloc: Global,
     dev: Dev,
@@ -65,7 +65,7 @@ fn write_of(
 }
 
 // Reads so many sectors.
-fn read_of(
+pub(crate) fn read_of(
     volume: &mut Resting<FailAt<MemDisk>>,
     alloc: Global,
     dev: Dev,
