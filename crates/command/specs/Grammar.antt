@@ -15,7 +15,7 @@ use Rattle.table.specs.Grammar.{line_in}
 use Rattle.command.specs.Messages.{message_in}
 use Rattle.command.specs.Events.{event_in}
 use Rattle.command.specs.declared.grammar.Command.{Command}
-use Rattle.command.specs.declared.grammar.Command.TheVariants.{Disk, Create, Remove, Load, Save, Message, Tick, Read, Write, Step, Settle, Status, Table}
+use Rattle.command.specs.declared.grammar.Command.TheVariants.{Disk, Create, Remove, Load, Save, Message, Tick, Read, Write, StartRead, StartWrite, Step, Settle, Status, Table}
 
 -- a name and a first sector
 abbrev pub place_of : List ℕ → List ℕ → Result (List ℕ × ℕ) Refusal
@@ -108,6 +108,22 @@ read_of words = span_of words >>= λ span. Ok (Read span.0 span.1 span.2)
 abbrev pub write_of : List (List ℕ) → Result Command Refusal
 write_of words = patch_of words >>= λ patch. Ok (Write patch.0 patch.1 patch.2)
 
+-- what `start DEV read S N` says, by the words of a `read`
+abbrev pub start_read_of : List (List ℕ) → Result Command Refusal
+start_read_of words = span_of words >>= λ span. Ok (StartRead span.0 span.1 span.2)
+
+-- what `start DEV write S DATA` says, by the words of a `write`
+abbrev pub start_write_of : List (List ℕ) → Result Command Refusal
+start_write_of words = patch_of words >>= λ patch. Ok (StartWrite patch.0 patch.1 patch.2)
+
+-- `start DEV read S N` and `start DEV write S DATA`
+abbrev pub start_of : List (List ℕ) → Result Command Refusal
+start_of (device ∷ kind ∷ words) =
+    if bytes_eq kind (codes "read") then start_read_of (device ∷ words) else
+    if bytes_eq kind (codes "write") then start_write_of (device ∷ words) else
+    Err BadTable
+start_of words = Err BadTable
+
 -- `step VOL EVENT`
 abbrev pub step_of : List (List ℕ) → Result Command Refusal
 step_of (volume ∷ words) = do
@@ -141,6 +157,7 @@ command_of (verb ∷ words) =
     if bytes_eq verb (codes "tick") then tick_of words else
     if bytes_eq verb (codes "read") then read_of words else
     if bytes_eq verb (codes "write") then write_of words else
+    if bytes_eq verb (codes "start") then start_of words else
     if bytes_eq verb (codes "step") then step_of words else
     if bytes_eq verb (codes "settle") then settle_of words else
     if bytes_eq verb (codes "status") then status_of words else

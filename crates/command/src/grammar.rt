@@ -1,8 +1,8 @@
 // The commands, and the words that say them.
-ghost use Rattle.std.specs.Prelude.{◌≡◌, ◌≤◌, length};
+ghost use Rattle.std.specs.Prelude.{◌≡◌, ◌≤◌, ◌∷◌, length};
 ghost use Rattle.words.specs.Given.{Gives};
 ghost use Rattle.words.specs.Texts.{texts};
-ghost use Rattle.command.specs.Grammar.{place_of, amount_of, span_of, patch_of, alone_of, disk_of, is_merge, made_line_of, create_of, remove_of, load_of, save_of, message_of, tick_of, read_of, write_of, step_of, settle_of, status_of, table_of, command_of};
+ghost use Rattle.command.specs.Grammar.{place_of, amount_of, span_of, patch_of, alone_of, disk_of, is_merge, made_line_of, create_of, remove_of, load_of, save_of, message_of, tick_of, read_of, write_of, start_read_of, start_write_of, start_of, step_of, settle_of, status_of, table_of, command_of};
 
 use super::data_words::{payload, sectors};
 use super::events::{Event, event_in};
@@ -63,6 +63,18 @@ pub enum Command {
         first: u32,
         bytes: Buf,
     },
+    /// `start DEV read S N`: starts a read of an origin or snapshot, inside one piece. `count` is 1 to 2048.
+    StartRead {
+        device: Name,
+        first: u32,
+        count: u32,
+    },
+    /// `start DEV write S DATA`: starts a write of an origin or snapshot, inside one piece. 1 to 2048 sectors.
+    StartWrite {
+        device: Name,
+        first: u32,
+        bytes: Buf,
+    },
     /// `step VOL EVENT`: one event of the volume of an origin.
     Step {
         volume: Name,
@@ -102,12 +114,12 @@ fn amount(words: &[&[u8]]) -> Result<u32, Refusal>
     }
 }
 
-#[tactic(auto, using(crate::proofs::Counts::span_short))]
-fn span(words: &[&[u8]]) -> Result<(Name, u32, u32), Refusal>
-    ensures { result ≡ span_of (texts words.now) }
+// The sectors that some words say of what is named.
+fn span_at(name: &[u8], words: &[&[u8]]) -> Result<(Name, u32, u32), Refusal>
+    ensures { result ≡ span_of (name.now ∷ texts words.now) }
 {
     match words {
-        [name, first, words @ ..] => {
+        [first, words @ ..] => {
             let (name, first) = place(name, first)?;
             let count = amount(words)?;
             Ok((name, first, count))
@@ -116,17 +128,36 @@ fn span(words: &[&[u8]]) -> Result<(Name, u32, u32), Refusal>
     }
 }
 
-#[tactic(auto, using(crate::proofs::Counts::patch_short))]
+fn span(words: &[&[u8]]) -> Result<(Name, u32, u32), Refusal>
+    ensures { result ≡ span_of (texts words.now) }
+{
+    match words {
+        [name, words @ ..] => span_at(name, words),
+        _ => Err(Refusal::BadTable),
+    }
+}
+
+// The bytes of sectors that some words say for what is named.
+fn patch_at(alloc: Global, name: &[u8], words: &[&[u8]]) -> Result<(Name, u32, Buf), Refusal>
+    requires { length words.now ≤ 1048576 }
+    ensures { Gives result (patch_of (name.now ∷ texts words.now)) }
+{
+    match words {
+        [first, words @ ..] => {
+            let (name, first) = place(name, first)?;
+            let bytes = payload(alloc, words)?;
+            Ok((name, first, bytes))
+        }
+        _ => Err(Refusal::BadTable),
+    }
+}
+
 fn patch(alloc: Global, words: &[&[u8]]) -> Result<(Name, u32, Buf), Refusal>
     requires { length words.now ≤ 1048576 }
     ensures { Gives result (patch_of (texts words.now)) }
 {
     match words {
-        [name, first, words @ ..] => {
-            let (name, first) = place(name, first)?;
-            let bytes = payload(alloc, words)?;
-            Ok((name, first, bytes))
-        }
+        [name, words @ ..] => patch_at(alloc, name, words),
         _ => Err(Refusal::BadTable),
     }
 }
@@ -261,6 +292,48 @@ fn write(alloc: Global, words: &[&[u8]]) -> Result<Command, Refusal>
     })
 }
 
+fn start_read(device: &[u8], words: &[&[u8]]) -> Result<Command, Refusal>
+    ensures { result ≡ start_read_of (device.now ∷ texts words.now) }
+{
+    let (device, first, count) = span_at(device, words)?;
+    Ok(Command::StartRead {
+        device,
+        first,
+        count,
+    })
+}
+
+fn start_write(alloc: Global, device: &[u8], words: &[&[u8]]) -> Result<Command, Refusal>
+    requires { length words.now ≤ 1048576 }
+    ensures { Gives result (start_write_of (device.now ∷ texts words.now)) }
+{
+    let (device, first, bytes) = patch_at(alloc, device, words)?;
+    Ok(Command::StartWrite {
+        device,
+        first,
+        bytes,
+    })
+}
+
+#[tactic(auto, using(crate::proofs::Counts::start_short))]
+fn start(alloc: Global, words: &[&[u8]]) -> Result<Command, Refusal>
+    requires { length words.now ≤ 1048576 }
+    ensures { Gives result (start_of (texts words.now)) }
+{
+    match words {
+        [device, kind, words @ ..] => {
+            if *kind == b"read".as_slice() {
+                start_read(device, words)
+            } else if *kind == b"write".as_slice() {
+                start_write(alloc, device, words)
+            } else {
+                Err(Refusal::BadTable)
+            }
+        }
+        _ => Err(Refusal::BadTable),
+    }
+}
+
 fn step(words: &[&[u8]]) -> Result<Command, Refusal>
     ensures { result ≡ step_of (texts words.now) }
 {
@@ -321,6 +394,8 @@ pub fn command_in(alloc: Global, words: &[&[u8]]) -> Result<Command, Refusal>
         read(words)
     } else if *verb == b"write".as_slice() {
         write(alloc, words)
+    } else if *verb == b"start".as_slice() {
+        start(alloc, words)
     } else if *verb == b"step".as_slice() {
         step(words)
     } else if *verb == b"settle".as_slice() {

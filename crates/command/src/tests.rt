@@ -21,7 +21,7 @@ fn refuse(rt: &impl Abort, alloc: Global, lines: &[&str], refusal: Refusal) {
 #[test]
 fn refuses_words_names_and_numbers_of_another_form(rt: HostRuntime) {
     let lines = [
-        "start",
+        "begin",
         "disk",
         "disk d",
         "disk d 8 9",
@@ -68,6 +68,28 @@ fn refuses_sectors_and_data_of_another_form(rt: HostRuntime) {
         "write vol 0 512*aa x",
         "write vol 0 1048576*00 1048576*00 1*00",
         "load Disk 0 1048576*00 1048576*00",
+    ];
+    refuse(&rt, rt.alloc(), &lines, Refusal::BadTable);
+}
+
+#[test]
+fn refuses_starts_of_another_form(rt: HostRuntime) {
+    let lines = [
+        "start",
+        "start vol",
+        "start vol read",
+        "start vol read 0",
+        "start vol read 0 0 0",
+        "start Vol read 0 0",
+        "start vol Read 0 1",
+        "start read vol 0 1",
+        "start vol save 0 1",
+        "start vol read x 0",
+        "start vol write",
+        "start vol write 0",
+        "start vol write 0 511*aa",
+        "start vol write 0 512*aa x",
+        "start vol write x 1048576*00 512*00",
     ];
     refuse(&rt, rt.alloc(), &lines, Refusal::BadTable);
 }
@@ -140,6 +162,9 @@ fn refuses_numbers_of_sectors_that_no_command_moves(rt: HostRuntime) {
         "read nosuch 0 0",
         "read vol 0 2049",
         "save d 0 4294967295",
+        "start nosuch read 0 0",
+        "start vol read 0 2049",
+        "start vol write 0 1048576*00 512*00",
         "write nosuch 0 1048576*00 1048576*00",
         "load d 0 1048576*00 512*00",
     ];
@@ -181,6 +206,38 @@ fn reads_the_bytes_of_a_load(rt: HostRuntime) -> Result<(), Fail> {
 }
 
 #[test]
+fn reads_what_a_start_says(rt: HostRuntime) -> Result<(), Fail> {
+    let started = said(rt.alloc(), b"start vol read 17 02", LINE_LIMIT)?;
+    let Some(
+        Command::StartRead {
+            device,
+            first,
+            count,
+        },
+    ) = &started
+    else {
+        return Err(Fail::from("no start of a read"));
+    };
+    assert_eq!(rt; device.as_slice(), b"vol".as_slice());
+    assert_eq!(rt; (*first, *count), (17, 2));
+    let started = said(rt.alloc(), b"start snap write 9 512*5a", LINE_LIMIT)?;
+    let Some(
+        Command::StartWrite {
+            device,
+            first,
+            bytes,
+        },
+    ) = &started
+    else {
+        return Err(Fail::from("no start of a write"));
+    };
+    assert_eq!(rt; device.as_slice(), b"snap".as_slice());
+    assert_eq!(rt; *first, 9);
+    assert_eq!(rt; bytes.as_slice(), [0x5a; 512].as_slice());
+    Ok(())
+}
+
+#[test]
 fn reads_a_table_line(rt: HostRuntime) -> Result<(), Fail> {
     let line = b"  create snap 0 0128  snapshot base cow P 16 0 ";
     let created = said(rt.alloc(), line, LINE_LIMIT)?;
@@ -215,6 +272,8 @@ fn reads_each_command(rt: HostRuntime) -> Result<(), Fail> {
         ("save cow 4294967295 2048", "save"),
         ("read vol 5 1", "read"),
         ("write vol 5 1048576*aa", "write"),
+        ("start vol read 4294967295 2048", "start read"),
+        ("start vol write 5 1048576*aa", "start write"),
         ("message du 0 disable", "message"),
         ("tick 4294967295", "tick"),
         ("status snap", "status"),
@@ -238,6 +297,8 @@ fn kind_of(command: &Command) -> &'static str {
         Command::Tick { .. } => "tick",
         Command::Read { .. } => "read",
         Command::Write { .. } => "write",
+        Command::StartRead { .. } => "start read",
+        Command::StartWrite { .. } => "start write",
         Command::Step { .. } => "step",
         Command::Settle { .. } => "settle",
         Command::Status { .. } => "status",

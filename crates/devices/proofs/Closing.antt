@@ -1,15 +1,15 @@
 -- An origin that goes, and whose stack is left.
-use Rattle.std.proofs.Common.{◌≡◌, ◌≢◌, ℕ, ◌<◌, List, [], ◌∷◌, ◌++◌, Bool, true, false, length, get_or, refl, sym, ap, ◌∙◌, subst, arith}
+use Rattle.std.proofs.Common.{◌≡◌, ◌≢◌, ◌⊎◌, ℕ, ◌<◌, List, [], ◌∷◌, ◌++◌, Bool, true, false, length, get_or, refl, sym, ap, ◌∙◌, inl, inr, subst, arith}
 use Rattle.std.specs.Prelude.{Result, Ok, Err, nat_lt, if◌then◌else◌}
 use Rattle.std.specs.List.{remove, insert}
 use Rattle.std.proofs.lemmas.Bool.{lt-ltb}
 use Rattle.sector.specs.declared.refusal.Refusal.{Refusal}
-use Rattle.sector.specs.declared.refusal.Refusal.TheVariants.{Busy, NoMemory}
+use Rattle.sector.specs.declared.refusal.Refusal.TheVariants.{Busy, NotQuiet}
 use Rattle.device.specs.Layers.{is_loud}
 use Rattle.words.specs.Given.{◌>>=◌}
 use Rattle.named.specs.State.{Stacked, Names, Volume, Table}
 use Rattle.named.specs.Changes.{Changes}
-use Rattle.named.specs.Origins.{closed, stack_under}
+use Rattle.named.specs.Origins.{closed, stack_under, still}
 use Rattle.named.specs.Sound.{is_sound}
 use Rattle.named.proofs.AtPlace.{volume_here}
 use Rattle.named.proofs.SoundFrames.{left_over_sound, volume_sound}
@@ -27,25 +27,39 @@ with_one : (snaps : List Names) (rule : Result Table Refusal) → snaps ≢ [] �
 with_one [] rule some = absurd (some refl)
 with_one (names ∷ snaps) rule some = busy_where (nat_lt 0 (length (names ∷ snaps))) rule (lt-ltb 0 (length (names ∷ snaps)) (omega arith))
 
-pub closed_is : (table : Table) (v : ℕ) (old : Volume) (stacked : Stacked) (stacks : List Stacked) (volumes : List Volume) → v < length table.volumes → old ≡ get_or table.volumes v old → (old.snaps ≡ []) × (stacked ≡ stack_under old) → stacks ≡ table.stacks ++ stacked ∷ [] → volumes ≡ remove table.volumes v → closed v table ≡ Ok (record { stacks = stacks; volumes = volumes })
+still_goes : (volume : Volume) (rule : Result Table Refusal) → volume.quiet ≡ true → (still volume >>= λ _. rule) ≡ rule
+still_goes volume rule quiet = rw quiet refl
+
+still_refuses : (volume : Volume) (rule : Result Table Refusal) → volume.quiet ≡ false → (still volume >>= λ _. rule) ≡ Err NotQuiet
+still_refuses volume rule loud = rw loud refl
+
+pub closed_is : (table : Table) (v : ℕ) (old : Volume) (stacked : Stacked) (stacks : List Stacked) (volumes : List Volume) → v < length table.volumes → old ≡ get_or table.volumes v old → (old.snaps ≡ []) × (old.quiet ≡ true) × (stacked ≡ stack_under old) → stacks ≡ table.stacks ++ stacked ∷ [] → volumes ≡ remove table.volumes v → closed v table ≡ Ok (record { stacks = stacks; volumes = volumes })
 unfolding closed
 closed_is table v old stacked stacks volumes lt at left more less =
     let there = volume_here table v old lt at in
     let by_stack : Stacked → Result Table Refusal = λ s. Ok (record { stacks = table.stacks ++ s ∷ []; volumes = remove table.volumes v }) in
     let by_stacks : List Stacked → Result Table Refusal = λ ss. Ok (record { stacks = ss; volumes = remove table.volumes v }) in
     let by_volumes : List Volume → Result Table Refusal = λ ws. Ok (record { stacks = stacks; volumes = ws }) in
-    rw there (without old.snaps (by_stack (stack_under old)) left.0 ∙ ap by_stack (sym left.1) ∙ ap by_stacks (sym more) ∙ ap by_volumes (sym less))
+    rw there (without old.snaps (still old >>= λ _. by_stack (stack_under old)) left.0 ∙ still_goes old (by_stack (stack_under old)) left.1 ∙ ap by_stack (sym left.2) ∙ ap by_stacks (sym more) ∙ ap by_volumes (sym less))
 
-closed_busy : (table : Table) (v : ℕ) (old : Volume) → v < length table.volumes → old ≡ get_or table.volumes v old → old.snaps ≢ [] → closed v table ≡ Err Busy
+-- why it stays
+abbrev pub Stays : Refusal → Volume → Type 0
+Stays e old = ((e ≡ Busy) × (old.snaps ≢ [])) ⊎ ((e ≡ NotQuiet) × (old.snaps ≡ []) × (old.quiet ≡ false))
+
+closed_refused : (table : Table) (v : ℕ) (old : Volume) (e : Refusal) → v < length table.volumes → old ≡ get_or table.volumes v old → Stays e old → closed v table ≡ Err e
 unfolding closed
-closed_busy table v old lt at some = let there = volume_here table v old lt at in rw there (with_one old.snaps _ some)
+closed_refused table v old e lt at (inl busy) =
+    let there = volume_here table v old lt at in rw there (with_one old.snaps _ busy.1 ∙ ap (λ (r : Refusal). Err r) (sym busy.0))
+closed_refused table v old e lt at (inr loud) =
+    let there = volume_here table v old lt at in
+    rw there (without old.snaps _ loud.1 ∙ still_refuses old _ loud.2 ∙ ap (λ (r : Refusal). Err r) (sym loud.0))
 
--- a volume that has snapshots goes back to its place
-pub stays : (table : Table) (v : ℕ) (old back : Volume) (stacks : List Stacked) (volumes new : List Volume) (e : Refusal) → v < length table.volumes → old ≡ get_or table.volumes v old → (e ≡ Busy) × (old.snaps ≢ []) × (back ≡ old) → stacks ≡ table.stacks → volumes ≡ remove table.volumes v → new ≡ insert volumes v back → Changes (Err e) table (record { stacks = stacks; volumes = new }) (closed v table)
-stays table v old back stacks volumes new e lt at busy same out put = (
+-- a volume that stays goes back to its place
+pub stays : (table : Table) (v : ℕ) (old back : Volume) (stacks : List Stacked) (volumes new : List Volume) (e : Refusal) → v < length table.volumes → old ≡ get_or table.volumes v old → Stays e old × (back ≡ old) → stacks ≡ table.stacks → volumes ≡ remove table.volumes v → new ≡ insert volumes v back → Changes (Err e) table (record { stacks = stacks; volumes = new }) (closed v table)
+stays table v old back stacks volumes new e lt at why same out put = (
   ap (λ (ss : List Stacked). record { stacks = ss; volumes = new }) same
-      ∙ ap (λ (ws : List Volume). record { stacks = table.stacks; volumes = ws }) (restored table.volumes volumes new v old back lt out at busy.2 put),
-  λ other. closed_busy table v old lt at busy.1 ∙ ap (λ (r : Refusal). Err r) (sym busy.0),
+      ∙ ap (λ (ws : List Volume). record { stacks = table.stacks; volumes = ws }) (restored table.volumes volumes new v old back lt out at why.1 put),
+  λ other. closed_refused table v old e lt at why.0,
 )
 
 pub closed_sound : (table : Table) (v : ℕ) (old : Volume) (stacked : Stacked) (stacks : List Stacked) (volumes : List Volume) → v < length table.volumes → old ≡ get_or table.volumes v old → (old.sound ≡ true → is_loud stacked.device.layers ≡ true) → stacks ≡ table.stacks ++ stacked ∷ [] → volumes ≡ remove table.volumes v → is_sound table ≡ true → is_sound (record { stacks = stacks; volumes = volumes }) ≡ true

@@ -1,12 +1,11 @@
 -- A command on the volume at a place.
-use Rattle.std.proofs.Common.{◌≡◌, ◌⊎◌, ℕ, ◌<◌, List, length, get_or, refl, sym, ap, ◌∙◌, inl, inr, true}
+use Rattle.std.proofs.Common.{◌≡◌, ◌⊎◌, ℕ, ◌<◌, List, length, get_or, refl, ap, inl, inr}
 use Rattle.std.specs.Prelude.{Result, Ok, Err}
 use Rattle.sector.specs.declared.refusal.Refusal.{Refusal}
-use Rattle.sector.specs.declared.refusal.Refusal.TheVariants.{NoMemory}
-use Rattle.words.specs.Given.{◌>>=◌, Gives}
+use Rattle.words.specs.Given.{Gives}
 use Rattle.named.specs.declared.place.Role.{Role}
 use Rattle.named.specs.declared.place.Place.TheVariants.{In}
-use Rattle.named.specs.State.{Stacked, Volume, Table}
+use Rattle.named.specs.State.{Volume, Table}
 use Rattle.named.specs.Places.{place_of, found, volume_at}
 use Rattle.named.specs.Raw.{whole, in_use, load, loaded_at}
 use Rattle.named.specs.Changes.{Did, Does}
@@ -34,6 +33,10 @@ does_in {A = A} (Err e) holds command v table old new lt at did = (
       let h = did.0 other in rw there (ap (λ (d : Did A Volume). record { answer = d.answer; left = put_volume v d.left table }) h),
   λ none. starved_in holds v table old new lt at (did.1 none),
 )
+
+-- what holds of the volume that was changed
+pub changed_in : (holds : Volume → Volume → Type 0) (v : ℕ) (table : Table) (old new : Volume) → v < length table.volumes → old ≡ get_or table.volumes v old → holds old new → IsInVolume holds v table (put_volume v new table) (volume_at v table)
+changed_in holds v table old new lt at did = let there = volume_here table v old lt at in rw there (new, did, refl)
 
 -- the status line of a device of it
 pub shown_in : (r : Result (List ℕ) Refusal) (v : ℕ) (role : Role) (table : Table) (old : Volume) → v < length table.volumes → old ≡ get_or table.volumes v old → Gives r (status_in role old) → Gives r (status_at (In v role) table)

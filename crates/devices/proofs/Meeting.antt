@@ -1,18 +1,15 @@
 -- A stack that was taken out of the table, and a volume that it is attached to or not.
-use Rattle.std.proofs.Common.{◌≡◌, ◌≢◌, ℕ, ◌<◌, List, [], ◌∷◌, ◌++◌, ◌&&◌, true, false, length, get_or, set, refl, sym, ap, ◌∙◌, subst}
-use Rattle.std.specs.Prelude.{Result, Ok, Err, Some, None, nat_le}
+use Rattle.std.proofs.Common.{◌≡◌, ◌≢◌, ℕ, ◌<◌, List, false, length, get_or, set, refl, sym, ap, ◌∙◌, subst}
+use Rattle.std.specs.Prelude.{Ok, Err, Some, None, nat_le}
 use Rattle.std.specs.List.{remove}
 use Rattle.sector.specs.declared.refusal.Refusal.{Refusal}
 use Rattle.sector.specs.declared.refusal.Refusal.TheVariants.{NoMemory}
-use Rattle.device.specs.Layers.{is_loud}
-use Rattle.words.specs.Given.{◌>>=◌}
 use Rattle.named.specs.State.{Stacked, Volume, Table}
 use Rattle.named.specs.Places.{place_of}
 use Rattle.named.specs.Disks.{device_count}
 use Rattle.named.specs.Naming.{AreNamed}
-use Rattle.named.specs.Changes.{Did, Does}
-use Rattle.named.specs.Snapshots.{Met, meet, snapshot_left, snapshot_met, snapshot_by}
-use Rattle.named.specs.Sound.{is_sound}
+use Rattle.named.specs.Changes.{Does}
+use Rattle.named.specs.Snapshots.{meet, snapshot_left, snapshot_met, snapshot_by}
 use Rattle.named.proofs.AtPlace.{put_back, stack_here, volume_here}
 use Rattle.named.proofs.NamedFrames.{taken_by_named, put_named}
 use Rattle.named_volume.specs.Names.{IsNamedMore}

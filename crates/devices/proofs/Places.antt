@@ -1,5 +1,5 @@
 -- What was taken out of a list goes back to its place.
-use Rattle.std.proofs.Common.{◌≡◌, ℕ, zero, suc, ◌<◌, List, [], ◌∷◌, length, get_or, set, refl, sym, ap, ◌∙◌, arith}
+use Rattle.std.proofs.Common.{◌≡◌, ℕ, zero, suc, ◌<◌, List, [], ◌∷◌, length, get_or, set, refl, ap, ◌∙◌, arith}
 use Rattle.std.specs.List.{remove, insert}
 use Rattle.std.proofs.lemmas.List.{set-get_or}
 

@@ -29,8 +29,8 @@ fn take_top(held: &mut Held, i: usize)
 }
 
 /// `remove NAME`: takes a device away that no other uses; what an origin or a snapshot stood on is left as it is. In this
-/// order: `NoSuchDevice` for a name that no device has, `Busy` where another device uses it, `NoMemory` where the allocator
-/// refuses room for what is left.
+/// order: `NoSuchDevice` for a name that no device has, `Busy` where another device uses it, `NotQuiet` for an origin or a
+/// snapshot whose volume has something left to do, `NoMemory` where the allocator refuses room for what is left.
 #[tactic(auto, unfolding(named::specs::Removing::take_away))]
 pub fn remove_device(held: &mut Held, name: &Name) -> Result<(), Refusal>
     ensures done { Changes result (table_of held.old) (table_of held.new) (take_away name.now (table_of held.old)) }

@@ -6,12 +6,14 @@ ghost use Rattle.named.specs.Places.{IsPlaceIn, volume_at};
 ghost use Rattle.named.specs.Sectors.{IsInVolume, IsPartWritten, IsReadAsked, IsReadStarved, IsWriteStarved, in_volume, read, read_in, write, written_in};
 ghost use Rattle.named.specs.Sound.{is_sound};
 ghost use Rattle.named.specs.declared.place.Place.TheVariants.{In};
-ghost use Rattle.devices.specs.Devices.{table_of};
+ghost use Rattle.named_volume.specs.Names.{KeepsNames};
+ghost use Rattle.devices.specs.Devices.{KeepsOthers, table_of};
 
 use crate::find::find_device;
 use crate::held::Held;
 use named::{Place, Role};
 use named_stack::{some_sectors, whole_sectors};
+use resting::Replied;
 use sector::{Buf, Refusal};
 use std::alloc::Global;
 use words::Name;
@@ -24,37 +26,44 @@ fn read_at(
     role: Role,
     first: u32,
     count: u32,
+    ended: &mut Vec<Replied>,
 ) -> Result<Buf, Refusal>
     requires place { IsPlaceIn (In v role) (table_of held.old) }
     requires some { 0 < count }
     requires few { count ≤ 2048 }
     ensures done { is_sound (table_of held.old) ≡ true → Does result (table_of held.new) (λ t. (t ≡ table_of held.old) ⊎ IsInVolume (IsReadAsked count) v (table_of held.old) t (volume_at v (table_of held.old))) (in_volume v (table_of held.old) (read_in role first count) (volume_at v (table_of held.old))) }
+    ensures told { is_sound (table_of held.old) ≡ true → ended.new.items ≡ ended.old.items }
+    ensures one { IsInVolume KeepsNames v (table_of held.old) (table_of held.new) (volume_at v (table_of held.old)) }
     ensures sound { is_sound (table_of held.old) ≡ true → is_sound (table_of held.new) ≡ true }
     ensures named { AreNamed (table_of held.old) → AreNamed (table_of held.new) }
 {
-    held.volumes[v].read(alloc, role, first, count)
+    held.volumes[v].read(alloc, role, first, count, ended)
 }
 
 /// `read DEV S N`: so many sectors of an origin or of a snapshot. In this order: `OutOfRange` for a number of sectors
 /// outside 1 to 2048, `NoSuchDevice` for a name that no device has, `BadTable` for a disk or a layer, `OutOfRange` where
 /// the sectors don't lie inside the origin, `TooMany` where the volume has taken too many, then what its devices answer.
-/// Devices are met also where they answer with an error; `NoMemory` may come before and after that.
-#[tactic(auto, unfolding(named::specs::Sectors::read, named::specs::Sectors::IsReadStarved))]
+/// Devices are met also where they answer with an error; `NoMemory` may come before and after that. Requests that are in
+/// flight may end in it: their replies go to the end of `ended`.
+#[tactic(auto, unfolding(named::specs::Sectors::read, named::specs::Sectors::IsReadStarved, crate::specs::Devices::KeepsOthers))]
 pub fn read_device(
     alloc: Global,
     held: &mut Held,
     name: &Name,
     first: u32,
     count: u32,
+    ended: &mut Vec<Replied>,
 ) -> Result<Buf, Refusal>
     ensures done { is_sound (table_of held.old) ≡ true → Does result (table_of held.new) (λ t. (t ≡ table_of held.old) ⊎ IsReadStarved name.now first count (table_of held.old) t) (read name.now first count (table_of held.old)) }
+    ensures told { is_sound (table_of held.old) ≡ true → ended.new.items ≡ ended.old.items }
+    ensures one { KeepsOthers name.now (table_of held.old) (table_of held.new) }
     ensures sound { is_sound (table_of held.old) ≡ true → is_sound (table_of held.new) ≡ true }
     ensures named { AreNamed (table_of held.old) → AreNamed (table_of held.new) }
 {
     let count = some_sectors(count)?;
     match find_device(held, name)? {
         Place::Free(_, _) => Err(Refusal::BadTable),
-        Place::In(v, role) => read_at(alloc, held, v, role, first, count),
+        Place::In(v, role) => read_at(alloc, held, v, role, first, count, ended),
     }
 }
 
@@ -67,31 +76,38 @@ fn write_at(
     first: u32,
     count: u32,
     bytes: &[u8],
+    ended: &mut Vec<Replied>,
 ) -> Result<(), Refusal>
     requires place { IsPlaceIn (In v role) (table_of held.old) }
     requires some { 0 < count }
     requires few { count ≤ 2048 }
     requires room { length bytes.now ≡ 512 * count }
     ensures done { is_sound (table_of held.old) ≡ true → Does result (table_of held.new) (λ t. (t ≡ table_of held.old) ⊎ IsInVolume (IsPartWritten role first count bytes.now) v (table_of held.old) t (volume_at v (table_of held.old))) (in_volume v (table_of held.old) (written_in role first count bytes.now) (volume_at v (table_of held.old))) }
+    ensures told { is_sound (table_of held.old) ≡ true → ended.new.items ≡ ended.old.items }
+    ensures one { IsInVolume KeepsNames v (table_of held.old) (table_of held.new) (volume_at v (table_of held.old)) }
     ensures sound { is_sound (table_of held.old) ≡ true → is_sound (table_of held.new) ≡ true }
     ensures named { AreNamed (table_of held.old) → AreNamed (table_of held.new) }
 {
-    held.volumes[v].write(alloc, role, first, count, bytes)
+    held.volumes[v].write(alloc, role, first, count, bytes, ended)
 }
 
 /// `write DEV S DATA`: writes sectors of an origin or of a snapshot. In this order: `BadTable` for bytes that are no whole
 /// sectors, `OutOfRange` where they are not 1 to 2048, `NoSuchDevice` for a name that no device has, `BadTable` for a disk
 /// or a layer, `OutOfRange` where the sectors don't lie inside the origin, `TooMany` where the volume has taken too many,
-/// then what its devices answer. `NoMemory` may come where some first pieces were written.
-#[tactic(auto, unfolding(named::specs::Sectors::write, named::specs::Sectors::IsWriteStarved))]
+/// then what its devices answer. `NoMemory` may come where some first pieces were written. Requests that are in flight may
+/// end in it: their replies go to the end of `ended`.
+#[tactic(auto, unfolding(named::specs::Sectors::write, named::specs::Sectors::IsWriteStarved, crate::specs::Devices::KeepsOthers))]
 pub fn write_device(
     alloc: Global,
     held: &mut Held,
     name: &Name,
     first: u32,
     bytes: &Buf,
+    ended: &mut Vec<Replied>,
 ) -> Result<(), Refusal>
     ensures done { is_sound (table_of held.old) ≡ true → Does result (table_of held.new) (λ t. (t ≡ table_of held.old) ⊎ IsWriteStarved name.now first bytes.now (table_of held.old) t) (write name.now first bytes.now (table_of held.old)) }
+    ensures told { is_sound (table_of held.old) ≡ true → ended.new.items ≡ ended.old.items }
+    ensures one { KeepsOthers name.now (table_of held.old) (table_of held.new) }
     ensures sound { is_sound (table_of held.old) ≡ true → is_sound (table_of held.new) ≡ true }
     ensures named { AreNamed (table_of held.old) → AreNamed (table_of held.new) }
 {
@@ -99,6 +115,6 @@ pub fn write_device(
     let count = whole_sectors(bytes)?;
     match find_device(held, name)? {
         Place::Free(_, _) => Err(Refusal::BadTable),
-        Place::In(v, role) => write_at(alloc, held, v, role, first, count, bytes),
+        Place::In(v, role) => write_at(alloc, held, v, role, first, count, bytes, ended),
     }
 }

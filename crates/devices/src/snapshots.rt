@@ -75,14 +75,18 @@ pub fn make_snapshot(
     meet(alloc, held, name, chunk, v, i)
 }
 
-/// A snapshot goes, and nothing uses its store any more.
+/// A snapshot goes, and nothing uses its store any more. `NotQuiet` where its volume has something left to do.
 pub fn detach(held: &mut Held, v: usize, k: usize) -> Result<(), Refusal>
     requires { IsPlaceIn (In v (Snapshot k)) (table_of held.old) }
     ensures done { Changes result (table_of held.old) (table_of held.new) (left_by v k (table_of held.old)) }
     ensures sound { is_sound (table_of held.old) ≡ true → is_sound (table_of held.new) ≡ true }
 {
     held.stacks.reserve(1).map_err(|_| Refusal::NoMemory)?;
-    let stack = held.volumes[v].detach(k);
-    held.stacks.push_reserved(stack);
-    Ok(())
+    match held.volumes[v].detach(k) {
+        Ok(stack) => {
+            held.stacks.push_reserved(stack);
+            Ok(())
+        }
+        Err(refusal) => Err(refusal),
+    }
 }

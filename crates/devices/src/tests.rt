@@ -39,7 +39,8 @@ fn filled(
 
 /// A sector of an origin or of a snapshot.
 fn shown(alloc: Global, held: &mut Held, name: &[u8], sector: u32) -> Result<Buf, Refusal> {
-    read_device(alloc, held, &Name::new(name)?, sector, 1)
+    let mut ended = Vec::new(alloc);
+    read_device(alloc, held, &Name::new(name)?, sector, 1, &mut ended)
 }
 
 /// Writes sectors of an origin or of a snapshot.
@@ -51,7 +52,8 @@ fn written(
     bytes: &[u8],
 ) -> Result<(), Refusal> {
     let bytes = Buf::from_slice(alloc, bytes).map_err(|_| Refusal::NoMemory)?;
-    write_device(alloc, held, &Name::new(name)?, sector, &bytes)
+    let mut ended = Vec::new(alloc);
+    write_device(alloc, held, &Name::new(name)?, sector, &bytes, &mut ended)
 }
 
 /// Takes a device away.

@@ -25,7 +25,7 @@ use Rattle.named.specs.Disks.{device_count, with_stack, alone, blank, failing, i
 use Rattle.named.specs.Layers.{top, top_of, put, covered, layered, laid, broken, features_of}
 use Rattle.named.specs.Messages.{told_in, told_free, told_role, told_mounted, told_at, tell, put_volume, snap_at, stack_ticked, volume_ticked, ticked}
 use Rattle.named.specs.Raw.{names_at, raw_in, raw_under, fits, whole, loaded_under, loaded_free, in_use, loaded_at, load}
-use Rattle.named.specs.Origins.{same_size, origin_on, moved_under, origin_made, stack_under, closed}
+use Rattle.named.specs.Origins.{same_size, origin_on, moved_under, origin_made, stack_under, still, closed}
 use Rattle.named.specs.Snapshots.{meet, snapshot_met, snapshot_left, stack_back, named_in, snapshot_by, snapshot_made, over, Named, stack_of, without_snapshot, parted, left_by}
 use Rattle.named.specs.Creating.{made, is_merge, create}
 use Rattle.named.specs.Removing.{left_as, lowered_device, lowered_to, with_left, lowered, removed_at, take_away}
@@ -156,9 +156,10 @@ pub closed_named : (v : ℕ) (table : Table) → AreNamed table → AreNamed (ch
 unfolding closed
 closed_named v table named =
     keeps_then AreNamed (volume_at v table) _ table named (λ old at.
-    keeps_if AreNamed (nat_lt 0 (length old.snaps)) Busy (Ok (left_over (stack_under old) v table)) table named (λ none.
+    keeps_if AreNamed (nat_lt 0 (length old.snaps)) Busy (still old >>= λ _. Ok (left_over (stack_under old) v table)) table named (λ none.
+    keeps_then AreNamed (still old) (λ _. Ok (left_over (stack_under old) v table)) table named (λ one quiet.
     let there = volume_there v table old at in
-    left_over_named table v old (stack_under old) there.0 there.1 refl named))
+    left_over_named table v old (stack_under old) there.0 there.1 refl named)))
 
 -- what is parted
 record ArePartNames (k : ℕ) (old : Volume) (parts : Stacked × Volume) : Type 0 where
@@ -179,7 +180,8 @@ unfolding parted
 part_names k old parts h =
     let a = came_by (names_at k old) _ parts h in
     let b = came_by (snap_at k old.state) _ parts a.2 in
-    let c = came_by (stack_of a.0 (given_back b.0.number old.state.snaps)) _ parts b.2 in
+    let q = came_by (still old) _ parts b.2 in
+    let c = came_by (stack_of a.0 (given_back b.0.number old.state.snaps)) _ parts q.2 in
     let is : ◌≡◌ {A = Stacked × Volume} (c.0, without_snapshot k b.0.number old) parts = same_ok _ parts c.2 in
     let there = names_there k old a.0 a.1 in
     subst (ArePartNames k old) is (record { names = a.0; within = there.0; at = there.1; store = stack_names a.0 _ c.0 c.1; origin = refl; under = refl; snaps = refl })

@@ -60,8 +60,15 @@ sound_of stacks volumes a b = of_both _ _ a b
 pub stack_sound : (table : Table) (i : ℕ) (old : Stacked) → is_sound table ≡ true → i < length table.stacks → old ≡ get_or table.stacks i old → is_loud old.device.layers ≡ true
 stack_sound table i old sound lt at = ap is_sound_stack at ∙ passes_at is_sound_stack table.stacks i old (sound_parts table sound).0 lt
 
+pub volume_whole : (table : Table) (v : ℕ) (old : Volume) → is_sound table ≡ true → v < length table.volumes → old ≡ get_or table.volumes v old → is_sound_volume old ≡ true
+volume_whole table v old sound lt at = ap is_sound_volume at ∙ passes_at is_sound_volume table.volumes v old (sound_parts table sound).1 lt
+
+-- none of its devices drops writes, and nothing is in flight
 pub volume_sound : (table : Table) (v : ℕ) (old : Volume) → is_sound table ≡ true → v < length table.volumes → old ≡ get_or table.volumes v old → old.sound ≡ true
-volume_sound table v old sound lt at = ap is_sound_volume at ∙ passes_at is_sound_volume table.volumes v old (sound_parts table sound).1 lt
+volume_sound table v old sound lt at = (both old.sound old.quiet (volume_whole table v old sound lt at)).0
+
+pub volume_quiet : (table : Table) (v : ℕ) (old : Volume) → is_sound table ≡ true → v < length table.volumes → old ≡ get_or table.volumes v old → old.quiet ≡ true
+volume_quiet table v old sound lt at = (both old.sound old.quiet (volume_whole table v old sound lt at)).1
 
 -- one stack more
 pub with_stack_sound : (table : Table) (stacked : Stacked) → is_loud stacked.device.layers ≡ true → is_sound table ≡ true → is_sound (with_stack stacked table) ≡ true
@@ -76,21 +83,21 @@ pub removed_sound : (table : Table) (i : ℕ) → is_sound table ≡ true → is
 removed_sound table i sound = let h = sound_parts table sound in of_both _ _ (all_removed is_sound_stack table.stacks i h.0) h.1
 
 -- another volume at a place
-pub put_volume_sound : (table : Table) (v : ℕ) (new : Volume) → new.sound ≡ true → is_sound table ≡ true → is_sound (put_volume v new table) ≡ true
+pub put_volume_sound : (table : Table) (v : ℕ) (new : Volume) → is_sound_volume new ≡ true → is_sound table ≡ true → is_sound (put_volume v new table) ≡ true
 put_volume_sound table v new whole sound = let h = sound_parts table sound in of_both _ _ h.0 (all_set is_sound_volume table.volumes v new h.1 whole)
 
 -- a stack goes to a new volume
-pub moved_under_sound : (table : Table) (i : ℕ) (volume : Volume) → volume.sound ≡ true → is_sound table ≡ true → is_sound (moved_under i volume table) ≡ true
+pub moved_under_sound : (table : Table) (i : ℕ) (volume : Volume) → is_sound_volume volume ≡ true → is_sound table ≡ true → is_sound (moved_under i volume table) ≡ true
 moved_under_sound table i volume whole sound =
     let h = sound_parts table sound in of_both _ _ (all_removed is_sound_stack table.stacks i h.0) (all_pushed is_sound_volume table.volumes volume h.1 whole)
 
 -- a stack becomes a store of a volume
-pub taken_by_sound : (table : Table) (i v : ℕ) (new : Volume) → new.sound ≡ true → is_sound table ≡ true → is_sound (taken_by i v new table) ≡ true
+pub taken_by_sound : (table : Table) (i v : ℕ) (new : Volume) → is_sound_volume new ≡ true → is_sound table ≡ true → is_sound (taken_by i v new table) ≡ true
 taken_by_sound table i v new whole sound =
     let h = sound_parts table sound in of_both _ _ (all_removed is_sound_stack table.stacks i h.0) (all_set is_sound_volume table.volumes v new h.1 whole)
 
 -- a volume gives a stack back
-pub given_by_sound : (table : Table) (v : ℕ) (stacked : Stacked) (new : Volume) → is_loud stacked.device.layers ≡ true → new.sound ≡ true → is_sound table ≡ true → is_sound (given_by stacked v new table) ≡ true
+pub given_by_sound : (table : Table) (v : ℕ) (stacked : Stacked) (new : Volume) → is_loud stacked.device.layers ≡ true → is_sound_volume new ≡ true → is_sound table ≡ true → is_sound (given_by stacked v new table) ≡ true
 given_by_sound table v stacked new loud whole sound =
     let h = sound_parts table sound in of_both _ _ (all_pushed is_sound_stack table.stacks stacked h.0 loud) (all_set is_sound_volume table.volumes v new h.1 whole)
 

@@ -1,5 +1,5 @@
 -- Each command that makes no layer that drops writes leaves a sound table.
-use Rattle.std.proofs.Common.{◌≡◌, ℕ, ◌+◌, ◌<◌, Bool, true, false, List, [], ◌∷◌, length, get_or, refl, sym, ap, ◌∙◌}
+use Rattle.std.proofs.Common.{◌≡◌, ℕ, ◌+◌, ◌<◌, ◌&&◌, Bool, true, false, List, [], ◌∷◌, length, get_or, refl, sym, ap, ◌∙◌}
 use Rattle.std.specs.Prelude.{Option, Some, None, Result, Ok, Err, is_some, not, nat_le, if◌then◌else◌}
 use Rattle.sector.specs.declared.refusal.Refusal.{Refusal}
 use Rattle.sector.specs.declared.refusal.Refusal.TheVariants.{OutOfRange, Busy, TooMany, BadTable}
@@ -35,9 +35,9 @@ use Rattle.named.specs.Sound.{is_sound_stack, is_sound_volume, is_sound, drops_w
 use Rattle.named.proofs.Keeping.{keeps_if, keeps_unless, keeps_then, answers_then, same_ok, not_ok, came_by, stack_there, volume_there}
 use Rattle.named.proofs.NamedRules.{AreThere, named_there}
 use Rattle.named.proofs.LoudAttach.{IsBackLoud, loud_back}
-use Rattle.named.proofs.SoundFrames.{of_both, all_mapped, stack_sound, volume_sound, with_stack_sound, put_sound, removed_sound, put_volume_sound, moved_under_sound, taken_by_sound, loud_below}
+use Rattle.named.proofs.SoundFrames.{both, of_both, all_mapped, stack_sound, volume_whole, with_stack_sound, put_sound, removed_sound, put_volume_sound, moved_under_sound, taken_by_sound, loud_below}
 
--- a table of which no device drops writes
+-- a table of which no device drops writes, with nothing in flight
 abbrev pub IsSound : Table → Type 0
 IsSound table = is_sound table ≡ true
 
@@ -83,7 +83,7 @@ origin_made_sound name sectors device table sound =
     keeps_then IsSound (stack_at i table) (λ old. same_size sectors (size_of old.device) >>= λ _. Ok (moved_under i (origin_on name old) table)) table sound (λ old at.
     keeps_then IsSound (same_size sectors (size_of old.device)) (λ _. Ok (moved_under i (origin_on name old) table)) table sound (λ one same.
     let there = stack_there i table old at in
-    moved_under_sound table i (origin_on name old) (stack_sound table i old sound there.0 there.1) sound)))
+    moved_under_sound table i (origin_on name old) (of_both _ true (stack_sound table i old sound there.0 there.1) refl) sound)))
 
 -- what a refused attach gives back
 pub back_loud : (name : List ℕ) (chunk : ℕ) (stacked : Stacked) (volume : Volume) → is_loud (meet name chunk stacked volume).stacked.device.layers ≡ is_loud stacked.device.layers
@@ -97,11 +97,13 @@ back_loud name chunk stacked volume =
     by (Some store) h = h
 
 -- a volume that took it
-pub met_whole : (name : List ℕ) (chunk : ℕ) (stacked : Stacked) (volume : Volume) → volume.sound ≡ true → is_loud stacked.device.layers ≡ true → (meet name chunk stacked volume).volume.sound ≡ true
+pub met_whole : (name : List ℕ) (chunk : ℕ) (stacked : Stacked) (volume : Volume) → is_sound_volume volume ≡ true → is_loud stacked.device.layers ≡ true → is_sound_volume (meet name chunk stacked volume).volume ≡ true
 unfolding meet
-met_whole name chunk stacked volume whole loud = of_both volume.sound _ whole loud
+met_whole name chunk stacked volume whole loud =
+    let h = both volume.sound volume.quiet whole in
+    of_both (volume.sound && is_loud stacked.device.layers) volume.quiet (of_both volume.sound _ h.0 loud) h.1
 
-pub snapshot_left_sound : (i v : ℕ) (refused : Option Refusal) (left : Stacked) (new : Volume) (table : Table) → is_loud left.device.layers ≡ true → new.sound ≡ true → IsSound table → IsSound (snapshot_left i v refused left new table).left
+pub snapshot_left_sound : (i v : ℕ) (refused : Option Refusal) (left : Stacked) (new : Volume) (table : Table) → is_loud left.device.layers ≡ true → is_sound_volume new ≡ true → IsSound table → IsSound (snapshot_left i v refused left new table).left
 snapshot_left_sound i v None left new table loud whole sound = taken_by_sound table i v new whole sound
 snapshot_left_sound i v (Some refusal) left new table loud whole sound = put_sound table i left loud sound
 
@@ -113,7 +115,7 @@ snapshot_made_sound name sectors device store chunk table sound = by (named_in s
     on : (n : Named) → AreThere table n → IsSound (snapshot_met n.i n.v (meet name chunk n.stacked n.volume) table).left
     on n there =
         let loud = stack_sound table n.i n.stacked sound there.i_lt there.i_at in
-        let whole = volume_sound table n.v n.volume sound there.v_lt there.v_at in
+        let whole = volume_whole table n.v n.volume sound there.v_lt there.v_at in
         snapshot_left_sound n.i n.v _ _ _ table (back_loud name chunk n.stacked n.volume ∙ loud) (met_whole name chunk n.stacked n.volume whole loud) sound
 
     by : (r : Result Named Refusal) → ((n : Named) → r ≡ Ok n → AreThere table n) → IsSound (snapshot_by name chunk table r).left
@@ -217,11 +219,11 @@ told_free_loud depth message old done h =
     let a = came_by (told_in old.device depth message) _ done h in
     sym (ap (λ (d : Answer × Stacked). is_loud d.1.device.layers) (same_ok _ done a.2)) ∙ told_in_loud old.device depth message a.0 a.1
 
-told_whole : (role : Role) (message : Message) (old : Volume) (done : Answer × Volume) → told_mounted role message old ≡ Ok done → done.1.sound ≡ old.sound
+told_whole : (role : Role) (message : Message) (old : Volume) (done : Answer × Volume) → told_mounted role message old ≡ Ok done → is_sound_volume done.1 ≡ is_sound_volume old
 unfolding told_mounted
 told_whole role message old done h =
     let a = came_by (told_role role message old.state) _ done h in
-    sym (ap (λ (d : Answer × Volume). d.1.sound) (same_ok _ done a.2))
+    sym (ap (λ (d : Answer × Volume). is_sound_volume d.1) (same_ok _ done a.2))
 
 pub told_at_sound : (place : Place) (message : Message) (table : Table) → IsSound table → IsSound (kept table (told_at place message table)).left
 unfolding told_at
@@ -234,7 +236,7 @@ told_at_sound (In v role) message table sound =
     answers_then IsSound (volume_at v table) _ table sound (λ old at.
     answers_then IsSound (told_mounted role message old) (λ done. Ok (done.0, put_volume v done.1 table)) table sound (λ done did.
     let there = volume_there v table old at in
-    put_volume_sound table v done.1 (told_whole role message old done did ∙ volume_sound table v old sound there.0 there.1) sound))
+    put_volume_sound table v done.1 (told_whole role message old done did ∙ volume_whole table v old sound there.0 there.1) sound))
 
 -- `message`
 pub tell_sound : (name : List ℕ) (message : Message) (table : Table) → IsSound table → IsSound (kept table (tell name message table)).left
@@ -254,23 +256,23 @@ ticked_sound seconds table sound = ticked_same_sound seconds table ∙ sound
 
 -- Reads and writes.
 
-in_volume_sound : {A : Type 0} (v : ℕ) (table : Table) (command : Volume → Did A Volume) → ((old : Volume) → (command old).left.sound ≡ old.sound) → IsSound table → IsSound (in_volume v table command (volume_at v table)).left
+in_volume_sound : {A : Type 0} (v : ℕ) (table : Table) (command : Volume → Did A Volume) → ((old : Volume) → is_sound_volume (command old).left ≡ is_sound_volume old) → IsSound table → IsSound (in_volume v table command (volume_at v table)).left
 in_volume_sound v table command same sound = by (volume_at v table) (volume_there v table)
   where
     by : (r : Result Volume Refusal) → ((old : Volume) → r ≡ Ok old → (v < length table.volumes) × (old ≡ get_or table.volumes v old)) → IsSound (in_volume v table command r).left
     by (Err e) there = sound
-    by (Ok old) there = let at = there old refl in put_volume_sound table v (command old).left (same old ∙ volume_sound table v old sound at.0 at.1) sound
+    by (Ok old) there = let at = there old refl in put_volume_sound table v (command old).left (same old ∙ volume_whole table v old sound at.0 at.1) sound
 
-at_role_sound : {A : Type 0} (table : Table) (command : Role → Volume → Did A Volume) (r : Result Place Refusal) → ((role : Role) (old : Volume) → (command role old).left.sound ≡ old.sound) → IsSound table → IsSound (at_role table command r).left
+at_role_sound : {A : Type 0} (table : Table) (command : Role → Volume → Did A Volume) (r : Result Place Refusal) → ((role : Role) (old : Volume) → is_sound_volume (command role old).left ≡ is_sound_volume old) → IsSound table → IsSound (at_role table command r).left
 at_role_sound table command (Err e) same sound = sound
 at_role_sound table command (Ok (Free i depth)) same sound = sound
 at_role_sound table command (Ok (In v role)) same sound = in_volume_sound v table (command role) (same role) sound
 
-read_whole : (count : ℕ) (old : Volume) (asked : Result Asked Refusal) → (read_by count old asked).left.sound ≡ old.sound
+read_whole : (count : ℕ) (old : Volume) (asked : Result Asked Refusal) → is_sound_volume (read_by count old asked).left ≡ is_sound_volume old
 read_whole count old (Err e) = refl
 read_whole count old (Ok asks) = refl
 
-write_whole : (count : ℕ) (bytes : List ℕ) (old : Volume) (asked : Result Asked Refusal) → (write_by count bytes old asked).left.sound ≡ old.sound
+write_whole : (count : ℕ) (bytes : List ℕ) (old : Volume) (asked : Result Asked Refusal) → is_sound_volume (write_by count bytes old asked).left ≡ is_sound_volume old
 write_whole count bytes old (Err e) = refl
 write_whole count bytes old (Ok asks) = refl
 

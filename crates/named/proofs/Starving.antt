@@ -13,9 +13,9 @@ use Rattle.named.specs.Changes.{Did, Does}
 use Rattle.named.specs.Raw.{whole}
 use Rattle.named.specs.Creating.{create}
 use Rattle.named.specs.Sectors.{Asked, asked_of, read, write, IsReadAsked, IsPartWrittenBy, IsPartWritten, IsInVolume, IsAtRole, IsReadStarved, IsWriteStarvedBy, IsWriteStarved}
-use Rattle.named.specs.Sound.{drops_writes}
+use Rattle.named.specs.Sound.{is_sound_volume, drops_writes}
 use Rattle.named.proofs.Keeping.{volume_there}
-use Rattle.named.proofs.SoundFrames.{volume_sound, put_volume_sound}
+use Rattle.named.proofs.SoundFrames.{volume_whole, put_volume_sound}
 use Rattle.named.proofs.SoundRules.{IsSound, create_sound, read_sound, write_sound}
 
 -- a refusal is want of memory, or it isn't
@@ -54,16 +54,16 @@ does_keep {A = A} {T = T} P (Err e) new starved rule h after ran_out = by (memor
     by (inr other) = subst (λ (d : Did A T). P d.left) (h.0 other) after
 
 -- a volume of the same flag
-in_volume_starved : (holds : Volume → Volume → Type 0) (v : ℕ) (old new : Table) → ((was after : Volume) → holds was after → after.sound ≡ was.sound) → IsInVolume holds v old new (volume_at v old) → IsSound old → IsSound new
+in_volume_starved : (holds : Volume → Volume → Type 0) (v : ℕ) (old new : Table) → ((was after : Volume) → holds was after → is_sound_volume after ≡ is_sound_volume was) → IsInVolume holds v old new (volume_at v old) → IsSound old → IsSound new
 in_volume_starved holds v old new same h sound = by (volume_at v old) (volume_there v old) h
   where
     by : (r : Result Volume Refusal) → ((was : Volume) → r ≡ Ok was → (v < length old.volumes) × (was ≡ get_or old.volumes v was)) → IsInVolume holds v old new r → IsSound new
     by (Err e) there h = absurd h
     by (Ok was) there h =
         let at = there was refl in
-        subst IsSound (sym h.2) (put_volume_sound old v h.0 (same was h.0 h.1 ∙ volume_sound old v was sound at.0 at.1) sound)
+        subst IsSound (sym h.2) (put_volume_sound old v h.0 (same was h.0 h.1 ∙ volume_whole old v was sound at.0 at.1) sound)
 
-at_role_starved : (holds : Role → Volume → Volume → Type 0) (old new : Table) (r : Result Place Refusal) → ((role : Role) (was after : Volume) → holds role was after → after.sound ≡ was.sound) → IsAtRole holds old new r → IsSound old → IsSound new
+at_role_starved : (holds : Role → Volume → Volume → Type 0) (old new : Table) (r : Result Place Refusal) → ((role : Role) (was after : Volume) → holds role was after → is_sound_volume after ≡ is_sound_volume was) → IsAtRole holds old new r → IsSound old → IsSound new
 at_role_starved holds old new (Err e) same h sound = absurd h
 at_role_starved holds old new (Ok (Free i depth)) same h sound = absurd h
 at_role_starved holds old new (Ok (In v role)) same h sound = in_volume_starved (holds role) v old new (same role) h sound
@@ -71,11 +71,11 @@ at_role_starved holds old new (Ok (In v role)) same h sound = in_volume_starved 
 pub read_starved_sound : (name : List ℕ) (first count : ℕ) (old new : Table) → IsReadStarved name first count old new → IsSound old → IsSound new
 unfolding IsReadStarved
 read_starved_sound name first count old new h sound =
-    at_role_starved (λ role. IsReadAsked count) old new (found (place_of name old)) (λ role was after is. ap (λ (v : Volume). v.sound) is) h sound
+    at_role_starved (λ role. IsReadAsked count) old new (found (place_of name old)) (λ role was after is. ap is_sound_volume is) h sound
 
-part_written_whole : (count : ℕ) (bytes : List ℕ) (was after : Volume) (asked : Result Asked Refusal) → IsPartWrittenBy count bytes was after asked → after.sound ≡ was.sound
+part_written_whole : (count : ℕ) (bytes : List ℕ) (was after : Volume) (asked : Result Asked Refusal) → IsPartWrittenBy count bytes was after asked → is_sound_volume after ≡ is_sound_volume was
 part_written_whole count bytes was after (Err e) h = absurd h
-part_written_whole count bytes was after (Ok asks) h = ap (λ (v : Volume). v.sound) h.left
+part_written_whole count bytes was after (Ok asks) h = ap is_sound_volume h.left
 
 pub write_starved_sound : (name : List ℕ) (first : ℕ) (bytes : List ℕ) (old new : Table) → IsWriteStarved name first bytes old new → IsSound old → IsSound new
 unfolding IsWriteStarved IsPartWritten

@@ -12,6 +12,8 @@ pub mod Creating
 pub mod Removing
 pub mod Lines
 pub mod Sectors
+pub mod Starting
+pub mod Events
 pub mod Status
 pub mod Sound
 pub mod Naming

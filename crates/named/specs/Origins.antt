@@ -1,9 +1,9 @@
 -- Origins: made over a stack that nothing uses, and taken away again. The line is the kernel's `snapshot-origin`; the order
 -- of the refusals is this project's own.
-use Rattle.std.specs.Prelude.{◌==◌, ℕ, List, [], ◌∷◌, ◌++◌, length, nat_lt, if◌then◌else◌, Result, Ok, Err}
+use Rattle.std.specs.Prelude.{◌==◌, ℕ, true, List, [], ◌∷◌, ◌++◌, length, nat_lt, if◌then◌else◌, Result, Ok, Err}
 use Rattle.std.specs.List.{remove}
 use Rattle.sector.specs.declared.refusal.Refusal.{Refusal}
-use Rattle.sector.specs.declared.refusal.Refusal.TheVariants.{Busy, BadTable}
+use Rattle.sector.specs.declared.refusal.Refusal.TheVariants.{Busy, NotQuiet, BadTable}
 use Rattle.device.specs.Layers.{is_loud}
 use Rattle.words.specs.Given.{◌>>=◌}
 use Rattle.settling.specs.Devices.{sectors_of}
@@ -26,6 +26,7 @@ origin_on name stacked = record {
   given = 0;
   asked = 0;
   sound = is_loud stacked.device.layers;
+  quiet = true;
 }
 
 -- stack i goes to a new volume
@@ -44,9 +45,13 @@ origin_made name sectors device table = do
 abbrev pub stack_under : Volume → Stacked
 stack_under volume = record { names = volume.under; device = volume.state.origin; stale = volume.stale }
 
+-- nothing goes from a volume with requests in flight, or with events left to do
+abbrev pub still : Volume → Result (Unit {0}) Refusal
+still volume = if volume.quiet then Ok tt else Err NotQuiet
+
 -- an origin without snapshots goes, and nothing uses its stack any more
 unfoldable pub closed : ℕ → Table → Result Table Refusal
 closed v table = do
   volume ← volume_at v table
   if nat_lt 0 (length volume.snaps) then Err Busy else
-      Ok (record { stacks = table.stacks ++ stack_under volume ∷ []; volumes = remove table.volumes v })
+      still volume >>= λ _. Ok (record { stacks = table.stacks ++ stack_under volume ∷ []; volumes = remove table.volumes v })

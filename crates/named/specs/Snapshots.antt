@@ -20,7 +20,7 @@ use Rattle.named.specs.Changes.{Did, refused}
 use Rattle.named.specs.Layers.{top, put}
 use Rattle.named.specs.Messages.{snap_at, put_volume, with_device}
 use Rattle.named.specs.Raw.{names_at}
-use Rattle.named.specs.Origins.{same_size}
+use Rattle.named.specs.Origins.{same_size, still}
 
 -- the origin that stands on a device
 abbrev pub over : Option Place → Result ℕ Refusal
@@ -112,6 +112,7 @@ unfoldable pub parted : ℕ → Volume → Result (Stacked × Volume) Refusal
 parted k volume = do
   names ← names_at k volume
   snap ← snap_at k volume.state
+  _ ← still volume
   stacked ← stack_of names (given_back snap.number volume.state.snaps)
   Ok (stacked, without_snapshot k snap.number volume)
 

@@ -1,5 +1,7 @@
 -- Of which devices contracts say what is read and written. A layer that drops writes answers Ok and does nothing (dm-flakey's
--- `drop_writes`), so nothing is said of volumes over such layers but that they are safe.
+-- `drop_writes`), so nothing is said of volumes over such layers but that they are safe. While requests are in flight, what a
+-- command reads and writes depends on them too: then each event's own contract says what it does (`volume`), and these rules
+-- speak again once nothing is left to do.
 use Rattle.std.specs.Prelude.{◌&&◌, Bool, false}
 use Rattle.std.specs.List.{list_all}
 use Rattle.device.specs.Layers.{is_loud}
@@ -11,9 +13,9 @@ abbrev pub is_sound_stack : Stacked → Bool
 is_sound_stack stacked = is_loud stacked.device.layers
 
 abbrev pub is_sound_volume : Volume → Bool
-is_sound_volume volume = volume.sound
+is_sound_volume volume = volume.sound && volume.quiet
 
--- no device drops writes
+-- no device drops writes, and nothing is in flight
 abbrev pub is_sound : Table → Bool
 is_sound table = list_all is_sound_stack table.stacks && list_all is_sound_volume table.volumes
 

@@ -19,7 +19,8 @@ pub record Names : Type 0 where
 -- An origin, the names of the stack under it from the top, the mark of the disk at its bottom, and the names of its
 -- snapshots in order of attaching. The state has the bytes and layers of all its devices, and which snapshots are live.
 -- `given` counts the attaches that were done, `asked` the sectors of the reads and writes that it was asked for; `sound`
--- tells that none of its devices, nor of those that have left it, drops writes.
+-- tells that none of its devices, nor of those that have left it, drops writes; `quiet`, that no request is in flight, no copy
+-- is under way and no invalid mark is wanted.
 pub record Volume : Type 0 where
   pub origin : List ℕ
   pub under : List (List ℕ)
@@ -29,6 +30,7 @@ pub record Volume : Type 0 where
   pub given : ℕ
   pub asked : ℕ
   pub sound : Bool
+  pub quiet : Bool
 
 -- all devices
 pub record Table : Type 0 where

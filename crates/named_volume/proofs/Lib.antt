@@ -1,6 +1,8 @@
 pub mod Meets
 pub mod Places
 pub mod Asks
+pub mod Flies
+pub mod Holds
 pub mod Serves
 pub mod Parts
 pub mod Uses

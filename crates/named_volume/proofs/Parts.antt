@@ -4,6 +4,7 @@ use Rattle.std.specs.Prelude.{Result, Ok, Err, Option, Some, None, slice_get, �
 use Rattle.std.specs.List.{remove, list_all}
 use Rattle.std.proofs.lemmas.Bool.{cases_Bool, cond-true, cond-false}
 use Rattle.std.proofs.lemmas.Option.{slice_get_read}
+use Rattle.sector.specs.declared.refusal.Refusal.TheVariants.{NotQuiet}
 use Rattle.device.specs.Layers.{is_loud}
 use Rattle.layers.specs.declared.stack.Stack.{Stack}
 use Rattle.layers.specs.Stack.{stack_contents, stack_layers}
@@ -15,12 +16,16 @@ use Rattle.resting.specs.Rested.{Attached, Rested, snap_at as first_snap, is_lou
 use Rattle.resting.specs.Leaving.{IsDetachedAs}
 use Rattle.named.specs.Stacks.{device_of}
 use Rattle.named.specs.State.{Stacked, Names, Volume}
+use Rattle.named.specs.Origins.{still}
 use Rattle.named.specs.Snapshots.{parted}
 use Rattle.named_volume.specs.Held.{settled_in, IsSettledIn}
-use Rattle.named_volume.proofs.Places.{IsAt, at_place, stack_snap}
+use Rattle.named_volume.proofs.Places.{IsAt, here, at_place, stack_snap}
+
+pub no_both : (b : Bool) → b ≡ true → b ≡ false → ⊥
+no_both b is isnt = absurd (cc)
 
 -- The snapshot of this place leaves.
-module _ (k : ℕ) (volume : Volume) (before after : Rested Stack) (number : ℕ) (names : Names) (given : StoreDev Stack) (state : volume.state ≡ settled_in before) (lt : k < length volume.snaps) (names_is : names ≡ get_or volume.snaps k names) (within : k < length before.snaps) (is : (d : Attached Stack) → number ≡ (get_or before.snaps k d).number) (out : IsDetachedAs stack_contents stack_layers number given before after) where
+module _ (k : ℕ) (volume : Volume) (before after : Rested Stack) (number : ℕ) (names : Names) (given : StoreDev Stack) (state : volume.state ≡ settled_in before) (lt : k < length volume.snaps) (quiet : volume.quiet ≡ true) (names_is : names ≡ get_or volume.snaps k names) (within : k < length before.snaps) (is : (d : Attached Stack) → number ≡ (get_or before.snaps k d).number) (out : IsDetachedAs stack_contents stack_layers number given before after) where
   pub parted_is : (stacked : Stacked) (new : Volume) → stacked ≡ record { names = names.store; device = device_of given.device; stale = given.stale }
       → new ≡ record volume { snaps = remove volume.snaps k; state = settled_in after }
       → parted k volume ≡ Ok (stacked, new)
@@ -31,7 +36,17 @@ module _ (k : ℕ) (volume : Volume) (before after : Rested Stack) (number : ℕ
       let same : number ≡ at.0.number = is at.0 ∙ ap (λ (s : Attached Stack). s.number) (at.1.is at.0) in
       let left : settled_in after ≡ record { origin = (settled_in before).origin; snaps = detached number (settled_in before).snaps } =
       rw out.origin (rw out.left refl) in
-      rw named (rw state (rw at.1.seen (rw (sym same) (rw out.back (rw stacked_is (rw new_is (rw left refl)))))))
+      let goes : still volume ≡ Ok tt = rw quiet refl in
+      rw named (rw state (rw at.1.seen (rw goes (rw (sym same) (rw out.back (rw stacked_is (rw new_is (rw left refl))))))))
+
+-- nor does one leave a volume with requests in flight
+pub parted_not : (k : ℕ) (volume : Volume) (before : Rested Stack) → volume.state ≡ settled_in before → k < length volume.snaps → k < length before.snaps → volume.quiet ≡ false → parted k volume ≡ Err NotQuiet
+unfolding parted
+parted_not k volume before state lt within busy =
+    let at = at_place before k within in
+    let names = here volume.snaps k lt in
+    let named : slice_get volume.snaps k ≡ Some names.0 = slice_get_read volume.snaps (length volume.snaps) k names.0 refl lt (sym (names.1 names.0)) in
+    rw named (rw state (rw at.1.seen (rw busy refl)))
 
 -- one of devices that drop no writes drops none
 loud_at : (number : ℕ) (xs : List (Attached Stack)) (s : Attached Stack) → first_snap number xs ≡ Some s → list_all (λ (x : Attached Stack). is_loud (stack_layers x.store)) xs ≡ true → is_loud (stack_layers s.store) ≡ true

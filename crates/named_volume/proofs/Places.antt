@@ -16,7 +16,7 @@ use Rattle.named.specs.Sectors.{dev_of}
 use Rattle.named_volume.specs.Held.{settled_in}
 
 -- an element at a place
-here : {X : Type 0} (xs : List X) (k : ℕ) → k < length xs → (x : X) × ((d : X) → get_or xs k d ≡ x)
+pub here : {X : Type 0} (xs : List X) (k : ℕ) → k < length xs → (x : X) × ((d : X) → get_or xs k d ≡ x)
 here [] k lt = absurd (omega (arith, lt))
 here (x ∷ xs) zero lt = (x, λ d. refl)
 here (x ∷ xs) (suc k) lt = here xs k (omega (arith, lt))

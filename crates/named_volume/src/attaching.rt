@@ -1,5 +1,5 @@
 // Snapshots are taken and leave.
-ghost use Rattle.std.specs.Prelude.{◌≡◌, ◌≢◌, ◌&&◌, ◌<◌, true, length, Some, None, Ok, IfErr, OnOk, OnErr};
+ghost use Rattle.std.specs.Prelude.{◌≡◌, ◌≢◌, ◌&&◌, ◌<◌, true, length, Some, None, Ok, Err, IfOk, IfErr, OnOk, OnErr};
 ghost use Rattle.sector.specs.declared.refusal.Refusal.TheVariants.{NoMemory};
 ghost use Rattle.device.specs.Layers.{is_loud};
 ghost use Rattle.named.specs.Snapshots.{meet, parted};
@@ -22,14 +22,16 @@ impl NamedVolume {
         stack: NamedStack,
         chunk: u32,
     ) -> Result<(), (Refusal, NamedStack)>
-        ensures ok { OnOk result (self.old.sound ≡ true → is_loud stack.device.layers ≡ true → ((meet name chunk stack self.old).refused ≡ None) × ((meet name chunk stack self.old).volume ≡ self.new)) }
-        ensures err { IfErr result (λ e. e.0 ≢ NoMemory → self.old.sound ≡ true → is_loud stack.device.layers ≡ true → ((meet name chunk stack self.old).refused ≡ Some e.0) × ((meet name chunk stack self.old).stacked ≡ e.1)) }
+        ensures ok { OnOk result (self.old.sound ≡ true → self.old.quiet ≡ true → is_loud stack.device.layers ≡ true → ((meet name chunk stack self.old).refused ≡ None) × ((meet name chunk stack self.old).volume ≡ self.new)) }
+        ensures err { IfErr result (λ e. e.0 ≢ NoMemory → self.old.sound ≡ true → self.old.quiet ≡ true → is_loud stack.device.layers ≡ true → ((meet name chunk stack self.old).refused ≡ Some e.0) × ((meet name chunk stack self.old).stacked ≡ e.1)) }
         ensures starved { IfErr result (λ e. e.0 ≡ NoMemory → e.1 ≡ stack) }
         ensures named { OnOk result (IsNamedMore name stack self.old self.new) }
         ensures names { IfErr result (λ e. e.1.names ≡ stack.names) }
         ensures same { OnErr result (self.new ≡ self.old) }
         ensures sound { OnOk result (self.new.sound ≡ self.old.sound && is_loud stack.device.layers) }
         ensures loud { IfErr result (λ e. is_loud e.1.device.layers ≡ is_loud stack.device.layers) }
+        ensures quiet { self.new.quiet ≡ self.old.quiet }
+        ensures still { OnOk result (self.old.quiet ≡ true) }
     {
         match self.snaps.reserve(1) {
             Ok(()) => {}
@@ -53,17 +55,23 @@ impl NamedVolume {
         }
     }
 
-    /// Takes the snapshot at a place away, and gives its store back, with a mark where the invalid mark failed.
-    pub fn detach(&mut self, k: usize) -> NamedStack
+    /// Takes the snapshot at a place away, and gives its store back, with a mark where the invalid mark failed. `NotQuiet`
+    /// where a request is in flight or anything is left to do, and then nothing changed.
+    pub fn detach(&mut self, k: usize) -> Result<NamedStack, Refusal>
         requires { k < length self.old.snaps }
-        ensures parted { parted k self.old ≡ Ok (result, self.new) }
-        ensures loud { self.old.sound ≡ true → is_loud result.device.layers ≡ true }
+        ensures parted { IfOk result (λ stack. parted k self.old ≡ Ok (stack, self.new)) }
+        ensures busy { IfErr result (λ e. parted k self.old ≡ Err e) }
+        ensures same { OnErr result (self.new ≡ self.old) }
+        ensures loud { IfOk result (λ stack. self.old.sound ≡ true → is_loud stack.device.layers ≡ true) }
         ensures sound { self.new.sound ≡ self.old.sound }
     {
+        if !self.quiet {
+            return Err(Refusal::NotQuiet);
+        }
         let number = self.volume.number(k);
         let SnapNames { snapshot: _, store } = self.snaps.remove(k);
         match self.volume.detach(number) {
-            Ok(given) => NamedStack::of_parts(store, given.device, given.stale),
+            Ok(given) => Ok(NamedStack::of_parts(store, given.device, given.stale)),
             Err(_) => unreachable!(),
         }
     }

@@ -6,6 +6,7 @@
 #![tactic(auto)]
 
 mod attaching;
+mod flights;
 mod names;
 mod origin;
 mod reporting;

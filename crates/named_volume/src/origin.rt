@@ -1,7 +1,7 @@
 // A volume with the names of its devices.
-ghost use Rattle.std.specs.Prelude.{◌≡◌, ◌≢◌, ◌<◌, ◌-◌, true, [], sum_by, IfOk, IfErr, IfSome, is_some, length, position};
+ghost use Rattle.std.specs.Prelude.{◌≡◌, ◌≢◌, ◌⊎◌, ◌<◌, ◌-◌, true, false, [], sum_by, IfOk, IfErr, IfSome, is_some, length, position};
 ghost use Rattle.std.specs.Str.{bytes_eq};
-ghost use Rattle.sector.specs.declared.refusal.Refusal.TheVariants.{NoMemory, Busy};
+ghost use Rattle.sector.specs.declared.refusal.Refusal.TheVariants.{NoMemory, Busy, NotQuiet};
 ghost use Rattle.device.specs.Layers.{is_loud};
 ghost use Rattle.settling.specs.Devices.{sectors_of as size_of};
 ghost use Rattle.named.specs.Places.{role_of, role_among, store_among, is_among, IsRoleAmong, IsRoleIn};
@@ -28,6 +28,8 @@ pub struct NamedVolume {
     pub(crate) volume: Resting<Stack>,
     pub(crate) asked: u64,
     pub(crate) sound: bool,
+    /// Nothing is in flight or left to do.
+    pub(crate) quiet: bool,
 }
 
 impl Model for NamedVolume {
@@ -36,9 +38,9 @@ impl Model for NamedVolume {
 
     ghost Value = { Volume };
 
-    ghost view = { λ m. record { origin = m.origin; under = m.under.items; stale = m.stale; snaps = m.snaps.items; state = settled_in m.volume; given = m.volume.attached; asked = m.asked; sound = m.sound } };
+    ghost view = { λ m. record { origin = m.origin; under = m.under.items; stale = m.stale; snaps = m.snaps.items; state = settled_in m.volume; given = m.volume.attached; asked = m.asked; sound = m.sound; quiet = m.quiet } };
 
-    ghost invariant = { λ m. IsHeld m.snaps.items m.volume m.asked m.sound };
+    ghost invariant = { λ m. IsHeld m.snaps.items m.volume m.asked m.sound m.quiet };
 }
 
 fn snapshot_of(snaps: &[SnapNames], name: &Name) -> Option<usize>
@@ -114,16 +116,18 @@ impl NamedVolume {
                 volume,
                 asked: 0,
                 sound,
+                quiet: true,
             }),
             Err((refusal, device)) => Err((refusal, NamedStack::of_parts(under, device, stale))),
         }
     }
 
-    /// Gives the stack under the origin back. `Busy` where there is a snapshot.
+    /// Gives the stack under the origin back. In this order: `Busy` where there is a snapshot, `NotQuiet` where a request is in
+    /// flight.
     pub fn close(self) -> Result<NamedStack, (Refusal, NamedVolume)>
-        ensures ok { IfOk result (λ stack. (self.snaps ≡ []) × (stack ≡ stack_under self)) }
+        ensures ok { IfOk result (λ stack. (self.snaps ≡ []) × (self.quiet ≡ true) × (stack ≡ stack_under self)) }
         ensures sound { IfOk result (λ stack. self.sound ≡ true → is_loud stack.device.layers ≡ true) }
-        ensures err { IfErr result (λ e. (e.0 ≡ Busy) × (self.snaps ≢ []) × (e.1 ≡ self)) }
+        ensures err { IfErr result (λ e. (((e.0 ≡ Busy) × (self.snaps ≢ [])) ⊎ ((e.0 ≡ NotQuiet) × (self.snaps ≡ []) × (self.quiet ≡ false))) × (e.1 ≡ self)) }
     {
         let NamedVolume {
             origin,
@@ -133,6 +137,7 @@ impl NamedVolume {
             volume,
             asked,
             sound,
+            quiet,
         } = self;
         match volume.close() {
             Ok(stack) => Ok(NamedStack::of_parts(under, stack, stale)),
@@ -146,6 +151,7 @@ impl NamedVolume {
                     volume,
                     asked,
                     sound,
+                    quiet,
                 },
             )),
         }

@@ -85,7 +85,7 @@ impl NamedVolume {
     #[tactic(auto, unfolding(named::specs::Status::status_in))]
     pub fn status(&self, alloc: Global, role: Role) -> Result<Text, Refusal>
         requires { IsRoleIn role self.now }
-        ensures { self.now.sound ≡ true → Gives result (status_in role self.now) }
+        ensures { self.now.sound ≡ true → self.now.quiet ≡ true → Gives result (status_in role self.now) }
     {
         let sectors = u64::from(sectors_of(self.volume.origin()));
         let text = match role {

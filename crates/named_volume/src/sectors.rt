@@ -16,7 +16,7 @@ use layers::Stack;
 use named::Role;
 use named_stack::{range_in, sectors_of};
 use plain::Dev;
-use resting::Resting;
+use resting::{Replied, Resting};
 use sector::{Buf, Range, Refusal};
 use std::alloc::Global;
 
@@ -57,7 +57,7 @@ fn count_asked(asked: &mut u64, count: u32) -> Result<(), Refusal>
 
 /// What a command asks of a volume that was asked for so many sectors: of which device, and which sectors. They are counted
 /// then. In this order: `BadTable` for disks and layers, `OutOfRange` for sectors past the end, `TooMany`.
-fn ask(
+pub(crate) fn ask(
     volume: &Resting<Stack>,
     asked: &mut u64,
     role: Role,
@@ -92,25 +92,34 @@ fn ask(
 impl NamedVolume {
     /// Reads so many sectors of the origin or of a snapshot, from `first` on. In this order: `BadTable` for disks and layers,
     /// `OutOfRange` for sectors past the end, `TooMany` where 2^60 sectors were asked for in all; then, as the volume reads,
-    /// `Invalid`, `Io` and `NoMemory`.
+    /// `Invalid`, `Io` and `NoMemory`. Where requests are in flight, those that end in the meantime are told at the end of
+    /// `ended`.
     pub fn read(
         &mut self,
         alloc: Global,
         role: Role,
         first: u32,
         count: u32,
+        ended: &mut Vec<Replied>,
     ) -> Result<Buf, Refusal>
         requires role { IsRoleIn role self.old }
         requires some { 0 < count }
         requires few { count ≤ 2048 }
-        ensures done { self.old.sound ≡ true → Does result self.new (λ v. (v ≡ self.old) ⊎ IsReadAsked count self.old v) (read_in role first count self.old) }
+        ensures done { self.old.sound ≡ true → self.old.quiet ≡ true → Does result self.new (λ v. (v ≡ self.old) ⊎ IsReadAsked count self.old v) (read_in role first count self.old) }
+        ensures told { self.old.quiet ≡ true → ended.new.items ≡ ended.old.items }
+        ensures quiet { self.old.quiet ≡ true → self.new.quiet ≡ true }
         ensures kept { KeepsNames self.old self.new }
     {
         let (dev, range) = match ask(&self.volume, &mut self.asked, role, first, count) {
             Ok(asks) => asks,
             Err(refusal) => return Err(refusal),
         };
-        self.volume.read(alloc, dev, range)
+        if self.quiet {
+            return self.volume.read(alloc, dev, range);
+        }
+        let done = self.volume.read_among(alloc, dev, range, ended);
+        self.quiet = self.volume.is_quiet();
+        done
     }
 
     /// Writes sectors of the origin or of a snapshot, from `first` on. Refused as a read is.
@@ -121,18 +130,26 @@ impl NamedVolume {
         first: u32,
         count: u32,
         bytes: &[u8],
+        ended: &mut Vec<Replied>,
     ) -> Result<(), Refusal>
         requires role { IsRoleIn role self.old }
         requires some { 0 < count }
         requires few { count ≤ 2048 }
         requires room { length bytes.now ≡ 512 * count }
-        ensures done { self.old.sound ≡ true → Does result self.new (λ v. (v ≡ self.old) ⊎ IsPartWritten role first count bytes.now self.old v) (written_in role first count bytes.now self.old) }
+        ensures done { self.old.sound ≡ true → self.old.quiet ≡ true → Does result self.new (λ v. (v ≡ self.old) ⊎ IsPartWritten role first count bytes.now self.old v) (written_in role first count bytes.now self.old) }
+        ensures told { self.old.quiet ≡ true → ended.new.items ≡ ended.old.items }
+        ensures quiet { self.old.quiet ≡ true → self.new.quiet ≡ true }
         ensures kept { KeepsNames self.old self.new }
     {
         let (dev, range) = match ask(&self.volume, &mut self.asked, role, first, count) {
             Ok(asks) => asks,
             Err(refusal) => return Err(refusal),
         };
-        self.volume.write(alloc, dev, range, bytes)
+        if self.quiet {
+            return self.volume.write(alloc, dev, range, bytes);
+        }
+        let done = self.volume.write_among(alloc, dev, range, bytes, ended);
+        self.quiet = self.volume.is_quiet();
+        done
     }
 }

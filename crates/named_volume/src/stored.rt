@@ -6,6 +6,7 @@ ghost use Rattle.named.specs.Status.{state_of};
 ghost use Rattle.named_volume.specs.Held.{settled_in, IsSettledIn};
 
 use layers::Stack;
+use plain::SnapId;
 use resting::Resting;
 use status::State;
 
@@ -23,6 +24,14 @@ pub(crate) fn chunk_at(volume: &Resting<Stack>, k: usize) -> u32
     ensures { (d : Snap) → result ≡ (get_or (settled_in volume.now).snaps k d).chunk }
 {
     volume.chunk(k)
+}
+
+/// Its number.
+pub(crate) fn number_at(volume: &Resting<Stack>, k: usize) -> SnapId
+    requires { k < length volume.now.snaps }
+    ensures { (d : Snap) → result ≡ (get_or (settled_in volume.now).snaps k d).number }
+{
+    volume.number(k)
 }
 
 /// What its status line says of it.

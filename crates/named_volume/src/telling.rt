@@ -1,6 +1,7 @@
 // Messages to the layers of a volume, and the time.
 ghost use Rattle.std.specs.Prelude.{◌≡◌, length};
 ghost use Rattle.layers.specs.Stack.{stack_layers, stack_size};
+ghost use Rattle.volume.specs.Leaving.{is_quiet_of};
 ghost use Rattle.resting.specs.Kept.{KeepsDevices};
 ghost use Rattle.named.specs.Changes.{Steps};
 ghost use Rattle.named.specs.Places.{HasRole, IsRoleIn};
@@ -21,6 +22,7 @@ fn tell_role(volume: &mut Resting<Stack>, role: Role, message: &Message) -> Resu
     ensures kept { KeepsDevices stack_layers stack_size volume.old volume.new }
     ensures requests { volume.new.requests ≡ volume.old.requests }
     ensures copies { volume.new.copies ≡ volume.old.copies }
+    ensures quiet { is_quiet_of volume.new.events ≡ is_quiet_of volume.old.events }
 {
     match role {
         Role::Origin | Role::Snapshot(_) => Err(Refusal::BadTable),

@@ -4,6 +4,7 @@ use device::{Block, MemDisk};
 use layers::{Answer, Features, Flakey, Message};
 use named::Role;
 use named_stack::NamedStack;
+use plain::{Event, Op, ReqId};
 use sector::Refusal;
 use std::alloc::Global;
 use std::test::Fail;
@@ -62,7 +63,10 @@ fn write_of(
     byte: u8,
 ) -> Result<(), Refusal> {
     match volume.role(&Name::new(name)?) {
-        Some(role) => volume.write(alloc, role, sector, 1, &[byte; 512]),
+        Some(role) => {
+            let mut ended = Vec::new(alloc);
+            volume.write(alloc, role, sector, 1, &[byte; 512], &mut ended)
+        }
         None => Err(Refusal::NoSuchDevice),
     }
 }
@@ -75,13 +79,11 @@ fn read_of(
     sector: u32,
 ) -> Result<Option<u8>, Refusal> {
     match volume.role(&Name::new(name)?) {
-        Some(role) => Ok(
-            volume
-                .read(alloc, role, sector, 1)?
-                .as_slice()
-                .first()
-                .copied(),
-        ),
+        Some(role) => {
+            let mut ended = Vec::new(alloc);
+            let bytes = volume.read(alloc, role, sector, 1, &mut ended)?;
+            Ok(bytes.as_slice().first().copied())
+        }
         None => Err(Refusal::NoSuchDevice),
     }
 }
@@ -127,7 +129,7 @@ fn closing_refused(volume: NamedVolume) -> Option<(Refusal, usize)> {
 /// The snapshot goes.
 fn part(volume: &mut NamedVolume, name: &[u8]) -> Result<NamedStack, Refusal> {
     match volume.role(&Name::new(name)?) {
-        Some(Role::Snapshot(k)) => Ok(volume.detach(k)),
+        Some(Role::Snapshot(k)) => volume.detach(k),
         _ => Err(Refusal::NoSuchDevice),
     }
 }
@@ -207,6 +209,82 @@ fn a_store_whose_mark_failed_is_stale(rt: HostRuntime) -> Result<(), Fail> {
         Err(_) => 0,
     };
     assert_eq!(rt; left, 2);
+    Ok(())
+}
+
+/// Starts a read of a sector.
+fn start_of(
+    volume: &mut NamedVolume,
+    alloc: Global,
+    name: &[u8],
+    sector: u32,
+) -> Result<ReqId, Refusal> {
+    match volume.role(&Name::new(name)?) {
+        Some(role) => volume.start(alloc, role, sector, 1, Op::Read),
+        None => Err(Refusal::NoSuchDevice),
+    }
+}
+
+/// Why a snapshot doesn't go.
+fn parting_refused(volume: &mut NamedVolume, name: &[u8]) -> Option<Refusal> {
+    match part(volume, name) {
+        Ok(_stack) => None,
+        Err(refusal) => Some(refusal),
+    }
+}
+
+#[test]
+fn what_was_started_ends_when_the_volume_is_settled(rt: HostRuntime) -> Result<(), Fail> {
+    let alloc = rt.alloc();
+    let mut volume = origin_of(alloc)?;
+    take(&mut volume, alloc)?;
+    assert!(rt; volume.is_quiet());
+    let first = start_of(&mut volume, alloc, b"org", 3)?;
+    let second = start_of(&mut volume, alloc, b"snap", 4)?;
+    assert_eq!(rt;
+        start_of(&mut volume, alloc, b"snap", 128),
+        Err(Refusal::OutOfRange)
+    );
+    assert!(rt; !volume.is_quiet());
+    assert_eq!(rt;
+        parting_refused(&mut volume, b"snap"),
+        Some(Refusal::NotQuiet)
+    );
+    assert!(rt; volume.step(Event::Issue(second)).is_ok());
+    assert!(rt; volume.step(Event::Issue(second)).is_err(), "it has ended");
+    let mut ended = Vec::new(alloc);
+    volume.settle(&mut ended)?;
+    assert_eq!(rt; ended.len(), 1);
+    assert_eq!(rt; ended.first().map(|replied| replied.number), Some(first));
+    assert!(rt; volume.is_quiet());
+    assert!(rt; volume.step(Event::Issue(first)).is_err(), "nothing is due");
+    assert_eq!(rt; parting_refused(&mut volume, b"snap"), None);
+    Ok(())
+}
+
+#[test]
+fn a_read_of_a_busy_volume_tells_what_ended_before_it(rt: HostRuntime) -> Result<(), Fail> {
+    let alloc = rt.alloc();
+    let mut volume = origin_of(alloc)?;
+    let started = start_of(&mut volume, alloc, b"org", 3)?;
+    let mut ended = Vec::new(alloc);
+    let bytes = match volume.role(&Name::new(b"org")?) {
+        Some(role) => volume.read(alloc, role, 5, 1, &mut ended)?,
+        None => return Err(Refusal::NoSuchDevice.into()),
+    };
+    assert_eq!(rt; bytes.len(), 512);
+    assert_eq!(rt; ended.first().map(|replied| replied.number), Some(started));
+    assert!(rt; volume.is_quiet());
+    Ok(())
+}
+
+#[test]
+fn an_origin_with_a_request_in_flight_is_not_closed(rt: HostRuntime) -> Result<(), Fail> {
+    let alloc = rt.alloc();
+    let mut volume = origin_of(alloc)?;
+    start_of(&mut volume, alloc, b"org", 3)?;
+    let refused = closing_refused(volume);
+    assert_eq!(rt; refused, Some((Refusal::NotQuiet, 61)));
     Ok(())
 }
 

@@ -4,7 +4,7 @@ use Rattle.reply.specs.declared.ended.Ended.{Ended}
 use Rattle.reply.specs.declared.ended.Ending.{Ending}
 use Rattle.reply.specs.declared.ended.Ending.TheVariants.{Data, Written, Refused}
 use Rattle.reply.specs.Runs.{data_words}
-use Rattle.reply.specs.Texts.{refusal_text}
+use Rattle.reply.specs.Refusals.{refusal_text}
 
 -- how it ended, a space before each word
 abbrev pub ending_words : Ending → List ℕ

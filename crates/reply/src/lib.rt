@@ -8,7 +8,8 @@
 
 ghost use Rattle.std.specs.Prelude.{◌≡◌, OnOk};
 ghost use Rattle.std.specs.Io.KnownBytes.{Appends};
-ghost use Rattle.reply.specs.Texts.{refusal_text, text_of};
+ghost use Rattle.reply.specs.Refusals.{refusal_text};
+ghost use Rattle.reply.specs.Texts.{text_of};
 
 mod answers;
 mod ended;
@@ -32,6 +33,12 @@ pub enum Reply {
     Data(Buf),
     /// It is done, and this is the text that was asked for: `ok TEXT`. The text holds no line end.
     Said(Text),
+    /// It is done, and this is the number that was asked for: `ok N`.
+    Number(u64),
+    /// An event was done in which a device failed, and which answered no request: `ok fault`.
+    Fault,
+    /// The line of a request that ended in a command, before that command's own line: `reply NUMBER TEXT`.
+    Ended(Ended),
     /// It is refused: `err NUMBER NAME`.
     Refused(Refusal),
 }
@@ -67,6 +74,14 @@ impl Reply {
                 writer.write_all(text.as_slice())?;
                 writer.write_all(b"\n")
             }
+            Reply::Number(number) => {
+                let mut buffer = Buffer::new();
+                writer.write_all(b"ok ")?;
+                writer.write_all(buffer.format(*number).as_bytes())?;
+                writer.write_all(b"\n")
+            }
+            Reply::Fault => writer.write_all(b"ok fault\n"),
+            Reply::Ended(ended) => ended.write_to(writer),
             Reply::Refused(refusal) => {
                 write_refusal(writer, *refusal)?;
                 writer.write_all(b"\n")
@@ -91,10 +106,17 @@ mod tests {
         Reply::Done.write_to(&mut out)?;
         Reply::Data(Buf::from_slice(rt.alloc(), &header)?).write_to(&mut out)?;
         Reply::Said(Text::from_slice(rt.alloc(), b"0 128 snapshot Invalid")?).write_to(&mut out)?;
+        Reply::Number(18_446_744_073_709_551_615).write_to(&mut out)?;
+        Reply::Fault.write_to(&mut out)?;
+        Reply::Ended(Ended {
+            request: 7,
+            ending: Ending::Written,
+        })
+        .write_to(&mut out)?;
         Reply::Refused(Refusal::NoSuchDevice).write_to(&mut out)?;
         Reply::Refused(Refusal::Overflow).write_to(&mut out)?;
         let want =
-            b"ok\nok 1*53 1*6e 1*41 1*70 1*01 3*00 1*01 3*00 1*01 5*00\nok 0 128 snapshot Invalid\nerr 1 NoSuchDevice\nerr 23 Overflow\n";
+            b"ok\nok 1*53 1*6e 1*41 1*70 1*01 3*00 1*01 3*00 1*01 5*00\nok 0 128 snapshot Invalid\nok 18446744073709551615\nok fault\nreply 7 written\nerr 1 NoSuchDevice\nerr 23 Overflow\n";
         assert_eq!(rt; out.as_slice(), want.as_slice());
         Ok(())
     }

@@ -20,7 +20,6 @@ use Rattle.volume.specs.Layering.{held_relayered, moving_relayered}
 use Rattle.volume.proofs.Relayered.{IsSnapAlike, IsVolumeAlike, map_at}
 use Rattle.resting.specs.Rested.{rested_of, settled_of, IsSettled}
 use Rattle.resting.specs.Kept.{KeepsDevices}
-use Rattle.resting.specs.Between.{IsBetween}
 use Rattle.resting.proofs.Seen.{settled_same, devices_kept}
 
 list_all_map : {X Y : Type 0} (f : X → Y) (p : Y → Bool) (xs ys : List X) → map f xs ≡ map f ys → list_all (λ x. p (f x)) xs ≡ list_all (λ x. p (f x)) ys
@@ -84,13 +83,10 @@ module _ {B : Type 0} (contents : B → List ℕ) (layers : B → List Layer) (s
     pub alike_kept : KeepsDevices layers size (rested_of v) (rested_of w)
     alike_kept = devices_kept size layers v w keeps_alike loud_alike
 
-    quiet_alike : is_quiet_of w ≡ is_quiet_of v
+    pub quiet_alike : is_quiet_of w ≡ is_quiet_of v
     quiet_alike =
         ap (λ (fs : List _). (length fs == 0) && list_all is_done_of w.snaps) (ap (λ (x : Volumed B). x.flights) h.becomes)
         ∙ ap (λ b. (length v.flights == 0) && b) (list_all_map is_done_of (λ b. b) w.snaps v.snaps (kept_map is_done_of (λ s t k. ap is_done_of k.same)))
-
-    pub alike_between : IsBetween v → IsBetween w
-    alike_between between = record { quiet = quiet_alike ∙ between.quiet; few = (let few = between.few in let count = h.count in omega (arith, few, count)) }
 
     pub alike_settles : IsSettled contents layers size (rested_of v) → IsSettled contents layers size (rested_of w)
     alike_settles settled = record {

@@ -1,6 +1,7 @@
 -- What callers ask of a volume between two commands, and how it is closed.
-use Rattle.std.proofs.Common.{◌≡◌, ℕ, true, false, List, [], ◌∷◌, length, get_or, map, Option, Some, None, refl, sym, ◌∙◌, arith}
-use Rattle.std.specs.Prelude.{◌==◌, if◌then◌else◌}
+use Rattle.std.proofs.Common.{◌≡◌, ◌⊎◌, inl, inr, ℕ, true, false, List, [], ◌∷◌, length, get_or, map, Option, Some, None, refl, sym, ◌∙◌, ap, arith}
+use Rattle.std.specs.Prelude.{◌==◌, ◌&&◌, if◌then◌else◌}
+use Rattle.std.specs.List.{list_all}
 use Rattle.std.proofs.lemmas.Bool.{cond-false}
 use Rattle.std.proofs.lemmas.List.Quantifiers.{position-Some}
 use Rattle.sector.specs.declared.refusal.Refusal.{Refusal}
@@ -8,8 +9,7 @@ use Rattle.sector.specs.declared.refusal.Refusal.TheVariants.{Busy, NotQuiet}
 use Rattle.pending.specs.declared.flights.Flight.{Flight}
 use Rattle.snapshot.specs.Kept.{Kept}
 use Rattle.volume.specs.Volumed.{Volumed}
-use Rattle.volume.specs.Leaving.{is_quiet_of, place_of_snap, close_refusal}
-use Rattle.volume.proofs.Leaves.{quiet_none}
+use Rattle.volume.specs.Leaving.{is_done_of, is_quiet_of, place_of_snap, close_refusal}
 use Rattle.resting.specs.Rested.{attached_of, rested_of, snap_at}
 use Rattle.resting.proofs.Leaves.{at_place}
 
@@ -22,23 +22,40 @@ found_snap n k d v e =
 refused_as : {B : Type 0} (snaps : List (Kept B)) (flights : List Flight) → Option Refusal
 refused_as snaps flights = if length snaps == 0 then (if length flights == 0 then None else Some NotQuiet) else Some Busy
 
-none_left : {B : Type 0} (snaps : List (Kept B)) (flights : List Flight) → flights ≡ [] → refused_as snaps flights ≡ None → map attached_of snaps ≡ []
+-- where it is closed it has neither
+none_left : {B : Type 0} (snaps : List (Kept B)) (flights : List Flight) → refused_as snaps flights ≡ None → (snaps ≡ []) × (flights ≡ [])
 unfolding refused_as
-none_left [] flights none e = refl
-none_left (s ∷ snaps) flights none e = absurd (let some : (length (s ∷ snaps) == 0) ≡ false = search (arith) in let got : Some Busy ≡ None = sym (cond-false _ _ _ some) ∙ e in cc)
+none_left [] [] e = (refl, refl)
+none_left [] (f ∷ flights) e = absurd (let some : (length (f ∷ flights) == 0) ≡ false = search (arith) in let got : Some NotQuiet ≡ None = sym (cond-false _ _ _ some) ∙ e in cc)
+none_left (s ∷ snaps) flights e = absurd (let some : (length (s ∷ snaps) == 0) ≡ false = search (arith) in let got : Some Busy ≡ None = sym (cond-false _ _ _ some) ∙ e in cc)
 
-busy_as : {B : Type 0} (snaps : List (Kept B)) (flights : List Flight) (refusal : Refusal) → flights ≡ [] → refused_as snaps flights ≡ Some refusal → (refusal ≡ Busy) × (map attached_of snaps ≡ [] → ⊥)
+-- why it is not
+abbrev pub WhyOpen : {B : Type 0} → Volumed B → Refusal → Type 0
+WhyOpen v refusal = ((refusal ≡ Busy) × ((rested_of v).snaps ≡ [] → ⊥)) ⊎ ((refusal ≡ NotQuiet) × ((rested_of v).snaps ≡ []) × (is_quiet_of v ≡ false))
+
+open_as : {B : Type 0} (v : Volumed B) (snaps : List (Kept B)) (flights : List Flight) (refusal : Refusal) → v.snaps ≡ snaps → v.flights ≡ flights → refused_as snaps flights ≡ Some refusal → WhyOpen v refusal
 unfolding refused_as
-busy_as [] flights refusal none e = absurd (let got : None ≡ Some refusal = rw none at e in cc)
-busy_as (s ∷ snaps) flights refusal none e =
-    let some : (length (s ∷ snaps) == 0) ≡ false = search (arith) in
+open_as v [] [] refusal snaps flights e = absurd (cc)
+open_as v [] (f ∷ rest) refusal snaps flights e =
+    let some : (length (f ∷ rest) == 0) ≡ false = search (arith) in
+    let got : Some NotQuiet ≡ Some refusal = sym (cond-false _ _ _ some) ∙ e in
+    let same : refusal ≡ NotQuiet = cc in
+    let none : map attached_of v.snaps ≡ [] = ap (map attached_of) snaps in
+    let busy : (length v.flights == 0) ≡ false = ap (λ (fs : List Flight). length fs == 0) flights ∙ some in
+    inr (same, none, ap (λ b. b && list_all is_done_of v.snaps) busy)
+open_as v (s ∷ rest) flights' refusal snaps flights e =
+    let some : (length (s ∷ rest) == 0) ≡ false = search (arith) in
     let got : Some Busy ≡ Some refusal = sym (cond-false _ _ _ some) ∙ e in
-    let same : refusal ≡ Busy = cc in (same, λ empty. cc)
+    let same : refusal ≡ Busy = cc in
+    let there : map attached_of v.snaps ≡ attached_of s ∷ map attached_of rest = ap (map attached_of) snaps in
+    inl (same, λ empty. (let two : attached_of s ∷ map attached_of rest ≡ [] = sym there ∙ empty in cc))
 
-pub closed : {B : Type 0} (v : Volumed B) → is_quiet_of v ≡ true → close_refusal v ≡ None → (rested_of v).snaps ≡ []
+pub closed : {B : Type 0} (v : Volumed B) → close_refusal v ≡ None → ((rested_of v).snaps ≡ []) × (is_quiet_of v ≡ true)
 unfolding refused_as
-closed v quiet e = none_left v.snaps v.flights (quiet_none v quiet) e
+closed v e =
+    let none = none_left v.snaps v.flights e in
+    (ap (map attached_of) none.0, ap (λ (fs : List Flight). (length fs == 0) && list_all is_done_of v.snaps) none.1 ∙ ap (list_all is_done_of) none.0)
 
-pub busy : {B : Type 0} (v : Volumed B) (refusal : Refusal) → is_quiet_of v ≡ true → close_refusal v ≡ Some refusal → (refusal ≡ Busy) × ((rested_of v).snaps ≡ [] → ⊥)
+pub not_closed : {B : Type 0} (v : Volumed B) (refusal : Refusal) → close_refusal v ≡ Some refusal → WhyOpen v refusal
 unfolding refused_as
-busy v refusal quiet e = busy_as v.snaps v.flights refusal (quiet_none v quiet) e
+not_closed v refusal e = open_as v v.snaps v.flights refusal refl refl e

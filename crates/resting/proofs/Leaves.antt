@@ -1,5 +1,5 @@
 -- A snapshot leaves.
-use Rattle.std.proofs.Common.{◌≡◌, inl, inr, ℕ, zero, suc, ◌<◌, ◌≤◌, Bool, true, false, List, [], ◌∷◌, length, get_or, map, Option, Some, None, refl, sym, ◌∙◌, ap, subst, arith}
+use Rattle.std.proofs.Common.{◌≡◌, ◌⊎◌, inl, inr, ℕ, zero, suc, ◌<◌, ◌≤◌, Bool, true, false, List, [], ◌∷◌, length, get_or, map, Option, Some, None, refl, sym, ◌∙◌, ap, subst, arith}
 use Rattle.std.specs.Prelude.{◌==◌, ◌&&◌}
 use Rattle.std.specs.List.{All, list_all, remove}
 use Rattle.std.proofs.lemmas.Bool.{cases_Bool, cond-true, cond-false}
@@ -16,11 +16,10 @@ use Rattle.volume.specs.Volumed.{Volumed, is_loud_in_all}
 use Rattle.volume.specs.Moved.{device_of, held_of, moving_of}
 use Rattle.volume.specs.Leaving.{is_done_of, is_quiet_of, place_of_snap, leaving_refusal, detach_refusal, IsWithout}
 use Rattle.resting.specs.Rested.{Attached, attached_of, rested_of, snap_of, IsSettled, has_dev, snap_at, without}
-use Rattle.resting.specs.Between.{IsBetween}
 use Rattle.resting.specs.Leaving.{IsDetachedAs}
-use Rattle.resting.proofs.Seen.{loud_same, dev_missing}
+use Rattle.resting.proofs.Seen.{loud_same, dev_found, dev_missing}
 use Rattle.sector.specs.declared.refusal.Refusal.{Refusal}
-use Rattle.sector.specs.declared.refusal.Refusal.TheVariants.{NoSuchDevice}
+use Rattle.sector.specs.declared.refusal.Refusal.TheVariants.{NoSuchDevice, NotQuiet}
 use Rattle.plain.specs.declared.request.Dev.TheVariants.{Snap as ToSnap}
 
 module _ {B : Type 0} (number : ℕ) (d : Kept B) where
@@ -90,12 +89,6 @@ and_second : (a b : Bool) → (a && b) ≡ true → b ≡ true
 and_second true b e = e
 and_second false b e = absurd (cc)
 
-fewer : {X : Type 0} (xs : List X) (k : ℕ) → length (remove xs k) ≤ length xs
-fewer [] zero = omega arith
-fewer [] (suc k) = omega arith
-fewer (x ∷ xs) zero = omega arith
-fewer (x ∷ xs) (suc k) = let rest = fewer xs k in omega (arith, rest)
-
 all_without : {X : Type 0} (test : X → Bool) (xs : List X) (k : ℕ) → list_all test xs ≡ true → list_all test (remove xs k) ≡ true
 all_without test [] zero e = refl
 all_without test [] (suc k) e = refl
@@ -105,17 +98,22 @@ all_without test (x ∷ xs) (suc k) e = elim (cases_Bool (test x)) [
   | inr fails ↦ absurd (let both : false ≡ true = sym (ap (λ b. b && list_all test xs) fails) ∙ e in cc)
 ]
 
-module _ {B : Type 0} (number : ℕ) (old new : Volumed B) (store : StoreDev B) (out : IsWithout number old new store) where
-  snaps_are : new.snaps ≡ remove old.snaps out.place
-  snaps_are = ap (λ (v : Volumed B). v.snaps) out.becomes
+-- a snapshot leaves a quiet volume alone
+quiet_left : (o : Option ℕ) (quiet : Bool) → leaving_refusal o quiet ≡ None → quiet ≡ true
+quiet_left None quiet e = absurd (cc)
+quiet_left (Some k) true e = refl
+quiet_left (Some k) false e = absurd (cc)
 
-  pub left_between : IsBetween old → IsBetween new
-  left_between between = record {
-    quiet = ap (λ (v : Volumed B). is_quiet_of v) out.becomes
-        ∙ ap (λ b. b && list_all is_done_of (remove old.snaps out.place)) (and_first (length old.flights == 0) (list_all is_done_of old.snaps) between.quiet)
-        ∙ all_without is_done_of old.snaps out.place (and_second (length old.flights == 0) (list_all is_done_of old.snaps) between.quiet);
-    few = (let few = between.few in let same : length new.snaps ≡ length (remove old.snaps out.place) = ap length snaps_are in let less = fewer old.snaps out.place in omega (arith, few, same, less));
-  }
+module _ {B : Type 0} (number : ℕ) (old new : Volumed B) (store : StoreDev B) (out : IsWithout number old new store) where
+  -- the volume was quiet, and is
+  pub left_quiet : detach_refusal number old ≡ None → (is_quiet_of old ≡ true) × (is_quiet_of new ≡ true)
+  left_quiet admitted =
+      let was = quiet_left (place_of_snap number old.snaps) (is_quiet_of old) admitted in (
+        was,
+        ap (λ (v : Volumed B). is_quiet_of v) out.becomes
+            ∙ ap (λ b. b && list_all is_done_of (remove old.snaps out.place)) (and_first (length old.flights == 0) (list_all is_done_of old.snaps) was)
+            ∙ all_without is_done_of old.snaps out.place (and_second (length old.flights == 0) (list_all is_done_of old.snaps) was),
+      )
 
   -- what is left of a settled volume is settled
   pub left_settles : (contents : B → List ℕ) (layers : B → List Layer) (size : B → ℕ) → IsSettled contents layers size (rested_of old) → IsSettled contents layers size (rested_of new)
@@ -133,10 +131,15 @@ module _ {B : Type 0} (number : ℕ) (old new : Volumed B) (store : StoreDev B) 
         });
       }
 
--- why none leaves a volume of which nothing is left to do
-refused_at : {B : Type 0} (number : ℕ) (v : Volumed B) (o : Option ℕ) (quiet : Bool) (refusal : Refusal) → place_of_snap number v.snaps ≡ o → quiet ≡ true → leaving_refusal o quiet ≡ Some refusal → (refusal ≡ NoSuchDevice) × (has_dev (ToSnap number) (rested_of v) ≡ false)
-refused_at number v None quiet refusal none is e = (let same : refusal ≡ NoSuchDevice = cc in same, dev_missing number v none)
-refused_at number v (Some k) quiet refusal at is e = absurd (let no : None ≡ Some refusal = sym (cond-true _ _ _ is) ∙ e in cc)
+-- why none leaves a volume
+abbrev pub WhyNone : {B : Type 0} → ℕ → Volumed B → Bool → Refusal → Type 0
+WhyNone number v quiet refusal = ((refusal ≡ NoSuchDevice) × (has_dev (ToSnap number) (rested_of v) ≡ false)) ⊎ ((refusal ≡ NotQuiet) × (quiet ≡ false))
 
-pub no_such : {B : Type 0} (number : ℕ) (v : Volumed B) (refusal : Refusal) → IsBetween v → detach_refusal number v ≡ Some refusal → (refusal ≡ NoSuchDevice) × (has_dev (ToSnap number) (rested_of v) ≡ false)
-no_such number v refusal between e = refused_at number v (place_of_snap number v.snaps) (is_quiet_of v) refusal refl between.quiet e
+refused_at : {B : Type 0} (number : ℕ) (v : Volumed B) (o : Option ℕ) (quiet : Bool) (refusal : Refusal) → place_of_snap number v.snaps ≡ o → leaving_refusal o quiet ≡ Some refusal
+    → WhyNone number v quiet refusal × (refusal ≡ NotQuiet → has_dev (ToSnap number) (rested_of v) ≡ true)
+refused_at number v None quiet refusal none e = (let same : refusal ≡ NoSuchDevice = cc in (inl (same, dev_missing number v none), λ other. absurd (cc)))
+refused_at number v (Some k) true refusal at e = absurd (cc)
+refused_at number v (Some k) false refusal at e = (let same : refusal ≡ NotQuiet = cc in (inr (same, refl), λ other. dev_found number k v at))
+
+pub not_left : {B : Type 0} (number : ℕ) (v : Volumed B) (refusal : Refusal) → detach_refusal number v ≡ Some refusal → WhyNone number v (is_quiet_of v) refusal × (refusal ≡ NotQuiet → has_dev (ToSnap number) (rested_of v) ≡ true)
+not_left number v refusal e = refused_at number v (place_of_snap number v.snaps) (is_quiet_of v) refusal refl e

@@ -4,6 +4,9 @@ pub mod WriteRuns
 pub mod Seen
 pub mod Limits
 pub mod Served
+pub mod Drains
+pub mod Amongs
+pub mod AmongRuns
 pub mod Refusing
 pub mod Between
 pub mod ReadRuns

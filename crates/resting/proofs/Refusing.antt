@@ -60,3 +60,13 @@ module _ {B : Type 0} (contents : B → List ℕ) (layers : B → List Layer) (s
       | inr full ↦ (let same : new.requests ≡ old.requests = ap (λ (v : Volumed B). v.requests) full.2.2.becomes in omega (arith, same))
     ]
   ]
+
+  -- it is as quiet as before, where its snapshot is not why
+  pub refused_quiet : refusal ≢ Invalid → is_quiet_of new ≡ is_quiet_of old
+  refused_quiet other = elim refused [
+    | inl first ↦ ap (λ (v : Volumed B). is_quiet_of v) first.1
+    | inr later ↦ elim later [
+      | inl starved ↦ room_quiet old new starved.2
+      | inr full ↦ absurd (other full.1)
+    ]
+  ]

@@ -17,13 +17,10 @@ use Rattle.volume.specs.Whole.{number_of_snap}
 use Rattle.volume.specs.Causes.{counts_of}
 use Rattle.volume.specs.Leaving.{place_of_snap}
 use Rattle.volume.proofs.Finds.{any_of, position_none, position_any}
+use Rattle.volume.proofs.Relayered.{map_twice}
 use Rattle.resting.specs.Rested.{Attached, Rested, attached_of, rested_of, snap_of, settled_of, is_loud_in, has_number, has_dev, numbers_of, chunks_of, sizes_of}
 use Rattle.resting.specs.Kept.{KeepsDevices}
 use Rattle.volume.specs.Stepping.{KeepsAll}
-
-pub map_twice : {X Y Z : Type 0} (f : X → Y) (g : Y → Z) (xs : List X) → map g (map f xs) ≡ map (λ x. g (f x)) xs
-map_twice f g [] = refl
-map_twice f g (x ∷ xs) = ap (λ (ys : List _). g (f x) ∷ ys) (map_twice f g xs)
 
 all_of : {X Y : Type 0} (test : Y → Bool) (f : X → Y) (xs : List X) → list_all test (map f xs) ≡ list_all (λ x. test (f x)) xs
 all_of test f [] = refl

@@ -16,7 +16,6 @@ use Rattle.volume.specs.Moved.{moving_of}
 use Rattle.volume.specs.Leaving.{is_done_of, is_quiet_of}
 use Rattle.volume.specs.Taking.{taking_refusal, attach_refusal}
 use Rattle.resting.specs.Rested.{attached_of, rested_of, settled_of, IsSettled}
-use Rattle.resting.specs.Between.{IsBetween}
 use Rattle.resting.specs.Taking.{IsTakenAs}
 use Rattle.volume.specs.Attached.{store_of, volume_in, IsGained, IsAttachedAs}
 use Rattle.resting.proofs.Seen.{settled_same, loud_same}
@@ -45,29 +44,23 @@ and_second : (a b : Bool) → (a && b) ≡ true → b ≡ true
 and_second true b e = e
 and_second false b e = absurd (cc)
 
--- fewer than eight before
-few_before : (stale quiet : Bool) (count attached chunk : ℕ) → taking_refusal stale quiet count attached chunk ≡ None → count < 8
-few_before true quiet count attached chunk e = absurd (cc)
-few_before false false count attached chunk e = absurd (cc)
-few_before false true count attached chunk e = elim (leb_tells 8 count) [
-  | inl t ↦ absurd (let got : Some TooMany ≡ None = sym (cond-true _ _ _ (ap (λ b. b || (attached == 4_294_967_295)) t.0)) ∙ e in cc)
-  | inr f ↦ f.1
-]
+-- quiet before
+quiet_before : (stale quiet : Bool) (count attached chunk : ℕ) → taking_refusal stale quiet count attached chunk ≡ None → quiet ≡ true
+quiet_before true quiet count attached chunk e = absurd (cc)
+quiet_before false false count attached chunk e = absurd (cc)
+quiet_before false true count attached chunk e = refl
 
 module _ {B : Type 0} (contents : B → List ℕ) (layers : B → List Layer) (size : B → ℕ) (number chunk : ℕ) (store : StoreDev B) (old new : Volumed B) (gained : IsGained layers size number store old new) where
-  snaps_are : new.snaps ≡ old.snaps ++ gained.snap ∷ []
-  snaps_are = ap (λ (v : Volumed B). v.snaps) gained.becomes
-
   done_snap : is_done_of gained.snap ≡ true
   done_snap = rw (gained.copies, gained.marks, gained.untried) refl
 
-  pub taken_between : IsBetween old → attach_refusal store.stale chunk old ≡ None → IsBetween new
-  taken_between between admitted = record {
-    quiet = ap (λ (v : Volumed B). is_quiet_of v) gained.becomes ∙ ap (λ b. (length old.flights == 0) && b) (all_one_more is_done_of old.snaps gained.snap ∙ ap (λ b. list_all is_done_of old.snaps && b) done_snap ∙ and_true (list_all is_done_of old.snaps)) ∙ between.quiet;
-    few = (let lt = few_before store.stale (is_quiet_of old) (length old.snaps) old.attached chunk admitted in
-        let long : length new.snaps ≡ length (old.snaps ++ gained.snap ∷ []) = ap length snaps_are in
-        omega (arith, lt, long, length-append old.snaps (gained.snap ∷ [])));
-  }
+  -- the volume was quiet, and is
+  pub taken_quiet : attach_refusal store.stale chunk old ≡ None → (is_quiet_of old ≡ true) × (is_quiet_of new ≡ true)
+  taken_quiet admitted =
+      let was = quiet_before store.stale (is_quiet_of old) (length old.snaps) old.attached chunk admitted in
+      let done : list_all is_done_of (old.snaps ++ gained.snap ∷ []) ≡ list_all is_done_of old.snaps =
+      all_one_more is_done_of old.snaps gained.snap ∙ ap (λ b. list_all is_done_of old.snaps && b) done_snap ∙ and_true (list_all is_done_of old.snaps) in
+      (was, ap (λ (v : Volumed B). is_quiet_of v) gained.becomes ∙ ap (λ b. (length old.flights == 0) && b) done ∙ was)
     where
       and_true : (a : Bool) → (a && true) ≡ a
       and_true true = refl

@@ -9,3 +9,5 @@ pub mod Using
 pub mod Unread
 pub mod Telling
 pub mod Showing
+pub mod Draining
+pub mod Among

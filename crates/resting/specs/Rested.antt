@@ -1,4 +1,4 @@
--- A volume between two commands, as its callers see it, and the settled machine's volume that it is. This project's own.
+-- A volume by whole commands, as its callers see it, and the settled machine's volume that it is. This project's own.
 use Rattle.std.specs.Prelude.{◌≡◌, ◌==◌, ◌&&◌, ℕ, Bool, true, List, [], ◌∷◌, Option, Some, None, map, if◌then◌else◌}
 use Rattle.std.specs.List.{list_any, list_all}
 use Rattle.device.specs.Layers.{Layer, is_loud}
@@ -19,7 +19,7 @@ pub record Attached (B : Type 0) : Type 0 where
   pub store : B
 
 -- requests, copies, attached: how many numbers of each kind were given; events: the volume of events that it is, of which
--- callers need to know no more than whether it is settled.
+-- callers need to know no more than whether it is settled or quiet, and which of its events are due.
 pub record Rested (B : Type 0) : Type 0 where
   pub origin : B
   -- in order of attaching
@@ -49,7 +49,7 @@ is_loud_in layers v = is_loud (layers v.origin) && list_all (λ s. is_loud (laye
 
 -- No device drops writes, and what is kept of each live snapshot is what its store's own bytes say. A new volume over a disk
 -- that drops no writes is settled, and each call leaves a settled volume settled, but for the attach of a store that drops
--- writes.
+-- writes, and for a request that is started, until all that is due is done.
 pub record IsSettled {B : Type 0} (contents : B → List ℕ) (layers : B → List Layer) (size : B → ℕ) (v : Rested B) : Type 0 where
   pub loud : is_loud_in layers v ≡ true
   pub rest : IsAtRest (size v.origin) (moving_of contents layers None v.events)

@@ -1,15 +1,15 @@
 // A snapshot is taken or leaves, and the volume is closed.
-ghost use Rattle.std.specs.Prelude.{◌≡◌, ◌≢◌, ℕ, ◌+◌, [], length, None, Some, Option, IfErr, IfOk, OnErr, Ok, Err, true, false};
-ghost use Rattle.sector.specs.declared.refusal.Refusal.TheVariants.{Busy, NoMemory, NoSuchDevice};
+ghost use Rattle.std.specs.Prelude.{◌≡◌, ◌≢◌, ◌⊎◌, ℕ, ◌+◌, [], length, None, Some, Option, IfErr, IfOk, OnOk, OnErr, Ok, Err, true, false};
+ghost use Rattle.sector.specs.declared.refusal.Refusal.TheVariants.{Busy, NoMemory, NoSuchDevice, NotQuiet};
 ghost use Rattle.device.specs.Layers.{is_loud};
 ghost use Rattle.plain.specs.declared.request.Dev.TheVariants.{Snap};
 ghost use Rattle.settling.specs.Attaching.{attached, refused_attach};
 ghost use Rattle.resting.specs.Rested.{Attached, rested_of, settled_of, IsSettled, has_dev, snap_at};
 ghost use Rattle.resting.specs.Leaving.{IsDetachedAs};
 ghost use Rattle.resting.specs.Taking.{IsTakenAs};
-ghost use Rattle.resting.specs.Between.{IsBetween};
 ghost use Rattle.store.specs.Reading.{AreRead};
 ghost use Rattle.volume.specs.Attached.{store_of};
+ghost use Rattle.volume.specs.Leaving.{is_quiet_of};
 
 use crate::Resting;
 use device::Block;
@@ -19,15 +19,14 @@ use snapshot::StoreDev;
 use std::alloc::Global;
 use volume::Volume;
 
-/// Takes a snapshot of a volume between two commands.
+/// Takes a snapshot of a volume of events.
 fn take<B: Block>(
     volume: &mut Volume<B>,
     alloc: Global,
     store: StoreDev<B>,
     chunk: u32,
 ) -> Result<SnapId, (Refusal, StoreDev<B>)>
-    requires between { IsBetween volume.old }
-    ensures between { IsBetween volume.new }
+    ensures quiet { OnOk result ((is_quiet_of volume.old ≡ true) × (is_quiet_of volume.new ≡ true)) }
     ensures number { IfOk result (λ number. number ≡ volume.old.attached + 1) }
     ensures taken { IfOk result (λ number. IsTakenAs B.layers B.size number store (rested_of volume.old) (rested_of volume.new)) }
     ensures settled { IfOk result (λ number. IsSettled B.contents B.layers B.size (rested_of volume.old) → is_loud (B.layers store.device) ≡ true → IsSettled B.contents B.layers B.size (rested_of volume.new)) }
@@ -45,13 +44,13 @@ fn take<B: Block>(
     }
 }
 
-/// A snapshot leaves a volume between two commands.
+/// A snapshot leaves a volume of events.
 fn leave<B: Block>(volume: &mut Volume<B>, number: SnapId) -> Result<StoreDev<B>, Refusal>
-    requires between { IsBetween volume.old }
-    ensures between { IsBetween volume.new }
+    ensures quiet { OnOk result ((is_quiet_of volume.old ≡ true) × (is_quiet_of volume.new ≡ true)) }
     ensures settled { IsSettled B.contents B.layers B.size (rested_of volume.old) → IsSettled B.contents B.layers B.size (rested_of volume.new) }
     ensures left { IfOk result (λ store. IsDetachedAs B.contents B.layers number store (rested_of volume.old) (rested_of volume.new)) }
-    ensures err { IfErr result (λ refusal. (refusal ≡ NoSuchDevice) × (has_dev (Snap number) (rested_of volume.old) ≡ false) × (volume.new ≡ volume.old)) }
+    ensures err { IfErr result (λ refusal. (((refusal ≡ NoSuchDevice) × (has_dev (Snap number) (rested_of volume.old) ≡ false)) ⊎ ((refusal ≡ NotQuiet) × (is_quiet_of volume.old ≡ false))) × (volume.new ≡ volume.old)) }
+    ensures there { IfErr result (λ refusal. refusal ≡ NotQuiet → has_dev (Snap number) (rested_of volume.old) ≡ true) }
 {
     match volume.detach(number) {
         Ok(store) => Ok(store),
@@ -60,9 +59,10 @@ fn leave<B: Block>(volume: &mut Volume<B>, number: SnapId) -> Result<StoreDev<B>
 }
 
 impl<B: Block> Resting<B> {
-    /// Takes a snapshot over a store, by a table line with this chunk size, and tells its number: over a settled volume, and
-    /// a store that drops no writes, it is the settled machine's attach. Where it is refused the store is given back, and
-    /// nothing else changed; after `NoMemory` some of the store's sectors were read.
+    /// Takes a snapshot of a quiet volume over a store, by a table line with this chunk size, and tells its number: over a
+    /// settled volume, and a store that drops no writes, it is the settled machine's attach. Where it is refused the store is
+    /// given back, and nothing else changed; after `NoMemory` some of the store's sectors were read. A volume that is not
+    /// quiet refuses with `NotQuiet`, after `Stale`.
     pub fn attach(
         &mut self,
         alloc: Global,
@@ -79,16 +79,19 @@ impl<B: Block> Resting<B> {
         ensures stale { IfErr result (λ e. e.1.stale ≡ store.stale) }
         ensures size { IfErr result (λ e. B.size e.1.device ≡ B.size store.device) }
         ensures loud { IfErr result (λ e. is_loud (B.layers e.1.device) ≡ is_loud (B.layers store.device)) }
+        ensures quiet { OnOk result ((is_quiet_of self.old.events ≡ true) × (is_quiet_of self.new.events ≡ true)) }
     {
         take(&mut self.volume, alloc, store, chunk)
     }
 
-    /// Takes a snapshot away, and gives its store back, stale where its invalid mark failed. `NoSuchDevice` where there is no
-    /// such snapshot, and then nothing changed.
+    /// Takes a snapshot of a quiet volume away, and gives its store back, stale where its invalid mark failed. `NoSuchDevice`
+    /// where there is no such snapshot, `NotQuiet` where the volume is not quiet, and then nothing changed.
     pub fn detach(&mut self, number: SnapId) -> Result<StoreDev<B>, Refusal>
         ensures settled { IsSettled B.contents B.layers B.size self.old → IsSettled B.contents B.layers B.size self.new }
         ensures left { IfOk result (λ store. IsDetachedAs B.contents B.layers number store self.old self.new) }
-        ensures err { IfErr result (λ refusal. (refusal ≡ NoSuchDevice) × (has_dev (Snap number) self.old ≡ false) × (self.new ≡ self.old)) }
+        ensures err { IfErr result (λ refusal. (((refusal ≡ NoSuchDevice) × (has_dev (Snap number) self.old ≡ false)) ⊎ ((refusal ≡ NotQuiet) × (is_quiet_of self.old.events ≡ false))) × (self.new ≡ self.old)) }
+        ensures there { IfErr result (λ refusal. refusal ≡ NotQuiet → has_dev (Snap number) self.old ≡ true) }
+        ensures quiet { OnOk result ((is_quiet_of self.old.events ≡ true) × (is_quiet_of self.new.events ≡ true)) }
     {
         leave(&mut self.volume, number)
     }
@@ -106,10 +109,10 @@ impl<B: Block> Resting<B> {
 }
 
 impl<B: Block + Drop> Resting<B> {
-    /// Gives the origin disk back. `Busy` where a snapshot is attached.
+    /// Gives the origin disk back. `Busy` where a snapshot is attached, and else `NotQuiet` where the volume is not quiet.
     pub fn close(self) -> Result<B, (Refusal, Resting<B>)>
-        ensures ok { IfOk result (λ origin. (origin ≡ self.origin) × (self.snaps ≡ [])) }
-        ensures err { IfErr result (λ e. (e.0 ≡ Busy) × (self.snaps ≢ []) × (e.1 ≡ self)) }
+        ensures ok { IfOk result (λ origin. (origin ≡ self.origin) × (self.snaps ≡ []) × (is_quiet_of self.events ≡ true)) }
+        ensures err { IfErr result (λ e. (((e.0 ≡ Busy) × (self.snaps ≢ [])) ⊎ ((e.0 ≡ NotQuiet) × (self.snaps ≡ []) × (is_quiet_of self.events ≡ false))) × (e.1 ≡ self)) }
     {
         let Resting { volume } = self;
         match volume.close() {

@@ -3,17 +3,16 @@ ghost use Rattle.std.specs.Prelude.{◌≡◌};
 ghost use Rattle.layers.specs.Ticks.{layers_ticked};
 ghost use Rattle.settling.specs.Moments.{all_relayered};
 ghost use Rattle.resting.specs.Rested.{rested_of, settled_of, IsSettled};
-ghost use Rattle.resting.specs.Between.{IsBetween};
+ghost use Rattle.volume.specs.Leaving.{is_quiet_of};
 ghost use Rattle.resting.specs.Kept.{KeepsDevices};
 
 use crate::Resting;
 use layers::Layered;
 use volume::Volume;
 
-/// Lets so many seconds pass for a volume between two commands.
+/// Lets so many seconds pass for a volume of events.
 fn pass<B: Layered>(volume: &mut Volume<B>, seconds: u32)
-    requires between { IsBetween volume.old }
-    ensures between { IsBetween volume.new }
+    ensures quiet { is_quiet_of volume.new ≡ is_quiet_of volume.old }
     ensures moved { settled_of B.contents B.layers (rested_of volume.new) ≡ all_relayered (layers_ticked seconds) (settled_of B.contents B.layers (rested_of volume.old)) }
     ensures settled { IsSettled B.contents B.layers B.size (rested_of volume.old) → IsSettled B.contents B.layers B.size (rested_of volume.new) }
     ensures kept { KeepsDevices B.layers B.size (rested_of volume.old) (rested_of volume.new) }
@@ -31,6 +30,7 @@ impl<B: Layered> Resting<B> {
         ensures kept { KeepsDevices B.layers B.size self.old self.new }
         ensures requests { self.new.requests ≡ self.old.requests }
         ensures copies { self.new.copies ≡ self.old.copies }
+        ensures quiet { is_quiet_of self.new.events ≡ is_quiet_of self.old.events }
     {
         pass(&mut self.volume, seconds)
     }

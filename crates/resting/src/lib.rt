@@ -1,5 +1,6 @@
-//! A volume between two commands: no request is in flight, and nothing is left to do. A read or a write of any range is cut
-//! into pieces; each is submitted, and then the events that are due are done, the one that is due first, until none is.
+//! A volume by whole commands. A read or a write of any range is cut into pieces; each is submitted, and then the events that
+//! are due are done, the one that is due first, until none is. Requests may also be started, and be in flight between commands:
+//! their replies come with the command in which they end, each in the order of the events.
 //!
 //! It stands on `volume`, whose events it does, on `settling`, which has the laws by which those events settle, and on
 //! `layers`, whose time and messages it passes on. It promises that each command on a settled volume is the settled machine's
@@ -9,7 +10,11 @@
 //! which snapshots there are, and of what sizes.
 #![tactic(auto)]
 
+mod among;
+mod among_pieces;
 mod changing;
+mod draining;
+mod flights;
 mod layering;
 mod lending;
 mod pieces;
@@ -17,10 +22,13 @@ mod resting;
 mod serving;
 mod telling;
 
+pub use flights::Replied;
 pub use resting::Resting;
 
 #[cfg(test)]
 mod fault_tests;
+#[cfg(test)]
+mod flight_tests;
 #[cfg(test)]
 mod stack_tests;
 #[cfg(test)]

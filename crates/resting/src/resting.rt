@@ -1,9 +1,10 @@
-// A volume between two commands, and what callers ask of it.
+// A volume by whole commands, and what callers ask of it.
 ghost use Rattle.std.specs.Prelude.{◌≡◌, ◌+◌, ◌*◌, ◌<◌, ◌≤◌, true, [], length, IfErr, IfOk, OnOk, Ok, Err};
 ghost use Rattle.sector.specs.declared.refusal.Refusal.TheVariants.{NoMemory};
 ghost use Rattle.device.specs.Layers.{is_loud};
 ghost use Rattle.plain.specs.declared.request.Reply.TheVariants.{Data, Written};
 ghost use Rattle.chunk.specs.Pieces.{span_of};
+ghost use Rattle.volume.specs.Leaving.{is_quiet_of};
 ghost use Rattle.settling.specs.Commands.{written, read};
 ghost use Rattle.resting.specs.Rested.{has_dev, rested_of, IsSettled};
 ghost use Rattle.resting.specs.Kept.{KeepsDevices};
@@ -11,7 +12,7 @@ ghost use Rattle.resting.specs.Commands.{IsDoneBy, IsWriteRefused, IsReadRefused
 ghost use Rattle.resting.specs.Showing.{arrays_in, pieces_for, IsPlainRead, IsPlainReadRefused, IsPlainWrite, IsPlainWriteRefused};
 
 use crate::pieces::{read_pieces, write_pieces};
-use crate::serving::is_there;
+use crate::serving::{is_there, look};
 use device::Block;
 use plain::Dev;
 use sector::{Buf, Range, Refusal};
@@ -19,9 +20,9 @@ use std::alloc::Global;
 use std::marker::Model;
 use volume::Volume;
 
-/// An origin disk and the snapshots of it, in order of attaching, of which nothing is in flight or left to do. Contracts
-/// see the devices, each snapshot's number, chunk size and marks, how many numbers were given, and whether the volume is
-/// settled; what the devices' bytes and layers are is the settled machine's volume.
+/// An origin disk and the snapshots of it, in order of attaching. Contracts see the devices, each snapshot's number, chunk
+/// size and marks, how many numbers were given, whether the volume is settled, and whether it is quiet: nothing is in flight
+/// or left to do. What the devices' bytes and layers are is the settled machine's volume.
 #[derive(Drop)]
 pub struct Resting<B: Block> {
     pub(crate) volume: Volume<B>,
@@ -32,11 +33,7 @@ impl<B: Block> Model for Resting<B> {
 
     ghost Value = { Rested B };
 
-    ghost use Rattle.resting.specs.Between.{IsBetween};
-
     ghost view = { λ v. rested_of v.volume };
-
-    ghost invariant = { λ v. IsBetween v.volume };
 }
 
 impl<B: Block> Resting<B> {
@@ -66,7 +63,7 @@ impl<B: Block> Resting<B> {
         self.volume.len()
     }
 
-    /// Reads sectors of the origin or of a snapshot. The range is cut into pieces of the snapshots' chunk size, which are
+    /// Reads sectors of the origin or of a snapshot of a quiet volume. The range is cut into pieces of the snapshots' chunk size, which are
     /// read in order. Where the volume is settled, it is the settled machine's read: it gives the bytes of the array that
     /// the device shows, and changes nothing that the origin or a snapshot shows, answered or refused.
     ///
@@ -74,10 +71,12 @@ impl<B: Block> Resting<B> {
     /// the device of a piece failed (`Io`), after the pieces before it were read; or memory is refused (`NoMemory`), after
     /// some first pieces were read, but not all.
     pub fn read(&mut self, alloc: Global, dev: Dev, range: Range) -> Result<Buf, Refusal>
+        requires quiet { is_quiet_of self.old.events ≡ true }
         requires some { 0 < range.count }
         requires inside { range.first + range.count ≤ B.size self.old.origin }
         requires requests { self.old.requests + range.count < 9_223_372_036_854_775_808 }
         requires copies { self.old.copies + 8 * range.count < 9_223_372_036_854_775_808 }
+        ensures quiet { is_quiet_of self.new.events ≡ true }
         ensures settled { IsSettled B.contents B.layers B.size self.old → IsSettled B.contents B.layers B.size self.new }
         ensures done { IfOk result (λ bytes. IsDoneBy B.contents B.layers B.size (read dev (span_of range)) (Data bytes) self.old self.new) }
         ensures there { OnOk result (has_dev dev self.old ≡ true) }
@@ -88,13 +87,14 @@ impl<B: Block> Resting<B> {
         ensures requests { self.new.requests ≤ self.old.requests + range.count }
         ensures copies { self.new.copies ≤ self.old.copies + 8 * range.count }
     {
+        look(&self.volume);
         if !is_there(&self.volume, dev) {
             return Err(Refusal::NoSuchDevice);
         }
         read_pieces(&mut self.volume, alloc, dev, range)
     }
 
-    /// Writes sectors of the origin or of a snapshot. The range is cut into pieces of the snapshots' chunk size, which are
+    /// Writes sectors of the origin or of a snapshot of a quiet volume. The range is cut into pieces of the snapshots' chunk size, which are
     /// written in order. Where the volume is settled, it is the settled machine's write: the bytes stand in the array of its
     /// device. Of a write to the origin, each snapshot shows what it showed, or is spoiled; one to a snapshot changes what
     /// that shows alone.
@@ -109,11 +109,13 @@ impl<B: Block> Resting<B> {
         range: Range,
         bytes: &[u8],
     ) -> Result<(), Refusal>
+        requires quiet { is_quiet_of self.old.events ≡ true }
         requires some { 0 < range.count }
         requires inside { range.first + range.count ≤ B.size self.old.origin }
         requires room { length bytes.now ≡ 512 * range.count }
         requires requests { self.old.requests + range.count < 9_223_372_036_854_775_808 }
         requires copies { self.old.copies + 8 * range.count < 9_223_372_036_854_775_808 }
+        ensures quiet { is_quiet_of self.new.events ≡ true }
         ensures settled { IsSettled B.contents B.layers B.size self.old → IsSettled B.contents B.layers B.size self.new }
         ensures done { OnOk result (IsDoneBy B.contents B.layers B.size (written dev (span_of range) bytes.now) Written self.old self.new) }
         ensures there { OnOk result (has_dev dev self.old ≡ true) }
@@ -124,6 +126,7 @@ impl<B: Block> Resting<B> {
         ensures requests { self.new.requests ≤ self.old.requests + range.count }
         ensures copies { self.new.copies ≤ self.old.copies + 8 * range.count }
     {
+        look(&self.volume);
         if !is_there(&self.volume, dev) {
             return Err(Refusal::NoSuchDevice);
         }

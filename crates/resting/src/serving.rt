@@ -90,6 +90,13 @@ pub(crate) fn serve<B: Block>(
     Ok(settle(volume, Reply::Refused(Failure::Invalid)))
 }
 
+/// A look at how many snapshots there are: eight at most.
+pub(crate) fn look<B: Block>(volume: &Volume<B>)
+    ensures { length volume.now.snaps ≤ 8 }
+{
+    let _ = volume.len();
+}
+
 /// Whether a request's device is there.
 pub(crate) fn is_there<B: Block>(volume: &Volume<B>, dev: Dev) -> bool
     ensures { result ≡ has_dev dev (rested_of volume.now) }

@@ -1,7 +1,7 @@
 // Messages to the layers of a volume's devices.
 ghost use Rattle.std.specs.Prelude.{◌≡◌, ◌<◌, length, slice_index_or, IfOk, IfErr};
 ghost use Rattle.resting.specs.Rested.{Attached, rested_of, settled_of, IsSettled};
-ghost use Rattle.resting.specs.Between.{IsBetween};
+ghost use Rattle.volume.specs.Leaving.{is_quiet_of};
 ghost use Rattle.resting.specs.Kept.{KeepsDevices};
 ghost use Rattle.resting.specs.Telling.{IsOriginTold, IsStoreTold, IsTellRefused};
 
@@ -12,14 +12,13 @@ use plain::Dev;
 use sector::Refusal;
 use volume::Volume;
 
-/// Tells a layer of the device under the origin of a volume between two commands.
+/// Tells a layer of the device under the origin of a volume of events.
 fn tell_origin<B: Layered>(
     volume: &mut Volume<B>,
     depth: usize,
     message: &Message,
 ) -> Result<Answer, Refusal>
-    requires between { IsBetween volume.old }
-    ensures between { IsBetween volume.new }
+    ensures quiet { is_quiet_of volume.new ≡ is_quiet_of volume.old }
     ensures ok { IfOk result (λ answer. IsOriginTold B.contents B.layers depth message.now answer (rested_of volume.old) (rested_of volume.new)) }
     ensures err { IfErr result (λ refusal. IsTellRefused (B.layers volume.old.origin) depth message.now refusal × (settled_of B.contents B.layers (rested_of volume.new) ≡ settled_of B.contents B.layers (rested_of volume.old))) }
     ensures settled { IsSettled B.contents B.layers B.size (rested_of volume.old) → IsSettled B.contents B.layers B.size (rested_of volume.new) }
@@ -40,9 +39,8 @@ fn tell_store<B: Layered>(
     depth: usize,
     message: &Message,
 ) -> Result<Answer, Refusal>
-    requires between { IsBetween volume.old }
     requires place { k < length volume.old.snaps }
-    ensures between { IsBetween volume.new }
+    ensures quiet { is_quiet_of volume.new ≡ is_quiet_of volume.old }
     ensures ok { IfOk result (λ answer. IsStoreTold B.contents B.layers k depth message.now answer (rested_of volume.old) (rested_of volume.new)) }
     ensures err { IfErr result (λ refusal. ((d : Attached B) → IsTellRefused (B.layers (slice_index_or (rested_of volume.old).snaps k d).store) depth message.now refusal) × (settled_of B.contents B.layers (rested_of volume.new) ≡ settled_of B.contents B.layers (rested_of volume.old))) }
     ensures settled { IsSettled B.contents B.layers B.size (rested_of volume.old) → IsSettled B.contents B.layers B.size (rested_of volume.new) }
@@ -68,6 +66,7 @@ impl<B: Layered> Resting<B> {
         ensures kept { KeepsDevices B.layers B.size self.old self.new }
         ensures requests { self.new.requests ≡ self.old.requests }
         ensures copies { self.new.copies ≡ self.old.copies }
+        ensures quiet { is_quiet_of self.new.events ≡ is_quiet_of self.old.events }
     {
         tell_origin(&mut self.volume, depth, message)
     }
@@ -86,6 +85,7 @@ impl<B: Layered> Resting<B> {
         ensures kept { KeepsDevices B.layers B.size self.old self.new }
         ensures requests { self.new.requests ≡ self.old.requests }
         ensures copies { self.new.copies ≡ self.old.copies }
+        ensures quiet { is_quiet_of self.new.events ≡ is_quiet_of self.old.events }
     {
         tell_store(&mut self.volume, k, depth, message)
     }

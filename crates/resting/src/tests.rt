@@ -18,7 +18,11 @@ pub(crate) fn disk_of(alloc: Global, sectors: u64, k: u64) -> Result<FailAt<MemD
 }
 
 // A volume of 128 sectors with a snapshot over a fresh store of 64, in chunks of 8.
-fn volume_of(alloc: Global, origin: u64, store: u64) -> Result<Resting<FailAt<MemDisk>>, Refusal>
+pub(crate) fn volume_of(
+    alloc: Global,
+    origin: u64,
+    store: u64,
+) -> Result<Resting<FailAt<MemDisk>>, Refusal>
     ensures requests { IfOk result (λ v. v.requests ≡ 0) }
     ensures copies { IfOk result (λ v. v.copies ≡ 0) }
 {

@@ -1,47 +1,23 @@
 -- One line of a desk.
-use Rattle.std.proofs.Common.{◌≡◌, ◌≢◌, ◌⊎◌, ℕ, List, [], ◌∷◌, Option, Some, refl, sym, ap, ◌∙◌, inl, inr, subst, arith, true}
+use Rattle.std.proofs.Common.{◌≡◌, ◌≢◌, ◌⊎◌, ℕ, List, [], ◌∷◌, Option, Some, refl, sym, ap, ◌∙◌, inl, inr, subst, arith, true, false, ◌<◌, ◌^◌, length}
 use Rattle.std.specs.Prelude.{Ok, Err}
-use Rattle.std.specs.Io.KnownBytes.{Appends}
-use Rattle.std.proofs.lemmas.List.{append-nil}
-use Rattle.std.proofs.lemmas.List.Concat.{flat_map-cons}
 use Rattle.sector.specs.declared.refusal.Refusal.{Refusal}
-use Rattle.sector.specs.declared.refusal.Refusal.TheVariants.{NoSuchDevice, OutOfRange, Busy, NotQuiet, NoMemory, Invalid, MergingSnapshot, Io, TooMany, BadTable, BadChunk, BadHeader, BadVersion, Damaged, StoreTooSmall, Stale, MergeInProgress, NotMerging, NotDue, JournalFull, ChunkMismatch, NotFinished, Overflow}
 use Rattle.reply.specs.declared.Reply.{Reply}
 use Rattle.reply.specs.declared.Reply.TheVariants.{Refused}
-use Rattle.reply.specs.Texts.{text_of}
+use Rattle.resting.specs.declared.flights.Replied.{Replied}
 use Rattle.runner.specs.declared.summary.Summary.{Summary}
 use Rattle.named.specs.Changes.{Does}
 use Rattle.named.specs.Naming.{AreNamed}
 use Rattle.named.specs.Sound.{is_sound}
 use Rattle.named.specs.State.{Table}
 use Rattle.runner.specs.Steps.{answer_of}
-use Rattle.runner.specs.Output.{Outcome, Standing, answered, counted, empty, outcome, outcome_of, IsStarved, MayBe, printed, followed}
-
--- a refusal is want of memory, or it isn't
-memory_or_not : (e : Refusal) → (e ≡ NoMemory) ⊎ (e ≢ NoMemory)
-memory_or_not NoMemory = inl refl
-memory_or_not NoSuchDevice = inr (λ h. cc)
-memory_or_not OutOfRange = inr (λ h. cc)
-memory_or_not Busy = inr (λ h. cc)
-memory_or_not NotQuiet = inr (λ h. cc)
-memory_or_not Invalid = inr (λ h. cc)
-memory_or_not MergingSnapshot = inr (λ h. cc)
-memory_or_not Io = inr (λ h. cc)
-memory_or_not TooMany = inr (λ h. cc)
-memory_or_not BadTable = inr (λ h. cc)
-memory_or_not BadChunk = inr (λ h. cc)
-memory_or_not BadHeader = inr (λ h. cc)
-memory_or_not BadVersion = inr (λ h. cc)
-memory_or_not Damaged = inr (λ h. cc)
-memory_or_not StoreTooSmall = inr (λ h. cc)
-memory_or_not Stale = inr (λ h. cc)
-memory_or_not MergeInProgress = inr (λ h. cc)
-memory_or_not NotMerging = inr (λ h. cc)
-memory_or_not NotDue = inr (λ h. cc)
-memory_or_not JournalFull = inr (λ h. cc)
-memory_or_not ChunkMismatch = inr (λ h. cc)
-memory_or_not NotFinished = inr (λ h. cc)
-memory_or_not Overflow = inr (λ h. cc)
+use Rattle.runner.specs.Starts.{AreStartReplies, starts_line}
+use Rattle.runner.specs.Counts.{with_lines}
+use Rattle.runner.specs.Ended.{line_replies}
+use Rattle.runner.specs.Output.{Outcome, Standing, answered, counted, empty, outcome, outcome_of, IsStarved, MayBe, followed}
+use Rattle.runner.specs.Asking.{IsFirst, line_first}
+use Rattle.runner.proofs.EndedLemmas.{all_lines_counted}
+use Rattle.runner.proofs.AskingLemmas.{memory_or_not}
 
 -- a line that was done has its outcome
 pub may_ok : (line : List ℕ) (old new : Table) (reply : Option Reply) → Does (Ok reply) new (IsStarved line old) (answer_of line old) → MayBe line old (record { replies = answered reply; table = new })
@@ -56,22 +32,35 @@ may_err line old new e is = elim (memory_or_not e) [
   | inr other ↦ inl (sym (ap outcome (is.0 other)))
 ]
 
--- one reply is printed
-pub one_printed : (before after : Option (List ℕ)) (reply : Reply) → Appends before after (text_of reply) → Appends before after (printed (reply ∷ []))
-one_printed before after reply more =
-    let text : printed (reply ∷ []) ≡ text_of reply = flat_map-cons text_of reply [] ∙ append-nil (text_of reply) in
-    let P : List ℕ → Type 0 = λ bytes. Appends before after bytes in
-    subst P (sym text) more
+-- what a line answers where no request ended in it
+none_ended : (line : List ℕ) (was table : Table) (ended : List Replied) (own : Option Reply) → ended ≡ [] → MayBe line was (record { replies = answered own; table = table }) → MayBe line was (record { replies = line_replies ended own; table = table })
+none_ended line was table ended own none may = let P : List Replied → Type 0 = λ e. MayBe line was (record { replies = line_replies e own; table = table }) in subst P (sym none) may
+
+-- a line that starts a request answers that alone
+pub start_alone : (line : List ℕ) (ended : List Replied) (own : Option Reply) → (starts_line line ≡ true → AreStartReplies (answered own)) → (starts_line line ≡ true → ended ≡ []) → starts_line line ≡ true → AreStartReplies (line_replies ended own)
+start_alone line ended own number none does =
+    let P : List Replied → Type 0 = λ es. AreStartReplies (line_replies es own) in subst P (sym (none does)) (number does)
 
 -- what a line did, as its desk shows it
-pub line_done : (line : List ℕ) (old : Standing) (was table : Table) (summary now : Summary) (replies : List Reply) (P : List Reply → Type 0) → old ≡ record { table = was; summary = summary } → (is_sound was ≡ true → MayBe line was (record { replies = replies; table = table })) → now ≡ counted replies summary → P replies → (done : Outcome) × (is_sound old.table ≡ true → MayBe line old.table done) × (record { table = table; summary = now } ≡ followed old done) × P done.replies
-line_done line old was table summary now replies P view may is last =
-    let Q : Table → Type 0 = λ t. is_sound t ≡ true → MayBe line t (record { replies = replies; table = table }) in (
+pub line_done : (line : List ℕ) (old : Standing) (was table : Table) (summary now : Summary) (ended : List Replied) (own : Option Reply) (P : List Reply → Type 0) → old ≡ record { table = was; summary = summary } → (is_sound was ≡ true → starts_line line ≡ false → MayBe line was (record { replies = answered own; table = table })) → (is_sound was ≡ true → ended ≡ []) → IsFirst (line_first line was) (line_replies ended own) → (starts_line line ≡ true → AreStartReplies (line_replies ended own)) → now ≡ counted (line_replies ended own) summary → P (line_replies ended own) → (done : Outcome) × (is_sound old.table ≡ true → starts_line line ≡ false → MayBe line old.table done) × IsFirst (line_first line old.table) done.replies × (starts_line line ≡ true → AreStartReplies done.replies) × (record { table = table; summary = now } ≡ followed old done) × P done.replies
+line_done line old was table summary now ended own P view may none asks number is last =
+    let replies = line_replies ended own in
+    let same : was ≡ old.table = sym (ap (λ (s : Standing). s.table) view) in
+    let Q : Table → Type 0 = λ t. is_sound t ≡ true → starts_line line ≡ false → MayBe line t (record { replies = replies; table = table }) in
+    let F : Table → Type 0 = λ t. IsFirst (line_first line t) replies in
+    let here : Q was = λ sound other. none_ended line was table ended own (none sound) (may sound other) in (
       record { replies = replies; table = table },
-      subst Q (sym (ap (λ (s : Standing). s.table) view)) may,
+      subst Q same here,
+      subst F same asks,
+      number,
       ap (λ n. record { table = table; summary = n }) (is ∙ ap (λ (s : Standing). counted replies s.summary) (sym view)),
       last,
     )
+
+-- the lines of requests that ended, and a line's own answer, counted
+pub line_counted : (summary lines now : Summary) (count : ℕ) (ended : List Replied) (own : Option Reply) → summary.lines < 2 ^ 64 → count ≡ length ended → lines ≡ with_lines count summary → now ≡ counted (answered own) lines → now ≡ counted (line_replies ended own) summary
+line_counted summary lines now count ended own small size are is =
+    is ∙ ap (counted (answered own)) (are ∙ ap (λ n. with_lines n summary) size) ∙ sym (all_lines_counted ended own summary small)
 
 -- no devices are named apart
 pub none_named : (table : Table) → table ≡ empty → AreNamed table

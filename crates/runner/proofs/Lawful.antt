@@ -20,7 +20,7 @@ use Rattle.table.specs.Grammar.{times, are_features, features_among, features_in
 use Rattle.table.specs.Lawful.{is_target, is_line}
 use Rattle.command.specs.declared.grammar.Command.{Command}
 use Rattle.command.specs.declared.grammar.Command.TheVariants.{Message}
-use Rattle.command.specs.Grammar.{span_of, patch_of, alone_of, is_merge, made_line_of, disk_of, create_of, message_of, tick_of, step_of, command_of}
+use Rattle.command.specs.Grammar.{span_of, patch_of, alone_of, is_merge, made_line_of, disk_of, create_of, message_of, tick_of, start_of, step_of, command_of}
 use Rattle.command.specs.Messages.{message_in}
 use Rattle.command.specs.Events.{event_in}
 use Rattle.command.specs.Line.{is_silent, is_printable, said_of}
@@ -185,6 +185,13 @@ step_lawful : (words : List (List ℕ)) → IfOk (step_of words) IsLawful
 step_lawful [] = tt
 step_lawful (volume ∷ words) = after (name_of volume) _ IsLawful (λ v. after (event_in words) _ IsLawful (λ e. refl))
 
+start_lawful : (words : List (List ℕ)) → IfOk (start_of words) IsLawful
+start_lawful [] = tt
+start_lawful (device ∷ []) = tt
+start_lawful (device ∷ kind ∷ words) =
+    either (bytes_eq kind (codes "read")) _ _ IsLawful (λ is. after (span_of (device ∷ words)) _ IsLawful (λ span. refl))
+    (either (bytes_eq kind (codes "write")) _ _ IsLawful (λ is. after (patch_of (device ∷ words)) _ IsLawful (λ patch. refl)) tt)
+
 command_lawful : (words : List (List ℕ)) → IfOk (command_of words) IsLawful
 command_lawful [] = tt
 command_lawful (verb ∷ words) =
@@ -197,10 +204,11 @@ command_lawful (verb ∷ words) =
     (either (bytes_eq verb (codes "tick")) _ _ IsLawful (λ is. tick_lawful words)
     (either (bytes_eq verb (codes "read")) _ _ IsLawful (λ is. after (span_of words) _ IsLawful (λ span. refl))
     (either (bytes_eq verb (codes "write")) _ _ IsLawful (λ is. after (patch_of words) _ IsLawful (λ patch. refl))
+    (either (bytes_eq verb (codes "start")) _ _ IsLawful (λ is. start_lawful words)
     (either (bytes_eq verb (codes "step")) _ _ IsLawful (λ is. step_lawful words)
     (either (bytes_eq verb (codes "settle")) _ _ IsLawful (λ is. after (alone_of words) _ IsLawful (λ name. refl))
     (either (bytes_eq verb (codes "status")) _ _ IsLawful (λ is. after (alone_of words) _ IsLawful (λ name. refl))
-    (either (bytes_eq verb (codes "table")) _ _ IsLawful (λ is. after (alone_of words) _ IsLawful (λ name. refl)) tt))))))))))))
+    (either (bytes_eq verb (codes "table")) _ _ IsLawful (λ is. after (alone_of words) _ IsLawful (λ name. refl)) tt)))))))))))))
 
 -- what a line says, if it says anything
 abbrev IsSaidLawful : Option Command → Type 0

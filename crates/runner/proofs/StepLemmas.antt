@@ -1,5 +1,5 @@
 -- What a line does beside what its command does.
-use Rattle.std.proofs.Common.{◌≡◌, ◌≢◌, ℕ, true, List, Option, Some, None, refl, sym, ap, ◌∙◌, inl, subst}
+use Rattle.std.proofs.Common.{◌≡◌, ◌≢◌, ℕ, true, false, List, Option, Some, None, refl, sym, ap, ◌∙◌, inl, subst}
 use Rattle.std.specs.Prelude.{MatchResult, Result, Ok, Err}
 use Rattle.sector.specs.declared.refusal.Refusal.{Refusal}
 use Rattle.sector.specs.declared.refusal.Refusal.TheVariants.{NoMemory}
@@ -16,6 +16,7 @@ use Rattle.named.specs.Changes.{Does, kept}
 use Rattle.named.specs.Messages.{tell}
 use Rattle.runner.specs.Steps.{reworded, told_as, step, obeyed, answer_of}
 use Rattle.runner.specs.Sound.{is_sound_command, is_sound_said, is_sound_line}
+use Rattle.runner.specs.Starts.{starts, starts_said, starts_line}
 use Rattle.runner.specs.Output.{IsPartDone, IsPartSaid, IsStarved}
 use Rattle.runner.proofs.Quiet.{tell_quiet}
 
@@ -37,6 +38,8 @@ none_done (commands.Load disk first bytes) table = refl
 none_done (commands.Save disk first count) table = refl
 none_done (commands.Message device message) table = refl
 none_done (commands.Tick seconds) table = refl
+none_done (commands.StartRead device first count) table = refl
+none_done (commands.StartWrite device first bytes) table = refl
 none_done (commands.Step volume event) table = refl
 none_done (commands.Settle volume) table = refl
 none_done (commands.Status device) table = refl
@@ -71,3 +74,45 @@ obeyed_does line command old new (Err e) is does =
 pub sound_said : (line : List ℕ) (command : Command) → said_of 65536 line ≡ Ok (Some command) → is_sound_line line ≡ true → is_sound_command command ≡ true
 unfolding is_sound_line
 sound_said line command is sound = sym (ap is_sound_said is) ∙ sound
+
+-- such a line starts a request where its command does
+pub starts_as : (line : List ℕ) (command : Command) → said_of 65536 line ≡ Ok (Some command) → starts_line line ≡ false → starts command ≡ false
+unfolding starts_line
+starts_as line command is other = sym (ap starts_said is) ∙ other
+
+sound_starts : (command : Command) → is_sound_command command ≡ true → starts command ≡ false
+sound_starts (commands.StartRead device first count) sound = absurd cc
+sound_starts (commands.StartWrite device first bytes) sound = absurd cc
+sound_starts (commands.Create name line) sound = refl
+sound_starts (commands.Disk name sectors) sound = refl
+sound_starts (commands.Remove name) sound = refl
+sound_starts (commands.Load disk first bytes) sound = refl
+sound_starts (commands.Save disk first count) sound = refl
+sound_starts (commands.Message device message) sound = refl
+sound_starts (commands.Tick seconds) sound = refl
+sound_starts (commands.Read device first count) sound = refl
+sound_starts (commands.Write device first bytes) sound = refl
+sound_starts (commands.Step volume event) sound = refl
+sound_starts (commands.Settle volume) sound = refl
+sound_starts (commands.Status device) sound = refl
+sound_starts (commands.Table device) sound = refl
+
+said_starts : (said : Result (Option Command) Refusal) → is_sound_said said ≡ true → starts_said said ≡ false
+said_starts (Ok None) sound = refl
+said_starts (Ok (Some command)) sound = sound_starts command sound
+said_starts (Err refusal) sound = refl
+
+-- a line that is sound starts no request
+pub line_starts : (line : List ℕ) → is_sound_line line ≡ true → starts_line line ≡ false
+unfolding is_sound_line starts_line
+line_starts line sound = said_starts (said_of 65536 line) sound
+
+-- and so where it does
+pub starts_too : (line : List ℕ) (command : Command) → said_of 65536 line ≡ Ok (Some command) → starts_line line ≡ true → starts command ≡ true
+unfolding starts_line
+starts_too line command is does = sym (ap starts_said is) ∙ does
+
+-- a line that says nothing starts none
+pub silent_starts : (P : Type 0) (line : List ℕ) → said_of 65536 line ≡ Ok None → starts_line line ≡ true → P
+unfolding starts_line
+silent_starts P line is does = let no : false ≡ true = sym (ap starts_said is) ∙ does in absurd cc

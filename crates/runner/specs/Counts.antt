@@ -3,7 +3,7 @@ use Rattle.std.specs.Prelude.{◌==◌, ℕ, ◌+◌, ◌-◌, ◌^◌, min, Boo
 use Rattle.std.specs.List.{count_by}
 use Rattle.sector.specs.Refusal.{number_of}
 use Rattle.reply.specs.declared.Reply.{Reply}
-use Rattle.reply.specs.declared.Reply.TheVariants.{Done, Data, Said, Refused}
+use Rattle.reply.specs.declared.Reply.TheVariants.{Done, Data, Said, Number, Fault, Ended, Refused}
 use Rattle.runner.specs.declared.summary.Summary.{Summary}
 
 -- a reply whose line begins with `err`
@@ -11,6 +11,9 @@ abbrev pub is_refused : Reply → Bool
 is_refused Done = false
 is_refused (Data bytes) = false
 is_refused (Said text) = false
+is_refused (Number n) = false
+is_refused Fault = false
+is_refused (Ended ended) = false
 is_refused (Refused refusal) = true
 
 -- a reply that is the refusal of a number
@@ -18,6 +21,9 @@ abbrev pub refuses_with : ℕ → Reply → Bool
 refuses_with number Done = false
 refuses_with number (Data bytes) = false
 refuses_with number (Said text) = false
+refuses_with number (Number n) = false
+refuses_with number Fault = false
+refuses_with number (Ended ended) = false
 refuses_with number (Refused refusal) = number_of refusal == number
 
 -- a number that stops
@@ -45,3 +51,7 @@ with_reply reply s = record {
   no_memory = more (refuses_with 5 reply) s.no_memory;
   journal_full = more (refuses_with 20 reply) s.journal_full;
 }
+
+-- so many lines more, of which none is a refusal
+abbrev pub with_lines : ℕ → Summary → Summary
+with_lines count s = record s { lines = capped (s.lines + count) }

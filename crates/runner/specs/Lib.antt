@@ -1,7 +1,9 @@
-pub mod Events
+pub mod Starts
 pub mod Steps
 pub mod Lawful
 pub mod Sound
 pub mod Counts
+pub mod Asking
 pub mod Output
+pub mod Ended
 pub mod Exit

@@ -1,6 +1,6 @@
 -- Of which lines contracts say what they answer. A layer that drops writes answers Ok and does nothing (dm-flakey's
--- `drop_writes`), so once a line has made such a layer nothing is said of answers.
-use Rattle.std.specs.Prelude.{ℕ, Bool, true, not, List, Option, Some, None, Result, Ok, Err}
+-- `drop_writes`), so once a line has made such a layer nothing is said of answers; nor while a request is in flight.
+use Rattle.std.specs.Prelude.{ℕ, Bool, true, false, not, List, Option, Some, None, Result, Ok, Err}
 use Rattle.std.specs.List.{list_all}
 use Rattle.sector.specs.declared.refusal.Refusal.{Refusal}
 use Rattle.lines.specs.Lines.{lines_of}
@@ -9,7 +9,7 @@ use Rattle.command.specs.declared.grammar.Command.{Command}
 use Rattle.command.specs.declared.grammar.Command.TheVariants as commands
 use Rattle.named.specs.Sound.{drops_writes}
 
--- a command that makes no layer that drops writes
+-- a command that makes no layer that drops writes, and starts no request
 abbrev pub is_sound_command : Command → Bool
 is_sound_command (commands.Create name line) = not (drops_writes line.target)
 is_sound_command (commands.Disk name sectors) = true
@@ -20,6 +20,8 @@ is_sound_command (commands.Message device message) = true
 is_sound_command (commands.Tick seconds) = true
 is_sound_command (commands.Read device first count) = true
 is_sound_command (commands.Write device first bytes) = true
+is_sound_command (commands.StartRead device first count) = false
+is_sound_command (commands.StartWrite device first bytes) = false
 is_sound_command (commands.Step volume event) = true
 is_sound_command (commands.Settle volume) = true
 is_sound_command (commands.Status device) = true
@@ -30,14 +32,14 @@ is_sound_said (Ok None) = true
 is_sound_said (Ok (Some command)) = is_sound_command command
 is_sound_said (Err refusal) = true
 
--- a line that makes no such layer
+-- a line that makes no such layer and starts no request
 unfoldable pub is_sound_line : List ℕ → Bool
 is_sound_line line = is_sound_said (said_of 65536 line)
 
--- none of the lines makes one
+-- each of the lines is such
 abbrev pub are_sound_lines : List (List ℕ) → Bool
 are_sound_lines lines = list_all is_sound_line lines
 
--- a text that makes none
+-- a text of such lines
 unfoldable pub is_sound_text : List ℕ → Bool
 is_sound_text text = are_sound_lines (lines_of text)

@@ -1,6 +1,8 @@
--- What each command answers, and the devices after it.
+-- What each command answers, and the devices after it. Which number a request gets that a command starts, and when it ends, is
+-- its volume's own affair, where each event has its contract; texts with such commands are left out where this machine is used.
 use Rattle.std.specs.Prelude.{ℕ, List, Option, Some, None, Result, Ok, Err}
 use Rattle.sector.specs.declared.refusal.Refusal.{Refusal}
+use Rattle.sector.specs.declared.refusal.Refusal.TheVariants.{NotDue}
 use Rattle.command.specs.Line.{said_of}
 use Rattle.command.specs.declared.grammar.Command.{Command}
 use Rattle.command.specs.declared.grammar.Command.TheVariants as commands
@@ -17,7 +19,7 @@ use Rattle.named.specs.Messages.{tell, ticked}
 use Rattle.named.specs.Sectors.{read, write}
 use Rattle.named.specs.Status.{status_text}
 use Rattle.named.specs.Lines.{line_text}
-use Rattle.runner.specs.Events.{settle, step_event}
+use Rattle.named.specs.Events.{settle, step_event}
 
 -- an answer in other words, unless there is a refusal
 abbrev pub reworded : {A B : Type 0} → (A → B) → Result A Refusal → Result B Refusal
@@ -46,8 +48,10 @@ step (commands.Message device message) table = told_as reply_to (kept table (tel
 step (commands.Tick seconds) table = record { answer = Ok Done; left = ticked seconds table }
 step (commands.Read device first count) table = told_as Data (read device first count table)
 step (commands.Write device first bytes) table = done_as (write device first bytes table)
-step (commands.Step volume event) table = kept table (step_event volume event table)
-step (commands.Settle volume) table = kept table (settle volume table)
+step (commands.StartRead device first count) table = refused table NotDue
+step (commands.StartWrite device first bytes) table = refused table NotDue
+step (commands.Step volume event) table = refused table (step_event volume event table)
+step (commands.Settle volume) table = done_as (seen table (settle volume table))
 step (commands.Status device) table = told_as Said (seen table (status_text device table))
 step (commands.Table device) table = told_as Said (seen table (line_text device table))
 

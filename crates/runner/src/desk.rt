@@ -1,19 +1,23 @@
 // Lines in, lines out.
-ghost use Rattle.std.specs.Prelude.{◌≡◌, [], true, MatchResult, IfErr, OnOk};
+ghost use Rattle.std.specs.Prelude.{◌≡◌, [], true, false, MatchResult, IfErr, IfSome, OnOk};
 ghost use Rattle.std.specs.Io.KnownBytes.{Appends};
 ghost use Rattle.named.specs.Naming.{AreNamed};
 ghost use Rattle.named.specs.Sound.{is_sound};
 ghost use Rattle.devices.specs.Devices.{table_of};
+ghost use Rattle.runner.specs.Asking.{IsFirst, line_first};
 ghost use Rattle.runner.specs.Counts.{summary_of};
 ghost use Rattle.runner.specs.Exit.{IsMemory, IsWriters};
 ghost use Rattle.runner.specs.Output.{Outcome, MayBe, answered, empty, followed, printed};
 ghost use Rattle.runner.specs.Sound.{is_sound_line};
+ghost use Rattle.runner.specs.Starts.{AreStartReplies, starts_line};
 
+use crate::ended::print_all;
 use crate::error::RunError;
 use crate::step::answer;
 use crate::summary::Summary;
 use devices::Held;
 use reply::Reply;
+use resting::Replied;
 use std::alloc::Global;
 use std::io::Write;
 use std::marker::Model;
@@ -40,13 +44,19 @@ impl Model for Desk {
     ghost invariant = { λ d. AreNamed (table_of d.held) };
 }
 
-/// Does what a line says, and gives what it prints: its answer, or its refusal.
-fn outcome(alloc: Global, held: &mut Held, line: &[u8]) -> Option<Reply>
-    ensures done { is_sound (table_of held.old) ≡ true → MayBe line.now (table_of held.old) (record { replies = answered result; table = table_of held.new }) }
+/// Does what a line says, and gives what it prints: its answer, or its refusal. Requests that end in it go to the end of
+/// `ended`.
+fn outcome(alloc: Global, held: &mut Held, line: &[u8], ended: &mut Vec<Replied>) -> Option<Reply>
+    ensures done { is_sound (table_of held.old) ≡ true → starts_line line.now ≡ false → MayBe line.now (table_of held.old) (record { replies = answered result; table = table_of held.new }) }
+    ensures asks { IsFirst (line_first line.now (table_of held.old)) (answered result) }
+    ensures number { starts_line line.now ≡ true → AreStartReplies (answered result) }
+    ensures alone { starts_line line.now ≡ true → ended.new.items ≡ ended.old.items }
+    ensures still { IfSome (line_first line.now (table_of held.old)) (λ _. ended.new.items ≡ ended.old.items) }
+    ensures told { is_sound (table_of held.old) ≡ true → ended.new.items ≡ ended.old.items }
     ensures sound { is_sound (table_of held.old) ≡ true → is_sound_line line.now ≡ true → is_sound (table_of held.new) ≡ true }
     ensures named { AreNamed (table_of held.old) → AreNamed (table_of held.new) }
 {
-    match answer(alloc, held, line) {
+    match answer(alloc, held, line, ended) {
         Ok(reply) => reply,
         Err(refusal) => Some(Reply::Refused(refusal)),
     }
@@ -74,25 +84,25 @@ impl Desk {
         self.summary
     }
 
-    /// Does what a line says, the line given without its end, and prints the answer. Where the allocator refuses any
-    /// memory, the line prints that and changes no device, but that of a read or a write some part may have been done.
-    /// The one error is `RunError::Write`, the writer's own; then the line was done all the same, and part of its answer
-    /// may be printed.
+    /// Does what a line says, the line given without its end, and prints the lines of the requests that ended in it, and then
+    /// its own answer. A line whose words are refused answers that refusal alone, and so does a start or an event whose
+    /// names or sectors are refused, whatever is in flight. Where the allocator refuses any memory, the line prints that and
+    /// changes no device, but that of a read, a write or a settle some part may have been done. The one error is
+    /// `RunError::Write`, the writer's own; then the line was done all the same, and part of what it prints may be printed.
     pub fn line<W: Write>(&mut self, line: &[u8], writer: &mut W) -> Result<(), RunError>
-        ensures done { (done : Outcome) × (is_sound self.old.table ≡ true → MayBe line.now self.old.table done)
-            × (self.new ≡ followed self.old done)
+        ensures done { (done : Outcome) × (is_sound self.old.table ≡ true → starts_line line.now ≡ false → MayBe line.now self.old.table done)
+            × IsFirst (line_first line.now self.old.table) done.replies
+            × (starts_line line.now ≡ true → AreStartReplies done.replies) × (self.new ≡ followed self.old done)
             × OnOk result (Appends (W.contents writer.old) (W.contents writer.new) (printed done.replies)) }
-        // No device drops writes until a line makes one that does.
+        // No device drops writes, and nothing is in flight, until a line makes one that does or starts a request.
         ensures sound { is_sound self.old.table ≡ true → is_sound_line line.now ≡ true → is_sound self.new.table ≡ true }
         ensures error { IfErr result IsWriters }
         ensures named { AreNamed self.new.table }
     {
-        let reply = match outcome(self.alloc, &mut self.held, line) {
-            None => return Ok(()),
-            Some(reply) => reply,
-        };
-        self.summary = self.summary.with(&reply);
-        match reply.write_to(writer) {
+        let mut ended = Vec::new(self.alloc);
+        let own = outcome(self.alloc, &mut self.held, line, &mut ended);
+        self.summary = self.summary.with_lines(ended.len()).with_own(&own);
+        match print_all(writer, ended, own) {
             Ok(()) => Ok(()),
             Err(error) => Err(RunError::Write(error)),
         }

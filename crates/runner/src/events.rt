@@ -1,74 +1,47 @@
 // Events, one by one.
-ghost use Rattle.std.specs.Prelude.{◌≡◌, Some, Ok, Err};
-ghost use Rattle.named.specs.Changes.{Steps};
+ghost use Rattle.std.specs.Prelude.{◌≡◌, true, Some, IfSome, OnErr};
+ghost use Rattle.named.specs.Changes.{Does, refused};
+ghost use Rattle.named.specs.Events.{event_asked, step_event};
+ghost use Rattle.named.specs.Naming.{AreNamed};
+ghost use Rattle.named.specs.Sound.{is_sound};
 ghost use Rattle.devices.specs.Devices.{table_of};
-ghost use Rattle.runner.specs.Events.{is_origin, is_snapshot, settle, stepped, step_event};
+ghost use Rattle.runner.specs.Asking.{IsFirst, refusal_in};
+ghost use Rattle.runner.specs.Output.{told};
+ghost use Rattle.runner.specs.Steps.{reworded};
 
 use command::Event;
-use devices::{Held, find_device};
-use named::{Place, Role};
+use devices::{Held, step_device};
+use plain::Outcome;
 use reply::Reply;
+use resting::Replied;
 use sector::Refusal;
 use words::Name;
 
-/// Whether a place is that of an origin.
-fn is_origin(place: Place) -> bool
-    ensures { result ≡ is_origin place }
+/// `step VOL EVENT`: does one event of a volume, where it is due. The request that ends in it goes to the end of `ended`.
+/// An event in which a device failed and no request ended answers `Fault`. The refusals are those of `step_device`, and
+/// `NoMemory`; a refusal leaves all as it was.
+pub fn step_volume(
+    held: &mut Held,
+    name: &Name,
+    event: &Event,
+    ended: &mut Vec<Replied>,
+) -> Result<Reply, Refusal>
+    ensures done { is_sound (table_of held.old) ≡ true → Does result (table_of held.new) (λ t. t ≡ table_of held.old) (refused (table_of held.old) (step_event name.now event.now (table_of held.old))) }
+    ensures told { is_sound (table_of held.old) ≡ true → ended.new.items ≡ ended.old.items }
+    ensures asks { IsFirst (refusal_in (event_asked name.now event.now (table_of held.old))) (told (reworded Some result)) }
+    ensures still { IfSome (refusal_in (event_asked name.now event.now (table_of held.old))) (λ _. ended.new.items ≡ ended.old.items) }
+    ensures err { OnErr result (table_of held.new ≡ table_of held.old) }
+    ensures kept { OnErr result (ended.new.items ≡ ended.old.items) }
+    ensures sound { is_sound (table_of held.old) ≡ true → is_sound (table_of held.new) ≡ true }
+    ensures named { AreNamed (table_of held.old) → AreNamed (table_of held.new) }
 {
-    matches!(place, Place::In(_, Role::Origin))
-}
-
-/// Whether a place is that of a snapshot.
-fn is_snapshot(place: Place) -> bool
-    ensures { result ≡ is_snapshot place }
-{
-    matches!(place, Place::In(_, Role::Snapshot(_)))
-}
-
-/// `settle VOL`: each command has settled its own events, so there is none left.
-#[tactic(auto, unfolding(crate::specs::Events::settle))]
-pub fn settle_volume(held: &Held, name: &Name) -> Result<Reply, Refusal>
-    ensures { Steps result (table_of held.now) (table_of held.now) (settle name.now (table_of held.now)) }
-{
-    let place = find_device(held, name)?;
-    if is_origin(place) {
-        Ok(Reply::Done)
-    } else {
-        Err(Refusal::BadTable)
-    }
-}
-
-/// Why an event of the volume at a place, about the snapshot of a name, is not done.
-fn refusal_about(held: &Held, volume: Place, snapshot: &Name) -> Refusal
-    ensures { stepped volume (Some snapshot.now) (table_of held.now) ≡ Err result }
-{
-    let place = match find_device(held, snapshot) {
-        Ok(place) => place,
-        Err(refusal) => return refusal,
-    };
-    if is_origin(volume) && is_snapshot(place) {
-        Refusal::NotDue
-    } else {
-        Refusal::BadTable
-    }
-}
-
-/// `step VOL EVENT`: each command has settled its own events, so none is due.
-#[tactic(auto, unfolding(crate::specs::Events::step_event))]
-pub fn step_volume(held: &Held, name: &Name, event: &Event) -> Result<Reply, Refusal>
-    ensures { Steps result (table_of held.now) (table_of held.now) (step_event name.now event.now (table_of held.now)) }
-{
-    let place = find_device(held, name)?;
-    match event {
-        Event::Issue(_) | Event::CopyRead(_) | Event::CopyWrite(_) | Event::Publish(_) => {
-            if is_origin(place) {
-                Err(Refusal::NotDue)
-            } else {
-                Err(Refusal::BadTable)
-            }
-        }
-        Event::ZeroNext(snapshot) | Event::WriteArea(snapshot) | Event::WriteInvalid(snapshot) => {
-            Err(refusal_about(held, place, snapshot))
+    ended.reserve(1).map_err(|_| Refusal::NoMemory)?;
+    match step_device(held, name, event)? {
+        Outcome::Done => Ok(Reply::Done),
+        Outcome::Fault => Ok(Reply::Fault),
+        Outcome::Reply(number, reply) => {
+            ended.push_reserved(Replied { number, reply });
+            Ok(Reply::Done)
         }
     }
 }

@@ -8,11 +8,15 @@
 //! may change an answer; then the line says so, the summary counts it, and no device changed but by a read or a write of
 //! which some part was done.
 //!
-//! All that is said of texts in which no line makes a layer that drops writes. Of every text it is promised that whole
-//! replies are printed and counted.
+//! A request that a command started ends in a later one, and its line stands before that command's own.
+//!
+//! All that is said of texts in which no line makes a layer that drops writes or starts a request. Of every text it is
+//! promised that whole replies are printed and counted, that a line answers its outcome wherever nothing is in flight,
+//! and in what order a start or an event is refused before its volume is asked.
 #![tactic(auto)]
 
 mod desk;
+mod ended;
 mod error;
 mod events;
 mod step;

@@ -1,27 +1,31 @@
 // What each line does.
-ghost use Rattle.std.specs.Prelude.{◌≡◌, ◌≢◌, true, MatchResult};
+ghost use Rattle.std.specs.Prelude.{◌≡◌, ◌≢◌, true, false, Some, IfSome, MatchResult};
 ghost use Rattle.sector.specs.declared.refusal.Refusal.TheVariants.{NoMemory};
 ghost use Rattle.layers.specs.declared.message.Answer.TheVariants as answers;
-ghost use Rattle.reply.specs.declared.Reply.TheVariants.{Done, Data, Said};
+ghost use Rattle.reply.specs.declared.Reply.TheVariants.{Done, Data, Said, Number};
 ghost use Rattle.reply.specs.Answers.{reply_to};
 ghost use Rattle.named.specs.Changes.{Does, kept};
 ghost use Rattle.named.specs.Messages.{tell};
 ghost use Rattle.named.specs.Naming.{AreNamed};
 ghost use Rattle.named.specs.Sound.{is_sound};
 ghost use Rattle.devices.specs.Devices.{table_of};
+ghost use Rattle.runner.specs.Asking.{IsFirst, first_refusal, line_first};
 ghost use Rattle.runner.specs.Lawful.{is_lawful};
-ghost use Rattle.runner.specs.Output.{IsPartDone, IsStarved};
+ghost use Rattle.runner.specs.Output.{IsPartDone, IsStarved, told};
 ghost use Rattle.runner.specs.Sound.{is_sound_command, is_sound_line};
+ghost use Rattle.runner.specs.Starts.{AreStartReplies, starts, starts_line};
 ghost use Rattle.runner.specs.Steps.{reworded, told_as, step, answer_of};
 
-use crate::events::{settle_volume, step_volume};
+use crate::events::step_volume;
 use command::{Command, LINE_LIMIT, said};
 use devices::{
     Held, create_device, line_text, load_disk, make_disk, read_device, remove_device, save_disk,
-    status_text, tell, tick, write_device,
+    settle_device, start_read, start_write, status_text, tell, tick, write_device,
 };
 use layers::{Answer, Message};
+use plain::ReqId;
 use reply::Reply;
+use resting::Replied;
 use sector::{Buf, Refusal};
 use std::alloc::Global;
 use words::{Name, Text};
@@ -56,6 +60,16 @@ fn with_text(call: Result<Text, Refusal>) -> Result<Reply, Refusal>
     }
 }
 
+/// The number of a request that was started.
+fn numbered(call: Result<ReqId, Refusal>) -> Result<Reply, Refusal>
+    ensures { result ≡ reworded Number call }
+{
+    match call {
+        Ok(number) => Ok(Reply::Number(number)),
+        Err(refusal) => Err(refusal),
+    }
+}
+
 /// The reply to a message that was answered. The one error is `NoMemory`, for the words of an answer that has some.
 fn worded(alloc: Global, answer: Answer) -> Result<Reply, Refusal>
     ensures { MatchResult result (λ reply. reply ≡ reply_to answer) (λ e. (e ≡ NoMemory) × (answer ≢ answers.Done)) }
@@ -81,11 +95,21 @@ fn tell_device(
     }
 }
 
-/// Does a command.
+/// Does a command. Requests that end in it go to the end of `ended`.
 #[tactic(auto, unfolding(crate::specs::Steps::step))]
-fn obey(alloc: Global, held: &mut Held, command: Command) -> Result<Reply, Refusal>
+fn obey(
+    alloc: Global,
+    held: &mut Held,
+    command: Command,
+    ended: &mut Vec<Replied>,
+) -> Result<Reply, Refusal>
     requires { is_lawful command ≡ true }
-    ensures done { is_sound (table_of held.old) ≡ true → Does result (table_of held.new) (IsPartDone command (table_of held.old)) (step command (table_of held.old)) }
+    ensures done { is_sound (table_of held.old) ≡ true → starts command ≡ false → Does result (table_of held.new) (IsPartDone command (table_of held.old)) (step command (table_of held.old)) }
+    ensures asks { IsFirst (first_refusal command (table_of held.old)) (told (reworded Some result)) }
+    ensures number { starts command ≡ true → AreStartReplies (told (reworded Some result)) }
+    ensures alone { starts command ≡ true → ended.new.items ≡ ended.old.items }
+    ensures still { IfSome (first_refusal command (table_of held.old)) (λ _. ended.new.items ≡ ended.old.items) }
+    ensures told { is_sound (table_of held.old) ≡ true → ended.new.items ≡ ended.old.items }
     ensures sound { is_sound (table_of held.old) ≡ true → is_sound_command command ≡ true → is_sound (table_of held.new) ≡ true }
     ensures named { AreNamed (table_of held.old) → AreNamed (table_of held.new) }
 {
@@ -106,28 +130,49 @@ fn obey(alloc: Global, held: &mut Held, command: Command) -> Result<Reply, Refus
             device,
             first,
             count,
-        } => with_bytes(read_device(alloc, held, &device, first, count)),
+        } => with_bytes(read_device(alloc, held, &device, first, count, ended)),
         Command::Write {
             device,
             first,
             bytes,
-        } => done(write_device(alloc, held, &device, first, &bytes)),
-        Command::Step { volume, event } => step_volume(held, &volume, &event),
-        Command::Settle { volume } => settle_volume(held, &volume),
+        } => done(write_device(alloc, held, &device, first, &bytes, ended)),
+        Command::StartRead {
+            device,
+            first,
+            count,
+        } => numbered(start_read(alloc, held, &device, first, count)),
+        Command::StartWrite {
+            device,
+            first,
+            bytes,
+        } => numbered(start_write(alloc, held, &device, first, bytes)),
+        Command::Step { volume, event } => step_volume(held, &volume, &event, ended),
+        Command::Settle { volume } => done(settle_device(held, &volume, ended)),
         Command::Status { device } => with_text(status_text(alloc, held, &device)),
         Command::Table { device } => with_text(line_text(alloc, held, &device)),
     }
 }
 
-/// Does what a line says, and gives its answer; `None` for a line that says nothing.
-pub fn answer(alloc: Global, held: &mut Held, line: &[u8]) -> Result<Option<Reply>, Refusal>
-    ensures done { is_sound (table_of held.old) ≡ true → Does result (table_of held.new) (IsStarved line.now (table_of held.old)) (answer_of line.now (table_of held.old)) }
+/// Does what a line says, and gives its own answer; `None` for a line that says nothing. Requests that end in it go to the
+/// end of `ended`.
+pub fn answer(
+    alloc: Global,
+    held: &mut Held,
+    line: &[u8],
+    ended: &mut Vec<Replied>,
+) -> Result<Option<Reply>, Refusal>
+    ensures done { is_sound (table_of held.old) ≡ true → starts_line line.now ≡ false → Does result (table_of held.new) (IsStarved line.now (table_of held.old)) (answer_of line.now (table_of held.old)) }
+    ensures asks { IsFirst (line_first line.now (table_of held.old)) (told result) }
+    ensures number { starts_line line.now ≡ true → AreStartReplies (told result) }
+    ensures alone { starts_line line.now ≡ true → ended.new.items ≡ ended.old.items }
+    ensures still { IfSome (line_first line.now (table_of held.old)) (λ _. ended.new.items ≡ ended.old.items) }
+    ensures told { is_sound (table_of held.old) ≡ true → ended.new.items ≡ ended.old.items }
     ensures sound { is_sound (table_of held.old) ≡ true → is_sound_line line.now ≡ true → is_sound (table_of held.new) ≡ true }
     ensures named { AreNamed (table_of held.old) → AreNamed (table_of held.new) }
 {
     match said(alloc, line, LINE_LIMIT) {
         Ok(None) => Ok(None),
-        Ok(Some(command)) => match obey(alloc, held, command) {
+        Ok(Some(command)) => match obey(alloc, held, command, ended) {
             Ok(reply) => Ok(Some(reply)),
             Err(refusal) => Err(refusal),
         },

@@ -1,6 +1,7 @@
 // How many lines were printed, and of which kind.
 ghost use Rattle.std.specs.Prelude.{◌≡◌, []};
-ghost use Rattle.runner.specs.Counts.{more, is_refused, refuses_with, summary_of, with_reply};
+ghost use Rattle.runner.specs.Counts.{more, is_refused, refuses_with, summary_of, with_lines, with_reply};
+ghost use Rattle.runner.specs.Output.{answered, counted};
 
 use reply::Reply;
 use sector::Refusal;
@@ -75,6 +76,26 @@ impl Summary {
                 refuses_with(Refusal::JournalFull.number(), reply),
                 self.journal_full,
             ),
+        }
+    }
+
+    /// So many more lines, none of which is a refusal.
+    pub fn with_lines(self, count: usize) -> Summary
+        ensures { result ≡ with_lines count self }
+    {
+        Summary {
+            lines: self.lines.saturating_add(count as u64),
+            ..self
+        }
+    }
+
+    /// One more line, if there is one.
+    pub fn with_own(self, own: &Option<Reply>) -> Summary
+        ensures { result ≡ counted (answered own.now) self }
+    {
+        match own {
+            None => self,
+            Some(reply) => self.with(reply),
         }
     }
 }

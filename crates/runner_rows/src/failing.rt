@@ -1,8 +1,10 @@
 // Readers and writers that fail in mid-stream.
 
 use runner::{RunError, exit_status, run};
+use std::alloc::Global;
 use std::io;
 use std::io::{ErrorKind, Read};
+use std::process::Abort;
 use std::test::Fail;
 
 /// Gives so many bytes, one at a call, and fails then.
@@ -45,23 +47,46 @@ fn ends_where_the_reader_fails_and_not_as_at_the_end(rt: HostRuntime) -> Result<
     Ok(())
 }
 
-#[test]
-fn ends_where_the_writer_is_full(rt: HostRuntime) -> Result<(), Fail> {
-    let text = b"disk d 8\nsave d 0 1\n";
-    let want = b"ok\nok 512*00\n";
-    for room in 0..13usize {
-        let mut reader = text.as_slice();
-        let mut out = [0u8; 13];
+/// A text of which these bytes are printed, with room for each number of bytes below theirs.
+fn ends_in_each_room(rt: &impl Abort, alloc: Global, text: &[u8], want: &[u8]) {
+    assert!(rt; want.len() <= 64);
+    for room in 0..want.len() {
+        let mut reader = text;
+        let mut out = [0u8; 64];
         let ran = {
             let mut writer = &mut out[..room];
-            run(rt.alloc(), &mut reader, &mut writer, 1)
+            run(alloc, &mut reader, &mut writer, 1)
         };
         assert!(rt; matches!(&ran, Err(RunError::Write(_))), "in {room} bytes");
         assert_eq!(rt; exit_status(&ran), 2);
         assert_eq!(rt; out[..room], want[..room], "in {room} bytes");
     }
-    Ok(())
 }
+
+#[test]
+fn ends_where_the_writer_is_full(rt: HostRuntime) {
+    let text = b"disk d 8\nsave d 0 1\n";
+    let want = b"ok\nok 512*00\n";
+    ends_in_each_room(&rt, rt.alloc(), text, want);
+}
+
+#[test]
+fn ends_where_the_writer_is_full_among_replies(rt: HostRuntime) {
+    let text =
+        b"disk d 8\ncreate vol 0 8 snapshot-origin d\nstart vol read 0 1\nstart vol write 0 512*aa\nsettle vol\n";
+    let want = b"ok\nok\nok 1\nok 2\nreply 1 512*00\nreply 2 written\nok\n";
+    ends_in_each_room(&rt, rt.alloc(), text, want);
+}
+
+/// A text that prints seven lines, one of them the reply of a request whose device failed.
+const REPLIES: &str = "\
+    disk d 8\n\
+    create fl 0 8 flakey d 0 1 1\n\
+    create vol 0 8 snapshot-origin fl\n\
+    start vol read 0 1\n\
+    tick 1\n\
+    settle vol\n\
+    ";
 
 #[test]
 fn counts_what_was_printed(rt: HostRuntime) -> Result<(), Fail> {
@@ -69,6 +94,7 @@ fn counts_what_was_printed(rt: HostRuntime) -> Result<(), Fail> {
         ("", 0, 0),
         ("disk d 8\n", 1, 0),
         ("disk d 8\n\ndisk d 8\n# err\nstatus e\nsave d 0 1", 4, 2),
+        (REPLIES, 7, 0),
     ] {
         let mut reader = text.as_bytes();
         let mut out = Vec::new(rt.alloc());

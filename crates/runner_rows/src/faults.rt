@@ -1,6 +1,7 @@
 // Texts about layers that fail: flakey and dust layers by the time and by messages, error layers always.
 
 use crate::texts::printed;
+use std::alloc::{AllocError, Global};
 use std::test::Fail;
 
 #[test]
@@ -89,13 +90,7 @@ fn spoils_a_snapshot_whose_copy_reads_a_bad_block(rt: HostRuntime) -> Result<(),
         read vol 5 1\n\
         ";
     let want = "\
-        ok\n\
-        ok\n\
-        ok\n\
-        ok\n\
-        ok\n\
-        ok\n\
-        ok\n\
+        ok\nok\nok\nok\nok\nok\nok\n\
         ok already\n\
         ok 1\n\
         err 2 OutOfRange\n\
@@ -177,8 +172,8 @@ fn takes_no_store_whose_invalid_mark_failed(rt: HostRuntime) -> Result<(), Fail>
     Ok(())
 }
 
-#[test]
-fn takes_the_store_again_once_its_first_sector_is_loaded(rt: HostRuntime) -> Result<(), Fail> {
+/// A text at whose end a snapshot was spoiled, and the mark of that could not be written to its store; and its answers.
+fn stale_store(alloc: Global) -> Result<(String, String), AllocError> {
     let text = "\
         disk base 128\n\
         disk cow 64\n\
@@ -190,6 +185,21 @@ fn takes_the_store_again_once_its_first_sector_is_loaded(rt: HostRuntime) -> Res
         write vol 5 512*aa\n\
         tick 1\n\
         status snap\n\
+        ";
+    let want = "\
+        ok\nok\nok\nok\nok\nok\nok\nok\nok\n\
+        ok 0 128 snapshot Invalid\n\
+        ";
+    Ok((
+        String::from_str(alloc, text)?,
+        String::from_str(alloc, want)?,
+    ))
+}
+
+#[test]
+fn takes_the_store_again_once_its_first_sector_is_loaded(rt: HostRuntime) -> Result<(), Fail> {
+    let (mut text, mut want) = stale_store(rt.alloc())?;
+    let more = "\
         remove snap\n\
         load cow 0 512*00\n\
         remove fl\n\
@@ -201,17 +211,7 @@ fn takes_the_store_again_once_its_first_sector_is_loaded(rt: HostRuntime) -> Res
         create snap 0 128 snapshot base cow P 1\n\
         status snap\n\
         ";
-    let want = "\
-        ok\n\
-        ok\n\
-        ok\n\
-        ok\n\
-        ok\n\
-        ok\n\
-        ok\n\
-        ok\n\
-        ok\n\
-        ok 0 128 snapshot Invalid\n\
+    let answers = "\
         ok\n\
         err 3 Busy\n\
         ok\n\
@@ -223,7 +223,9 @@ fn takes_the_store_again_once_its_first_sector_is_loaded(rt: HostRuntime) -> Res
         ok\n\
         ok 0 128 snapshot 2/64 2\n\
         ";
-    let (out, status) = printed(rt.alloc(), text)?;
+    text.push_str(more)?;
+    want.push_str(answers)?;
+    let (out, status) = printed(rt.alloc(), &text)?;
     assert_eq!(rt; out.as_slice(), want.as_bytes());
     assert_eq!(rt; status, 1);
     Ok(())
@@ -252,23 +254,14 @@ fn has_no_status_line_of_a_layer(rt: HostRuntime) -> Result<(), Fail> {
         table er\n\
         ";
     let want = "\
-        ok\n\
-        ok\n\
-        ok\n\
-        ok\n\
+        ok\nok\nok\nok\n\
         ok 0 100 flakey base 28 1 0\n\
         ok 0 100 dust fl 0 1024\n\
         ok 0 64 error\n\
-        err 10 BadTable\n\
-        err 10 BadTable\n\
-        err 10 BadTable\n\
-        err 10 BadTable\n\
-        err 10 BadTable\n\
+        err 10 BadTable\nerr 10 BadTable\nerr 10 BadTable\nerr 10 BadTable\nerr 10 BadTable\n\
         ok 512*00\n\
         err 3 Busy\n\
-        ok\n\
-        ok\n\
-        ok\n\
+        ok\nok\nok\n\
         err 1 NoSuchDevice\n\
         ";
     let (out, status) = printed(rt.alloc(), text)?;

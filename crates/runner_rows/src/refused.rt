@@ -62,6 +62,34 @@ const LAYERS: [(&str, &str); 12] = [
     ("remove du", "ok\n"),
 ];
 
+/// What shows all of the disks, and does no event of a volume.
+const STILL: [&str; 4] = [
+    "save base 0 128",
+    "save cow 0 64",
+    "status vol",
+    "status snap",
+];
+
+/// Lines about requests in flight, and what each answers.
+const FLIGHTS: [(&str, &str); 16] = [
+    ("disk base 128", "ok\n"),
+    ("disk cow 64", "ok\n"),
+    ("create vol 0 128 snapshot-origin base", "ok\n"),
+    ("create snap 0 128 snapshot base cow P 1", "ok\n"),
+    ("start vol write 5 512*aa", "ok 1\n"),
+    ("start vol read 5 1", "ok 2\n"),
+    ("start snap read 5 1", "ok 3\n"),
+    ("start snap write 9 512*77", "ok 4\n"),
+    ("step vol copy-read 1", "ok\n"),
+    ("step vol issue 2", "reply 2 512*00\nok\n"),
+    ("step vol copy-write 1", "ok\n"),
+    ("step vol write-area snap", "ok\n"),
+    ("step vol issue 3", "reply 3 512*00\nok\n"),
+    ("step vol publish 1", "ok\n"),
+    ("step vol issue 1", "reply 1 written\nok\n"),
+    ("settle vol", "reply 4 written\nok\n"),
+];
+
 /// A desk; the second try meets no refusal where the first did.
 fn new_desk(alloc: Global) -> Result<Desk, RunError> {
     match Desk::new(alloc, 1) {
@@ -136,6 +164,11 @@ fn says_so_and_changes_no_device(rt: HostRuntime) -> Result<(), Fail> {
 #[test]
 fn says_so_and_changes_no_layer(rt: HostRuntime) -> Result<(), Fail> {
     Ok(done(&rt, &LAYERS, &LAYERED)?)
+}
+
+#[test]
+fn says_so_and_starts_no_request_and_loses_no_reply(rt: HostRuntime) -> Result<(), Fail> {
+    Ok(done(&rt, &FLIGHTS, &STILL)?)
 }
 
 #[test]

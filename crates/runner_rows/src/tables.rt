@@ -61,12 +61,7 @@ fn prints_the_table_line_of_each_device_that_has_one(rt: HostRuntime) -> Result<
         table cow\n\
         ";
     let want = "\
-        ok\n\
-        ok\n\
-        ok\n\
-        ok\n\
-        ok\n\
-        ok\n\
+        ok\nok\nok\nok\nok\nok\n\
         ok 0 130 snapshot-origin base\n\
         ok 0 130 snapshot base cow2 P 4\n\
         ok 0 130 snapshot base cow P 4\n\
@@ -104,18 +99,15 @@ fn makes_layers_and_no_merge(rt: HostRuntime) -> Result<(), Fail> {
         create top 0 128 dust vol 0 512\n\
         ";
     let want = "\
-        ok\n\
-        ok\n\
+        ok\nok\n\
         err 3 Busy\n\
         ok\n\
         ok\n\
-        err 10 BadTable\n\
-        err 10 BadTable\n\
+        err 10 BadTable\nerr 10 BadTable\n\
         err 11 BadChunk\n\
         err 10 BadTable\n\
         err 3 Busy\n\
-        err 10 BadTable\n\
-        err 10 BadTable\n\
+        err 10 BadTable\nerr 10 BadTable\n\
         err 3 Busy\n\
         err 10 BadTable\n\
         ok\n\

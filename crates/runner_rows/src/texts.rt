@@ -1,10 +1,11 @@
 // Texts of command lines, and what is printed for them.
 
 use runner::{exit_status, run};
+use std::alloc::{AllocError, Global};
 use std::test::Fail;
 
 /// What is printed for a text, and the exit status.
-pub fn printed(alloc: std::alloc::Global, text: &str) -> Result<(Vec<u8>, u8), Fail> {
+pub fn printed(alloc: Global, text: &str) -> Result<(Vec<u8>, u8), Fail> {
     let mut reader = text.as_bytes();
     let mut out = Vec::new(alloc);
     let ran = run(alloc, &mut reader, &mut out, 1);
@@ -633,57 +634,26 @@ fn takes_no_store_that_may_overflow(rt: HostRuntime) -> Result<(), Fail> {
     Ok(())
 }
 
+/// A text that takes eight snapshots of one origin, and its answers.
+fn eight_snapshots(alloc: Global) -> Result<(String, String), AllocError> {
+    let mut text = String::new(alloc);
+    let mut want = String::new(alloc);
+    text.push_str("disk base 128\ncreate vol 0 128 snapshot-origin base\nwrite vol 0 65536*11\n")?;
+    want.push_str("ok\nok\nok\n")?;
+    for k in 1..9u32 {
+        text.push_str(&format!(in alloc; "disk c{k} 8\n")?)?;
+        text.push_str(&format!(in alloc; "create s{k} 0 128 snapshot base c{k} P 1\n")?)?;
+        want.push_str("ok\nok\n")?;
+    }
+    Ok((text, want))
+}
+
 #[test]
 fn takes_no_ninth_snapshot(rt: HostRuntime) -> Result<(), Fail> {
-    let text = "\
-        disk base 128\n\
-        disk cow 64\n\
-        create vol 0 128 snapshot-origin base\n\
-        write vol 0 65536*11\n\
-        create snap 0 128 snapshot base cow P 1\n\
-        disk c2 8\n\
-        create s2 0 128 snapshot base c2 P 1\n\
-        disk c3 8\n\
-        create s3 0 128 snapshot base c3 P 1\n\
-        disk c4 8\n\
-        create s4 0 128 snapshot base c4 P 1\n\
-        disk c5 8\n\
-        create s5 0 128 snapshot base c5 P 1\n\
-        disk c6 8\n\
-        create s6 0 128 snapshot base c6 P 1\n\
-        disk c7 8\n\
-        create s7 0 128 snapshot base c7 P 1\n\
-        disk c8 8\n\
-        create s8 0 128 snapshot base c8 P 1\n\
-        disk c9 8\n\
-        create s9 0 128 snapshot base c9 P 1\n\
-        save c9 0 8\n\
-        ";
-    let want = "\
-        ok\n\
-        ok\n\
-        ok\n\
-        ok\n\
-        ok\n\
-        ok\n\
-        ok\n\
-        ok\n\
-        ok\n\
-        ok\n\
-        ok\n\
-        ok\n\
-        ok\n\
-        ok\n\
-        ok\n\
-        ok\n\
-        ok\n\
-        ok\n\
-        ok\n\
-        ok\n\
-        err 9 TooMany\n\
-        ok 4096*00\n\
-        ";
-    let (out, status) = printed(rt.alloc(), text)?;
+    let (mut text, mut want) = eight_snapshots(rt.alloc())?;
+    text.push_str("disk c9 8\ncreate s9 0 128 snapshot base c9 P 1\nsave c9 0 8\n")?;
+    want.push_str("ok\nerr 9 TooMany\nok 4096*00\n")?;
+    let (out, status) = printed(rt.alloc(), &text)?;
     assert_eq!(rt; out.as_slice(), want.as_bytes());
     assert_eq!(rt; status, 1);
     Ok(())

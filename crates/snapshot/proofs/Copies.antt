@@ -1,8 +1,8 @@
 -- A snapshot's copies, and what it keeps true where they change.
-use Rattle.std.proofs.Common.{◌≡◌, ℕ, suc, ◌+◌, ◌*◌, ◌<◌, Bool, true, false, List, [], ◌∷◌, ◌++◌, length, get_or, set, drop, map, arith, refl, ap, ◌∙◌, sym, subst}
-use Rattle.std.specs.Prelude.{◌==◌, None}
+use Rattle.std.proofs.Common.{◌≡◌, inl, inr, ℕ, suc, ◌+◌, ◌-◌, ◌*◌, ◌<◌, ◌≤◌, Bool, true, false, List, [], ◌∷◌, ◌++◌, length, get_or, set, drop, map, arith, refl, ap, ◌∙◌, sym, subst, length-append, length-drop, length-set}
+use Rattle.std.specs.Prelude.{◌==◌, ◌&&◌, not, None}
 use Rattle.std.specs.List.{All, list_any}
-use Rattle.std.proofs.lemmas.Bool.{true≢false, cond-true, cond-false}
+use Rattle.std.proofs.lemmas.Bool.{true≢false, cases_eq, eq-eqb, eqb-true, cond-true, cond-false}
 use Rattle.std.proofs.lemmas.List.{get_or-map, length-map, drop-map, map_push}
 use Rattle.std.proofs.lemmas.List.Elements.{All-set, All-drop, All-push}
 use Rattle.std.proofs.Math.Seq.{map-set_same}
@@ -15,7 +15,8 @@ use Rattle.pending.specs.declared.copies.Mark.{Mark}
 use Rattle.store.specs.declared.state.State.{State}
 use Rattle.store.specs.Stored.{after_commit}
 use Rattle.volume_laws.proofs.Lists.{All-back, All-from_list_any}
-use Rattle.snapshot.specs.Held.{IsBuffered, IsSnapshot}
+use Rattle.snapshot.specs.Kept.{needs_area}
+use Rattle.snapshot.specs.Held.{IsBuffered, IsAhead, IsSnapshot}
 
 -- the buffer of a copy
 pub buffered : (chunk origin : ℕ) (copies : List ChunkCopy) (k : ℕ) (p : ChunkCopy) → All (IsBuffered chunk origin) copies → k < length copies → p ≡ get_or copies k p → length p.buffer.items ≡ 512 * count_of chunk origin p.pair.old
@@ -44,6 +45,7 @@ copy_set live untried stale s begun copies marks k p q h lt is same len = record
       (record { room = len ∙ buffered s.chunk s.origin copies k p h.buffers lt is ∙ ap (λ (x : Pair). 512 * count_of s.chunk s.origin x.old) (sym same) }) h.buffers;
   idle = λ dead. let none : length copies ≡ 0 = ap length (h.idle dead) in absurd (omega arith);
   unmarked = h.unmarked;
+  ahead = λ alive zeroed. (rw length-set (h.ahead alive zeroed).0, (h.ahead alive zeroed).1);
 }
 
 -- a store's state that changes nothing of what a snapshot keeps
@@ -67,9 +69,48 @@ like_committed s count false is = subst (IsLike s) (sym (cond-false _ _ _ is)) (
 pub like_commit : (s t : State) (count : ℕ) → t ≡ after_commit s count → IsLike s t
 like_commit s t count is = subst (IsLike s) (sym is) (like_committed s count (s.filled + count == 32 * s.chunk) refl)
 
+-- the area after the current one is as it was
+pub ahead_same : (live : Bool) (s t : State) (n : ℕ) → t ≡ s → IsAhead live s n → IsAhead live t n
+ahead_same live s t n is h = subst (λ (x : State). IsAhead live x n) (sym is) h
+
+-- the pair that is committed next fills the current area
+pub needs_is : (s : State) → needs_area s ≡ true → s.filled + 1 ≡ 32 * s.chunk
+needs_is s is = eqb-true (s.filled + 1) (32 * s.chunk) (and_first (s.filled + 1 == 32 * s.chunk) (not s.zeroed) is)
+  where
+    and_first : (a b : Bool) → (a && b) ≡ true → a ≡ true
+    and_first true b h = refl
+    and_first false b h = h
+
+-- it is zeroed for the first copy
+pub ahead_zeroed : (live : Bool) (s t : State) (n : ℕ) → t ≡ record s { zeroed = true } → 0 < n → s.filled + 1 ≡ 32 * s.chunk → IsAhead live t n
+ahead_zeroed live s t n is some due =
+    subst (λ (x : State). IsAhead live x n) (sym is) (λ alive zeroed. (some, due))
+
+-- it is used up where the first copies are committed
+ahead_committed : (live : Bool) (s : State) (n count : ℕ) (b : Bool) → s.filled + count == 32 * s.chunk ≡ b → (1 < count → s.filled + count ≤ 32 * s.chunk) → IsAhead live s n → IsAhead live (after_commit s count) (n - count)
+ahead_committed live s n count true is fits h =
+    subst (λ (x : State). IsAhead live x (n - count)) (sym (cond-true _ _ _ is)) (λ alive zeroed. absurd (true≢false (sym zeroed)))
+ahead_committed live s n count false is fits h =
+    subst (λ (x : State). IsAhead live x (n - count)) (sym (cond-false _ _ _ is)) (λ alive zeroed.
+    let e = h alive zeroed in
+    let some = e.0 in
+    let fills = e.1 in
+    let other : s.filled + count ≡ 32 * s.chunk → ⊥ = λ same. true≢false (sym (eq-eqb _ _ same) ∙ is) in
+    elim (cases_eq count 0) [
+      | inl none ↦ (omega (arith, none, some), omega (arith, none, fills))
+      | inr any ↦ elim (cases_eq count 1) [
+        | inl one ↦ absurd (other (omega (arith, one, fills)))
+        | inr more ↦ (let below = fits (omega (arith, any, more)) in absurd (omega (arith, below, fills, any, more)))
+      ]
+    ])
+
+pub ahead_commit : (live : Bool) (s t : State) (n count : ℕ) → t ≡ after_commit s count → (1 < count → s.filled + count ≤ 32 * s.chunk) → IsAhead live s n → IsAhead live t (n - count)
+ahead_commit live s t n count is fits h =
+    subst (λ (x : State). IsAhead live x (n - count)) (sym is) (ahead_committed live s n count (s.filled + count == 32 * s.chunk) refl fits h)
+
 -- the store's state changes, and the copies stay
-pub state_kept : (live untried stale : Bool) (s t : State) (begun begun' : List Pair) (copies : List ChunkCopy) (marks : List Mark) → IsSnapshot live untried stale s begun copies marks → IsLike s t → begun' ≡ begun → IsSnapshot live untried stale t begun' copies marks
-state_kept live untried stale s t begun begun' copies marks h like is = record {
+pub state_kept : (live untried stale : Bool) (s t : State) (begun begun' : List Pair) (copies : List ChunkCopy) (marks : List Mark) → IsSnapshot live untried stale s begun copies marks → IsLike s t → begun' ≡ begun → IsAhead live t (length copies) → IsSnapshot live untried stale t begun' copies marks
+state_kept live untried stale s t begun begun' copies marks h like is ahead = record {
   allowed = rw like.chunk h.allowed;
   ready = λ alive. like.left ∙ h.ready alive;
   copying = λ alive. like.copying ∙ h.copying alive;
@@ -80,11 +121,17 @@ state_kept live untried stale s t begun begun' copies marks h like is = record {
   buffers = rw (like.chunk, like.origin) h.buffers;
   idle = h.idle;
   unmarked = h.unmarked;
+  ahead = ahead;
 }
 
+-- the store's state stays too
+pub state_same : (live untried stale : Bool) (s t : State) (begun begun' : List Pair) (copies : List ChunkCopy) (marks : List Mark) → IsSnapshot live untried stale s begun copies marks → t ≡ s → begun' ≡ begun → IsSnapshot live untried stale t begun' copies marks
+state_same live untried stale s t begun begun' copies marks h same is =
+    state_kept live untried stale s t begun begun' copies marks h (like_same s t same) is (ahead_same live s t (length copies) same h.ahead)
+
 -- the first copies are committed
-pub copies_drop : (live untried stale : Bool) (s t : State) (begun begun' : List Pair) (copies : List ChunkCopy) (marks marks' : List Mark) (n : ℕ) → live ≡ true → IsSnapshot live untried stale s begun copies marks → IsLike s t → begun' ≡ drop n begun → IsSnapshot live untried stale t begun' (drop n copies) marks'
-copies_drop live untried stale s t begun begun' copies marks marks' n alive h like is = record {
+pub copies_drop : (live untried stale : Bool) (s t : State) (begun begun' : List Pair) (copies : List ChunkCopy) (marks marks' : List Mark) (n : ℕ) → live ≡ true → IsSnapshot live untried stale s begun copies marks → IsLike s t → begun' ≡ drop n begun → IsAhead live t (length copies - n) → IsSnapshot live untried stale t begun' (drop n copies) marks'
+copies_drop live untried stale s t begun begun' copies marks marks' n alive h like is ahead = record {
   allowed = rw like.chunk h.allowed;
   ready = λ alive. like.left ∙ h.ready alive;
   copying = λ alive. like.copying ∙ h.copying alive;
@@ -95,6 +142,7 @@ copies_drop live untried stale s t begun begun' copies marks marks' n alive h li
   buffers = rw (like.chunk, like.origin) (All-drop (IsBuffered s.chunk s.origin) n copies h.buffers);
   idle = λ dead. absurd (true≢false (sym alive ∙ dead));
   unmarked = λ dead. absurd (true≢false (sym alive ∙ dead));
+  ahead = subst (IsAhead live t) (sym (length-drop n copies)) ahead;
 }
 
 -- a copy is started
@@ -111,6 +159,7 @@ copies_push live untried stale s begun begun' copies marks p alive h is room = r
   buffers = All-push (IsBuffered s.chunk s.origin) copies p h.buffers (record { room = room });
   idle = λ dead. absurd (true≢false (sym alive ∙ dead));
   unmarked = λ dead. absurd (true≢false (sym alive ∙ dead));
+  ahead = λ _ zeroed. (let more = length-append copies (p ∷ []) in omega (arith, more), (h.ahead alive zeroed).1);
 }
 
 -- a chunk without a copy is no begun pair's

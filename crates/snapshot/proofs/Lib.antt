@@ -3,3 +3,4 @@ pub mod Stores
 pub mod Events
 pub mod Openings
 pub mod Tries
+pub mod Rests

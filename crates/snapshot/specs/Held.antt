@@ -1,5 +1,5 @@
 -- What a snapshot keeps true of itself. This project's own.
-use Rattle.std.specs.Prelude.{◌≡◌, ℕ, ◌+◌, ◌*◌, ◌≤◌, Bool, true, false, List, [], length, map}
+use Rattle.std.specs.Prelude.{◌≡◌, ℕ, ◌+◌, ◌*◌, ◌<◌, ◌≤◌, Bool, true, false, List, [], length, map}
 use Rattle.std.specs.List.{All}
 use Rattle.sector.specs.declared.pair.Pair.{Pair}
 use Rattle.chunk.specs.Sizes.{is_chunk}
@@ -12,6 +12,11 @@ use Rattle.store.specs.declared.state.State.{State}
 -- a copy's buffer is as long as its chunk
 pub record IsBuffered (chunk origin : ℕ) (p : ChunkCopy) : Type 0 where
   pub room : length p.buffer.items ≡ 512 * count_of chunk origin p.pair.old
+
+-- while a snapshot is live and has so many copies, the area after the current one is zeroed only for one of them, whose
+-- pair fills the current one
+abbrev pub IsAhead : Bool → State → ℕ → Type 0
+IsAhead live s copies = live ≡ true → s.zeroed ≡ true → (0 < copies) × (s.filled + 1 ≡ 32 * s.chunk)
 
 -- Its flags, its store's state, the pairs that the store began, its copies and its marks. A live one's store takes copies;
 -- a spoiled one has none, and a mark fails only where it was tried.
@@ -26,6 +31,7 @@ pub record IsSnapshot (live untried stale : Bool) (s : State) (begun : List Pair
   pub buffers : All (IsBuffered s.chunk s.origin) copies
   pub idle : live ≡ false → copies ≡ []
   pub unmarked : live ≡ false → marks ≡ []
+  pub ahead : IsAhead live s (length copies)
 
 -- Its room: the store has reserved as many pairs, and no list grows where a copy starts or is committed.
 pub record HasRoom (room reserved copies marks copies_capacity marks_capacity : ℕ) : Type 0 where

@@ -4,3 +4,4 @@ pub mod Held
 pub mod Kept
 pub mod Opened
 pub mod Opening
+pub mod Rest

@@ -11,16 +11,19 @@ ghost use Rattle.store.specs.Operations.{IsOneOperation};
 ghost use Rattle.store.specs.Slots.{pairs_bytes, slot_start};
 ghost use Rattle.store.specs.Stored.{after_commit};
 ghost use Rattle.volume_laws.specs.Steps.{ZeroesArea, Commits, Unmarks, mark_of};
-ghost use Rattle.snapshot.specs.Kept.{books_of};
+ghost use Rattle.snapshot.specs.Kept.{books_of, needs_area};
 
 use crate::Snapshot;
 use device::{Block, Io};
 use pending::{ChunkCopy, Mark};
 
 impl<B: Block> Snapshot<B> {
-    /// Zeroes the area after the current one. At `Io` nothing changed but the device's counts and layers.
+    /// Zeroes the area after the current one, for a copy whose pair fills that. At `Io` nothing changed but the device's
+    /// counts and layers.
     pub fn zero_next(&mut self) -> Result<(), Io>
         requires live { self.old.live ≡ true }
+        requires some { 0 < length self.old.copies }
+        requires due { needs_area self.old.state ≡ true }
         requires inside { self.old.state.chunk * (area_place self.old.state.chunk (self.old.state.current + 1) + 1) ≤ self.old.state.size }
 
         ensures operation { IsOneOperation (Writes (self.old.state.chunk * area_place self.old.state.chunk (self.old.state.current + 1)) self.old.state.chunk) (is_ok result) (B.layers self.old.device) (B.layers self.new.device) (B.fault_count self.old.device) (B.fault_count self.new.device) (B.done_count self.old.device) (B.done_count self.new.device) }

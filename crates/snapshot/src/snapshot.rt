@@ -1,11 +1,13 @@
 // A snapshot, and what callers ask of it.
-ghost use Rattle.std.specs.Prelude.{◌≡◌, ℕ, ◌+◌, ◌*◌, ◌<◌, ◌≤◌, MatchBool, true};
+ghost use Rattle.std.specs.Prelude.{◌≡◌, ◌==◌, ◌&&◌, not, ℕ, ◌+◌, ◌*◌, ◌<◌, ◌≤◌, length, MatchBool, true};
 ghost use Rattle.chunk.specs.Sizes.{is_chunk};
 ghost use Rattle.model.specs.NextPlace.{IsFull, LacksArea};
 ghost use Rattle.model.specs.Places.{area_place};
 ghost use Rattle.model.specs.Picture.{place_of as place_in};
 ghost use Rattle.volume_laws.specs.Published.{is_published as is_published_in};
+ghost use Rattle.device.specs.Layers.{is_loud};
 ghost use Rattle.snapshot.specs.Kept.{needs_area};
+ghost use Rattle.snapshot.specs.Rest.{IsStill};
 
 use chunk_alloc::Usage;
 use device::Block;
@@ -108,6 +110,15 @@ impl<B: Block> Snapshot<B> {
         ensures { result.now ≡ self.now.marks }
     {
         self.marks.as_slice()
+    }
+
+    /// Whether it has neither a copy that is not published, nor an invalid mark that is untried. Where it is live then, over
+    /// a store that drops no writes, all that it knows stands in the store's bytes, and no area is zeroed ahead.
+    pub fn is_done(&self) -> bool
+        ensures value { result ≡ ((length self.now.copies == 0) && (length self.now.marks == 0) && not self.now.untried) }
+        ensures still { result ≡ true → self.now.live ≡ true → is_loud (B.layers self.now.device) ≡ true → self.now.state.origin ≤ 16_777_216 → IsStill B.contents self.now }
+    {
+        self.copies.is_empty() && self.marks.is_empty() && !self.untried
     }
 
     /// The numbers of a status line, in sectors.

@@ -26,6 +26,7 @@ impl<B: Block> Snapshot<B> {
         requires allowed { is_chunk store.state.chunk ≡ true }
         requires ready { store.state.left ≡ Nothing }
         requires copying { store.state.copying ≡ true }
+        requires unzeroed { store.state.zeroed ≡ false }
         requires idle { length (pending_of store.exceptions) ≡ 0 }
         ensures fields { result ≡ record { number = number; live = true; untried = false; stale = false; device = store.device; state = store.state; next = store.places.next; pairs = committed store.exceptions; begun = []; copies = []; marks = []; room = 0 } }
         ensures new { (origin : List ℕ) → length origin ≡ 512 * store.state.origin → IsNewSnap origin (books_of B.contents B.layers result) }

@@ -51,7 +51,7 @@ fn snapshot_on<B: Block>(
             Err(Io) => return Err((Refusal::Io, store.into_device())),
         }
     }
-    assert!(rt; store.is_ready() && store.state.copying);
+    assert!(rt; store.is_ready() && store.state.copying && !store.state.zeroed);
     assert_eq!(rt; store.pending_len(), 0);
     if store.state.chunk != 1 {
         return Err((Refusal::BadChunk, store.into_device()));
@@ -204,13 +204,23 @@ fn a_full_store_starts_no_copy(rt: HostRuntime) -> Result<(), Fail> {
 
 #[test]
 fn the_next_area_is_zeroed(rt: HostRuntime) -> Result<(), Fail> {
+    let mut origin = disk_with(rt.alloc(), 128, 5, 0x11)?;
     let disk = disk_with(rt.alloc(), 64, 34, 0xee)?;
     let mut snapshot = match snapshot_on(&rt, rt.alloc(), disk) {
         Ok(snapshot) => snapshot,
         Err((refusal, _)) => return Err(Fail::from(refusal)),
     };
-    assert!(rt; snapshot.is_live() && !snapshot.is_zeroed());
-    assert!(rt; !snapshot.lacks_next_area());
+    for chunk in 0..31 {
+        assert!(rt; start_copy(&rt, rt.alloc(), &mut snapshot, chunk)?);
+        read_first(&rt, &mut snapshot, &mut origin)?;
+        write_first(&rt, &mut snapshot)?;
+        commit_first(&rt, &mut snapshot)?;
+        publish_first(&rt, &mut snapshot);
+    }
+    assert!(rt; snapshot.is_done() && !snapshot.is_zeroed());
+    assert!(rt; start_copy(&rt, rt.alloc(), &mut snapshot, 31)?);
+    assert!(rt; snapshot.is_live() && 0 < snapshot.copies().len());
+    assert!(rt; snapshot.needs_next_area() && !snapshot.lacks_next_area());
     snapshot.zero_next()?;
     assert!(rt; snapshot.is_zeroed());
     assert_eq!(rt; sector_of(snapshot.device(), 34)?, [0; 512]);

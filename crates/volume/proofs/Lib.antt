@@ -55,3 +55,4 @@ pub mod Ranks
 pub mod Told
 pub mod Ran
 pub mod Peeked
+pub mod AtRest

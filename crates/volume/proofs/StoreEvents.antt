@@ -50,6 +50,9 @@ module _ {B : Type 0} (number : ℕ) (s : Kept B) where
   pub zeroing_front : is_zeroing number s ≡ true → front_written s.copies ≡ true
   zeroing_front e = both_left (front_written s.copies) (needs_area s.state) (both_right (nat_eq s.number number) (front_written s.copies && needs_area s.state) e)
 
+  pub zeroing_due : is_zeroing number s ≡ true → needs_area s.state ≡ true
+  zeroing_due e = both_right (front_written s.copies) (needs_area s.state) (both_right (nat_eq s.number number) (front_written s.copies && needs_area s.state) e)
+
   pub zeroing_needs : is_zeroing number s ≡ true → s.state.zeroed ≡ false
   zeroing_needs e = not_true s.state.zeroed (both_right (nat_eq (s.state.filled + 1) (32 * s.state.chunk)) (not s.state.zeroed)
       (both_right (front_written s.copies) (needs_area s.state) (both_right (nat_eq s.number number) (front_written s.copies && needs_area s.state) e)))

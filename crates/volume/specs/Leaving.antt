@@ -1,12 +1,14 @@
 -- When a volume is closed, a snapshot leaves it, and what callers may ask of one. That a volume has to be quiet is this
 -- project's own rule; the numbers are those of the kernel's status lines.
-use Rattle.std.specs.Prelude.{◌≡◌, ◌==◌, ◌&&◌, not, ℕ, ◌+◌, ◌*◌, Bool, List, length, Option, Some, None, if◌then◌else◌, slice_index_or}
+use Rattle.std.specs.Prelude.{◌≡◌, ◌==◌, ◌&&◌, not, ℕ, ◌+◌, ◌*◌, ◌≤◌, Bool, true, List, length, Option, Some, None, if◌then◌else◌, slice_index_or}
 use Rattle.std.specs.List.{list_all, position, remove}
+use Rattle.device.specs.Layers.{Layer, is_loud}
 use Rattle.sector.specs.declared.refusal.Refusal.{Refusal}
 use Rattle.sector.specs.declared.refusal.Refusal.TheVariants.{NoSuchDevice, Busy, NotQuiet}
 use Rattle.chunk_alloc.specs.declared.usage.Usage.{Usage}
 use Rattle.snapshot.specs.declared.opening.StoreDev.{StoreDev}
 use Rattle.snapshot.specs.Kept.{Kept}
+use Rattle.snapshot.specs.Rest.{IsStill}
 use Rattle.volume.specs.Volumed.{Volumed}
 
 -- the place of the snapshot with a number
@@ -20,6 +22,11 @@ is_done_of s = (length s.copies == 0) && (length s.marks == 0) && not s.untried
 -- and no request is in flight
 abbrev pub is_quiet_of : {B : Type 0} → Volumed B → Bool
 is_quiet_of v = (length v.flights == 0) && list_all is_done_of v.snaps
+
+-- Where a snapshot is live and no layer drops its store's writes, what it knows stands in the store's bytes. An origin has
+-- 16_777_216 sectors at most.
+abbrev pub IsStillOn : {B : Type 0} → (B → List ℕ) → (B → List Layer) → Kept B → Type 0
+IsStillOn contents layers s = s.live ≡ true → is_loud (layers s.device) ≡ true → s.state.origin ≤ 16_777_216 → IsStill contents s
 
 -- why a volume is not closed
 abbrev pub close_refusal : {B : Type 0} → Volumed B → Option Refusal

@@ -1,11 +1,14 @@
 // A volume is closed, and a snapshot leaves it.
-ghost use Rattle.std.specs.Prelude.{◌≡◌, ◌≢◌, ◌==◌, ◌⊎◌, ℕ, ◌<◌, ◌+◌, List, [], length, Some, None, IfOk, IfErr, OnErr, Ok, Err, true, false, slice_index_or};
-ghost use Rattle.std.specs.List.{list_all, position, remove};
+ghost use Rattle.std.specs.Prelude.{◌≡◌, ◌≢◌, ◌==◌, ◌⊎◌, ℕ, ◌<◌, ◌+◌, List, [], length, Option, Some, None, IfOk, IfErr, OnErr, Ok, Err, true, false, slice_index_or};
+ghost use Rattle.std.specs.List.{All, list_all, position, remove};
 ghost use Rattle.sector.specs.declared.refusal.Refusal.TheVariants.{NoSuchDevice, Busy, NotQuiet};
 ghost use Rattle.plain.specs.Legal.{IsDetached};
+ghost use Rattle.plain.specs.declared.request.Reply.{Reply};
+ghost use Rattle.settling.specs.Rest.{IsAtRest};
+ghost use Rattle.volume.specs.Moved.{moving_of};
 ghost use Rattle.volume.specs.Volumed.{Volumed, plain_of, is_loud_in_all};
 ghost use Rattle.snapshot.specs.Kept.{Kept};
-ghost use Rattle.volume.specs.Leaving.{IsWithout, close_refusal, detach_refusal, is_done_of, is_quiet_of, place_of_snap, usage_of};
+ghost use Rattle.volume.specs.Leaving.{IsStillOn, IsWithout, close_refusal, detach_refusal, is_done_of, is_quiet_of, place_of_snap, usage_of};
 
 use crate::Volume;
 use crate::finding::snap_at;
@@ -17,22 +20,31 @@ use snapshot::{Snapshot, StoreDev};
 
 /// Whether a snapshot has neither a copy that is not published, nor an invalid mark that is untried.
 pub fn is_done<B: Block>(snap: &Snapshot<B>) -> bool
-    ensures { result ≡ is_done_of snap.now }
+    ensures value { result ≡ is_done_of snap.now }
+    ensures still { result ≡ true → IsStillOn B.contents B.layers snap.now }
 {
-    snap.copies().is_empty() && snap.marks().is_empty() && !snap.is_untried()
+    snap.is_done()
 }
 
 /// Whether none of the snapshots has.
 fn are_done<B: Block>(snaps: &[Snapshot<B>]) -> bool
-    ensures { result ≡ list_all is_done_of snaps.now }
+    ensures value { result ≡ list_all is_done_of snaps.now }
+    ensures still { result ≡ true → All (IsStillOn B.contents B.layers) snaps.now }
 {
-    snaps.iter().all(|s| is_done(s))
+    for s in snaps {
+        if !is_done(s) {
+            return false;
+        }
+    }
+    true
 }
 
 impl<B: Block> Volume<B> {
-    /// Whether no request is in flight, no copy is pending, and no invalid mark is untried.
+    /// Whether no request is in flight, no copy is pending, and no invalid mark is untried. A quiet volume, no device of
+    /// which drops writes, is one at rest between two whole commands, whatever was done to it.
     pub fn is_quiet(&self) -> bool
-        ensures { result ≡ is_quiet_of self.now }
+        ensures value { result ≡ is_quiet_of self.now }
+        ensures rest { result ≡ true → is_loud_in_all B.layers self.now ≡ true → (replied : Option Reply) → IsAtRest (B.size self.now.origin) (moving_of B.contents B.layers replied self.now) }
     {
         self.flights.is_empty() && are_done(self.snaps.as_slice())
     }

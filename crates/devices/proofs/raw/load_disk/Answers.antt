@@ -1,7 +1,7 @@
 use Rattle.std.proofs.Common.{rules, refl, sym, ap, ◌∙◌}
 use Rattle.std.specs.Prelude.{Ok}
 use Rattle.named.specs.Naming.{AreNamed}
-use Rattle.named.specs.Raw.{loaded_at, whole}
+use Rattle.named.specs.Raw.{whole}
 use Rattle.named.specs.declared.place.Place.{Place}
 use Rattle.named.specs.declared.place.Place.TheVariants.{Free}
 use Rattle.named.proofs.Keeping.{changes_keep}

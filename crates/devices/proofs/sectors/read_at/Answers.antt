@@ -2,18 +2,27 @@ use Rattle.std.proofs.Common.{◌∙◌}
 use Rattle.devices.specs.Devices.{table_of}
 use Rattle.named.specs.Sectors.{IsReadAsked, read_in}
 use Rattle.named.proofs.NamedFrames.{put_volume_named}
-use Rattle.named.proofs.SoundFrames.{put_volume_sound, volume_sound}
-use Rattle.devices.proofs.InVolume.{does_in}
+use Rattle.named.proofs.SoundFrames.{of_both, put_volume_sound, volume_quiet, volume_sound}
+use Rattle.named_volume.specs.Names.{KeepsNames}
+use Rattle.devices.proofs.InVolume.{changed_in, does_in}
 use Rattle.devices.proofs.sectors.read_at.Goals as goal
 
 pub returns : goal.returns
-returns c = record {
-  done = λ sound.
-      does_in c.read.result (IsReadAsked c.args.count) (read_in c.args.role c.args.first c.args.count) c.args.v (table_of c.args.held.now) c.index_mut.result.now c.read.new.self
-      c.requires.place.0 c.index_mut.ensures.value (c.read.ensures.done (volume_sound (table_of c.args.held.now) c.args.v c.index_mut.result.now sound c.requires.place.0 c.index_mut.ensures.value));
-  sound = λ sound.
-      put_volume_sound (table_of c.args.held.now) c.args.v c.read.new.self (c.read.ensures.kept.sound ∙ volume_sound (table_of c.args.held.now) c.args.v c.index_mut.result.now sound c.requires.place.0 c.index_mut.ensures.value) sound;
-  named = λ named.
-      put_volume_named (table_of c.args.held.now) c.args.v c.index_mut.result.now c.read.new.self c.requires.place.0 c.index_mut.ensures.value
-      c.read.ensures.kept.origin c.read.ensures.kept.under c.read.ensures.kept.snaps named;
-}
+returns c =
+    let table = table_of c.args.held.now in
+    let old = c.index_mut.result.now in
+    let lt = c.requires.place.0 in
+    let at = c.index_mut.ensures.value in
+    record {
+      done = λ sound.
+          does_in c.read.result (IsReadAsked c.args.count) (read_in c.args.role c.args.first c.args.count) c.args.v table old c.read.new.self
+          lt at (c.read.ensures.done (volume_sound table c.args.v old sound lt at) (volume_quiet table c.args.v old sound lt at));
+      told = λ sound. c.read.ensures.told (volume_quiet table c.args.v old sound lt at);
+      one = changed_in KeepsNames c.args.v table old c.read.new.self lt at c.read.ensures.kept;
+      sound = λ sound.
+          put_volume_sound table c.args.v c.read.new.self
+          (of_both _ _ (c.read.ensures.kept.sound ∙ volume_sound table c.args.v old sound lt at) (c.read.ensures.quiet (volume_quiet table c.args.v old sound lt at))) sound;
+      named = λ named.
+          put_volume_named table c.args.v old c.read.new.self lt at
+          c.read.ensures.kept.origin c.read.ensures.kept.under c.read.ensures.kept.snaps named;
+    }

@@ -1,13 +1,14 @@
 -- A snapshot was taken, or the store is given back.
 use Rattle.std.proofs.Common.{◌+◌, sym, ◌∙◌}
 use Rattle.resting.proofs.Seen.{loud_same}
-use Rattle.resting.proofs.Takes.{taken_between, taken_settles, taken_as, attached_seen, refused_seen}
+use Rattle.resting.proofs.Quiet.{settled_quiet}
+use Rattle.resting.proofs.Takes.{taken_quiet, taken_settles, taken_as, attached_seen, refused_seen}
 use Rattle.resting.proofs.changing.take.Goals as goal
 
-pub returns-in-Ok-clause-between : goal.returns-in-Ok-clause-between
-returns-in-Ok-clause-between g c =
-    taken_between g.B.Block.contents g.B.Block.layers g.B.Block.size c.in-Ok.number c.args.chunk c.args.store c.args.volume.now c.attach.new.self
-    c.in-Ok.ensures.gained c.requires.between c.in-Ok.ensures.admitted
+pub returns-in-Ok-clause-quiet : goal.returns-in-Ok-clause-quiet
+returns-in-Ok-clause-quiet g c =
+    taken_quiet g.B.Block.contents g.B.Block.layers g.B.Block.size c.in-Ok.number c.args.chunk c.args.store c.args.volume.now c.attach.new.self
+    c.in-Ok.ensures.gained c.in-Ok.ensures.admitted
 
 pub returns-in-Ok-clause-settled : goal.returns-in-Ok-clause-settled
 returns-in-Ok-clause-settled g c =
@@ -24,10 +25,7 @@ returns-in-Ok-clause-exact g c = λ settled given.
     attached_seen g.B.Block.contents g.B.Block.layers c.in-Ok.number c.args.chunk c.args.store c.args.volume.now c.attach.new.self
     (c.in-Ok.ensures.exact (sym (loud_same g.B.Block.contents g.B.Block.layers c.args.volume.now) ∙ settled.loud) given)
 
-pub returns-in-Err-clause-between : goal.returns-in-Err-clause-between
-returns-in-Err-clause-between g c = rw c.in-Err.ensures.same c.requires.between
-
 pub returns-in-Err-clause-back : goal.returns-in-Err-clause-back
 returns-in-Err-clause-back g c = λ other settled given.
     refused_seen g.B.Block.contents g.B.Block.layers (c.args.volume.now.attached + 1) c.args.chunk c.in-Err.refused.0 c.args.store c.in-Err.refused.1 c.args.volume.now
-    (c.in-Err.ensures.back other c.requires.between.quiet (sym (loud_same g.B.Block.contents g.B.Block.layers c.args.volume.now) ∙ settled.loud) given)
+    (c.in-Err.ensures.back other (settled_quiet g.B.Block.contents g.B.Block.layers g.B.Block.size c.args.volume.now settled) (sym (loud_same g.B.Block.contents g.B.Block.layers c.args.volume.now) ∙ settled.loud) given)

@@ -3,13 +3,13 @@ use Rattle.layers.specs.Ticks.{layers_ticked}
 use Rattle.std.specs.Prelude.{None}
 use Rattle.volume.specs.Layering.{Measures}
 use Rattle.volume.proofs.Relayered.{ticked_alike}
-use Rattle.resting.proofs.Alike.{alike_between, alike_kept, alike_settles, all_moved}
+use Rattle.resting.proofs.Alike.{quiet_alike, alike_kept, alike_settles, all_moved}
 use Rattle.resting.proofs.layering.pass.Goals as goal
 
-pub returns-clause-between : goal.returns-clause-between
-returns-clause-between g c =
+pub returns-clause-quiet : goal.returns-clause-quiet
+returns-clause-quiet g c =
     let m : Measures g.row.B.Denot = record { contents = g.B.Block.contents; durable = g.B.Block.durable; size = g.B.Block.size; faults = g.B.Block.fault_count; done = g.B.Block.done_count } in
-    alike_between g.B.Block.contents g.B.Block.layers g.B.Block.size c.args.volume.now c.tick.new.self (ticked_alike m g.B.Block.layers c.args.seconds c.args.volume.now c.tick.new.self c.tick.ensures.ticked) c.requires.between
+    quiet_alike g.B.Block.contents g.B.Block.layers g.B.Block.size c.args.volume.now c.tick.new.self (ticked_alike m g.B.Block.layers c.args.seconds c.args.volume.now c.tick.new.self c.tick.ensures.ticked)
 
 pub returns-clause-moved : goal.returns-clause-moved
 returns-clause-moved g c = all_moved g.B.Block.contents g.B.Block.layers g.B.Block.size (layers_ticked c.args.seconds) c.args.volume.now c.tick.new.self (c.tick.ensures.moving None)

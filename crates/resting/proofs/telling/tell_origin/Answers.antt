@@ -2,7 +2,7 @@
 use Rattle.plain.specs.declared.request.Dev.TheVariants.{Origin}
 use Rattle.volume.specs.Layering.{Measures}
 use Rattle.volume.proofs.Told.{told_alike, untold_alike}
-use Rattle.resting.proofs.Alike.{alike_between, alike_kept, alike_settles, alike_requests, alike_copies}
+use Rattle.resting.proofs.Alike.{quiet_alike, alike_kept, alike_settles, alike_requests, alike_copies}
 use Rattle.resting.proofs.Tells.{origin_told, origin_untold}
 use Rattle.resting.proofs.telling.tell_origin.Goals as goal
 
@@ -16,10 +16,10 @@ returns-in-Err-clause-err g c =
     let m : Measures g.row.B.Denot = record { contents = g.B.Block.contents; durable = g.B.Block.durable; size = g.B.Block.size; faults = g.B.Block.fault_count; done = g.B.Block.done_count } in
     origin_untold m g.B.Block.layers c.args.depth c.args.message.now c.args.volume.now c.message.new.self c.in-Err.refusal c.in-Err.ensures.err
 
-pub returns-in-Ok-clause-between : goal.returns-in-Ok-clause-between
-returns-in-Ok-clause-between g c =
+pub returns-in-Ok-clause-quiet : goal.returns-in-Ok-clause-quiet
+returns-in-Ok-clause-quiet g c =
     let m : Measures g.row.B.Denot = record { contents = g.B.Block.contents; durable = g.B.Block.durable; size = g.B.Block.size; faults = g.B.Block.fault_count; done = g.B.Block.done_count } in
-    alike_between g.B.Block.contents g.B.Block.layers g.B.Block.size c.args.volume.now c.message.new.self (told_alike m g.B.Block.layers Origin c.args.depth c.args.message.now c.args.volume.now c.message.new.self c.in-Ok.answer c.in-Ok.ensures.ok) c.requires.between
+    quiet_alike g.B.Block.contents g.B.Block.layers g.B.Block.size c.args.volume.now c.message.new.self (told_alike m g.B.Block.layers Origin c.args.depth c.args.message.now c.args.volume.now c.message.new.self c.in-Ok.answer c.in-Ok.ensures.ok)
 
 pub returns-in-Ok-clause-settled : goal.returns-in-Ok-clause-settled
 returns-in-Ok-clause-settled g c =
@@ -41,10 +41,10 @@ returns-in-Ok-clause-copies g c =
     let m : Measures g.row.B.Denot = record { contents = g.B.Block.contents; durable = g.B.Block.durable; size = g.B.Block.size; faults = g.B.Block.fault_count; done = g.B.Block.done_count } in
     alike_copies g.B.Block.contents g.B.Block.layers g.B.Block.size c.args.volume.now c.message.new.self (told_alike m g.B.Block.layers Origin c.args.depth c.args.message.now c.args.volume.now c.message.new.self c.in-Ok.answer c.in-Ok.ensures.ok)
 
-pub returns-in-Err-clause-between : goal.returns-in-Err-clause-between
-returns-in-Err-clause-between g c =
+pub returns-in-Err-clause-quiet : goal.returns-in-Err-clause-quiet
+returns-in-Err-clause-quiet g c =
     let m : Measures g.row.B.Denot = record { contents = g.B.Block.contents; durable = g.B.Block.durable; size = g.B.Block.size; faults = g.B.Block.fault_count; done = g.B.Block.done_count } in
-    alike_between g.B.Block.contents g.B.Block.layers g.B.Block.size c.args.volume.now c.message.new.self (untold_alike m g.B.Block.layers Origin c.args.depth c.args.message.now c.args.volume.now c.message.new.self c.in-Err.refusal c.in-Err.ensures.err) c.requires.between
+    quiet_alike g.B.Block.contents g.B.Block.layers g.B.Block.size c.args.volume.now c.message.new.self (untold_alike m g.B.Block.layers Origin c.args.depth c.args.message.now c.args.volume.now c.message.new.self c.in-Err.refusal c.in-Err.ensures.err)
 
 pub returns-in-Err-clause-settled : goal.returns-in-Err-clause-settled
 returns-in-Err-clause-settled g c =

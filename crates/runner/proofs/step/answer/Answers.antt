@@ -1,10 +1,14 @@
-use Rattle.std.proofs.Common.{◌≡◌, Option, Ok, Err, ap, ◌∙◌}
-use Rattle.std.specs.Prelude.{Result}
+use Rattle.std.proofs.Common.{◌≡◌, [], Option, Some, Ok, Err, refl, ap, ◌∙◌, subst}
+use Rattle.std.specs.Prelude.{Result, IfSome}
 use Rattle.sector.specs.declared.refusal.Refusal.{Refusal}
 use Rattle.command.specs.declared.grammar.Command.{Command}
 use Rattle.devices.specs.Devices.{table_of}
 use Rattle.runner.proofs.Lawful.{command_said}
-use Rattle.runner.proofs.StepLemmas.{silent_does, refused_does, obeyed_does, sound_said}
+use Rattle.runner.proofs.StepLemmas.{silent_does, refused_does, obeyed_does, sound_said, starts_as, starts_too, silent_starts}
+use Rattle.runner.specs.Asking.{IsFirst, line_first}
+use Rattle.runner.specs.Output.{told}
+use Rattle.runner.proofs.AskingLemmas.{silent_first, worded_first, command_first, same_still}
+use Rattle.runner.specs.Starts.{AreStartReplies}
 use Rattle.runner.proofs.step.answer.Goals as goal
 
 said : {rule : Result (Option Command) Refusal} {found says : Option Command} → rule ≡ Ok found → found ≡ says → rule ≡ Ok says
@@ -14,21 +18,68 @@ pub obey-requires : goal.obey-requires
 obey-requires c = command_said 65536 c.args.line.now c.in-Ok-Some.command (said c.in-Ok-Some.ensures c.in-Ok-Some.field-0-is)
 
 pub returns-in-Ok-None-clause-done : goal.returns-in-Ok-None-clause-done
-returns-in-Ok-None-clause-done c = λ sound. silent_does c.args.line.now (table_of c.args.held.now) (said c.in-Ok-None.ensures c.in-Ok-None.field-0-is)
+returns-in-Ok-None-clause-done c = λ sound other. silent_does c.args.line.now (table_of c.args.held.now) (said c.in-Ok-None.ensures c.in-Ok-None.field-0-is)
 
 pub returns-in-Ok-clause-done : goal.returns-in-Ok-clause-done
-returns-in-Ok-clause-done c = λ sound.
-    obeyed_does c.args.line.now c.in-Ok-Some.command (table_of c.args.held.now) (table_of c.obey.new.held) (Ok c.in-Ok.reply) (said c.in-Ok-Some.ensures c.in-Ok-Some.field-0-is) (c.in-Ok.ensures.done sound)
+returns-in-Ok-clause-done c = λ sound other.
+    obeyed_does c.args.line.now c.in-Ok-Some.command (table_of c.args.held.now) (table_of c.obey.new.held) (Ok c.in-Ok.reply) (said c.in-Ok-Some.ensures c.in-Ok-Some.field-0-is) (c.in-Ok.ensures.done sound (starts_as c.args.line.now c.in-Ok-Some.command (said c.in-Ok-Some.ensures c.in-Ok-Some.field-0-is) other))
 
 pub returns-in-Ok-clause-sound : goal.returns-in-Ok-clause-sound
 returns-in-Ok-clause-sound c = λ sound makes. c.in-Ok.ensures.sound sound (sound_said c.args.line.now c.in-Ok-Some.command (said c.in-Ok-Some.ensures c.in-Ok-Some.field-0-is) makes)
 
 pub returns-in-Err-obey-clause-done : goal.returns-in-Err-obey-clause-done
-returns-in-Err-obey-clause-done c = λ sound.
-    obeyed_does c.args.line.now c.in-Ok-Some.command (table_of c.args.held.now) (table_of c.obey.new.held) (Err c.in-Err-obey.refusal) (said c.in-Ok-Some.ensures c.in-Ok-Some.field-0-is) (c.in-Err-obey.ensures.done sound)
+returns-in-Err-obey-clause-done c = λ sound other.
+    obeyed_does c.args.line.now c.in-Ok-Some.command (table_of c.args.held.now) (table_of c.obey.new.held) (Err c.in-Err-obey.refusal) (said c.in-Ok-Some.ensures c.in-Ok-Some.field-0-is) (c.in-Err-obey.ensures.done sound (starts_as c.args.line.now c.in-Ok-Some.command (said c.in-Ok-Some.ensures c.in-Ok-Some.field-0-is) other))
 
 pub returns-in-Err-obey-clause-sound : goal.returns-in-Err-obey-clause-sound
 returns-in-Err-obey-clause-sound c = λ sound makes. c.in-Err-obey.ensures.sound sound (sound_said c.args.line.now c.in-Ok-Some.command (said c.in-Ok-Some.ensures c.in-Ok-Some.field-0-is) makes)
 
 pub returns-in-Err-clause-done : goal.returns-in-Err-clause-done
-returns-in-Err-clause-done c = λ sound. refused_does c.args.line.now (table_of c.args.held.now) c.in-Err.refusal c.in-Err.ensures
+returns-in-Err-clause-done c = λ sound other. refused_does c.args.line.now (table_of c.args.held.now) c.in-Err.refusal c.in-Err.ensures
+
+pub returns-in-Ok-None-clause-asks : goal.returns-in-Ok-None-clause-asks
+returns-in-Ok-None-clause-asks c = silent_first c.args.line.now (table_of c.args.held.now) [] (said c.in-Ok-None.ensures c.in-Ok-None.field-0-is)
+
+pub returns-in-Ok-None-clause-still : goal.returns-in-Ok-None-clause-still
+returns-in-Ok-None-clause-still c = same_still (line_first c.args.line.now (table_of c.args.held.now)) refl
+
+pub returns-in-Ok-clause-asks : goal.returns-in-Ok-clause-asks
+returns-in-Ok-clause-asks c =
+    let P : Option Refusal → Type 0 = λ first. IsFirst first (told (Ok (Some c.in-Ok.reply))) in
+    subst P (command_first c.args.line.now c.in-Ok-Some.command (table_of c.args.held.now) (said c.in-Ok-Some.ensures c.in-Ok-Some.field-0-is)) c.in-Ok.ensures.asks
+
+pub returns-in-Ok-clause-still : goal.returns-in-Ok-clause-still
+returns-in-Ok-clause-still c =
+    let P : Option Refusal → Type 0 = λ first. IfSome first (λ _. c.obey.new.ended.items ≡ c.args.ended.now.items) in
+    subst P (command_first c.args.line.now c.in-Ok-Some.command (table_of c.args.held.now) (said c.in-Ok-Some.ensures c.in-Ok-Some.field-0-is)) c.in-Ok.ensures.still
+
+pub returns-in-Err-obey-clause-asks : goal.returns-in-Err-obey-clause-asks
+returns-in-Err-obey-clause-asks c =
+    let P : Option Refusal → Type 0 = λ first. IsFirst first (told (Err c.in-Err-obey.refusal)) in
+    subst P (command_first c.args.line.now c.in-Ok-Some.command (table_of c.args.held.now) (said c.in-Ok-Some.ensures c.in-Ok-Some.field-0-is)) c.in-Err-obey.ensures.asks
+
+pub returns-in-Err-obey-clause-still : goal.returns-in-Err-obey-clause-still
+returns-in-Err-obey-clause-still c =
+    let P : Option Refusal → Type 0 = λ first. IfSome first (λ _. c.obey.new.ended.items ≡ c.args.ended.now.items) in
+    subst P (command_first c.args.line.now c.in-Ok-Some.command (table_of c.args.held.now) (said c.in-Ok-Some.ensures c.in-Ok-Some.field-0-is)) c.in-Err-obey.ensures.still
+
+pub returns-in-Err-clause-asks : goal.returns-in-Err-clause-asks
+returns-in-Err-clause-asks c = worded_first c.args.line.now (table_of c.args.held.now) c.in-Err.refusal c.in-Err.ensures
+
+pub returns-in-Err-clause-still : goal.returns-in-Err-clause-still
+returns-in-Err-clause-still c = same_still (line_first c.args.line.now (table_of c.args.held.now)) refl
+
+pub returns-in-Ok-None-clause-number : goal.returns-in-Ok-None-clause-number
+returns-in-Ok-None-clause-number c = silent_starts (AreStartReplies []) c.args.line.now (said c.in-Ok-None.ensures c.in-Ok-None.field-0-is)
+
+pub returns-in-Ok-clause-number : goal.returns-in-Ok-clause-number
+returns-in-Ok-clause-number c = λ does. c.in-Ok.ensures.number (starts_too c.args.line.now c.in-Ok-Some.command (said c.in-Ok-Some.ensures c.in-Ok-Some.field-0-is) does)
+
+pub returns-in-Ok-clause-alone : goal.returns-in-Ok-clause-alone
+returns-in-Ok-clause-alone c = λ does. c.in-Ok.ensures.alone (starts_too c.args.line.now c.in-Ok-Some.command (said c.in-Ok-Some.ensures c.in-Ok-Some.field-0-is) does)
+
+pub returns-in-Err-obey-clause-number : goal.returns-in-Err-obey-clause-number
+returns-in-Err-obey-clause-number c = λ does. c.in-Err-obey.ensures.number (starts_too c.args.line.now c.in-Ok-Some.command (said c.in-Ok-Some.ensures c.in-Ok-Some.field-0-is) does)
+
+pub returns-in-Err-obey-clause-alone : goal.returns-in-Err-obey-clause-alone
+returns-in-Err-obey-clause-alone c = λ does. c.in-Err-obey.ensures.alone (starts_too c.args.line.now c.in-Ok-Some.command (said c.in-Ok-Some.ensures c.in-Ok-Some.field-0-is) does)

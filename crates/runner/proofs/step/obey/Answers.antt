@@ -1,10 +1,16 @@
-use Rattle.std.proofs.Common.{◌≡◌, true, sym, subst}
+use Rattle.std.proofs.Common.{◌≡◌, true, Some, sym, subst}
+use Rattle.command.specs.declared.grammar.Command.{Command}
 use Rattle.devices.specs.Devices.{table_of}
 use Rattle.named.specs.Naming.{AreNamed}
 use Rattle.named.specs.Sound.{is_sound}
 use Rattle.named.specs.State.{Table}
 use Rattle.named.proofs.NamedRules.{ticked_named}
 use Rattle.named.proofs.SoundRules.{ticked_sound}
+use Rattle.named.specs.Starting.{read_asked, write_asked}
+use Rattle.runner.specs.Asking.{IsFirst, first_refusal}
+use Rattle.runner.specs.Output.{told}
+use Rattle.runner.specs.Steps.{reworded}
+use Rattle.runner.proofs.AskingLemmas.{numbered_first}
 use Rattle.runner.proofs.step.obey.Goals as goal
 
 pub returns-in-Tick-clause-sound : goal.returns-in-Tick-clause-sound
@@ -13,3 +19,13 @@ returns-in-Tick-clause-sound c = λ sound makes.
 
 pub returns-in-Tick-clause-named : goal.returns-in-Tick-clause-named
 returns-in-Tick-clause-named c = λ named. subst AreNamed (sym c.tick.ensures) (ticked_named _ (table_of c.args.held.now) named)
+
+pub returns-in-StartRead-clause-asks : goal.returns-in-StartRead-clause-asks
+returns-in-StartRead-clause-asks c =
+    let P : Command → Type 0 = λ command. IsFirst (first_refusal command (table_of c.args.held.now)) (told (reworded Some c.numbered.result)) in
+    subst P (sym c.in-StartRead.is) (numbered_first (read_asked c.in-StartRead.device c.in-StartRead.first c.in-StartRead.count (table_of c.args.held.now)) c.start_read.result c.numbered.result c.start_read.ensures.asks c.numbered.ensures)
+
+pub returns-in-StartWrite-clause-asks : goal.returns-in-StartWrite-clause-asks
+returns-in-StartWrite-clause-asks c =
+    let P : Command → Type 0 = λ command. IsFirst (first_refusal command (table_of c.args.held.now)) (told (reworded Some c.numbered-in-StartWrite.result)) in
+    subst P (sym c.in-StartWrite.is) (numbered_first (write_asked c.in-StartWrite.device c.in-StartWrite.first c.in-StartWrite.bytes (table_of c.args.held.now)) c.start_write.result c.numbered-in-StartWrite.result c.start_write.ensures.asks c.numbered-in-StartWrite.ensures)

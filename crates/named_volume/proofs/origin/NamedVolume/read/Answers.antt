@@ -5,11 +5,11 @@ use Rattle.named_volume.proofs.origin.NamedVolume.read.Goals as goal
 
 pub returns-in-Err-clause-done : goal.returns-in-Err-clause-done
 returns-in-Err-clause-done c =
-    rw (← c.self.view_is) (λ sound.
+    rw (← c.self.view_is) (λ sound quiet.
     read_refused c.args.role c.args.first c.args.count _ _ c.in-Err.refusal (c.in-Err.ensures.err _ refl refl) (rw c.in-Err.ensures.same refl) c.in-Err.ensures.known)
 
-pub returns-clause-done : goal.returns-clause-done
-returns-clause-done c =
-    rw (← c.self.view_is) (λ sound.
+pub returns-then-self-clause-done : goal.returns-then-self-clause-done
+returns-then-self-clause-done c =
+    rw (← c.self.view_is) (λ sound quiet.
     read_does c.args.role c.args.first c.args.count _ _ c.in-Ok.asks.0 (span_of c.in-Ok.asks.1) c.self.inside.volume c.read.new.self (c.in-Ok.ensures.ok _ refl refl) refl (rw c.read.ensures.kept.attached (rw c.in-Ok.ensures.more.0 refl))
-    (c.self.invariant.settled sound) c.in-Ok.ensures.there c.read.result c.read.ensures.done c.read.ensures.refused)
+    (c.self.invariant.settled sound quiet) c.in-Ok.ensures.there c.read.result c.read.ensures.done c.read.ensures.refused)

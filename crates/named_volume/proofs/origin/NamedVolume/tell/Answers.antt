@@ -1,7 +1,13 @@
 use Rattle.std.proofs.Common.{refl}
 use Rattle.named_volume.specs.Held.{settled_in}
+use Rattle.named_volume.proofs.Holds.{stays_held}
 use Rattle.named_volume.proofs.Tells.{mounted}
 use Rattle.named_volume.proofs.origin.NamedVolume.tell.Goals as goal
+
+pub invariant_of-self : goal.invariant_of-self
+invariant_of-self c =
+    let told = c.tell_role.ensures in
+    stays_held _ c.self.inside.volume c.tell_role.new.volume _ _ _ c.self.invariant told.kept told.requests told.copies told.quiet told.settled
 
 pub returns : goal.returns
 returns c =

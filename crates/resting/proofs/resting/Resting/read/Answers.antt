@@ -1,5 +1,6 @@
 -- Why it is refused.
-use Rattle.std.proofs.Common.{◌≡◌, false, refl, sym, ◌∙◌}
+use Rattle.std.proofs.Common.{◌≡◌, true, false, refl, sym, ◌∙◌, subst}
+use Rattle.volume.specs.Leaving.{is_quiet_of}
 use Rattle.resting.proofs.PlainReads.{missing_shows}
 use Rattle.resting.proofs.resting.Resting.read.Goals as goal
 
@@ -16,3 +17,6 @@ pub returns-then-not-is_there-clause-loses : goal.returns-then-not-is_there-clau
 returns-then-not-is_there-clause-loses g c =
     let none : c.is_there.result ≡ false = c.if-not-is_there.true in
     λ settled. (missing_shows g.B.Block.contents g.B.Block.layers c.args.dev c.args.self.now (rw (← c.self.view_is) (sym c.is_there.ensures ∙ none)), refl)
+
+pub read_pieces-requires-clause-between : goal.read_pieces-requires-clause-between
+read_pieces-requires-clause-between g c = record { quiet = subst (λ v. is_quiet_of v.events ≡ true) (sym c.self.view_is) c.requires.quiet; few = c.look.ensures }

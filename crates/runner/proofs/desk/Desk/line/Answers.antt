@@ -1,19 +1,26 @@
-use Rattle.std.proofs.Common.{[], ◌∷◌, refl, sym}
-use Rattle.devices.specs.Devices.{table_of}
-use Rattle.runner.specs.Output.{printed}
+-- The lines of requests that ended are counted and printed before the line's own answer.
+use Rattle.std.proofs.Common.{rules, ◌≡◌, ◌<◌, ◌^◌, List, [], length, arith, sym, ◌∙◌}
+use Rattle.std.specs.Prelude.{OnOk, IfSome}
 use Rattle.std.specs.Io.KnownBytes.{Appends}
-use Rattle.std.proofs.KnownBytes.{Appends-nil}
-use Rattle.runner.proofs.DeskLemmas.{line_done, one_printed}
+use Rattle.devices.specs.Devices.{table_of}
+use Rattle.reply.specs.declared.Reply.{Reply}
+use Rattle.runner.specs.Asking.{line_first}
+use Rattle.runner.specs.Ended.{line_replies}
+use Rattle.runner.specs.Output.{printed}
+use Rattle.runner.proofs.AskingLemmas.{first_lines}
+use Rattle.runner.proofs.DeskLemmas.{line_done, line_counted, start_alone}
 use Rattle.runner.proofs.desk.Desk.line.Goals as goal
-
-pub returns-in-None-clause-done : goal.returns-in-None-clause-done
-returns-in-None-clause-done g c =
-    line_done c.args.line.now c.args.self.now (table_of c.self.inside.held) (table_of c.outcome.new.held) c.self.inside.summary c.self.inside.summary [] (λ rs. Appends (g.W.Write.contents c.args.writer.now) (g.W.Write.contents c.args.writer.now) (printed rs)) (sym c.self.view_is) c.in-None.ensures.done refl (Appends-nil (g.W.Write.contents c.args.writer.now))
-
-pub returns-in-Ok-clause-done : goal.returns-in-Ok-clause-done
-returns-in-Ok-clause-done g c =
-    line_done c.args.line.now c.args.self.now (table_of c.self.inside.held) (table_of c.outcome.new.held) c.self.inside.summary c.with-self-inside.result (c.in-Some.reply ∷ []) (λ rs. Appends (g.W.Write.contents c.args.writer.now) (g.W.Write.contents c.write_to.new.writer) (printed rs)) (sym c.self.view_is) c.in-Some.ensures.done c.with-self-inside.ensures (one_printed _ _ c.in-Some.reply c.in-Ok.ensures)
 
 pub returns-clause-done : goal.returns-clause-done
 returns-clause-done g c =
-    line_done c.args.line.now c.args.self.now (table_of c.self.inside.held) (table_of c.outcome.new.held) c.self.inside.summary c.with-self-inside.result (c.in-Some.reply ∷ []) (λ rs. Unit {0}) (sym c.self.view_is) c.in-Some.ensures.done c.with-self-inside.ensures tt
+    let own = c.outcome-own.result in
+    let ended = c.outcome-own.new.ended.items in
+    let P : List Reply → Type 0 = λ rs. OnOk c.match-print_all.result (Appends (g.W.Write.contents c.args.writer.now) (g.W.Write.contents c.print_all.new.writer) (printed rs)) in
+    let last : P (line_replies ended own) = search rules in
+    let small : c.self.inside.summary.lines < 2 ^ 64 = omega (arith, c.self.ranges) in
+    let size : c.len.result ≡ length ended = search rules in
+    let none : IfSome (line_first c.args.line.now (table_of c.self.inside.held)) (λ _. ended ≡ []) = search rules in
+    let asks = first_lines (line_first c.args.line.now (table_of c.self.inside.held)) ended own c.outcome-own.ensures.asks none in
+    let number = start_alone c.args.line.now ended own c.outcome-own.ensures.number (λ does. c.outcome-own.ensures.alone does ∙ c.new-ended.ensures.items) in
+    let counts = line_counted c.self.inside.summary c.with_lines.result c.with_own-self-inside.result c.len.result ended own small size c.with_lines.ensures c.with_own-self-inside.ensures in
+    line_done c.args.line.now c.args.self.now (table_of c.self.inside.held) (table_of c.outcome-own.new.held) c.self.inside.summary c.with_own-self-inside.result ended own P (sym c.self.view_is) c.outcome-own.ensures.done (λ sound. c.outcome-own.ensures.told sound ∙ c.new-ended.ensures.items) asks number counts last

@@ -5,7 +5,7 @@ use Rattle.pending.specs.declared.copies.ChunkCopy.{ChunkCopy}
 use Rattle.pending.specs.declared.copies.Stage.TheVariants.{Waiting}
 use Rattle.store.specs.Held.{committed, pending, pairs_pending}
 use Rattle.snapshot.specs.Calls.{started}
-use Rattle.snapshot.proofs.Copies.{copies_push, not_begun, like_same, state_kept}
+use Rattle.snapshot.proofs.Copies.{copies_push, not_begun, state_same}
 use Rattle.snapshot.proofs.Stores.{pairs_more, store_holds, text_started}
 use Rattle.snapshot.proofs.Events.{starts_at}
 use Rattle.snapshot.proofs.snapshot.Snapshot.start.Goals as goal
@@ -28,9 +28,9 @@ invariant_of-self-2 g c =
     let len : length c.push_reserved.new.self.items ≡ length copies + 1 = ap length c.push_reserved.ensures.items ∙ length-append copies (p ∷ []) in
     let has = c.self.invariant.1 in (
       rw c.push_reserved.ensures.items
-          (state_kept _ _ _ s.state t.state (pairs_pending s.exceptions ++ p.pair ∷ []) _ _ _
+          (state_same _ _ _ s.state t.state (pairs_pending s.exceptions ++ p.pair ∷ []) _ _ _
           (copies_push _ _ _ s.state (pairs_pending s.exceptions) _ copies _ p alive c.self.invariant.0 refl room)
-          (like_same s.state t.state c.start.ensures.state) (pairs_more (pending s.exceptions) (pending t.exceptions) c.in-Some.begun e.pending)),
+          c.start.ensures.state (pairs_more (pending s.exceptions) (pending t.exceptions) c.in-Some.begun e.pending)),
       record {
         for_pairs = omega (arith, e.used, has.for_pairs, ap (λ v. v.room) c.self.view_is);
         for_copies = omega (arith, len, has.for_copies, c.push_reserved.ensures.capacity, ap (λ v. v.room) c.self.view_is);

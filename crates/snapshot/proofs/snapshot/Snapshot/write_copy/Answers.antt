@@ -4,7 +4,7 @@ use Rattle.sector.specs.Bytes.{with_sectors}
 use Rattle.pending.specs.declared.copies.ChunkCopy.{ChunkCopy}
 use Rattle.pending.specs.declared.copies.Stage.TheVariants.{Written}
 use Rattle.store.specs.Held.{committed, pairs_pending, reserved}
-use Rattle.snapshot.proofs.Copies.{copy_inside, copy_set, like_same, state_kept}
+use Rattle.snapshot.proofs.Copies.{copy_inside, copy_set, state_same}
 use Rattle.snapshot.proofs.Events.{writes_at}
 use Rattle.snapshot.proofs.snapshot.Snapshot.write_copy.Goals as goal
 
@@ -51,9 +51,9 @@ invariant_of-self g c =
     let q : ChunkCopy = record p { stage = Written } in
     let e = c.in-Ok.ensures in
     let within : c.args.index < length c.self.inside.copies.items = omega (arith, ap (λ v. length v.copies) c.self.view_is) in (
-      state_kept _ _ _ s.state t.state _ _ _ _
+      state_same _ _ _ s.state t.state _ _ _ _
           (copy_set _ _ _ s.state _ c.self.inside.copies.items _ c.args.index p q c.self.invariant.0 within c.index_mut.ensures.value refl refl)
-          (like_same s.state t.state e.state) (ap pairs_pending e.exceptions),
+          e.state (ap pairs_pending e.exceptions),
       rw (ap reserved e.exceptions, length-set) c.self.invariant.1,
     )
 

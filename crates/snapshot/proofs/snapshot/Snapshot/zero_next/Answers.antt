@@ -1,6 +1,8 @@
-use Rattle.std.proofs.Common.{ap}
+use Rattle.std.proofs.Common.{◌≡◌, ◌+◌, ◌*◌, ◌<◌, length, arith, ap, ◌∙◌}
 use Rattle.store.specs.Held.{pairs_pending, reserved}
-use Rattle.snapshot.proofs.Copies.{IsLike, like_same, like_zeroed, state_kept}
+use Rattle.snapshot.specs.Held.{IsSnapshot}
+use Rattle.snapshot.specs.Kept.{needs_area}
+use Rattle.snapshot.proofs.Copies.{ahead_zeroed, like_zeroed, needs_is, state_kept, state_same}
 use Rattle.snapshot.proofs.snapshot.Snapshot.zero_next.Goals as goal
 use Rattle.snapshot.proofs.snapshot.Snapshot.zero_next.Goals.{in-Ok, in-Err}
 
@@ -8,5 +10,12 @@ pub invariant_of-self : goal.invariant_of-self
 invariant_of-self g c =
     let s = c.self.inside.store in
     let t = c.zero_next.new.self in
-    let like : IsLike s.state t.state = elim c.match-zero_next.branch [ in-Ok w ↦ like_zeroed s.state t.state w.in-Ok.ensures.zeroed | in-Err w ↦ like_same s.state t.state w.in-Err.ensures.kept ] in
-    (state_kept _ _ _ s.state t.state _ _ _ _ c.self.invariant.0 like (ap pairs_pending c.zero_next.ensures.exceptions), rw (ap reserved c.zero_next.ensures.exceptions) c.self.invariant.1)
+    let copies = c.self.inside.copies.items in
+    let some : 0 < length copies = omega (arith, ap (λ v. length v.copies) c.self.view_is, c.requires.some) in
+    let due : s.state.filled + 1 ≡ 32 * s.state.chunk = needs_is s.state (ap (λ v. needs_area v.state) c.self.view_is ∙ c.requires.due) in
+    let begun = ap pairs_pending c.zero_next.ensures.exceptions in
+    let kept : IsSnapshot c.self.inside.live c.self.inside.untried c.self.inside.stale t.state (pairs_pending t.exceptions) c.self.inside.copies.items c.self.inside.marks.items = elim c.match-zero_next.branch [
+      | in-Ok w ↦ state_kept _ _ _ s.state t.state _ _ _ _ c.self.invariant.0 (like_zeroed s.state t.state w.in-Ok.ensures.zeroed) begun (ahead_zeroed c.self.inside.live s.state t.state (length copies) w.in-Ok.ensures.zeroed some due)
+      | in-Err w ↦ state_same _ _ _ s.state t.state _ _ _ _ c.self.invariant.0 w.in-Err.ensures.kept begun
+    ] in
+    (kept, rw (ap reserved c.zero_next.ensures.exceptions) c.self.invariant.1)

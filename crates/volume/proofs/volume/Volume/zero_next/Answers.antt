@@ -6,7 +6,7 @@ use Rattle.snapshot.specs.Kept.{Kept}
 use Rattle.volume.specs.Finding.{is_zeroing}
 use Rattle.volume.proofs.DueEvents.{due_by, snap_found, snap_due}
 use Rattle.volume.proofs.Spoilt.{spoilt_device}
-use Rattle.volume.proofs.StoreEvents.{zero_good, zero_fault, zero_lacks, front_live, zeroing_front}
+use Rattle.volume.proofs.StoreEvents.{zero_good, zero_fault, zero_lacks, front_live, zeroing_front, zeroing_due, first_some}
 use Rattle.volume.proofs.Exactly.{zero_exact, zero_fault_exact, zero_lacks_exact}
 use Rattle.volume.proofs.volume.Volume.zero_next.Goals as goal
 
@@ -75,6 +75,24 @@ zero_next-requires-clause-live g c =
     let found : is_zeroing c.args.number s ≡ true = snap_found (is_zeroing c.args.number) k v.snaps.items c.deref.result.now s c.deref.ensures.value is (c.in-Some.ensures.found.1 s) in
     let live = front_live g.B.Block.contents g.B.Block.layers g.B.Block.size g.B.Block.fault_count g.B.Block.done_count _ c.self.invariant c.args.number k s s within is (zeroing_front c.args.number s found) in
     live
+
+pub zero_next-requires-clause-some : goal.zero_next-requires-clause-some
+zero_next-requires-clause-some g c =
+    let v = c.self.inside in
+    let s = c.index_mut-snap.result.now in
+    let k = c.in-Some.place in
+    let is = c.index_mut-snap.ensures.value in
+    let found : is_zeroing c.args.number s ≡ true = snap_found (is_zeroing c.args.number) k v.snaps.items c.deref.result.now s c.deref.ensures.value is (c.in-Some.ensures.found.1 s) in
+    first_some s.copies (zeroing_front c.args.number s found)
+
+pub zero_next-requires-clause-due : goal.zero_next-requires-clause-due
+zero_next-requires-clause-due g c =
+    let v = c.self.inside in
+    let s = c.index_mut-snap.result.now in
+    let k = c.in-Some.place in
+    let is = c.index_mut-snap.ensures.value in
+    let found : is_zeroing c.args.number s ≡ true = snap_found (is_zeroing c.args.number) k v.snaps.items c.deref.result.now s c.deref.ensures.value is (c.in-Some.ensures.found.1 s) in
+    zeroing_due c.args.number s found
 
 pub invariant_of-self-in-Ok : goal.invariant_of-self-in-Ok
 invariant_of-self-in-Ok g c =

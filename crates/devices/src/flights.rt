@@ -1,0 +1,208 @@
+// Requests that one command starts and later ones end, and the events of a volume, one by one.
+ghost use Rattle.std.specs.Prelude.{◌≡◌, ◌<◌, ◌≤◌, ◌*◌, ℕ, List, length, true, false, Some, Ok, Err, IfOk, IfErr, OnOk, OnErr, MatchResult};
+ghost use Rattle.std.specs.Option.{option_copied};
+ghost use Rattle.plain.specs.declared.request.Op.TheVariants.{Write};
+ghost use Rattle.named.specs.Changes.{Does, refused};
+ghost use Rattle.named.specs.Events.{event_asked, event_at, numbered, origin_at, origin_by, rested, settle, snapshot_at, snapshot_named, step_event};
+ghost use Rattle.named.specs.Naming.{AreNamed};
+ghost use Rattle.named.specs.Places.{IsPlaceIn, volume_at};
+ghost use Rattle.named.specs.Sectors.{IsInVolume};
+ghost use Rattle.named.specs.Sound.{is_sound};
+ghost use Rattle.named.specs.Starting.{asked_at, read_asked, write_asked};
+ghost use Rattle.named.specs.declared.place.Place.TheVariants.{In};
+ghost use Rattle.named.specs.declared.place.Role.TheVariants.{Origin, Snapshot};
+ghost use Rattle.named_volume.specs.Names.{KeepsNames};
+ghost use Rattle.devices.specs.Devices.{Flies, KeepsOthers, table_of};
+
+use crate::find::find_device;
+use crate::held::Held;
+use command::Event;
+use named::{Place, Role};
+use named_stack::{some_sectors, whole_sectors};
+use plain::{NotDue, Op, Outcome, ReqId, SnapId};
+use resting::Replied;
+use sector::{Buf, Refusal};
+use std::alloc::Global;
+use words::Name;
+
+/// Starts a request of a device of a volume.
+fn start_at(
+    alloc: Global,
+    held: &mut Held,
+    v: usize,
+    role: Role,
+    first: u32,
+    count: u32,
+    op: Op,
+) -> Result<ReqId, Refusal>
+    requires place { IsPlaceIn (In v role) (table_of held.old) }
+    requires some { 0 < count }
+    requires few { count ≤ 2048 }
+    requires bytes { (b : List ℕ) → op ≡ Write b → length b ≡ 512 * count }
+    ensures asks { IfErr (asked_at (In v role) first count (table_of held.old)) (λ e. result ≡ Err e) }
+    ensures flies { OnOk result (IsInVolume (λ was now. now.quiet ≡ false) v (table_of held.old) (table_of held.new) (volume_at v (table_of held.old))) }
+    ensures one { IsInVolume KeepsNames v (table_of held.old) (table_of held.new) (volume_at v (table_of held.old)) }
+    ensures named { AreNamed (table_of held.old) → AreNamed (table_of held.new) }
+{
+    held.volumes[v].start(alloc, role, first, count, op)
+}
+
+/// `start DEV read S N`: starts a read of an origin or of a snapshot, and gives its number; it ends in a later command. In
+/// this order: `OutOfRange` for a number of sectors outside 1 to 2048, `NoSuchDevice` for a name that no device has,
+/// `BadTable` for a disk or a layer, `OutOfRange` where the sectors don't lie inside the origin, `TooMany` where the volume
+/// has taken too many, then as the volume refuses requests.
+#[tactic(auto, unfolding(named::specs::Starting::read_asked, named::specs::Starting::asked_by, crate::specs::Devices::Flies, crate::specs::Devices::KeepsOthers))]
+pub fn start_read(
+    alloc: Global,
+    held: &mut Held,
+    name: &Name,
+    first: u32,
+    count: u32,
+) -> Result<ReqId, Refusal>
+    ensures asks { IfErr (read_asked name.now first count (table_of held.old)) (λ e. result ≡ Err e) }
+    ensures flies { OnOk result (Flies name.now (table_of held.old) (table_of held.new)) }
+    ensures one { KeepsOthers name.now (table_of held.old) (table_of held.new) }
+    ensures named { AreNamed (table_of held.old) → AreNamed (table_of held.new) }
+{
+    let count = some_sectors(count)?;
+    match find_device(held, name)? {
+        Place::Free(_, _) => Err(Refusal::BadTable),
+        Place::In(v, role) => start_at(alloc, held, v, role, first, count, Op::Read),
+    }
+}
+
+/// `start DEV write S DATA`: starts a write of an origin or of a snapshot, and gives its number; it ends in a later command.
+/// In this order: `BadTable` for bytes that are no whole sectors, `OutOfRange` where they are not 1 to 2048, then as a read.
+#[tactic(auto, unfolding(named::specs::Starting::write_asked, named::specs::Starting::asked_by, crate::specs::Devices::Flies, crate::specs::Devices::KeepsOthers))]
+pub fn start_write(
+    alloc: Global,
+    held: &mut Held,
+    name: &Name,
+    first: u32,
+    bytes: Buf,
+) -> Result<ReqId, Refusal>
+    ensures asks { IfErr (write_asked name.now first bytes (table_of held.old)) (λ e. result ≡ Err e) }
+    ensures flies { OnOk result (Flies name.now (table_of held.old) (table_of held.new)) }
+    ensures one { KeepsOthers name.now (table_of held.old) (table_of held.new) }
+    ensures named { AreNamed (table_of held.old) → AreNamed (table_of held.new) }
+{
+    let count = whole_sectors(bytes.as_slice())?;
+    match find_device(held, name)? {
+        Place::Free(_, _) => Err(Refusal::BadTable),
+        Place::In(v, role) => start_at(alloc, held, v, role, first, count, Op::Write(bytes)),
+    }
+}
+
+/// The volume of the origin at a place. `BadTable` for another device.
+fn origin_at(place: Place) -> Result<usize, Refusal>
+    ensures value { result ≡ origin_at place }
+    ensures place { IfOk result (λ v. place ≡ In v Origin) }
+{
+    match place {
+        Place::In(v, Role::Origin) => Ok(v),
+        _ => Err(Refusal::BadTable),
+    }
+}
+
+/// The volume of the snapshot at a place, and the snapshot's place in it. `BadTable` for another device.
+fn snapshot_at(place: Place) -> Result<(usize, usize), Refusal>
+    ensures value { MatchResult result (λ at. snapshot_at place ≡ Ok at.0) (λ e. snapshot_at place ≡ Err e) }
+    ensures place { IfOk result (λ at. place ≡ In at.0 (Snapshot at.1)) }
+{
+    match place {
+        Place::In(v, Role::Snapshot(k)) => Ok((v, k)),
+        _ => Err(Refusal::BadTable),
+    }
+}
+
+/// The name of the snapshot that an event is about, if it is about one.
+fn snapshot_named(event: &Event) -> Option<&Name>
+    ensures { option_copied result ≡ snapshot_named event.now }
+{
+    match event {
+        Event::Issue(_) | Event::CopyRead(_) | Event::CopyWrite(_) | Event::Publish(_) => None,
+        Event::ZeroNext(name) | Event::WriteArea(name) | Event::WriteInvalid(name) => Some(name),
+    }
+}
+
+/// An event as its volume knows it, with the number of the snapshot that it is about, if it is about one.
+fn numbered(event: &Event, number: SnapId) -> plain::Event
+    ensures { result ≡ numbered event.now number }
+{
+    match event {
+        Event::Issue(request) => plain::Event::Issue(u64::from(*request)),
+        Event::CopyRead(copy) => plain::Event::CopyRead(u64::from(*copy)),
+        Event::CopyWrite(copy) => plain::Event::CopyWrite(u64::from(*copy)),
+        Event::Publish(copy) => plain::Event::Publish(u64::from(*copy)),
+        Event::ZeroNext(_) => plain::Event::ZeroNext(number),
+        Event::WriteArea(_) => plain::Event::WriteArea(number),
+        Event::WriteInvalid(_) => plain::Event::WriteInvalid(number),
+    }
+}
+
+/// The volume of the origin at a place, and the number of the snapshot of a name in it.
+fn about(held: &Held, place: Place, snapshot: &Name) -> Result<(usize, SnapId), Refusal>
+    requires { IsPlaceIn place (table_of held.now) }
+    ensures value { MatchResult result (λ at. event_at place (Some snapshot.now) (table_of held.now) ≡ Ok at.0) (λ e. event_at place (Some snapshot.now) (table_of held.now) ≡ Err e) }
+    ensures within { IfOk result (λ at. at.0 < length held.now.volumes.items) }
+    ensures place { IfOk result (λ at. place ≡ In at.0 Origin) }
+{
+    let other = find_device(held, snapshot)?;
+    let v = origin_at(place)?;
+    let (w, k) = snapshot_at(other)?;
+    if v != w {
+        return Err(Refusal::NotDue);
+    }
+    Ok((v, held.volumes[w].number(k)))
+}
+
+/// The volume that an event is asked of, and the number of the snapshot that it is about; 0 where it is about none.
+fn asked(held: &Held, place: Place, event: &Event) -> Result<(usize, SnapId), Refusal>
+    requires { IsPlaceIn place (table_of held.now) }
+    ensures value { MatchResult result (λ at. event_at place (snapshot_named event.now) (table_of held.now) ≡ Ok at.0) (λ e. event_at place (snapshot_named event.now) (table_of held.now) ≡ Err e) }
+    ensures within { IfOk result (λ at. at.0 < length held.now.volumes.items) }
+    ensures place { IfOk result (λ at. place ≡ In at.0 Origin) }
+{
+    match snapshot_named(event) {
+        None => Ok((origin_at(place)?, 0)),
+        Some(snapshot) => about(held, place, snapshot),
+    }
+}
+
+/// `step VOL EVENT`: does one event of an origin's volume. In this order: `NoSuchDevice` for a name that no device has, the
+/// volume's before the snapshot's, `BadTable` where the one is no origin or the other no snapshot, `NotDue` for a snapshot of
+/// another volume and for an event that is not due. A refusal changes nothing.
+#[tactic(auto, unfolding(named::specs::Events::event_asked, named::specs::Events::step_event, crate::specs::Devices::KeepsOthers))]
+pub fn step_device(held: &mut Held, name: &Name, event: &Event) -> Result<Outcome, Refusal>
+    ensures asks { IfErr (event_asked name.now event.now (table_of held.old)) (λ e. result ≡ Err e) }
+    ensures done { is_sound (table_of held.old) ≡ true → Does result (table_of held.new) (λ t. t ≡ table_of held.old) (refused (table_of held.old) (step_event name.now event.now (table_of held.old))) }
+    ensures err { OnErr result (table_of held.new ≡ table_of held.old) }
+    ensures one { KeepsOthers name.now (table_of held.old) (table_of held.new) }
+    ensures sound { is_sound (table_of held.old) ≡ true → is_sound (table_of held.new) ≡ true }
+    ensures named { AreNamed (table_of held.old) → AreNamed (table_of held.new) }
+{
+    let place = find_device(held, name)?;
+    let (v, number) = asked(held, place, event)?;
+    match held.volumes[v].step(numbered(event, number)) {
+        Ok(outcome) => Ok(outcome),
+        Err(NotDue) => Err(Refusal::NotDue),
+    }
+}
+
+/// `settle VOL`: does all events of an origin's volume that are left to do. The replies to requests that end in it go to the
+/// end of `ended`. In this order: `NoSuchDevice` for a name that no device has, `BadTable` for a device that is no origin,
+/// `NoMemory` where the allocator refuses room for a reply; then the events before it are done.
+#[tactic(auto, unfolding(named::specs::Events::origin_by, named::specs::Events::rested, named::specs::Events::settle, crate::specs::Devices::KeepsOthers))]
+pub fn settle_device(held: &mut Held, name: &Name, ended: &mut Vec<Replied>) -> Result<(), Refusal>
+    ensures asks { IfErr (origin_by name.now (table_of held.old)) (λ e. result ≡ Err e) }
+    ensures done { is_sound (table_of held.old) ≡ true → Does result (table_of held.new) (λ t. t ≡ table_of held.old) (record { answer = settle name.now (table_of held.old); left = table_of held.old }) }
+    ensures told { is_sound (table_of held.old) ≡ true → ended.new.items ≡ ended.old.items }
+    ensures rested { OnOk result (rested name.now (table_of held.old) (table_of held.new) ≡ Ok tt) }
+    ensures one { KeepsOthers name.now (table_of held.old) (table_of held.new) }
+    ensures sound { is_sound (table_of held.old) ≡ true → is_sound (table_of held.new) ≡ true }
+    ensures named { AreNamed (table_of held.old) → AreNamed (table_of held.new) }
+{
+    let place = find_device(held, name)?;
+    let v = origin_at(place)?;
+    held.volumes[v].settle(ended)
+}

@@ -1,0 +1,7 @@
+use Rattle.layers.specs.Stack.{stack_contents, stack_layers}
+use Rattle.named_volume.proofs.Flies.{start_flies}
+use Rattle.named_volume.proofs.origin.NamedVolume.start.Goals as goal
+
+pub returns-clause-flies : goal.returns-clause-flies
+returns-clause-flies c =
+    start_flies stack_contents stack_layers _ _ _ c.is_quiet-self-inside.result c.start-started.result c.is_quiet-self-inside.ensures.value c.start-started.ensures.ok

@@ -1,0 +1,11 @@
+use Rattle.std.proofs.Common.{sym, ap, ◌∙◌}
+use Rattle.layers.specs.declared.stack.Stack.{Stack}
+use Rattle.settling.specs.Snaps.{Snap}
+use Rattle.resting.specs.Rested.{Attached}
+use Rattle.named_volume.proofs.Places.{at_place}
+use Rattle.named_volume.proofs.stored.number_at.Goals as goal
+
+pub returns : goal.returns
+returns c = λ d.
+    let at = at_place c.args.volume.now c.args.k c.requires in
+    c.number.ensures.value at.0 ∙ ap (λ (s : Attached Stack). s.number) (at.1.is at.0) ∙ sym (ap (λ (s : Snap). s.number) (at.1.held d))

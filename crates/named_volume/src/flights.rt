@@ -1,0 +1,98 @@
+// Requests that one call starts and later ones end.
+ghost use Rattle.std.specs.Prelude.{◌≡◌, ◌≢◌, ◌*◌, ◌<◌, ◌≤◌, ℕ, List, length, get_or, is_ok, true, false, Ok, Err, IfErr, OnOk, OnErr};
+ghost use Rattle.sector.specs.declared.refusal.Refusal.TheVariants.{NoMemory, Invalid};
+ghost use Rattle.plain.specs.declared.request.Op.TheVariants.{Write};
+ghost use Rattle.settling.specs.Snaps.{Snap};
+ghost use Rattle.named.specs.Places.{IsRoleIn};
+ghost use Rattle.named.specs.Sectors.{asked_of};
+ghost use Rattle.named_volume.specs.Names.{KeepsNames};
+
+use crate::origin::NamedVolume;
+use crate::sectors::ask;
+use crate::stored::number_at;
+use named::Role;
+use plain::{Event, NotDue, Op, Outcome, ReqId, Request, SnapId};
+use resting::Replied;
+use sector::Refusal;
+use std::alloc::Global;
+
+impl NamedVolume {
+    /// Whether nothing is in flight or left to do.
+    pub fn is_quiet(&self) -> bool
+        ensures { result ≡ self.now.quiet }
+    {
+        self.quiet
+    }
+
+    /// The number of the snapshot at a place.
+    pub fn number(&self, k: usize) -> SnapId
+        requires { k < length self.now.snaps }
+        ensures { (d : Snap) → result ≡ (get_or self.now.state.snaps k d).number }
+    {
+        number_at(&self.volume, k)
+    }
+
+    /// Starts a read or a write of so many sectors from `first` on, and tells its number; it is in flight from then on. Refused
+    /// in this order: `BadTable` for disks and layers, `OutOfRange` for sectors past the end, `TooMany` where 2^60 sectors were
+    /// asked for in all; then, as the volume submits, `Invalid` for a spoiled snapshot, `OutOfRange` for sectors of two chunks,
+    /// `TooMany`, `NoMemory`, and `Invalid` for a snapshot whose store is full, which is spoiled by it.
+    pub fn start(
+        &mut self,
+        alloc: Global,
+        role: Role,
+        first: u32,
+        count: u32,
+        op: Op,
+    ) -> Result<ReqId, Refusal>
+        requires role { IsRoleIn role self.old }
+        requires some { 0 < count }
+        requires few { count ≤ 2048 }
+        requires bytes { (bytes : List ℕ) → op ≡ Write bytes → length bytes ≡ 512 * count }
+        ensures asks { IfErr (asked_of role first count self.old) (λ e. result ≡ Err e) }
+        ensures flies { OnOk result (self.new.quiet ≡ false) }
+        ensures same { IfErr result (λ e. e ≢ Invalid → (self.new.state ≡ self.old.state) × (self.new.quiet ≡ self.old.quiet)) }
+        ensures kept { KeepsNames self.old self.new }
+    {
+        let (dev, range) = match ask(&self.volume, &mut self.asked, role, first, count) {
+            Ok(asks) => asks,
+            Err(refusal) => return Err(refusal),
+        };
+        let started = self.volume.start(alloc, Request { dev, op, range });
+        self.quiet = self.volume.is_quiet();
+        started
+    }
+
+    /// Does an event. `NotDue` where it isn't due, and then nothing changed; where nothing is in flight or left to do, none is.
+    pub fn step(&mut self, event: Event) -> Result<Outcome, NotDue>
+        ensures idle { self.old.quiet ≡ true → is_ok result ≡ false }
+        ensures same { OnErr result (self.new ≡ self.old) }
+        ensures kept { KeepsNames self.old self.new }
+    {
+        if self.quiet {
+            return Err(NotDue);
+        }
+        match self.volume.step(event) {
+            Ok(outcome) => {
+                self.quiet = self.volume.is_quiet();
+                Ok(outcome)
+            }
+            Err(NotDue) => Err(NotDue),
+        }
+    }
+
+    /// Does the events that are due, each time the one that is due first, until none is. Each request that ends is told at the
+    /// end of `ended`. `NoMemory` where the allocator refuses room for that, and then the events before it stand.
+    pub fn settle(&mut self, ended: &mut Vec<Replied>) -> Result<(), Refusal>
+        ensures quiet { OnOk result (self.new.quiet ≡ true) }
+        ensures idle { self.old.quiet ≡ true → (self.new ≡ self.old) × (ended.new.items ≡ ended.old.items) × (result ≡ Ok tt) }
+        ensures kept { KeepsNames self.old self.new }
+        ensures err { IfErr result (λ e. e ≡ NoMemory) }
+    {
+        if self.quiet {
+            return Ok(());
+        }
+        let done = self.volume.settle(ended);
+        self.quiet = self.volume.is_quiet();
+        done
+    }
+}

@@ -1,0 +1,5 @@
+-- Nothing changed.
+use Rattle.resting.proofs.resting.Resting.start.Goals as goal
+
+pub returns-clause-starved : goal.returns-clause-starved
+returns-clause-starved g c = rw (← c.self.view_is) c.begin.ensures.starved

@@ -1,0 +1,58 @@
+-- Requests that end while others are in flight: events are done one after another, each the one that is due first. What one
+-- event does is said where events are (`volume`). This project's own.
+use Rattle.std.specs.Prelude.{◌≡◌, ◌==◌, ℕ, true, List, [], ◌∷◌, ◌++◌, Some, if◌then◌else◌}
+use Rattle.device.specs.Layers.{Layer}
+use Rattle.plain.specs.declared.event.Event.{Event}
+use Rattle.plain.specs.declared.event.Outcome.{Outcome}
+use Rattle.plain.specs.declared.event.Outcome.TheVariants.{Done, Fault, Reply as Answered}
+use Rattle.plain.specs.declared.request.Reply.{Reply}
+use Rattle.plain.specs.declared.request.Reply.TheVariants.{Refused}
+use Rattle.plain.specs.declared.request.Failure.TheVariants.{Invalid}
+use Rattle.plain.specs.Legal.{IsLegalStep}
+use Rattle.volume.specs.Volumed.{Volumed, is_loud_in_all, next_of, plain_of}
+use Rattle.volume.specs.Exact.{IsExact}
+use Rattle.resting.specs.declared.flights.Replied.{Replied}
+
+-- the event that was due first was done, with this outcome
+pub record IsDoneFirst {B : Type 0} (contents : B → List ℕ) (layers : B → List Layer) (event : Event) (outcome : Outcome) (old new : Volumed B) : Type 0 where
+  pub first : next_of contents layers old ≡ Some event
+  pub exact : IsExact contents layers event outcome old new
+  pub legal : is_loud_in_all layers old ≡ true → IsLegalStep (plain_of contents layers old) event outcome (plain_of contents layers new)
+
+-- these events were done, in this order
+abbrev pub IsChain : {B : Type 0} → (B → List ℕ) → (B → List Layer) → List (Event × Outcome) → Volumed B → Volumed B → Type 0
+IsChain contents layers [] old new = new ≡ old
+IsChain contents layers (x ∷ xs) old new = (mid : Volumed _) × IsDoneFirst contents layers x.0 x.1 old mid × IsChain contents layers xs mid new
+
+-- the replies that they gave, in this order
+abbrev pub reply_in : Outcome → List Replied
+reply_in Done = []
+reply_in Fault = []
+reply_in (Answered number reply) = record { number = number; reply = reply } ∷ []
+
+abbrev pub replied_in : List (Event × Outcome) → List Replied
+replied_in [] = []
+replied_in (x ∷ done) = reply_in x.1 ++ replied_in done
+
+-- Events were done from one volume to another, and their replies come after those that were there.
+pub record IsDrained {B : Type 0} (contents : B → List ℕ) (layers : B → List Layer) (old new : Volumed B) (before after : List Replied) : Type 0 where
+  pub done : List (Event × Outcome)
+  pub chain : IsChain contents layers done old new
+  pub told : after ≡ before ++ replied_in done
+
+-- the replies to other requests than this one
+abbrev pub others : ℕ → List Replied → List Replied
+others number [] = []
+others number (x ∷ replies) = if x.number == number then others number replies else x ∷ others number replies
+
+-- the last reply to this one, or else the one that was given before
+abbrev pub reply_to : ℕ → Reply → List Replied → Reply
+reply_to number before [] = before
+reply_to number before (x ∷ replies) = reply_to number (if x.number == number then x.reply else before) replies
+
+-- Events were done likewise; the reply to this request is given apart, and is Invalid where none came.
+pub record IsAnsweredAmong {B : Type 0} (contents : B → List ℕ) (layers : B → List Layer) (number : ℕ) (reply : Reply) (old new : Volumed B) (before after : List Replied) : Type 0 where
+  pub done : List (Event × Outcome)
+  pub chain : IsChain contents layers done old new
+  pub told : after ≡ before ++ others number (replied_in done)
+  pub reply_is : reply ≡ reply_to number (Refused Invalid) (replied_in done)

@@ -1,0 +1,140 @@
+// Requests in flight between commands: one is started, and one event is done.
+ghost use Rattle.std.specs.Prelude.{◌≡◌, ◌≢◌, ◌+◌, ◌*◌, ◌≤◌, ℕ, List, length, Option, Some, None, IfOk, IfErr, IsOk, OnOk, OnErr, is_ok, true};
+ghost use Rattle.sector.specs.declared.refusal.Refusal.TheVariants.{Invalid};
+ghost use Rattle.plain.specs.declared.request.Failure.TheVariants.{Invalid as IsInvalid};
+ghost use Rattle.plain.specs.declared.request.Reply.{Reply as AnyReply};
+ghost use Rattle.plain.specs.declared.request.Reply.TheVariants.{Refused};
+ghost use Rattle.plain.specs.declared.request.Op.TheVariants.{Write};
+ghost use Rattle.plain.specs.Legal.{IsLegalStep};
+ghost use Rattle.settling.specs.Submitting.{submitted};
+ghost use Rattle.volume_laws.specs.Due.{is_due};
+ghost use Rattle.volume.specs.Volumed.{dues_of, is_loud_in_all, next_of, plain_of};
+ghost use Rattle.volume.specs.Moved.{moving_of};
+ghost use Rattle.volume.specs.Exact.{IsExact};
+ghost use Rattle.volume.specs.Causes.{HasCause, IsOneAtMost};
+ghost use Rattle.volume.specs.Leaving.{is_quiet_of};
+ghost use Rattle.volume.specs.Submitting.{submit_refusal, IsAcceptedAs, IsRefusedAs};
+ghost use Rattle.resting.specs.Rested.{rested_of, settled_of, is_loud_in, IsSettled};
+ghost use Rattle.resting.specs.Kept.{KeepsDevices};
+
+use crate::Resting;
+use crate::serving::look;
+use device::Block;
+use plain::{Event, NotDue, Outcome, Reply, ReqId, Request};
+use sector::Refusal;
+use std::alloc::Global;
+use volume::Volume;
+
+/// How a request that was started ended.
+#[derive(Debug, Drop)]
+pub struct Replied {
+    /// Its number in the volume.
+    pub number: ReqId,
+    pub reply: Reply,
+}
+
+/// Whether a volume of events is quiet. One that is, and of which no device drops writes, is settled.
+fn is_still<B: Block>(volume: &Volume<B>) -> bool
+    ensures value { result ≡ is_quiet_of volume.now }
+    ensures rest { result ≡ true → is_loud_in B.layers (rested_of volume.now) ≡ true → IsSettled B.contents B.layers B.size (rested_of volume.now) }
+    ensures still { IsSettled B.contents B.layers B.size (rested_of volume.now) → result ≡ true }
+{
+    volume.is_quiet()
+}
+
+/// Starts a request of a volume of events.
+fn begin<B: Block>(
+    volume: &mut Volume<B>,
+    alloc: Global,
+    request: Request,
+) -> Result<ReqId, Refusal>
+    requires bytes { (bytes : List ℕ) → request.op ≡ Write bytes → length bytes ≡ 512 * request.range.count }
+    ensures ok { IfOk result (λ number. IsAcceptedAs B.contents B.layers request number volume.old volume.new) }
+    ensures admitted { IfOk result (λ _. submit_refusal B.size request volume.old ≡ None) }
+    ensures exact { IfOk result (λ number. (replied : Option AnyReply) → submitted number request (moving_of B.contents B.layers replied volume.old) ≡ moving_of B.contents B.layers replied volume.new) }
+    ensures refused { IfErr result (λ refusal. IsRefusedAs B.contents B.layers B.size request refusal volume.old volume.new) }
+    ensures declined { IfErr result (λ refusal. refusal ≡ Invalid → (number : ℕ) (replied : Option AnyReply) → submitted number request (moving_of B.contents B.layers replied volume.old) ≡ moving_of B.contents B.layers (Some (Refused IsInvalid)) volume.new) }
+    ensures starved { IfErr result (λ refusal. refusal ≢ Invalid → (replied : Option AnyReply) → moving_of B.contents B.layers replied volume.new ≡ moving_of B.contents B.layers replied volume.old) }
+    ensures same { IfErr result (λ refusal. refusal ≢ Invalid → (settled_of B.contents B.layers (rested_of volume.new) ≡ settled_of B.contents B.layers (rested_of volume.old)) × (is_quiet_of volume.new ≡ is_quiet_of volume.old)) }
+    ensures kept { KeepsDevices B.layers B.size (rested_of volume.old) (rested_of volume.new) }
+    ensures requests { volume.new.requests ≤ volume.old.requests + 1 }
+    ensures copies { volume.new.copies ≤ volume.old.copies + 8 }
+{
+    look(volume);
+    match volume.submit(alloc, request) {
+        Ok(number) => Ok(number),
+        Err(refusal) => Err(refusal),
+    }
+}
+
+/// Does an event of a volume of events.
+fn advance<B: Block>(volume: &mut Volume<B>, event: Event) -> Result<Outcome, NotDue>
+    ensures legal { IfOk result (λ outcome. is_loud_in_all B.layers volume.old ≡ true → IsLegalStep (plain_of B.contents B.layers volume.old) event outcome (plain_of B.contents B.layers volume.new)) }
+    ensures exact { IfOk result (λ outcome. IsExact B.contents B.layers event outcome volume.old volume.new) }
+    ensures due { is_ok result ≡ is_due (dues_of B.contents B.layers volume.old) volume.old.flights event }
+    ensures first { next_of B.contents B.layers volume.old ≡ Some event → IsOk result }
+    ensures cause { IfOk result (λ outcome. HasCause B.fault_count event outcome volume.old volume.new) }
+    ensures one { OnOk result (IsOneAtMost B.done_count volume.old volume.new) }
+    ensures same { OnErr result (volume.new ≡ volume.old) }
+    ensures kept { KeepsDevices B.layers B.size (rested_of volume.old) (rested_of volume.new) }
+    ensures requests { volume.new.requests ≡ volume.old.requests }
+    ensures copies { volume.new.copies ≡ volume.old.copies }
+{
+    match volume.step(event) {
+        Ok(outcome) => Ok(outcome),
+        Err(NotDue) => Err(NotDue),
+    }
+}
+
+impl<B: Block> Resting<B> {
+    /// Whether the volume is quiet: no request is in flight, no copy is pending, and no mark of a spoiled store is untried.
+    /// A settled volume is; and one that is, and of which no device drops writes, is settled, whatever was done to it.
+    pub fn is_quiet(&self) -> bool
+        ensures value { result ≡ is_quiet_of self.now.events }
+        ensures rest { result ≡ true → is_loud_in B.layers self.now ≡ true → IsSettled B.contents B.layers B.size self.now }
+        ensures still { IsSettled B.contents B.layers B.size self.now → result ≡ true }
+    {
+        is_still(&self.volume)
+    }
+
+    /// Starts a request, which lies inside one piece of the volume: it is in flight from here on, under the number that is
+    /// told, and no device is asked for anything yet.
+    ///
+    /// Refused, in this order: there is no such snapshot (`NoSuchDevice`), it is spoiled (`Invalid`), the range is empty or
+    /// lies not inside the origin and one piece (`OutOfRange`), it is the 65th request, starts the 257th copy, or is past the
+    /// last number (`TooMany`), memory is refused (`NoMemory`), or a snapshot's write finds its store full (`Invalid`: the
+    /// one refusal that changes something, for that snapshot is spoiled).
+    pub fn start(&mut self, alloc: Global, request: Request) -> Result<ReqId, Refusal>
+        requires bytes { (bytes : List ℕ) → request.op ≡ Write bytes → length bytes ≡ 512 * request.range.count }
+        ensures ok { IfOk result (λ number. IsAcceptedAs B.contents B.layers request number self.old.events self.new.events) }
+        ensures admitted { IfOk result (λ _. submit_refusal B.size request self.old.events ≡ None) }
+        ensures exact { IfOk result (λ number. (replied : Option AnyReply) → submitted number request (moving_of B.contents B.layers replied self.old.events) ≡ moving_of B.contents B.layers replied self.new.events) }
+        ensures refused { IfErr result (λ refusal. IsRefusedAs B.contents B.layers B.size request refusal self.old.events self.new.events) }
+        ensures declined { IfErr result (λ refusal. refusal ≡ Invalid → (number : ℕ) (replied : Option AnyReply) → submitted number request (moving_of B.contents B.layers replied self.old.events) ≡ moving_of B.contents B.layers (Some (Refused IsInvalid)) self.new.events) }
+        ensures starved { IfErr result (λ refusal. refusal ≢ Invalid → (replied : Option AnyReply) → moving_of B.contents B.layers replied self.new.events ≡ moving_of B.contents B.layers replied self.old.events) }
+        ensures same { IfErr result (λ refusal. refusal ≢ Invalid → (settled_of B.contents B.layers self.new ≡ settled_of B.contents B.layers self.old) × (is_quiet_of self.new.events ≡ is_quiet_of self.old.events)) }
+        ensures kept { KeepsDevices B.layers B.size self.old self.new }
+        ensures requests { self.new.requests ≤ self.old.requests + 1 }
+        ensures copies { self.new.copies ≤ self.old.copies + 8 }
+    {
+        begin(&mut self.volume, alloc, request)
+    }
+
+    /// Does one event, where it is due. It does at most one operation of one device, and where no device drops writes it is
+    /// a step of the plain machine: only Issue replies, and every other event is not seen, or spoils the snapshot whose
+    /// device failed. Where it is not due, nothing changes.
+    pub fn step(&mut self, event: Event) -> Result<Outcome, NotDue>
+        ensures legal { IfOk result (λ outcome. is_loud_in_all B.layers self.old.events ≡ true → IsLegalStep (plain_of B.contents B.layers self.old.events) event outcome (plain_of B.contents B.layers self.new.events)) }
+        ensures exact { IfOk result (λ outcome. IsExact B.contents B.layers event outcome self.old.events self.new.events) }
+        ensures due { is_ok result ≡ is_due (dues_of B.contents B.layers self.old.events) self.old.events.flights event }
+        ensures first { next_of B.contents B.layers self.old.events ≡ Some event → IsOk result }
+        ensures cause { IfOk result (λ outcome. HasCause B.fault_count event outcome self.old.events self.new.events) }
+        ensures one { OnOk result (IsOneAtMost B.done_count self.old.events self.new.events) }
+        ensures same { OnErr result (self.new ≡ self.old) }
+        ensures kept { KeepsDevices B.layers B.size self.old self.new }
+        ensures requests { self.new.requests ≡ self.old.requests }
+        ensures copies { self.new.copies ≡ self.old.copies }
+    {
+        advance(&mut self.volume, event)
+    }
+}

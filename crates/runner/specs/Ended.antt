@@ -1,0 +1,29 @@
+-- The lines of requests that were started by one command and ended in another, each before that other's own line.
+use Rattle.std.specs.Prelude.{List, ◌++◌, map, Option}
+use Rattle.plain.specs.declared.request.Reply.{Reply as Answered}
+use Rattle.plain.specs.declared.request.Reply.TheVariants as answers
+use Rattle.reply.specs.declared.Reply.{Reply}
+use Rattle.reply.specs.declared.Reply.TheVariants.{Ended}
+use Rattle.reply.specs.declared.ended.Ending.{Ending}
+use Rattle.reply.specs.declared.ended.Ending.TheVariants.{Data, Written, Refused}
+use Rattle.resting.specs.declared.flights.Replied.{Replied}
+use Rattle.resting.specs.Commands.{refusal_of}
+use Rattle.runner.specs.Output.{answered}
+
+-- how a request ended, by what its volume replied
+abbrev pub ending_of : Answered → Ending
+ending_of (answers.Data bytes) = Data bytes
+ending_of answers.Written = Written
+ending_of (answers.Refused failure) = Refused (refusal_of failure)
+
+-- its line
+abbrev pub ended_line : Replied → Reply
+ended_line replied = Ended (record { request = replied.number; ending = ending_of replied.reply })
+
+-- the lines of the requests that ended, in the order in which they ended
+abbrev pub ended_lines : List Replied → List Reply
+ended_lines ended = map ended_line ended
+
+-- all that a line answers: first those, then its command's own line
+abbrev pub line_replies : List Replied → Option Reply → List Reply
+line_replies ended own = ended_lines ended ++ answered own

@@ -1,0 +1,73 @@
+// The lines of requests that ended.
+ghost use Rattle.std.specs.Prelude.{◌≡◌, OnOk};
+ghost use Rattle.std.specs.Io.KnownBytes.{Appends};
+ghost use Rattle.resting.specs.Commands.{refusal_of};
+ghost use Rattle.runner.specs.Ended.{ended_line, ended_lines, ending_of, line_replies};
+ghost use Rattle.runner.specs.Output.{printed};
+
+use plain::{Failure, Reply as Answered};
+use reply::{Ended, Ending, Reply};
+use resting::Replied;
+use sector::Refusal;
+use std::io;
+use std::io::Write;
+
+/// Why a request was not done.
+fn refusal_for(failure: Failure) -> Refusal
+    ensures { result ≡ refusal_of failure }
+{
+    match failure {
+        Failure::Invalid => Refusal::Invalid,
+        Failure::Io => Refusal::Io,
+    }
+}
+
+/// How a request ended, by what its volume replied.
+fn ending_of(reply: Answered) -> Ending
+    ensures { result ≡ ending_of reply }
+{
+    match reply {
+        Answered::Data(bytes) => Ending::Data(bytes),
+        Answered::Written => Ending::Written,
+        Answered::Refused(failure) => Ending::Refused(refusal_for(failure)),
+    }
+}
+
+/// The line of a request that ended.
+fn ended_line(replied: Replied) -> Reply
+    ensures { result ≡ ended_line replied }
+{
+    let Replied { number, reply } = replied;
+    let ending = ending_of(reply);
+    Reply::Ended(Ended {
+        request: number,
+        ending,
+    })
+}
+
+/// Prints the lines of requests that ended, in the order in which they ended. The one error is the writer's own.
+fn print_ended<W: Write>(writer: &mut W, ended: Vec<Replied>) -> io::Result<()>
+    ensures { OnOk result (Appends (W.contents writer.old) (W.contents writer.new) (printed (ended_lines ended.items))) }
+{
+    for replied in ended {
+        ended_line(replied).write_to(writer)?;
+    }
+    Ok(())
+}
+
+/// Prints all that a line answers: the lines of requests that ended, and then its command's own. The one error is the
+/// writer's own; then part of them may be printed.
+#[tactic(auto, using(crate::proofs::EndedLemmas::none_own, crate::proofs::EndedLemmas::own_printed))]
+pub fn print_all<W: Write>(
+    writer: &mut W,
+    ended: Vec<Replied>,
+    own: Option<Reply>,
+) -> io::Result<()>
+    ensures { OnOk result (Appends (W.contents writer.old) (W.contents writer.new) (printed (line_replies ended.items own))) }
+{
+    print_ended(writer, ended)?;
+    match own {
+        None => Ok(()),
+        Some(reply) => reply.write_to(writer),
+    }
+}
