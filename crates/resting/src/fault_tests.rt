@@ -1,6 +1,7 @@
 // One fault at each operation of a device in turn, while a whole area of chunks is written for the first time, and one chunk
 // more: until a run has no fault.
-ghost use Rattle.std.specs.Prelude.{◌≡◌, ◌+◌, ◌<◌, ◌≤◌, IfOk};
+ghost use Rattle.std.specs.Prelude.{◌≡◌, ◌+◌, ◌<◌, ◌≤◌, IfOk, true};
+ghost use Rattle.volume.specs.Leaving.{is_quiet_of};
 
 use crate::Resting;
 use crate::tests::{disk_of, read_of, write_of};
@@ -20,6 +21,7 @@ const MOST: u64 = 1000;
 // A volume of 128 sectors of ones with a snapshot over a fresh store of 64, in chunks of one sector, whose devices fail at
 // these operations.
 fn begun(alloc: Global, origin: u64, store: u64) -> Result<Volume, Refusal>
+    ensures quiet { IfOk result (λ v. is_quiet_of v.events ≡ true) }
     ensures requests { IfOk result (λ v. v.requests ≤ 128) }
     ensures copies { IfOk result (λ v. v.copies ≤ 1024) }
 {
@@ -52,8 +54,10 @@ fn begun(alloc: Global, origin: u64, store: u64) -> Result<Volume, Refusal>
 
 // What the snapshot shows is what the origin was, or it says that it is lost or that a device failed.
 fn shows_ones_or_fails(rt: &impl Abort, alloc: Global, volume: &mut Volume)
+    requires quiet { is_quiet_of volume.old.events ≡ true }
     requires requests { volume.old.requests < 1000 }
     requires copies { volume.old.copies < 8000 }
+    ensures quiet { is_quiet_of volume.new.events ≡ true }
     ensures requests { volume.new.requests ≤ volume.old.requests + 33 }
     ensures copies { volume.new.copies ≤ volume.old.copies + 264 }
 {

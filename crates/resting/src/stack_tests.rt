@@ -1,5 +1,6 @@
 // Tests by calls over flakey and dust layers: the time, messages, and what is told of a snapshot.
-ghost use Rattle.std.specs.Prelude.{◌≡◌, ◌+◌, ◌*◌, ◌<◌, ◌≤◌, IfOk};
+ghost use Rattle.std.specs.Prelude.{◌≡◌, ◌+◌, ◌*◌, ◌<◌, ◌≤◌, IfOk, true};
+ghost use Rattle.volume.specs.Leaving.{is_quiet_of};
 
 use crate::Resting;
 use chunk_alloc::Usage;
@@ -36,6 +37,7 @@ fn stack_of(alloc: Global, sectors: u64, up: u32) -> Result<Stack, Refusal> {
 
 // A volume of 128 sectors with a snapshot over a fresh store of 64, in chunks of 8. The store is down each other second.
 fn volume_of(alloc: Global) -> Result<Resting<Stack>, Refusal>
+    ensures quiet { IfOk result (λ v. is_quiet_of v.events ≡ true) }
     ensures requests { IfOk result (λ v. v.requests ≡ 0) }
     ensures copies { IfOk result (λ v. v.copies ≡ 0) }
 {
@@ -59,8 +61,10 @@ fn volume_of(alloc: Global) -> Result<Resting<Stack>, Refusal>
 
 // Writes a sector of equal bytes to the origin.
 fn write_of(volume: &mut Resting<Stack>, alloc: Global, sector: u64) -> Result<(), Refusal>
+    requires quiet { is_quiet_of volume.old.events ≡ true }
     requires requests { volume.old.requests < 1000 }
     requires copies { volume.old.copies < 8000 }
+    ensures quiet { is_quiet_of volume.new.events ≡ true }
     ensures requests { volume.new.requests ≤ volume.old.requests + 1 }
     ensures copies { volume.new.copies ≤ volume.old.copies + 8 }
 {
@@ -73,8 +77,10 @@ fn write_of(volume: &mut Resting<Stack>, alloc: Global, sector: u64) -> Result<(
 
 // Reads a sector of the origin, and tells its first byte.
 fn read_of(volume: &mut Resting<Stack>, alloc: Global, sector: u64) -> Result<Option<u8>, Refusal>
+    requires quiet { is_quiet_of volume.old.events ≡ true }
     requires requests { volume.old.requests < 1000 }
     requires copies { volume.old.copies < 8000 }
+    ensures quiet { is_quiet_of volume.new.events ≡ true }
     ensures requests { volume.new.requests ≤ volume.old.requests + 1 }
     ensures copies { volume.new.copies ≤ volume.old.copies + 8 }
 {
@@ -111,6 +117,7 @@ fn first_of(volume: &Resting<Stack>) -> Option<(SnapId, u32, u64, bool)> {
 
 // A message to the first snapshot's store.
 fn tell_of(volume: &mut Resting<Stack>, depth: usize, message: Message) -> Result<Answer, Refusal>
+    ensures quiet { is_quiet_of volume.new.events ≡ is_quiet_of volume.old.events }
     ensures requests { volume.new.requests ≡ volume.old.requests }
     ensures copies { volume.new.copies ≡ volume.old.copies }
 {

@@ -1,5 +1,6 @@
 // Tests by calls: a first write, what the snapshot shows then, and a device that fails at each operation of one.
-ghost use Rattle.std.specs.Prelude.{◌≡◌, ◌+◌, ◌*◌, ◌<◌, ◌≤◌, length, IfOk};
+ghost use Rattle.std.specs.Prelude.{◌≡◌, ◌+◌, ◌*◌, ◌<◌, ◌≤◌, length, IfOk, true};
+ghost use Rattle.volume.specs.Leaving.{is_quiet_of};
 
 use crate::Resting;
 use device::{Block, FailAt, MemDisk};
@@ -23,6 +24,7 @@ pub(crate) fn volume_of(
     origin: u64,
     store: u64,
 ) -> Result<Resting<FailAt<MemDisk>>, Refusal>
+    ensures quiet { IfOk result (λ v. is_quiet_of v.events ≡ true) }
     ensures requests { IfOk result (λ v. v.requests ≡ 0) }
     ensures copies { IfOk result (λ v. v.copies ≡ 0) }
 {
@@ -53,11 +55,13 @@ pub(crate) fn write_of(
     count: u32,
     bytes: &[u8],
 ) -> Result<(), Refusal>
+    requires quiet { is_quiet_of volume.old.events ≡ true }
     requires some { 0 < count }
     requires few { count < 100 }
     requires room { length bytes.now ≡ 512 * count }
     requires requests { volume.old.requests < 1000 }
     requires copies { volume.old.copies < 8000 }
+    ensures quiet { is_quiet_of volume.new.events ≡ true }
     ensures requests { volume.new.requests ≤ volume.old.requests + count }
     ensures copies { volume.new.copies ≤ volume.old.copies + 8 * count }
 {
@@ -76,10 +80,12 @@ pub(crate) fn read_of(
     sector: u64,
     count: u32,
 ) -> Result<Buf, Refusal>
+    requires quiet { is_quiet_of volume.old.events ≡ true }
     requires some { 0 < count }
     requires few { count < 100 }
     requires requests { volume.old.requests < 1000 }
     requires copies { volume.old.copies < 8000 }
+    ensures quiet { is_quiet_of volume.new.events ≡ true }
     ensures requests { volume.new.requests ≤ volume.old.requests + count }
     ensures copies { volume.new.copies ≤ volume.old.copies + 8 * count }
 {
@@ -96,6 +102,8 @@ fn take_again(
     alloc: Global,
     number: SnapId,
 ) -> Result<SnapId, Refusal>
+    requires quiet { is_quiet_of volume.old.events ≡ true }
+    ensures quiet { is_quiet_of volume.new.events ≡ true }
     ensures requests { volume.new.requests ≡ volume.old.requests }
     ensures copies { volume.new.copies ≡ volume.old.copies }
 {

@@ -11,7 +11,8 @@ use Rattle.resting.proofs.draining.drain_for.Goals as goal
 
 pub loop-event-preserved-then-number-own : goal.loop-event-preserved-then-number-own
 loop-event-preserved-then-number-own g c = record {
-  so = among_more g.B.Block.contents g.B.Block.layers g.B.Block.size c.args.own c.loop-event.answer c.in-Ok-Reply.reply c.args.volume.now c.loop-event.volume c.step.new.self c.in-Some.event (Answered c.in-Ok-Reply.number c.in-Ok-Reply.reply) c.args.ended.now.items c.loop-event.ended.items c.reserve.new.self.items c.loop-event.invariant.so
+  so = among_more g.B.Block.contents g.B.Block.layers g.B.Block.size c.args.own c.loop-event.answer c.in-Ok-Reply.reply
+      c.args.volume.now c.loop-event.volume c.step.new.self c.in-Some.event (Answered c.in-Ok-Reply.number c.in-Ok-Reply.reply) c.args.ended.now.items c.loop-event.ended.items c.reserve.new.self.items c.loop-event.invariant.so
       (done_first g.B.Block.contents g.B.Block.layers g.B.Block.size c.in-Some.event _ (Answered c.in-Ok-Reply.number c.in-Ok-Reply.reply) c.loop-event.volume c.step.new.self c.in-Some.ensures.event c.in-Ok-Reply.field-0-is c.in-Ok-Reply.ensures.exact c.in-Ok-Reply.ensures.legal)
       (c.reserve.ensures.items ∙ sym (append-nil c.loop-event.ended.items) ∙ ap (λ (rs : List Replied). c.loop-event.ended.items ++ rs) (sym (own_told c.in-Ok-Reply.number c.args.own c.in-Ok-Reply.reply c.loop-event.answer c.if-number-own.true)))
       (sym (own_reply c.in-Ok-Reply.number c.args.own c.in-Ok-Reply.reply c.loop-event.answer c.if-number-own.true));
@@ -20,7 +21,8 @@ loop-event-preserved-then-number-own g c = record {
 
 pub loop-event-preserved-in-Ok-Reply-2 : goal.loop-event-preserved-in-Ok-Reply-2
 loop-event-preserved-in-Ok-Reply-2 g c = record {
-  so = among_more g.B.Block.contents g.B.Block.layers g.B.Block.size c.args.own c.loop-event.answer c.loop-event.answer c.args.volume.now c.loop-event.volume c.step.new.self c.in-Some.event (Answered c.in-Ok-Reply.number c.in-Ok-Reply.reply) c.args.ended.now.items c.loop-event.ended.items c.push_reserved.new.self.items c.loop-event.invariant.so
+  so = among_more g.B.Block.contents g.B.Block.layers g.B.Block.size c.args.own c.loop-event.answer c.loop-event.answer
+      c.args.volume.now c.loop-event.volume c.step.new.self c.in-Some.event (Answered c.in-Ok-Reply.number c.in-Ok-Reply.reply) c.args.ended.now.items c.loop-event.ended.items c.push_reserved.new.self.items c.loop-event.invariant.so
       (done_first g.B.Block.contents g.B.Block.layers g.B.Block.size c.in-Some.event _ (Answered c.in-Ok-Reply.number c.in-Ok-Reply.reply) c.loop-event.volume c.step.new.self c.in-Some.ensures.event c.in-Ok-Reply.field-0-is c.in-Ok-Reply.ensures.exact c.in-Ok-Reply.ensures.legal)
       (c.push_reserved.ensures.items ∙ ap (λ (rs : List Replied). rs ++ reply_in (Answered c.in-Ok-Reply.number c.in-Ok-Reply.reply)) c.reserve.ensures.items ∙ ap (λ (rs : List Replied). c.loop-event.ended.items ++ rs) (sym (other_told c.in-Ok-Reply.number c.args.own c.in-Ok-Reply.reply c.loop-event.answer c.if-number-own.false)))
       (sym (other_reply c.in-Ok-Reply.number c.args.own c.in-Ok-Reply.reply c.loop-event.answer c.if-number-own.false));
