@@ -30,6 +30,7 @@ use volume::Volume;
 pub struct Replied {
     /// Its number in the volume.
     pub number: ReqId,
+    /// What it was answered with: the bytes that it read, that it was written, or why it failed.
     pub reply: Reply,
 }
 
