@@ -1,2 +1,6 @@
 pub mod Numbers
 pub mod Steps
+pub mod Places
+pub mod Hung
+pub mod Queues
+pub mod Arenas

@@ -1,8 +1,8 @@
 -- Pending pairs, by their numbers.
-use Rattle.std.proofs.Common.{◌≡◌, ◌≢◌, ℕ, suc, ◌+◌, ◌<◌, List, [], ◌∷◌, ◌++◌, length, get_or, take, drop, Some, None, refl, ap, ◌∙◌, sym, arith, append_assoc}
+use Rattle.std.proofs.Common.{◌≡◌, ◌≢◌, inl, inr, ℕ, zero, suc, ◌+◌, ◌<◌, List, [], ◌∷◌, ◌++◌, length, get_or, take, drop, Some, None, IsSome, refl, ap, ◌∙◌, sym, subst, arith, append_assoc}
 use Rattle.std.specs.List.{All}
 use Rattle.std.proofs.lemmas.List.{take_more}
-use Rattle.std.proofs.lemmas.Bool.{cond-true, cond-false, eq-eqb, ne_eqb}
+use Rattle.std.proofs.lemmas.Bool.{cases_eq, cond-true, cond-false, eq-eqb, ne_eqb}
 use Rattle.std.proofs.Common.{drop-cons}
 use Rattle.exception_arena.specs.declared.begun.Begun.{Begun}
 use Rattle.exception_arena.specs.Pending.{begun_under, without}
@@ -50,3 +50,12 @@ first_begun all begun some first =
     let e : get_or all 0 begun ≡ begun = sym (first begun) in
     let here = under_here begun.id all 0 begun some (ap (λ x. x.id) e) in
     (here.0 ∙ ap (λ x. Some x.pair) e, here.1)
+
+-- a pair of a list is found by its number, or another one that has the number
+pub found_under : (all : List Begun) (i : ℕ) (begun : Begun) → i < length all → ((d : Begun) → begun ≡ get_or all i d) → IsSome (begun_under begun.id all)
+found_under [] i begun lt is = absurd (omega arith)
+found_under (first ∷ others) zero begun lt is = subst IsSome (sym (cond-true _ _ _ (eq-eqb _ _ (sym (ap (λ (b : Begun). b.id) (is first)))))) refl
+found_under (first ∷ others) (suc k) begun lt is = elim (cases_eq first.id begun.id) [
+  | inl e ↦ subst IsSome (sym (cond-true _ _ _ (eq-eqb _ _ e))) refl
+  | inr ne ↦ subst IsSome (sym (cond-false _ _ _ (ne_eqb _ _ ne))) (found_under others k begun (omega arith) is)
+]

@@ -1,1 +1,4 @@
 pub mod Pending
+pub mod Kept
+pub mod Links
+pub mod Arenas

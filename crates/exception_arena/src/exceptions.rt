@@ -7,7 +7,7 @@ ghost use Rattle.exception_arena.specs.Pending.{begun_under, without};
 ghost use Rattle.exception_arena.specs.declared.begun.Begun.{Begun};
 
 use crate::{Begun, Id};
-use sector::{Chunk, Refusal};
+use sector::{Chunk, Pair, Refusal};
 use std::alloc::Global;
 
 /// The pairs of a store. Where two pairs name one chunk of the origin, the first of them counts.
@@ -81,4 +81,9 @@ pub trait Exceptions: Drop {
     fn pending_at(&self, index: usize) -> Begun
         requires { index < length (pending self.now) }
         ensures { (d : Begun) → result ≡ slice_index_or (pending self.now) index d };
+
+    /// A committed pair, counted from 0 in the order of their slots.
+    fn committed_at(&self, index: usize) -> Pair
+        requires { index < length (committed self.now) }
+        ensures { (d : Pair) → result ≡ slice_index_or (committed self.now) index d };
 }

@@ -1,14 +1,21 @@
 //! The pairs of a store in memory: the committed ones, in the order of their slots, and the pending ones, whose copies
 //! are on their way. It stands on `sector` and `model`. The trait `Exceptions` is what every form of the list promises
-//! by two lists and a count; `PlainExceptions` is the plain form. Whatever is not `reserve` takes no memory, and so
-//! cannot fail.
+//! by two lists and a count. `Arena` is the lasting form: its nodes stand in one vector, on a free list, a pending list
+//! and a chain for each bucket, so that a look-up walks one short chain. `PlainExceptions` is the plain form, with which
+//! tests compare it. Whatever is not `reserve` takes no memory, and so cannot fail.
 #![tactic(auto)]
 
+mod arena;
 mod begun;
+mod chains;
 mod exceptions;
+mod node;
 mod plain;
+mod queue;
 mod several;
+mod spare;
 
+pub use arena::Arena;
 pub use begun::{Begun, Id};
 pub use exceptions::Exceptions;
 pub use plain::PlainExceptions;

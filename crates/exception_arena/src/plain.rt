@@ -102,6 +102,10 @@ impl Exceptions for PlainExceptions {
     fn pending_at(&self, index: usize) -> Begun {
         self.pending[index]
     }
+
+    fn committed_at(&self, index: usize) -> Pair {
+        self.committed[index]
+    }
 }
 
 /// The place of the first pending pair that has a number.

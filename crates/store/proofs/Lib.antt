@@ -4,6 +4,7 @@ pub mod Commits
 pub mod Distinct
 pub mod FirstReads
 pub mod Given
+pub mod Groups
 pub mod Judged
 pub mod Loads
 pub mod Merges

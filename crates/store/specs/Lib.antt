@@ -1,3 +1,4 @@
+pub mod Grouping
 pub mod Held
 pub mod Loaded
 pub mod Loading

@@ -11,6 +11,7 @@
 mod chunks;
 mod committing;
 mod copying;
+mod grouping;
 mod judging;
 mod layering;
 mod loading;
@@ -21,9 +22,7 @@ mod preparing;
 mod state;
 mod store;
 
+pub use grouping::Run;
 pub use opening::{Loaded, open};
 pub use state::{Left, State};
 pub use store::Store;
-
-#[cfg(test)]
-mod tests;

@@ -12,7 +12,7 @@ ghost use Rattle.store.specs.Loaded.{IsLoaded, IsPrefix, IsRead};
 
 use crate::chunks::read_area;
 use device::Block;
-use exception_arena::{Exceptions, PlainExceptions};
+use exception_arena::{Arena, Exceptions};
 use metadata_area::Area;
 use sector::{Pair, Refusal};
 
@@ -68,7 +68,7 @@ fn take_slots(area: &Area, pairs: &mut Vec<Pair>) -> Result<u32, Refusal>
 }
 
 /// Holds these pairs as committed ones, in a list that holds none. `NoMemory` where memory for them is refused.
-pub fn hold_pairs(exceptions: &mut PlainExceptions, pairs: &[Pair]) -> Result<(), Refusal>
+pub fn hold_pairs(exceptions: &mut Arena, pairs: &[Pair]) -> Result<(), Refusal>
     requires none { length (committed exceptions.old) ≡ 0 }
     requires idle { length (pending exceptions.old) ≡ 0 }
     ensures committed { OnOk result (committed exceptions.new ≡ pairs.now) }

@@ -24,7 +24,7 @@ use crate::{Left, State, Store};
 use chunk_alloc::Alloc;
 use cow_header::{Found, decode};
 use device::Block;
-use exception_arena::{Exceptions, PlainExceptions};
+use exception_arena::{Arena, Exceptions};
 use metadata_area::Area;
 use sector::{Pair, Range, Refusal, SECTOR_BYTES};
 use std::alloc::Global;
@@ -160,7 +160,7 @@ fn open_fresh<B: Block>(
     };
     Ok(Store {
         device,
-        exceptions: PlainExceptions::new(alloc),
+        exceptions: Arena::new(alloc),
         area,
         spare,
         places: Alloc::new(chunk, size),
@@ -241,7 +241,7 @@ fn hold_formed(
     origin: u64,
     size: u64,
     pairs: &[Pair],
-) -> Result<PlainExceptions, Refusal>
+) -> Result<Arena, Refusal>
     requires some { 0 < chunk }
     requires allowed { chunk ≤ 1024 }
     requires small { size ≤ 16_777_216 }
@@ -254,7 +254,7 @@ fn hold_formed(
 {
     match are_formed(alloc, chunk, origin, size, pairs) {
         Ok(true) => {
-            let mut exceptions = PlainExceptions::new(alloc);
+            let mut exceptions = Arena::new(alloc);
             match hold_pairs(&mut exceptions, pairs) {
                 Ok(()) => Ok(exceptions),
                 Err(refusal) => Err(refusal),

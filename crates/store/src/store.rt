@@ -11,7 +11,7 @@ ghost use Rattle.store.specs.Stored.{IsFront, IsStored, AreGiven};
 use crate::State;
 use chunk_alloc::{Alloc, Usage};
 use device::{Block, Io};
-use exception_arena::{Begun, Exceptions, PlainExceptions};
+use exception_arena::{Arena, Begun, Exceptions};
 use metadata_area::Area;
 
 /// A store that was opened.
@@ -19,7 +19,7 @@ use metadata_area::Area;
 pub struct Store<B: Block> {
     pub device: B,
     /// The pairs, committed and under way.
-    pub exceptions: PlainExceptions,
+    pub exceptions: Arena,
     /// The current area.
     pub area: Area,
     /// A chunk of room, in which the next text of a chunk is put together.

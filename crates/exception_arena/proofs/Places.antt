@@ -1,0 +1,124 @@
+-- Lists of places, and the nodes that lead through them.
+use Rattle.std.proofs.Common.{◌≡◌, ◌≢◌, inl, inr, ℕ, zero, suc, ◌+◌, ◌<◌, ◌≤◌, List, [], ◌∷◌, ◌++◌, length, get_or, take, drop, map, reverse, arith, refl, ap, ◌∙◌, sym, subst, length-drop, drop-cons}
+use Rattle.std.proofs.lemmas.Bool.{cases_eq, cond-true, cond-false, eq-eqb, ne_eqb}
+use Rattle.std.proofs.lemmas.List.{reverse-append, get_or-set_same, get_or-set_other, take-append-drop, drop-drop}
+use Rattle.sector.specs.declared.pair.Pair.{Pair}
+use Rattle.exception_arena.specs.Links.{node_at, pair_at, begun_at, led, walk, Leads, count_of}
+use Rattle.exception_arena.specs.declared.node.Link.{Link}
+use Rattle.exception_arena.specs.declared.node.Link.TheVariants.{Nowhere, To}
+use Rattle.exception_arena.specs.declared.node.Node.{Node}
+
+none_more : (n : ℕ) → 0 + n ≡ n
+none_more n = omega arith
+
+-- counts
+pub count_here : (j i : ℕ) (is : List ℕ) → i ≡ j → count_of j (i ∷ is) ≡ 1 + count_of j is
+count_here j i is e = ap (λ x. x + count_of j is) (cond-true _ _ _ (eq-eqb _ _ e))
+
+pub count_there : (j i : ℕ) (is : List ℕ) → i ≢ j → count_of j (i ∷ is) ≡ count_of j is
+count_there j i is ne = ap (λ x. x + count_of j is) (cond-false _ _ _ (ne_eqb _ _ ne)) ∙ none_more (count_of j is)
+
+pub count-append : (j : ℕ) (a b : List ℕ) → count_of j (a ++ b) ≡ count_of j a + count_of j b
+count-append j [] b = omega arith
+count-append j (i ∷ a) b = let h = count-append j a b in omega arith
+
+pub count-reverse : (j : ℕ) (a : List ℕ) → count_of j (reverse a) ≡ count_of j a
+count-reverse j [] = refl
+count-reverse j (i ∷ a) =
+    let e : count_of j (reverse (i ∷ a)) ≡ count_of j (reverse a ++ i ∷ []) = ap (count_of j) (reverse-append (i ∷ []) a) in
+    let h = count-reverse j a in
+    let k = count-append j (reverse a) (i ∷ []) in
+    omega arith
+
+-- nodes that are as they were on a list
+pub record SameOn (nodes nodes' : List Node) (is : List ℕ) : Type 0 where
+  pub same : (i : ℕ) → 0 < count_of i is → node_at nodes' i ≡ node_at nodes i
+
+pub same_head : (nodes nodes' : List Node) (i : ℕ) (is : List ℕ) → SameOn nodes nodes' (i ∷ is) → node_at nodes' i ≡ node_at nodes i
+same_head nodes nodes' i is s = s.same i (omega (arith, count_here i i is refl))
+
+pub same_rest : (nodes nodes' : List Node) (i : ℕ) (is : List ℕ) → SameOn nodes nodes' (i ∷ is) → SameOn nodes nodes' is
+same_rest nodes nodes' i is s = record { same = λ j lt. s.same j (omega arith) }
+
+pub leads_kept : (nodes nodes' : List Node) (link : Link) (is : List ℕ) → SameOn nodes nodes' is → Leads nodes link is → Leads nodes' link is
+leads_kept nodes nodes' link [] s l = l
+leads_kept nodes nodes' link (i ∷ is) s l =
+    let e : node_at nodes i ≡ node_at nodes' i = sym (same_head nodes nodes' i is s) in
+    (l.0, leads_kept nodes nodes' (node_at nodes' i).next is (same_rest nodes nodes' i is s) (subst (λ (n : Node). Leads nodes n.next is) e l.1))
+
+-- the pairs of nodes whose pairs are as they were
+pub pairs_kept : (nodes nodes' : List Node) (is : List ℕ) → ((i : ℕ) → 0 < count_of i is → pair_at nodes' i ≡ pair_at nodes i) → map (pair_at nodes') is ≡ map (pair_at nodes) is
+pairs_kept nodes nodes' [] s = refl
+pairs_kept nodes nodes' (i ∷ is) s =
+    ap (λ x. x ∷ map (pair_at nodes') is) (s i (omega (arith, count_here i i is refl)))
+    ∙ ap (λ x. pair_at nodes i ∷ x) (pairs_kept nodes nodes' is (λ j lt. s j (omega arith)))
+
+pub begun_kept : (nodes nodes' : List Node) (is : List ℕ) → ((i : ℕ) → 0 < count_of i is → pair_at nodes' i ≡ pair_at nodes i) → map (begun_at nodes') is ≡ map (begun_at nodes) is
+begun_kept nodes nodes' [] s = refl
+begun_kept nodes nodes' (i ∷ is) s =
+    ap (λ (p : Pair). record { id = i; pair = p } ∷ map (begun_at nodes') is) (s i (omega (arith, count_here i i is refl)))
+    ∙ ap (λ x. begun_at nodes i ∷ x) (begun_kept nodes nodes' is (λ j lt. s j (omega arith)))
+
+-- the list that is walked is the one that a link leads through
+pub walked : (nodes : List Node) (link : Link) (is : List ℕ) (n : ℕ) → Leads nodes link is → length is ≤ n → walk nodes n link ≡ is
+walked nodes link [] zero l le = refl
+walked nodes link [] (suc n) l le = ap (walk nodes (suc n)) l
+walked nodes link (i ∷ is) zero l le = absurd (omega arith)
+walked nodes link (i ∷ is) (suc n) l le = ap (walk nodes (suc n)) l.0 ∙ ap (λ x. i ∷ x) (walked nodes (node_at nodes i).next is n l.1 (omega arith))
+
+-- where a link leads
+pub leads_none : (nodes : List Node) (is : List ℕ) → Leads nodes Nowhere is → is ≡ []
+leads_none nodes [] l = refl
+leads_none nodes (i ∷ is) l = let e : Nowhere ≡ To i = l.0 in absurd (cc)
+
+pub leads_some : (nodes : List Node) (at : ℕ) (is : List ℕ) → Leads nodes (To at) is → (is ≡ at ∷ drop 1 is) × Leads nodes (node_at nodes at).next (drop 1 is)
+leads_some nodes at [] l = let e : To at ≡ Nowhere = l in absurd (cc)
+leads_some nodes at (i ∷ is) l =
+    let e : To at ≡ To i = l.0 in
+    let s : i ≡ at = cc in
+    (ap (λ x. x ∷ is) s, subst (λ x. Leads nodes (node_at nodes x).next is) s l.1)
+
+-- a node that leads elsewhere
+pub led_same : (nodes : List Node) (i : ℕ) (next : Link) → i < length nodes → node_at (led nodes i next) i ≡ record { pair = pair_at nodes i; next = next }
+led_same nodes i next lt = get_or-set_same nodes i _ _ lt
+
+pub led_other : (nodes : List Node) (i j : ℕ) (next : Link) → j ≢ i → node_at (led nodes i next) j ≡ node_at nodes j
+led_other nodes i j next ne = get_or-set_other nodes i j _ _ ne
+
+pub led_pair : (nodes : List Node) (i j : ℕ) (next : Link) → i < length nodes → pair_at (led nodes i next) j ≡ pair_at nodes j
+led_pair nodes i j next lt = elim (cases_eq j i) [
+  | inl e ↦ subst (λ k. pair_at (led nodes i next) k ≡ pair_at nodes k) (sym e) (ap (λ (n : Node). n.pair) (led_same nodes i next lt))
+  | inr ne ↦ ap (λ (n : Node). n.pair) (led_other nodes i j next ne)
+]
+
+-- a list that a node does not stand on
+pub led_apart : (nodes : List Node) (i : ℕ) (next : Link) (is : List ℕ) → count_of i is ≡ 0 → SameOn nodes (led nodes i next) is
+led_apart nodes i next is off = record { same = λ j lt. led_other nodes i j next (λ e. let h : count_of j is ≡ count_of i is = ap (λ k. count_of k is) e in absurd (omega arith)) }
+
+-- a link that has come to place i of a list
+pub count-drop : (j i : ℕ) (is : List ℕ) → count_of j (drop i is) ≤ count_of j is
+count-drop j i is =
+    let e : count_of j (take i is ++ drop i is) ≡ count_of j is = ap (count_of j) (take-append-drop i is) in
+    omega (arith, count-append j (take i is) (drop i is))
+
+pub come_on : (nodes : List Node) (at i : ℕ) (is : List ℕ) → Leads nodes (To at) (drop i is) → 0 < count_of at is
+come_on nodes at i is l =
+    let h = (leads_some nodes at (drop i is) l).0 in
+    let e : count_of at (drop i is) ≡ count_of at (at ∷ drop 1 (drop i is)) = ap (count_of at) h in
+    omega (arith, count_here at at (drop 1 (drop i is)) refl, count-drop at i is)
+
+pub come_front : (nodes : List Node) (at i : ℕ) (is : List ℕ) → Leads nodes (To at) (drop i is) → drop i is ≡ at ∷ drop (i + 1) is
+come_front nodes at i is l = (leads_some nodes at (drop i is) l).0 ∙ ap (λ x. at ∷ x) (drop-drop 1 i is)
+
+pub come_more : (nodes : List Node) (at i : ℕ) (is : List ℕ) → Leads nodes (To at) (drop i is) → Leads nodes (node_at nodes at).next (drop (i + 1) is)
+come_more nodes at i is l = subst (Leads nodes (node_at nodes at).next) (drop-drop 1 i is) (leads_some nodes at (drop i is) l).1
+
+pub come_last : (nodes : List Node) (at i : ℕ) (is : List ℕ) (d : ℕ) → i < length is → Leads nodes (To at) (drop i is) → at ≡ get_or is i d
+come_last nodes at i is d lt l =
+    let e : get_or is i d ∷ drop (suc i) is ≡ at ∷ drop (i + 1) is = sym (drop-cons is i d lt) ∙ come_front nodes at i is l in
+    cc
+
+pub come_past : (nodes : List Node) (i : ℕ) (is : List ℕ) → i < length is → Leads nodes Nowhere (drop i is) → ⊥
+come_past nodes i is lt l =
+    let e : length (drop i is) ≡ 0 = ap length (leads_none nodes (drop i is) l) in
+    omega (arith, length-drop i is)

@@ -1,0 +1,53 @@
+-- When an arena's fields stand for lists of pairs.
+use Rattle.std.specs.Prelude.{◌≡◌, ℕ, ◌+◌, ◌<◌, ◌≤◌, List, [], ◌∷◌, length, map, reverse}
+use Rattle.exception_arena.specs.Kept.{Kept}
+use Rattle.exception_arena.specs.Links.{pair_at, begun_at, list_from, Leads, count_of, last_of, AreHung}
+use Rattle.exception_arena.specs.declared.node.Link.{Link}
+use Rattle.exception_arena.specs.declared.node.Link.TheVariants.{Nowhere}
+use Rattle.exception_arena.specs.declared.node.Node.{Node}
+use Rattle.exception_arena.specs.declared.queue.Queue.{Queue}
+
+-- a queue of these nodes, in this order: its chain, its last node, and how many they are
+pub record IsQueue (nodes : List Node) (queue : Queue) (waiting : List ℕ) : Type 0 where
+  pub chain : Leads nodes queue.first waiting
+  pub end : queue.last ≡ last_of Nowhere waiting
+  pub many : queue.count ≡ length waiting
+  pub inside : (i : ℕ) → 0 < count_of i waiting → i < length nodes
+  pub once : (i : ℕ) → count_of i waiting ≤ 1
+
+-- each of so many nodes stands on exactly one of three lists, once, and nothing else stands there
+pub record StandsOnOne (nodes : ℕ) (frees waiting slots : List ℕ) : Type 0 where
+  pub once : (i : ℕ) → i < nodes → count_of i frees + (count_of i waiting + count_of i slots) ≡ 1
+  pub inside : (i : ℕ) → nodes ≤ i → count_of i frees + (count_of i waiting + count_of i slots) ≡ 0
+  pub all : length frees + (length waiting + length slots) ≡ nodes
+
+-- the free list, the pending list, and the buckets' chains of the committed ones, the newest of which comes first
+pub record IsArena (nodes : List Node) (heads : List Link) (slots : List ℕ) (free : Link) (queue : Queue) (frees waiting : List ℕ) : Type 0 where
+  pub freed : Leads nodes free frees
+  pub queued : IsQueue nodes queue waiting
+  pub hung : AreHung nodes heads (reverse slots)
+  pub one : StandsOnOne (length nodes) frees waiting slots
+
+-- an arena with room for so many more pairs to begin, of so many nodes and slots without more memory
+pub record HasRoom (heads : List Link) (slots : List ℕ) (queue : Queue) (reserved nodes_capacity slots_capacity : ℕ) : Type 0 where
+  pub nodes_room : queue.count + (length slots + reserved) ≤ nodes_capacity
+  pub slots_room : queue.count + (length slots + reserved) ≤ slots_capacity
+  pub buckets : queue.count + (length slots + reserved) ≤ length heads
+
+-- what is true of every arena
+pub record IsSound (nodes : List Node) (heads : List Link) (slots : List ℕ) (free : Link) (queue : Queue) (reserved nodes_capacity slots_capacity : ℕ) : Type 0 where
+  pub arena : IsArena nodes heads slots free queue (list_from nodes free) (list_from nodes queue.first)
+  pub room : HasRoom heads slots queue reserved nodes_capacity slots_capacity
+
+-- which node of so many is taken, and how many nodes there are then: the first free one, or a new one where none is free
+abbrev pub IsTaken : List ℕ → ℕ → ℕ → ℕ → Type 0
+IsTaken [] n place n1 = (place ≡ n) × (n1 ≡ n + 1)
+IsTaken (free ∷ frees) n place n1 = (place ≡ free) × (n1 ≡ n)
+
+-- what it stands for
+abbrev pub kept : List Node → List ℕ → Queue → ℕ → Kept
+kept nodes slots queue reserved = record {
+  committed = map (pair_at nodes) slots;
+  pending = map (begun_at nodes) (list_from nodes queue.first);
+  reserved = reserved;
+}

@@ -1,0 +1,86 @@
+-- Nodes that lead to one another, and the lists that they stand on. A list is the list of the places of its nodes.
+use Rattle.std.specs.Prelude.{◌≡◌, ◌==◌, ℕ, zero, suc, ◌+◌, ◌%◌, ◌<◌, List, [], ◌∷◌, length, slice_set, if◌then◌else◌, slice_index_or}
+use Rattle.sector.specs.declared.pair.Pair.{Pair}
+use Rattle.exception_arena.specs.declared.begun.Begun.{Begun}
+use Rattle.exception_arena.specs.declared.node.Link.{Link}
+use Rattle.exception_arena.specs.declared.node.Link.TheVariants.{Nowhere, To}
+use Rattle.exception_arena.specs.declared.node.Node.{Node}
+
+-- the node at a place
+abbrev pub node_at : List Node → ℕ → Node
+node_at nodes i = slice_index_or nodes i (record { pair = record { old = 0; new = 0 }; next = Nowhere })
+
+-- its pair
+abbrev pub pair_at : List Node → ℕ → Pair
+pair_at nodes i = (node_at nodes i).pair
+
+-- its pair as a pending one: its number is its place
+abbrev pub begun_at : List Node → ℕ → Begun
+begun_at nodes i = record { id = i; pair = (node_at nodes i).pair }
+
+-- the nodes after the one at a place leads elsewhere
+abbrev pub led : List Node → ℕ → Link → List Node
+led nodes i next = slice_set nodes i (record { pair = (node_at nodes i).pair; next = next })
+
+-- the nodes from a link on, so many at most
+abbrev pub walk : List Node → ℕ → Link → List ℕ
+walk nodes zero link = []
+walk nodes (suc n) Nowhere = []
+walk nodes (suc n) (To i) = i ∷ walk nodes n (node_at nodes i).next
+
+-- the list that begins at a link
+abbrev pub list_from : List Node → Link → List ℕ
+list_from nodes link = walk nodes (length nodes) link
+
+-- a link leads through the nodes of a list, one after another, and the last of them leads nowhere
+abbrev pub Leads : List Node → Link → List ℕ → Type 0
+Leads nodes link [] = link ≡ Nowhere
+Leads nodes link (i ∷ is) = (link ≡ To i) × Leads nodes (node_at nodes i).next is
+
+-- how often a place stands in a list
+abbrev pub count_of : ℕ → List ℕ → ℕ
+count_of j [] = 0
+count_of j (i ∷ is) = (if i == j then 1 else 0) + count_of j is
+
+-- a list without the first of a place
+abbrev pub omit : ℕ → List ℕ → List ℕ
+omit j [] = []
+omit j (i ∷ is) = if i == j then is else (i ∷ omit j is)
+
+-- the link to the node before the first of a place; the given one before the first node
+abbrev pub before_of : ℕ → Link → List ℕ → Link
+before_of j link [] = link
+before_of j link (i ∷ is) = if i == j then link else before_of j (To i) is
+
+-- the link to the last node; the given one where there is none
+abbrev pub last_of : Link → List ℕ → Link
+last_of link [] = link
+last_of link (i ∷ is) = last_of (To i) is
+
+-- those of a list of places whose old chunk belongs into a bucket
+abbrev pub in_bucket : List Node → ℕ → ℕ → List ℕ → List ℕ
+in_bucket nodes buckets b [] = []
+in_bucket nodes buckets b (i ∷ is) = if (node_at nodes i).pair.old % buckets == b then (i ∷ in_bucket nodes buckets b is) else in_bucket nodes buckets b is
+
+-- the head of a bucket
+abbrev pub head_at : List Link → ℕ → Link
+head_at heads b = slice_index_or heads b Nowhere
+
+-- each bucket's chain has the nodes of its bucket, in the order of the list
+abbrev pub AreHung : List Node → List Link → List ℕ → Type 0
+AreHung nodes heads is = (b : ℕ) → b < length heads → Leads nodes (head_at heads b) (in_bucket nodes (length heads) b is)
+
+-- a link's place, where it has one, is below a bound
+abbrev pub IsInside : ℕ → Link → Type 0
+IsInside n Nowhere = Unit {0}
+IsInside n (To i) = i < n
+
+-- the nodes after the one at a link leads elsewhere; as they were where the link leads nowhere
+abbrev pub relink : List Node → Link → Link → List Node
+relink nodes Nowhere next = nodes
+relink nodes (To i) next = led nodes i next
+
+-- the first link of a list, after the one after a node leads elsewhere: it is that one where the node is nowhere
+abbrev pub first_after : Link → Link → Link → Link
+first_after Nowhere first next = next
+first_after (To i) first next = first

@@ -1,0 +1,147 @@
+// The arena: the lasting form. Its nodes stand in one vector, each on one of three kinds of list.
+ghost use Rattle.std.specs.Prelude.{◌≡◌, ℕ, List, vec_capacity};
+ghost use Rattle.exception_arena.specs.Kept.{Kept};
+ghost use Rattle.exception_arena.specs.Arenas.{IsSound, kept};
+
+use crate::chains::{find, hang, make_buckets, take_down};
+use crate::node::{Link, Node, read};
+use crate::queue::{Queue, place_in, put_last, take_out};
+use crate::spare::{put_back, take_node};
+use crate::{Begun, Exceptions, Id};
+use sector::{Chunk, Pair, Refusal};
+use std::alloc::Global;
+use std::marker::Model;
+
+/// The pairs, in nodes that lead to one another. A node stands on the free list, on the pending list, or on the chain of
+/// the bucket of its old chunk, where its pair is committed. The nodes of the committed pairs are also kept in the order
+/// of their slots. The number of a pending pair is the place of its node.
+#[derive(Drop)]
+pub struct Arena {
+    nodes: Vec<Node>,
+    heads: Vec<Link>,
+    slots: Vec<usize>,
+    free: Link,
+    queue: Queue,
+    reserved: usize,
+}
+
+impl Model for Arena {
+    ghost Value = { Kept };
+
+    ghost view = { λ a. kept a.nodes.items a.slots.items a.queue a.reserved };
+
+    ghost invariant = { λ a. IsSound a.nodes.items a.heads.items a.slots.items a.free a.queue a.reserved (vec_capacity a.nodes) (vec_capacity a.slots) };
+}
+
+impl Exceptions for Arena {
+    ghost committed = { λ e. e.committed };
+
+    ghost pending = { λ e. e.pending };
+
+    ghost reserved = { λ e. e.reserved };
+
+    fn new(alloc: Global) -> Arena {
+        Arena {
+            nodes: Vec::new(alloc),
+            heads: Vec::new(alloc),
+            slots: Vec::new(alloc),
+            free: Link::Nowhere,
+            queue: Queue {
+                first: Link::Nowhere,
+                last: Link::Nowhere,
+                count: 0,
+            },
+            reserved: 0,
+        }
+    }
+
+    fn reserve(&mut self, count: usize) -> Result<(), Refusal> {
+        let Some(more) = self.reserved.checked_add(count) else {
+            return Err(Refusal::NoMemory);
+        };
+        let Some(used) = self.queue.count.checked_add(self.slots.len()) else {
+            return Err(Refusal::NoMemory);
+        };
+        let Some(wanted) = used.checked_add(more) else {
+            return Err(Refusal::NoMemory);
+        };
+        let Ok(()) = self.nodes.reserve(wanted.saturating_sub(self.nodes.len())) else {
+            return Err(Refusal::NoMemory);
+        };
+        let Ok(()) = self.slots.reserve(wanted - self.slots.len()) else {
+            return Err(Refusal::NoMemory);
+        };
+        match make_buckets(
+            &mut self.nodes,
+            &mut self.heads,
+            self.slots.as_slice(),
+            wanted,
+        ) {
+            Ok(()) => {}
+            Err(refusal) => return Err(refusal),
+        }
+        self.reserved = more;
+        Ok(())
+    }
+
+    fn begin(&mut self, old_chunk: Chunk, new_chunk: Chunk) -> Id {
+        let pair = Pair {
+            old: old_chunk,
+            new: new_chunk,
+        };
+        let place = take_node(&mut self.nodes, &mut self.free, pair);
+        put_last(&mut self.nodes, &mut self.queue, place);
+        self.reserved -= 1;
+        place as u64
+    }
+
+    fn finish(&mut self, id: Id) {
+        let place = id as usize;
+        take_out(&mut self.nodes, &mut self.queue, place);
+        hang(&mut self.nodes, &mut self.heads, place);
+        self.slots.push_reserved(place);
+    }
+
+    fn abandon(&mut self, id: Id) {
+        let place = id as usize;
+        take_out(&mut self.nodes, &mut self.queue, place);
+        put_back(&mut self.nodes, &mut self.free, place);
+    }
+
+    fn get(&self, old_chunk: Chunk) -> Option<Chunk> {
+        find(
+            self.nodes.as_slice(),
+            self.heads.as_slice(),
+            self.slots.as_slice(),
+            old_chunk,
+        )
+    }
+
+    fn remove(&mut self, _old_chunk: Chunk) {
+        let Some(place) = self.slots.pop() else {
+            unreachable!()
+        };
+        take_down(self.nodes.as_slice(), &mut self.heads, place);
+        put_back(&mut self.nodes, &mut self.free, place);
+    }
+
+    fn len(&self) -> usize {
+        self.slots.len()
+    }
+
+    fn pending_len(&self) -> usize {
+        self.queue.count
+    }
+
+    fn pending_at(&self, index: usize) -> Begun {
+        let place = place_in(self.nodes.as_slice(), self.queue, index);
+        Begun {
+            id: place as u64,
+            pair: read(self.nodes.as_slice(), place).pair,
+        }
+    }
+
+    fn committed_at(&self, index: usize) -> Pair {
+        read(self.nodes.as_slice(), self.slots[index]).pair
+    }
+}

@@ -1,0 +1,24 @@
+-- A new snapshot has the pairs that its store's bytes hold, and nothing under way.
+use Rattle.std.proofs.Common.{◌≡◌, ◌*◌, ◌∙◌, ap, length, sym, refl, []}
+use Rattle.store.specs.Held.{committed, pending, pairs_pending}
+use Rattle.store.specs.Loading.{is_begun}
+use Rattle.snapshot.proofs.Stores.{store_holds, store_alone, none_pending}
+use Rattle.snapshot.proofs.snapshot.Snapshot.over.Goals as goal
+
+pub returns-clause-new : goal.returns-clause-new
+returns-clause-new g c = λ origin fits.
+    let s = c.args.store in
+    let bytes = g.B.Block.contents s.device in
+    let whole : length bytes ≡ 512 * s.state.size = g.met.B.Block.whole s.device ∙ ap (λ n. 512 * n) (sym s.size) in
+    let begun : pairs_pending s.exceptions ≡ [] = none_pending (pending s.exceptions) c.requires.idle in
+    record {
+      live = refl;
+      tried = refl;
+      begun = begun;
+      copies = c.new.ensures.items;
+      marks = c.new-2.ensures.items;
+      fits = fits;
+      text = store_alone s.state.chunk s.state.origin s.state.size bytes (committed s.exceptions) (pairs_pending s.exceptions) begun
+          (store_holds s.state.chunk s.state.origin s.state.size s.places.next s.state.copying bytes (committed s.exceptions) (pairs_pending s.exceptions) s.front.some s.front.allowed whole s.given);
+      stored = λ loud. (s.stored loud).listed (ap is_begun c.requires.ready);
+    }

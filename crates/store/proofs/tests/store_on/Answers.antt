@@ -1,6 +1,0 @@
-use Rattle.std.proofs.Common.{refl}
-use Rattle.store.proofs.tests.store_on.Goals as goal
-
-pub open-requires : goal.open-requires
-unfolding lib.Count.ones
-open-requires c = refl
