@@ -3,8 +3,8 @@
 ghost use Rattle.std.specs.Prelude.{◌<◌, ◌≤◌};
 
 use crate::plain_store::ChunkSize;
+use resting_rows::plain_store::{put, sector_of};
 use sector::{Refusal, SECTOR_BYTES};
-use settled_rows::plain_store::{put, sector_of};
 use std::alloc::{AllocError, AllocFailed, Global};
 
 /// A device's name, which is printed as the letter d and its number.

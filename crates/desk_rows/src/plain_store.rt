@@ -3,11 +3,11 @@
 ghost use Rattle.std.specs.Prelude.{◌<◌, ◌≤◌};
 
 use crate::plain_layers::{Kind, Machine, Name, Snapshot, Span, Stop};
-use sector::{Pair, Refusal, SECTOR_BYTES};
-use settled_rows::plain_store::{
+use resting_rows::plain_store::{
     area_place, byte_at, header_of, is_inside, is_loadable, next_place, pairs_of, place_of, put,
     usage_of,
 };
+use sector::{Pair, Refusal, SECTOR_BYTES};
 use std::alloc::Global;
 
 /// A chunk size, in sectors.

@@ -2,8 +2,8 @@
 ghost use Rattle.std.specs.Prelude.{◌<◌, ◌≤◌};
 
 use crate::plain_layers::{Kind, Machine, Name, Snapshot, Span, Stop};
+use resting_rows::plain_store::sector_of;
 use sector::{Refusal, SECTOR_BYTES};
-use settled_rows::plain_store::sector_of;
 use std::alloc::Global;
 
 /// The sectors of a piece where an origin has no snapshot.

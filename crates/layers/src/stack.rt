@@ -291,6 +291,3 @@ impl Stack {
         }
     }
 }
-
-#[cfg(test)]
-mod tests;

@@ -9,6 +9,7 @@ ghost use Rattle.resting.specs.Leaving.{IsDetachedAs};
 ghost use Rattle.resting.specs.Taking.{IsTakenAs};
 ghost use Rattle.store.specs.Reading.{AreRead};
 ghost use Rattle.volume.specs.Attached.{store_of};
+ghost use Rattle.volume.specs.Taking.{attach_refusal, IsNotTaken};
 ghost use Rattle.volume.specs.Leaving.{is_quiet_of};
 
 use crate::Resting;
@@ -32,6 +33,8 @@ fn take<B: Block>(
     ensures settled { IfOk result (λ number. IsSettled B.contents B.layers B.size (rested_of volume.old) → is_loud (B.layers store.device) ≡ true → IsSettled B.contents B.layers B.size (rested_of volume.new)) }
     ensures exact { IfOk result (λ number. IsSettled B.contents B.layers B.size (rested_of volume.old) → is_loud (B.layers store.device) ≡ true → attached number chunk (store_of B.contents B.layers store) (settled_of B.contents B.layers (rested_of volume.old)) ≡ record { volume = settled_of B.contents B.layers (rested_of volume.new); refused = None; back = None }) }
     ensures back { IfErr result (λ e. e.0 ≢ NoMemory → IsSettled B.contents B.layers B.size (rested_of volume.old) → is_loud (B.layers store.device) ≡ true → attached (volume.old.attached + 1) chunk (store_of B.contents B.layers store) (settled_of B.contents B.layers (rested_of volume.old)) ≡ refused_attach e.0 (store_of B.contents B.layers e.1) (settled_of B.contents B.layers (rested_of volume.old))) }
+    ensures refused { IfErr result (λ e. IsNotTaken store.stale chunk (B.size volume.old.origin) (B.size store.device) (B.contents store.device) volume.old e.0) }
+    ensures unread { IfErr result (λ e. attach_refusal store.stale chunk volume.old ≡ Some e.0 → e.1 ≡ store) }
     ensures starved { IfErr result (λ e. e.0 ≡ NoMemory → (B.contents e.1.device ≡ B.contents store.device) × AreRead (B.layers store.device) (B.layers e.1.device)) }
     ensures same { OnErr result (volume.new ≡ volume.old) }
     ensures stale { IfErr result (λ e. e.1.stale ≡ store.stale) }
@@ -74,6 +77,8 @@ impl<B: Block> Resting<B> {
         ensures settled { IfOk result (λ number. IsSettled B.contents B.layers B.size self.old → is_loud (B.layers store.device) ≡ true → IsSettled B.contents B.layers B.size self.new) }
         ensures exact { IfOk result (λ number. IsSettled B.contents B.layers B.size self.old → is_loud (B.layers store.device) ≡ true → attached number chunk (store_of B.contents B.layers store) (settled_of B.contents B.layers self.old) ≡ record { volume = settled_of B.contents B.layers self.new; refused = None; back = None }) }
         ensures back { IfErr result (λ e. e.0 ≢ NoMemory → IsSettled B.contents B.layers B.size self.old → is_loud (B.layers store.device) ≡ true → attached (self.old.attached + 1) chunk (store_of B.contents B.layers store) (settled_of B.contents B.layers self.old) ≡ refused_attach e.0 (store_of B.contents B.layers e.1) (settled_of B.contents B.layers self.old)) }
+        ensures refused { IfErr result (λ e. IsNotTaken store.stale chunk (B.size self.old.origin) (B.size store.device) (B.contents store.device) self.old.events e.0) }
+        ensures unread { IfErr result (λ e. attach_refusal store.stale chunk self.old.events ≡ Some e.0 → e.1 ≡ store) }
         ensures starved { IfErr result (λ e. e.0 ≡ NoMemory → (B.contents e.1.device ≡ B.contents store.device) × AreRead (B.layers store.device) (B.layers e.1.device)) }
         ensures same { OnErr result (self.new ≡ self.old) }
         ensures stale { IfErr result (λ e. e.1.stale ≡ store.stale) }

@@ -23,13 +23,5 @@ mod serving;
 mod telling;
 
 pub use flights::Replied;
+pub use pieces::refusal_for;
 pub use resting::Resting;
-
-#[cfg(test)]
-mod fault_tests;
-#[cfg(test)]
-mod flight_tests;
-#[cfg(test)]
-mod stack_tests;
-#[cfg(test)]
-mod tests;

@@ -20,7 +20,7 @@ use std::alloc::Global;
 use volume::Volume;
 
 /// The refusal of a command that ended by a failure.
-pub(crate) fn refusal_for(failure: Failure) -> Refusal
+pub fn refusal_for(failure: Failure) -> Refusal
     ensures { result ≡ refusal_of failure }
 {
     match failure {

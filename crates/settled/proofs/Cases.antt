@@ -42,15 +42,3 @@ saved-lacks chunk disk store c none fits full lacks = saved-room chunk disk stor
 -- it fills its area, and the next area is zeroed first
 pub saved-filled : (chunk : ℕ) (disk store : List ℕ) (c : ℕ) → place_of (pairs_of chunk store) c ≡ None → 512 * (chunk * (next_of chunk (pairs_of chunk store) + 1)) ≤ length store → (length (pairs_of chunk store) + 1) % (32 * chunk) ≡ 0 → 512 * (chunk * (area_place chunk ((length (pairs_of chunk store) + 1) / (32 * chunk)) + 1)) ≤ length (copied_next chunk disk store c) → saved chunk disk store c ≡ record { store = paired chunk (zeroed chunk (copied_next chunk disk store c) ((length (pairs_of chunk store) + 1) / (32 * chunk))) (length (pairs_of chunk store)) (next_pair chunk store c); live = true }
 saved-filled chunk disk store c none fits full there = saved-room chunk disk store c none fits ∙ cond-true _ _ _ (eq-eqb _ _ full) ∙ cond-false _ _ _ (le-ltb _ _ there)
-
--- a pair is committed: it leaves room in its area
-pub committed-more : (chunk : ℕ) (store : List ℕ) (k : ℕ) (pair : Pair) → (k + 1) % (32 * chunk) ≢ 0 → committed chunk store k pair ≡ record { store = paired chunk store k pair; live = true }
-committed-more chunk store k pair more = cond-false _ _ _ (ne_eqb _ _ more)
-
--- it fills its area, and the next is not there
-pub committed-lacks : (chunk : ℕ) (store : List ℕ) (k : ℕ) (pair : Pair) → (k + 1) % (32 * chunk) ≡ 0 → length store < 512 * (chunk * (area_place chunk ((k + 1) / (32 * chunk)) + 1)) → committed chunk store k pair ≡ spoilt chunk store
-committed-lacks chunk store k pair full lacks = cond-true _ _ _ (eq-eqb _ _ full) ∙ cond-true _ _ _ (lt-ltb _ _ lacks)
-
--- it fills its area, and the next is zeroed first
-pub committed-filled : (chunk : ℕ) (store : List ℕ) (k : ℕ) (pair : Pair) → (k + 1) % (32 * chunk) ≡ 0 → 512 * (chunk * (area_place chunk ((k + 1) / (32 * chunk)) + 1)) ≤ length store → committed chunk store k pair ≡ record { store = paired chunk (zeroed chunk store ((k + 1) / (32 * chunk))) k pair; live = true }
-committed-filled chunk store k pair full there = cond-true _ _ _ (eq-eqb _ _ full) ∙ cond-false _ _ _ (le-ltb _ _ there)

@@ -4,16 +4,10 @@ pub mod Commits
 pub mod Nexts
 pub mod Saved
 pub mod Cases
-pub mod Commands
-pub mod Chunks
 pub mod Laws
 pub mod Writes
-pub mod Steps
 pub mod Runs
-pub mod Volumes
-pub mod Attaches
 pub mod Shown
 pub mod Made
 pub mod Trimmed
 pub mod Loadable
-pub mod Takes

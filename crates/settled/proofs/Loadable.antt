@@ -1,13 +1,19 @@
 -- The test of a written store's pairs is that they are well formed.
-use Rattle.std.proofs.Common.{◌≡◌, ℕ, suc, List, [], ◌∷◌, arith, refl, sym, Bool, true, false}
-use Rattle.std.specs.Prelude.{AllPairs, ◌&&◌, ◌||◌}
+use Rattle.std.proofs.Common.{◌≡◌, ℕ, suc, List, [], ◌∷◌, arith, refl, sym, Bool, true, false, inl, inr, ap, ◌∙◌}
+use Rattle.std.specs.Prelude.{AllPairs, ◌&&◌, ◌||◌, Result, Ok, Err, ◌==◌, not}
 use Rattle.std.specs.List.{All, list_all, list_any}
-use Rattle.std.proofs.lemmas.Bool.{true≢false, ltb-true, leb-true, lt-ltb, le-leb, eqb-false, ne_eqb, not-true, not_from_false}
+use Rattle.std.proofs.lemmas.Bool.{true≢false, ltb-true, leb-true, lt-ltb, le-leb, eqb-false, ne_eqb, not-true, not_from_false, cond-true, cond-false, cases_Bool, not-false}
 use Rattle.std.proofs.lemmas.List.Elements.{All-cons, All-nil}
 use Rattle.std.proofs.lemmas.List.Kept.{AllPairs-cons}
 use Rattle.sector.specs.declared.pair.Pair.{Pair}
 use Rattle.model.specs.Pairs.{IsApart, IsInside, AreWellFormed}
 use Rattle.settled.specs.Loads.{is_inside, is_shared, are_apart, is_loadable}
+use Rattle.sector.specs.declared.refusal.Refusal.{Refusal}
+use Rattle.sector.specs.declared.refusal.Refusal.TheVariants.{BadHeader, BadVersion, BadChunk, Invalid as InvalidRefusal}
+use Rattle.chunk.specs.Sizes.{is_chunk}
+use Rattle.cow_header.specs.HeaderText.{found_by, magic_number}
+use Rattle.cow_header.specs.declared.found.Found.{Found}
+use Rattle.cow_header.specs.declared.found.Found.TheVariants.{Fresh, Header}
 
 and_first : (a b : Bool) → (a && b) ≡ true → a ≡ true
 and_first true b e = refl
@@ -82,3 +88,23 @@ loadable-formed chunk origin size ps e = let one = and_first _ _ e in record {
 pub formed-loadable : (chunk origin size : ℕ) (ps : List Pair) → AreWellFormed chunk origin size ps → is_loadable chunk origin size ps ≡ true
 unfolding is_loadable
 formed-loadable chunk origin size ps formed = and_both _ _ (and_both _ _ (inside_all chunk origin size ps formed.inside) (apart_all ps formed.apart)) (le-leb _ _ formed.room)
+
+-- a good header has an allowed chunk size
+pub header_allowed : (magic mark version chunk own : ℕ) → found_by magic mark version chunk ≡ Ok (Header own) → is_chunk own ≡ true
+header_allowed magic mark version chunk own e = elim (cases_Bool (magic == 0)) [
+  | inl fresh ↦ (let h : ◌≡◌ {A = Result Found Refusal} (Ok Fresh) (Ok (Header own)) = sym (cond-true _ _ _ fresh) ∙ e in absurd (cc))
+  | inr a ↦ elim (cases_Bool (not (magic == magic_number))) [
+    | inl bad ↦ (let h : ◌≡◌ {A = Result Found Refusal} (Err BadHeader) (Ok (Header own)) = sym (cond-false _ _ _ a ∙ cond-true _ _ _ bad) ∙ e in absurd (cc))
+    | inr b ↦ elim (cases_Bool (not (version == 1))) [
+      | inl bad ↦ (let h : ◌≡◌ {A = Result Found Refusal} (Err BadVersion) (Ok (Header own)) = sym (cond-false _ _ _ a ∙ cond-false _ _ _ b ∙ cond-true _ _ _ bad) ∙ e in absurd (cc))
+      | inr c ↦ elim (cases_Bool (not (is_chunk chunk))) [
+        | inl bad ↦ (let h : ◌≡◌ {A = Result Found Refusal} (Err BadChunk) (Ok (Header own)) = sym (cond-false _ _ _ a ∙ cond-false _ _ _ b ∙ cond-false _ _ _ c ∙ cond-true _ _ _ bad) ∙ e in absurd (cc))
+        | inr d ↦ elim (cases_Bool (mark == 0)) [
+          | inl bad ↦ (let h : ◌≡◌ {A = Result Found Refusal} (Err InvalidRefusal) (Ok (Header own)) = sym (cond-false _ _ _ a ∙ cond-false _ _ _ b ∙ cond-false _ _ _ c ∙ cond-false _ _ _ d ∙ cond-true _ _ _ bad) ∙ e in absurd (cc))
+          | inr f ↦ (let h : ◌≡◌ {A = Result Found Refusal} (Ok (Header chunk)) (Ok (Header own)) = sym (cond-false _ _ _ a ∙ cond-false _ _ _ b ∙ cond-false _ _ _ c ∙ cond-false _ _ _ d ∙ cond-false _ _ _ f) ∙ e in
+              let same : chunk ≡ own = cc in ap is_chunk (sym same) ∙ not-false _ d)
+        ]
+      ]
+    ]
+  ]
+]

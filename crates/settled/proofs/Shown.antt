@@ -4,7 +4,7 @@ use Rattle.std.specs.Prelude.{Option, Some, None}
 use Rattle.std.specs.List.{All}
 use Rattle.std.proofs.lemmas.List.{places, ext_get_or, get_or_append_left}
 use borrow.Rule.Slice.PartMut.{put_mid}
-use Rattle.std.proofs.Common.{rules, inl, inr}
+use Rattle.std.proofs.Common.{inl, inr}
 use Rattle.std.proofs.lemmas.Bool.{cases_lt}
 use Rattle.sector.specs.Bytes.{sectors_at}
 use Rattle.sector.proofs.Sectors.{byte_read}
@@ -92,9 +92,6 @@ read_next from first pfirst pcount out part pic fits is len place done k lt = el
 
     put : (a n : ℕ) (xs ys : List ℕ) (i : ℕ) → a + n ≤ length xs → length ys ≡ n → i < n → get_or (put_mid a n xs ys) (a + i) 0 ≡ get_or ys i 0
     put a n xs ys i fits len lt = grind (arith, places)
-
-pub length-put : (a n : ℕ) (xs ys : List ℕ) → a + n ≤ length xs → length ys ≡ n → length (put_mid a n xs ys) ≡ length xs
-length-put a n xs ys fits len = search (rules, places)
 
 -- a buffer with all of a run's bytes
 pub read_all : (from first count : ℕ) (out pic : List ℕ) → from ≡ 512 * count → length out ≡ 512 * count → 512 * (first + count) ≤ length pic → ((k : ℕ) → k < from → get_or out k 0 ≡ get_or pic (512 * first + k) 0) → out ≡ sectors_at pic first count

@@ -3,10 +3,3 @@ pub mod Settled
 pub mod Loads
 pub mod Attaching
 pub mod Order
-pub mod Kept
-pub mod Held
-pub mod Rest
-pub mod Attached
-pub mod Whole
-pub mod Used
-pub mod Opened

@@ -21,13 +21,12 @@ use Rattle.cow_header.specs.declared.found.Found.TheVariants.{Fresh, Header}
 use Rattle.settled.specs.Loads.{made, trimmed, is_loadable, is_too_small, taken_fresh, taken_written, taken_as, taken}
 use Rattle.settled.specs.Settled.{Snap as Plainly, Settled}
 use Rattle.settled.specs.Attaching.{with_taken, attached as settled_attached}
-use Rattle.settled.proofs.Takes.{header_allowed}
 use Rattle.chunk.specs.Sizes.{is_chunk}
 use Rattle.chunk.proofs.Limits.{is_chunk-some}
 use Rattle.settled.proofs.Laws.{chunk_fits}
 use Rattle.settled.proofs.Parts.{length-with_part, part_inside, part_outside}
 use Rattle.plain.specs.Plain.{Saved, Live}
-use Rattle.settled.proofs.Loadable.{loadable-formed}
+use Rattle.settled.proofs.Loadable.{loadable-formed, header_allowed}
 use Rattle.settling.specs.Devices.{Device, sectors_of}
 use Rattle.settling.specs.Snaps.{Snap, Volume}
 use Rattle.settling.specs.Bare.{is_live, bare, AreBare, IsBare}

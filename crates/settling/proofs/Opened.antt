@@ -17,10 +17,9 @@ use Rattle.settled.specs.Saves.{zeroed}
 use Rattle.settled.specs.Loads.{made, trimmed, is_loadable, is_too_small}
 use Rattle.settled.specs.Order.{IsInOrder}
 use Rattle.settled.proofs.Laws.{chunk_fits}
-use Rattle.settled.proofs.Loadable.{loadable-formed}
+use Rattle.settled.proofs.Loadable.{loadable-formed, header_allowed}
 use Rattle.settled.proofs.Made.{made_law}
 use Rattle.settled.proofs.Trimmed.{trimmed_law}
-use Rattle.settled.proofs.Takes.{header_allowed}
 use Rattle.settling.specs.Devices.{Device, sectors_of, answers, met, written_by}
 use Rattle.settling.specs.Snaps.{Snap}
 use Rattle.settling.specs.Attaching.{Tried, read_on, write_on, done, read_areas, last_area, has_tail, is_wanted, make, clear, load, load_as, open_store}

@@ -18,6 +18,3 @@ mod starting;
 
 pub use opening::{StoreDev, open_snapshot};
 pub use snapshot::Snapshot;
-
-#[cfg(test)]
-mod tests;

@@ -36,6 +36,3 @@ mod volume;
 
 pub use calls::{Call, Returned};
 pub use volume::{LARGEST_PIECE, MAX_SNAPSHOTS, Volume};
-
-#[cfg(test)]
-mod tests;

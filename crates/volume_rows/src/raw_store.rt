@@ -30,7 +30,7 @@ fn number_at(bytes: &[u8], at: usize, len: usize) -> u64 {
 }
 
 /// The bytes of a sector; none past the end.
-fn sector_of(bytes: &[u8], sector: usize) -> &[u8] {
+pub fn sector_of(bytes: &[u8], sector: usize) -> &[u8] {
     let at = SECTOR_BYTES.saturating_mul(sector);
     if at < bytes.len() {
         let len = SECTOR_BYTES.min(bytes.len() - at);
