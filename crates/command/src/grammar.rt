@@ -17,81 +17,35 @@ use words::{Name, numeral};
 #[derive(Debug, Drop)]
 pub enum Command {
     /// `disk NAME N`: a disk of N zero sectors. Any N stands here, also one outside the limits of disks.
-    Disk {
-        name: Name,
-        sectors: u32,
-    },
+    Disk { name: Name, sectors: u32 },
     /// `create NAME LINE`: a device by its table line, which is not that of a merge.
-    Create {
-        name: Name,
-        line: Line,
-    },
+    Create { name: Name, line: Line },
     /// `remove NAME`: takes a device away.
-    Remove {
-        name: Name,
-    },
+    Remove { name: Name },
     /// `load DISK S DATA`: writes raw sectors of a disk. 1 to 2048 of them.
-    Load {
-        disk: Name,
-        first: u32,
-        bytes: Buf,
-    },
+    Load { disk: Name, first: u32, bytes: Buf },
     /// `save DISK S N`: prints raw sectors of a disk. `count` is 1 to 2048.
-    Save {
-        disk: Name,
-        first: u32,
-        count: u32,
-    },
+    Save { disk: Name, first: u32, count: u32 },
     /// `message DEV 0 WORDS`: a message to a layer.
-    Message {
-        device: Name,
-        message: Message,
-    },
+    Message { name: Name, message: Message },
     /// `tick N`: so many seconds pass for every flakey layer.
-    Tick {
-        seconds: u32,
-    },
+    Tick { seconds: u32 },
     /// `read DEV S N`: reads an origin or snapshot. `count` is 1 to 2048.
-    Read {
-        device: Name,
-        first: u32,
-        count: u32,
-    },
+    Read { name: Name, first: u32, count: u32 },
     /// `write DEV S DATA`: writes an origin or snapshot. 1 to 2048 sectors.
-    Write {
-        device: Name,
-        first: u32,
-        bytes: Buf,
-    },
+    Write { name: Name, first: u32, bytes: Buf },
     /// `start DEV read S N`: starts a read of an origin or snapshot, inside one piece. `count` is 1 to 2048.
-    StartRead {
-        device: Name,
-        first: u32,
-        count: u32,
-    },
+    StartRead { name: Name, first: u32, count: u32 },
     /// `start DEV write S DATA`: starts a write of an origin or snapshot, inside one piece. 1 to 2048 sectors.
-    StartWrite {
-        device: Name,
-        first: u32,
-        bytes: Buf,
-    },
+    StartWrite { name: Name, first: u32, bytes: Buf },
     /// `step VOL EVENT`: one event of the volume of an origin.
-    Step {
-        volume: Name,
-        event: Event,
-    },
+    Step { volume: Name, event: Event },
     /// `settle VOL`: the events that are due in the volume of an origin, until there is none.
-    Settle {
-        volume: Name,
-    },
+    Settle { volume: Name },
     /// `status DEV`: prints the status line.
-    Status {
-        device: Name,
-    },
+    Status { name: Name },
     /// `table DEV`: prints the table line.
-    Table {
-        device: Name,
-    },
+    Table { name: Name },
 }
 
 fn place(name: &[u8], first: &[u8]) -> Result<(Name, u32), Refusal>
@@ -246,12 +200,12 @@ fn message(words: &[&[u8]]) -> Result<Command, Refusal>
 {
     match words {
         [device, sector, words @ ..] => {
-            let device = Name::new(device)?;
+            let name = Name::new(device)?;
             let message = message_in(words)?;
             if *sector != b"0".as_slice() {
                 return Err(Refusal::BadTable);
             }
-            Ok(Command::Message { device, message })
+            Ok(Command::Message { name, message })
         }
         _ => Err(Refusal::BadTable),
     }
@@ -272,47 +226,31 @@ fn tick(words: &[&[u8]]) -> Result<Command, Refusal>
 fn read(words: &[&[u8]]) -> Result<Command, Refusal>
     ensures { result ≡ read_of (texts words.now) }
 {
-    let (device, first, count) = span(words)?;
-    Ok(Command::Read {
-        device,
-        first,
-        count,
-    })
+    let (name, first, count) = span(words)?;
+    Ok(Command::Read { name, first, count })
 }
 
 fn write(alloc: Global, words: &[&[u8]]) -> Result<Command, Refusal>
     requires { length words.now ≤ 1048576 }
     ensures { Gives result (write_of (texts words.now)) }
 {
-    let (device, first, bytes) = patch(alloc, words)?;
-    Ok(Command::Write {
-        device,
-        first,
-        bytes,
-    })
+    let (name, first, bytes) = patch(alloc, words)?;
+    Ok(Command::Write { name, first, bytes })
 }
 
 fn start_read(device: &[u8], words: &[&[u8]]) -> Result<Command, Refusal>
     ensures { result ≡ start_read_of (device.now ∷ texts words.now) }
 {
-    let (device, first, count) = span_at(device, words)?;
-    Ok(Command::StartRead {
-        device,
-        first,
-        count,
-    })
+    let (name, first, count) = span_at(device, words)?;
+    Ok(Command::StartRead { name, first, count })
 }
 
 fn start_write(alloc: Global, device: &[u8], words: &[&[u8]]) -> Result<Command, Refusal>
     requires { length words.now ≤ 1048576 }
     ensures { Gives result (start_write_of (device.now ∷ texts words.now)) }
 {
-    let (device, first, bytes) = patch_at(alloc, device, words)?;
-    Ok(Command::StartWrite {
-        device,
-        first,
-        bytes,
-    })
+    let (name, first, bytes) = patch_at(alloc, device, words)?;
+    Ok(Command::StartWrite { name, first, bytes })
 }
 
 #[tactic(auto, using(crate::proofs::Counts::start_short))]
@@ -357,15 +295,15 @@ fn settle(words: &[&[u8]]) -> Result<Command, Refusal>
 fn status(words: &[&[u8]]) -> Result<Command, Refusal>
     ensures { result ≡ status_of (texts words.now) }
 {
-    let device = alone(words)?;
-    Ok(Command::Status { device })
+    let name = alone(words)?;
+    Ok(Command::Status { name })
 }
 
 fn table(words: &[&[u8]]) -> Result<Command, Refusal>
     ensures { result ≡ table_of (texts words.now) }
 {
-    let device = alone(words)?;
-    Ok(Command::Table { device })
+    let name = alone(words)?;
+    Ok(Command::Table { name })
 }
 
 /// The command that some words say.

@@ -208,30 +208,16 @@ fn reads_the_bytes_of_a_load(rt: HostRuntime) -> Result<(), Fail> {
 #[test]
 fn reads_what_a_start_says(rt: HostRuntime) -> Result<(), Fail> {
     let started = said(rt.alloc(), b"start vol read 17 02", LINE_LIMIT)?;
-    let Some(
-        Command::StartRead {
-            device,
-            first,
-            count,
-        },
-    ) = &started
-    else {
+    let Some(Command::StartRead { name, first, count }) = &started else {
         return Err(Fail::from("no start of a read"));
     };
-    assert_eq!(rt; device.as_slice(), b"vol".as_slice());
+    assert_eq!(rt; name.as_slice(), b"vol".as_slice());
     assert_eq!(rt; (*first, *count), (17, 2));
     let started = said(rt.alloc(), b"start snap write 9 512*5a", LINE_LIMIT)?;
-    let Some(
-        Command::StartWrite {
-            device,
-            first,
-            bytes,
-        },
-    ) = &started
-    else {
+    let Some(Command::StartWrite { name, first, bytes }) = &started else {
         return Err(Fail::from("no start of a write"));
     };
-    assert_eq!(rt; device.as_slice(), b"snap".as_slice());
+    assert_eq!(rt; name.as_slice(), b"snap".as_slice());
     assert_eq!(rt; *first, 9);
     assert_eq!(rt; bytes.as_slice(), [0x5a; 512].as_slice());
     Ok(())
@@ -245,15 +231,10 @@ fn reads_a_table_line(rt: HostRuntime) -> Result<(), Fail> {
         return Err(Fail::from("no create"));
     };
     assert_eq!(rt; name.as_slice(), b"snap".as_slice());
-    let Target::Snapshot {
-        device,
-        store,
-        chunk,
-    } = &line.target
-    else {
+    let Target::Snapshot { name, store, chunk } = &line.target else {
         return Err(Fail::from("no snapshot"));
     };
-    assert_eq!(rt; device.as_slice(), b"base".as_slice());
+    assert_eq!(rt; name.as_slice(), b"base".as_slice());
     assert_eq!(rt; store.as_slice(), b"cow".as_slice());
     assert_eq!(rt; (line.sectors, *chunk), (128, 16));
     Ok(())
@@ -336,10 +317,10 @@ fn reads_each_message(rt: HostRuntime) -> Result<(), Fail> {
     ];
     for (line, want) in messages {
         let told = said(rt.alloc(), line.as_bytes(), LINE_LIMIT)?;
-        let Some(Command::Message { device, message }) = &told else {
+        let Some(Command::Message { name, message }) = &told else {
             return Err(Fail::from("no message"));
         };
-        assert_eq!(rt; device.as_slice(), b"du".as_slice());
+        assert_eq!(rt; name.as_slice(), b"du".as_slice());
         assert_eq!(rt; *message, want, "in {line}");
     }
     Ok(())

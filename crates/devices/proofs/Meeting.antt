@@ -1,9 +1,9 @@
 -- A stack that was taken out of the table, and a volume that it is attached to or not.
-use Rattle.std.proofs.Common.{◌≡◌, ◌≢◌, ℕ, ◌<◌, List, false, length, get_or, set, refl, sym, ap, ◌∙◌, subst}
-use Rattle.std.specs.Prelude.{Ok, Err, Some, None, nat_le}
+use Rattle.std.proofs.Common.{◌≡◌, ◌≢◌, ◌⊎◌, ℕ, ◌<◌, Bool, List, true, false, length, get_or, set, refl, sym, ap, ◌∙◌, subst, inl, inr}
+use Rattle.std.specs.Prelude.{Result, Ok, Err, Some, None, nat_le, if◌then◌else◌}
 use Rattle.std.specs.List.{remove}
 use Rattle.sector.specs.declared.refusal.Refusal.{Refusal}
-use Rattle.sector.specs.declared.refusal.Refusal.TheVariants.{NoMemory}
+use Rattle.sector.specs.declared.refusal.Refusal.TheVariants.{NoMemory, NotQuiet, Stale}
 use Rattle.named.specs.State.{Stacked, Volume, Table}
 use Rattle.named.specs.Places.{place_of}
 use Rattle.named.specs.Disks.{device_count}
@@ -13,6 +13,7 @@ use Rattle.named.specs.Snapshots.{meet, snapshot_left, snapshot_met, snapshot_by
 use Rattle.named.proofs.AtPlace.{put_back, stack_here, volume_here}
 use Rattle.named.proofs.NamedFrames.{taken_by_named, put_named}
 use Rattle.named_volume.specs.Names.{IsNamedMore}
+use Rattle.devices.specs.Busy.{IsBusyRefused}
 use Rattle.devices.specs.Devices.{named_at}
 
 by_those : (name : List ℕ) (chunk i v : ℕ) (table : Table) (stacked : Stacked) (old : Volume) → i < length table.stacks → stacked ≡ get_or table.stacks i stacked → v < length table.volumes → old ≡ get_or table.volumes v old → snapshot_by name chunk table (named_at v i table) ≡ snapshot_met i v (meet name chunk stacked old) table
@@ -48,6 +49,32 @@ met_err name chunk i v table stacked back old stacks volumes e i_lt i_at v_lt v_
   λ other. refused_left name chunk i v table stacked back old stacks volumes e i_lt i_at v_lt v_at put same (met other),
   λ none. nothing_met i table stacked back stacks volumes i_at put same (kept none),
 )
+
+-- a volume that is not quiet is not attached to
+pub busy_ok : (i v : ℕ) (table new : Table) (stacked : Stacked) (old : Volume) → i < length table.stacks → stacked ≡ get_or table.stacks i stacked → v < length table.volumes → old ≡ get_or table.volumes v old → old.quiet ≡ true → IsBusyRefused (Ok tt) table new (named_at v i table)
+busy_ok i v table new stacked old i_lt i_at v_lt v_at quiet =
+    let below = stack_here table i stacked i_lt i_at in
+    let here = volume_here table v old v_lt v_at in
+    rw below (rw here (λ busy. absurd (both old.quiet quiet busy)))
+  where
+    both : (b : Bool) → b ≡ true → b ≡ false → ⊥
+    both b is isnt = absurd (cc)
+
+-- and the stack goes back to its place as it was
+pub busy_err : (i v : ℕ) (table : Table) (stacked back : Stacked) (old : Volume) (stacks : List Stacked) (volumes : List Volume) (e : Refusal) → i < length table.stacks → stacked ≡ get_or table.stacks i stacked → v < length table.volumes → old ≡ get_or table.volumes v old → stacks ≡ set table.stacks i back → volumes ≡ table.volumes
+    → (old.quiet ≡ false → ((e ≡ NoMemory) ⊎ (e ≡ (if stacked.stale then Stale else NotQuiet))) × (back ≡ stacked))
+    → IsBusyRefused (Err e) table (record { stacks = stacks; volumes = volumes }) (named_at v i table)
+busy_err i v table stacked back old stacks volumes e i_lt i_at v_lt v_at put same why =
+    let below = stack_here table i stacked i_lt i_at in
+    let here = volume_here table v old v_lt v_at in
+    rw below (rw here (λ busy.
+    let got = why busy in (
+      nothing_met i table stacked back stacks volumes i_at put same got.1,
+      elim got.0 [
+        | inl none ↦ inl (ap (λ (r : Refusal). let x : Result (Unit {0}) Refusal = Err r in x) none)
+        | inr is ↦ inr (ap (λ (r : Refusal). let x : Result (Unit {0}) Refusal = Err r in x) is)
+      ],
+    )))
 
 -- the names, where it is attached
 pub attached_named : (table : Table) (name : List ℕ) (i v : ℕ) (stacked : Stacked) (old new : Volume) (stacks : List Stacked) → place_of name table ≡ None → nat_le 64 (device_count table) ≡ false → i < length table.stacks → stacked ≡ get_or table.stacks i stacked → v < length table.volumes → old ≡ get_or table.volumes v old → stacks ≡ remove table.stacks i → IsNamedMore name stacked old new → AreNamed table → AreNamed (record { stacks = stacks; volumes = set table.volumes v new })

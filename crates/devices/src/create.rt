@@ -7,6 +7,7 @@ ghost use Rattle.named.specs.Disks.{device_count};
 ghost use Rattle.named.specs.Naming.{AreNamed};
 ghost use Rattle.named.specs.Places.{place_of};
 ghost use Rattle.named.specs.Sound.{drops_writes, is_sound};
+ghost use Rattle.devices.specs.Busy.{IsBusyTarget};
 ghost use Rattle.devices.specs.Devices.{table_of};
 
 use crate::find::{find, is_full};
@@ -31,6 +32,7 @@ fn made(
 ) -> Result<(), Refusal>
     requires { is_target target ≡ true }
     ensures done { is_sound (table_of held.old) ≡ true → Does result (table_of held.new) (λ t. t ≡ table_of held.old) (made name sectors target (table_of held.old)) }
+    ensures busy { IsBusyTarget result (table_of held.old) (table_of held.new) sectors target }
     ensures named { place_of name (table_of held.old) ≡ None → nat_le 64 (device_count (table_of held.old)) ≡ false → AreNamed (table_of held.old) → AreNamed (table_of held.new) }
 {
     match target {
@@ -70,6 +72,7 @@ fn is_merge(target: &Target) -> bool
 pub fn create_device(alloc: Global, held: &mut Held, name: Name, line: Line) -> Result<(), Refusal>
     requires { is_line line ≡ true }
     ensures done { is_sound (table_of held.old) ≡ true → Does result (table_of held.new) (λ t. t ≡ table_of held.old) (create name line (table_of held.old)) }
+    ensures busy { is_merge line.target ≡ false → place_of name (table_of held.old) ≡ None → nat_le 64 (device_count (table_of held.old)) ≡ false → IsBusyTarget result (table_of held.old) (table_of held.new) line.sectors line.target }
     ensures sound { is_sound (table_of held.old) ≡ true → drops_writes line.target ≡ false → is_sound (table_of held.new) ≡ true }
     ensures named { AreNamed (table_of held.old) → AreNamed (table_of held.new) }
 {

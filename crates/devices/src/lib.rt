@@ -37,8 +37,3 @@ pub use remove::remove_device;
 pub use resting::Replied;
 pub use sectors::{read_device, write_device};
 pub use shown::status_text;
-
-#[cfg(test)]
-mod flight_tests;
-#[cfg(test)]
-mod tests;

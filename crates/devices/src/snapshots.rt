@@ -4,10 +4,11 @@ ghost use Rattle.named.specs.Changes.{Changes, Does};
 ghost use Rattle.named.specs.Disks.{device_count};
 ghost use Rattle.named.specs.Naming.{AreNamed};
 ghost use Rattle.named.specs.Places.{IsPlaceIn, place_of};
-ghost use Rattle.named.specs.Snapshots.{left_by, over, snapshot_by, snapshot_made};
+ghost use Rattle.named.specs.Snapshots.{left_by, named_in, over, snapshot_by, snapshot_made};
 ghost use Rattle.named.specs.Sound.{is_sound};
 ghost use Rattle.named.specs.declared.place.Place.TheVariants.{In};
 ghost use Rattle.named.specs.declared.place.Role.TheVariants.{Snapshot};
+ghost use Rattle.devices.specs.Busy.{IsBusyRefused};
 ghost use Rattle.devices.specs.Devices.{named_at, table_of};
 
 use crate::back::put_stack_back;
@@ -43,6 +44,7 @@ fn meet(
     requires stack { i < length held.old.stacks.items }
     requires volume { v < length held.old.volumes.items }
     ensures done { is_sound (table_of held.old) ≡ true → Does result (table_of held.new) (λ t. t ≡ table_of held.old) (snapshot_by name chunk (table_of held.old) (named_at v i (table_of held.old))) }
+    ensures busy { IsBusyRefused result (table_of held.old) (table_of held.new) (named_at v i (table_of held.old)) }
     ensures named { place_of name (table_of held.old) ≡ None → nat_le 64 (device_count (table_of held.old)) ≡ false → AreNamed (table_of held.old) → AreNamed (table_of held.new) }
 {
     let stack = held.stacks.remove(i);
@@ -67,6 +69,7 @@ pub fn make_snapshot(
     chunk: u32,
 ) -> Result<(), Refusal>
     ensures done { is_sound (table_of held.old) ≡ true → Does result (table_of held.new) (λ t. t ≡ table_of held.old) (snapshot_made name sectors device.now store.now chunk (table_of held.old)) }
+    ensures busy { IsBusyRefused result (table_of held.old) (table_of held.new) (named_in sectors device.now store.now (table_of held.old)) }
     ensures named { place_of name (table_of held.old) ≡ None → nat_le 64 (device_count (table_of held.old)) ≡ false → AreNamed (table_of held.old) → AreNamed (table_of held.new) }
 {
     let v = volume_over(held, device)?;

@@ -1,5 +1,5 @@
 -- A request that is accepted is in flight.
-use Rattle.std.proofs.Common.{◌≡◌, ℕ, ◌+◌, Bool, true, false, List, [], ◌∷◌, ◌++◌, length, map, refl, sym, ap, ◌∙◌, subst, arith}
+use Rattle.std.proofs.Common.{◌≡◌, ℕ, Bool, true, false, List, [], ◌∷◌, ◌++◌, length, map, refl, sym, ap, ◌∙◌, subst, arith}
 use Rattle.std.specs.Prelude.{Option, Some, None, Result, Ok, Err, IfOk, OnOk, ◌==◌, ◌/◌, ◌&&◌, if◌then◌else◌}
 use Rattle.std.specs.List.{list_all}
 use Rattle.std.proofs.lemmas.List.{length-map}
@@ -10,11 +10,10 @@ use Rattle.pending.specs.Kinds.{kind_of}
 use Rattle.pending.specs.declared.flights.Kind.{Kind}
 use Rattle.pending.specs.declared.flights.Kind.TheVariants.{OriginRead, OriginWrite, SnapRead, SnapWrite}
 use Rattle.pending.specs.declared.flights.Route.{Route}
-use Rattle.volume_laws.specs.Again.{published_place}
 use Rattle.settling.specs.Held.{Held, Moving}
 use Rattle.settling.specs.Seen.{going_of}
 use Rattle.settling.specs.Stepping.{for_some, first_that, spoil}
-use Rattle.settling.specs.Submitting.{is_filled, needs_none, accepted, declined, read_snap, write_held, write_placed, write_snap, submitted_as, submitted}
+use Rattle.settling.specs.Submitting.{is_filled, needs_none, accepted, declined, read_snap, write_held, write_placed, write_snap, submitted_as}
 use Rattle.volume.specs.Volumed.{Volumed}
 use Rattle.volume.specs.Moved.{moving_of}
 use Rattle.volume.specs.Leaving.{is_quiet_of, is_done_of}
@@ -72,7 +71,7 @@ accepted_flies {B} contents layers request number old new is =
     let none : (length new.flights == 0) ≡ false = ap (λ n. n == 0) (sym (length-map new.flights going_of)) ∙ some in
     ap (λ b. b && list_all is_done_of new.snaps) none
 
--- and so what is said of it after a request was started
-pub start_flies : {B : Type 0} (contents : B → List ℕ) (layers : B → List Layer) (request : Request) (old new : Volumed B) (quiet : Bool) (r : Result ℕ Refusal) → quiet ≡ is_quiet_of new → IfOk r (λ number. IsAcceptedAs contents layers request number old new) → OnOk r (quiet ≡ false)
-start_flies contents layers request old new quiet (Ok number) is ok = is ∙ accepted_flies contents layers request number old new ok
-start_flies contents layers request old new quiet (Err refusal) is ok = tt
+-- nor where a request was started
+pub start_flies : {B : Type 0} (contents : B → List ℕ) (layers : B → List Layer) (request : Request) (old new : Volumed B) (r : Result ℕ Refusal) → IfOk r (λ number. IsAcceptedAs contents layers request number old new) → OnOk r (is_quiet_of new ≡ false)
+start_flies contents layers request old new (Ok number) ok = accepted_flies contents layers request number old new ok
+start_flies contents layers request old new (Err refusal) ok = tt

@@ -1,20 +1,23 @@
 -- A stack meets a volume, as the settled machine's attach says.
-use Rattle.std.proofs.Common.{◌≡◌, ◌≢◌, ℕ, ◌+◌, Bool, true, false, List, [], ◌∷◌, ◌++◌, refl, sym, ap, ◌∙◌}
-use Rattle.std.specs.Prelude.{Some, None, ◌&&◌}
+use Rattle.std.proofs.Common.{◌≡◌, ◌⊎◌, ℕ, ◌+◌, Bool, true, false, List, [], ◌∷◌, ◌++◌, length, refl, sym, ap, ◌∙◌, inl, inr}
+use Rattle.std.specs.Prelude.{Some, None, ◌&&◌, if◌then◌else◌}
 use Rattle.sector.specs.declared.refusal.Refusal.{Refusal}
-use Rattle.device.specs.Layers.{Layer, is_loud, layers_after}
-use Rattle.device.specs.declared.operation.Operation.TheVariants.{Reads}
+use Rattle.sector.specs.declared.refusal.Refusal.TheVariants.{NoMemory, NotQuiet, Stale}
+use Rattle.device.specs.Layers.{is_loud}
 use Rattle.layers.specs.declared.stack.Stack.{Stack}
 use Rattle.layers.specs.Stack.{stack_contents, stack_layers}
 use Rattle.layers.specs.Beneath.{stack_reads}
+use Rattle.snapshot.specs.declared.opening.StoreDev.{StoreDev}
 use Rattle.store.specs.Reading.{layers_read, AreRead}
-use Rattle.settling.specs.Devices.{Device}
 use Rattle.settling.specs.Snaps.{Volume as Settled}
 use Rattle.settling.specs.Attaching.{Store, attached, refused_attach}
+use Rattle.volume.specs.Volumed.{Volumed}
+use Rattle.volume.specs.Leaving.{is_quiet_of}
+use Rattle.volume.specs.Taking.{taking_refusal, attach_refusal, IsNotTaken}
 use Rattle.named.specs.Stacks.{device_of}
 use Rattle.named.specs.State.{Stacked, Names, Volume}
 use Rattle.named.specs.Messages.{with_device}
-use Rattle.named.specs.Snapshots.{Met, met_by, meet, store_of}
+use Rattle.named.specs.Snapshots.{meet, store_of}
 
 -- it was taken
 pub met : (name : List ℕ) (chunk : ℕ) (stacked : Stacked) (volume : Volume) (snaps : List Names) (state : Settled) (given number : ℕ) (sound : Bool) → number ≡ volume.given + 1 → attached number chunk (store_of stacked) volume.state ≡ record { volume = state; refused = None; back = None } → snaps ≡ volume.snaps ++ (record { snapshot = name; store = stacked.names }) ∷ [] → given ≡ number → sound ≡ (volume.sound && is_loud stacked.device.layers) → ((meet name chunk stacked volume).refused ≡ None) × ((meet name chunk stacked volume).volume ≡ record volume { snaps = snaps; state = state; given = given; sound = sound })
@@ -27,6 +30,28 @@ met name chunk stacked volume snaps state given number sound is exact more gave 
 pub unmet : (name : List ℕ) (chunk : ℕ) (stacked back : Stacked) (volume : Volume) (refusal : Refusal) (store : Store) → attached (volume.given + 1) chunk (store_of stacked) volume.state ≡ refused_attach refusal store volume.state → back ≡ with_device store.device stacked → ((meet name chunk stacked volume).refused ≡ Some refusal) × ((meet name chunk stacked volume).stacked ≡ back)
 unfolding meet
 unmet name chunk stacked back volume refusal store exact is = rw exact (rw is (refl, refl))
+
+-- A volume that is not quiet takes none.
+busy_is : (stale quiet : Bool) (count given chunk : ℕ) (e : Refusal) → quiet ≡ false → taking_refusal stale quiet count given chunk ≡ Some e → e ≡ (if stale then Stale else NotQuiet)
+busy_is true quiet count given chunk e busy is = cc
+busy_is false false count given chunk e busy is = cc
+busy_is false true count given chunk e busy is = absurd (cc)
+
+never_taken : (stale quiet : Bool) (count given chunk : ℕ) → quiet ≡ false → taking_refusal stale quiet count given chunk ≡ None → ⊥
+never_taken true quiet count given chunk busy is = absurd (cc)
+never_taken false false count given chunk busy is = absurd (cc)
+never_taken false true count given chunk busy is = absurd (cc)
+
+-- and the stack comes back as it was
+pub busy_back : (chunk origin size : ℕ) (bytes : List ℕ) (names : List (List ℕ)) (device : Stack) (stale : Bool) (store : StoreDev Stack) (stacked back : Stacked) (v : Volumed Stack) (e : Refusal) → is_quiet_of v ≡ false → IsNotTaken stale chunk origin size bytes v e
+    → (attach_refusal stale chunk v ≡ Some e → store ≡ record { device = device; stale = stale })
+    → stacked ≡ record { names = names; device = device_of device; stale = stale }
+    → back ≡ record { names = names; device = device_of store.device; stale = store.stale }
+    → ((e ≡ NoMemory) ⊎ (e ≡ (if stacked.stale then Stale else NotQuiet))) × (back ≡ stacked)
+busy_back chunk origin size bytes names device stale store stacked back v e busy why same is back_is = elim why [
+  | inl first ↦ (inr (rw is (busy_is stale (is_quiet_of v) (length v.snaps) v.attached chunk e busy first)), rw back_is (rw (same first) (rw is refl)))
+  | inr later ↦ absurd (never_taken stale (is_quiet_of v) (length v.snaps) v.attached chunk busy later.0)
+]
 
 -- some reads leave the layers of a stack
 all_read : (s : Stack) (ranges : List (ℕ × ℕ)) → layers_read (stack_layers s) ranges ≡ stack_layers s

@@ -1,6 +1,6 @@
 -- A snapshot leaves a volume with its names.
-use Rattle.std.proofs.Common.{◌≡◌, ℕ, ◌<◌, ◌-◌, Bool, true, false, List, [], ◌∷◌, length, get_or, map, refl, sym, ap, ◌∙◌, inl, inr, arith}
-use Rattle.std.specs.Prelude.{Result, Ok, Err, Option, Some, None, slice_get, ◌==◌, ◌&&◌}
+use Rattle.std.proofs.Common.{◌≡◌, ℕ, ◌<◌, Bool, true, false, List, [], ◌∷◌, length, get_or, refl, sym, ap, ◌∙◌, inl, inr}
+use Rattle.std.specs.Prelude.{Ok, Err, Some, slice_get, ◌==◌, ◌&&◌}
 use Rattle.std.specs.List.{remove, list_all}
 use Rattle.std.proofs.lemmas.Bool.{cases_Bool, cond-true, cond-false}
 use Rattle.std.proofs.lemmas.Option.{slice_get_read}
@@ -9,17 +9,15 @@ use Rattle.device.specs.Layers.{is_loud}
 use Rattle.layers.specs.declared.stack.Stack.{Stack}
 use Rattle.layers.specs.Stack.{stack_contents, stack_layers}
 use Rattle.snapshot.specs.declared.opening.StoreDev.{StoreDev}
-use Rattle.settling.specs.Snaps.{Snap, Volume as Settled}
-use Rattle.settling.specs.Attaching.{Store, given_back, detached}
-use Rattle.volume.specs.Attached.{store_of}
-use Rattle.resting.specs.Rested.{Attached, Rested, snap_at as first_snap, is_loud_in}
+use Rattle.settling.specs.Attaching.{detached}
+use Rattle.resting.specs.Rested.{Attached, Rested, snap_at as first_snap}
 use Rattle.resting.specs.Leaving.{IsDetachedAs}
 use Rattle.named.specs.Stacks.{device_of}
 use Rattle.named.specs.State.{Stacked, Names, Volume}
 use Rattle.named.specs.Origins.{still}
 use Rattle.named.specs.Snapshots.{parted}
 use Rattle.named_volume.specs.Held.{settled_in, IsSettledIn}
-use Rattle.named_volume.proofs.Places.{IsAt, here, at_place, stack_snap}
+use Rattle.named_volume.proofs.Places.{here, at_place}
 
 pub no_both : (b : Bool) → b ≡ true → b ≡ false → ⊥
 no_both b is isnt = absurd (cc)

@@ -1,15 +1,15 @@
 -- The snapshot at a place of a volume over stacks, as the settled machine has it.
-use Rattle.std.proofs.Common.{◌≡◌, ℕ, zero, suc, ◌<◌, Bool, true, false, List, [], ◌∷◌, length, get_or, map, refl, sym, ap, ◌∙◌, inl, inr, arith}
-use Rattle.std.specs.Prelude.{Result, Ok, Err, Option, Some, None, slice_get, ◌==◌, ◌||◌}
+use Rattle.std.proofs.Common.{◌≡◌, ℕ, zero, suc, ◌<◌, true, List, [], ◌∷◌, length, get_or, map, refl, sym, ap, ◌∙◌, inl, inr, arith}
+use Rattle.std.specs.Prelude.{Ok, Some, slice_get, ◌==◌}
 use Rattle.std.specs.List.{list_any}
-use Rattle.std.proofs.lemmas.Bool.{cases_Bool, cond-true, cond-false}
+use Rattle.std.proofs.lemmas.Bool.{cases_Bool, cond-false}
 use Rattle.std.proofs.lemmas.List.{length-map, get_or-map}
 use Rattle.std.proofs.lemmas.Option.{slice_get_read}
 use Rattle.layers.specs.declared.stack.Stack.{Stack}
 use Rattle.layers.specs.Stack.{stack_contents, stack_layers}
 use Rattle.plain.specs.declared.request.Dev.TheVariants.{Snap as ToSnap}
 use Rattle.settling.specs.Snaps.{Snap}
-use Rattle.resting.specs.Rested.{Attached, Rested, snap_of, snap_at as first_snap, has_number, has_dev}
+use Rattle.resting.specs.Rested.{Attached, Rested, snap_of, snap_at as first_snap, has_number}
 use Rattle.named.specs.declared.place.Role.TheVariants.{Snapshot}
 use Rattle.named.specs.Messages.{snap_at}
 use Rattle.named.specs.Sectors.{dev_of}

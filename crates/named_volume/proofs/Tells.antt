@@ -1,5 +1,5 @@
 -- A message to a layer of a volume, as the volume takes it.
-use Rattle.std.proofs.Common.{◌≡◌, ◌≢◌, ℕ, ◌<◌, List, length, get_or, refl, sym, ap, ◌∙◌, subst, inl, inr}
+use Rattle.std.proofs.Common.{◌≡◌, ℕ, ◌<◌, length, get_or, refl, sym, ap, ◌∙◌, subst, inl, inr}
 use Rattle.std.specs.Prelude.{Result, Ok, Err, IfOk, IfErr}
 use Rattle.sector.specs.declared.refusal.Refusal.{Refusal}
 use Rattle.layers.specs.declared.stack.Stack.{Stack}

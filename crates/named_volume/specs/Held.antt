@@ -3,7 +3,6 @@ use Rattle.std.specs.Prelude.{◌≡◌, ◌*◌, ◌<◌, ◌≤◌, ℕ, Bool,
 use Rattle.layers.specs.declared.stack.Stack.{Stack}
 use Rattle.layers.specs.Stack.{stack_contents, stack_layers, stack_size}
 use Rattle.settling.specs.Snaps.{Volume as Settled}
-use Rattle.volume.specs.Leaving.{is_quiet_of}
 use Rattle.resting.specs.Rested.{Rested, settled_of, is_loud_in, IsSettled}
 use Rattle.named.specs.State.{Names}
 
@@ -14,13 +13,11 @@ settled_in volume = settled_of stack_contents stack_layers volume
 abbrev pub IsSettledIn : Rested Stack → Type 0
 IsSettledIn volume = IsSettled stack_contents stack_layers stack_size volume
 
--- There is a name for each snapshot; all numbers that were given are bounded by the sectors that were asked for; it is known
--- whether anything is in flight or left to do; and where no device drops writes, the volume is settled once nothing is.
-pub record IsHeld (names : List Names) (volume : Rested Stack) (asked : ℕ) (sound quiet : Bool) : Type 0 where
+-- There is a name for each snapshot; all numbers that were given are bounded by the sectors that were asked for; and where the
+-- volume is said to be sound, no device drops writes.
+pub record IsHeld (names : List Names) (volume : Rested Stack) (asked : ℕ) (sound : Bool) : Type 0 where
   pub many : length names ≡ length volume.snaps
   pub requests : volume.requests ≤ asked
   pub copies : volume.copies ≤ 8 * asked
   pub few : asked < 1_152_921_504_606_846_976
-  pub still : quiet ≡ is_quiet_of volume.events
   pub loud : sound ≡ true → is_loud_in stack_layers volume ≡ true
-  pub settled : sound ≡ true → quiet ≡ true → IsSettledIn volume

@@ -1,12 +1,13 @@
 // Snapshots are taken and leave.
-ghost use Rattle.std.specs.Prelude.{◌≡◌, ◌≢◌, ◌&&◌, ◌<◌, true, length, Some, None, Ok, Err, IfOk, IfErr, OnOk, OnErr};
-ghost use Rattle.sector.specs.declared.refusal.Refusal.TheVariants.{NoMemory};
+ghost use Rattle.std.specs.Prelude.{◌≡◌, ◌≢◌, ◌⊎◌, ◌&&◌, ◌<◌, true, false, length, Some, None, Ok, Err, IfOk, IfErr, OnOk, OnErr, if◌then◌else◌};
+ghost use Rattle.sector.specs.declared.refusal.Refusal.TheVariants.{NoMemory, Stale, NotQuiet};
 ghost use Rattle.device.specs.Layers.{is_loud};
 ghost use Rattle.named.specs.Snapshots.{meet, parted};
 ghost use Rattle.named_volume.specs.Names.{IsNamedMore};
 
 use crate::names::SnapNames;
 use crate::origin::NamedVolume;
+use crate::stored::look;
 use named_stack::NamedStack;
 use sector::Refusal;
 use snapshot::StoreDev;
@@ -14,7 +15,9 @@ use std::alloc::Global;
 use words::Name;
 
 impl NamedVolume {
-    /// Takes a snapshot of the origin, with a stack as its store, by a table line with this chunk size.
+    /// Takes a snapshot of the origin, with a stack as its store, by a table line with this chunk size. Where a request is in
+    /// flight or anything is left to do, `Stale` for a stack with a mark, and else `NotQuiet`, but for `NoMemory`; then the stack
+    /// is given back as it was.
     pub fn attach(
         &mut self,
         alloc: Global,
@@ -24,6 +27,7 @@ impl NamedVolume {
     ) -> Result<(), (Refusal, NamedStack)>
         ensures ok { OnOk result (self.old.sound ≡ true → self.old.quiet ≡ true → is_loud stack.device.layers ≡ true → ((meet name chunk stack self.old).refused ≡ None) × ((meet name chunk stack self.old).volume ≡ self.new)) }
         ensures err { IfErr result (λ e. e.0 ≢ NoMemory → self.old.sound ≡ true → self.old.quiet ≡ true → is_loud stack.device.layers ≡ true → ((meet name chunk stack self.old).refused ≡ Some e.0) × ((meet name chunk stack self.old).stacked ≡ e.1)) }
+        ensures busy { IfErr result (λ e. self.old.quiet ≡ false → ((e.0 ≡ NoMemory) ⊎ (e.0 ≡ (if stack.stale then Stale else NotQuiet))) × (e.1 ≡ stack)) }
         ensures starved { IfErr result (λ e. e.0 ≡ NoMemory → e.1 ≡ stack) }
         ensures named { OnOk result (IsNamedMore name stack self.old self.new) }
         ensures names { IfErr result (λ e. e.1.names ≡ stack.names) }
@@ -37,6 +41,7 @@ impl NamedVolume {
             Ok(()) => {}
             Err(_) => return Err((Refusal::NoMemory, stack)),
         }
+        look(&self.volume);
         let loud = stack.is_loud();
         let (names, device, stale) = stack.into_parts();
         match self.volume.attach(alloc, StoreDev { device, stale }, chunk) {
@@ -65,7 +70,7 @@ impl NamedVolume {
         ensures loud { IfOk result (λ stack. self.old.sound ≡ true → is_loud stack.device.layers ≡ true) }
         ensures sound { self.new.sound ≡ self.old.sound }
     {
-        if !self.quiet {
+        if !self.volume.is_quiet() {
             return Err(Refusal::NotQuiet);
         }
         let number = self.volume.number(k);

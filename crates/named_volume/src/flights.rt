@@ -21,7 +21,7 @@ impl NamedVolume {
     pub fn is_quiet(&self) -> bool
         ensures { result ≡ self.now.quiet }
     {
-        self.quiet
+        self.volume.is_quiet()
     }
 
     /// The number of the snapshot at a place.
@@ -57,9 +57,7 @@ impl NamedVolume {
             Ok(asks) => asks,
             Err(refusal) => return Err(refusal),
         };
-        let started = self.volume.start(alloc, Request { dev, op, range });
-        self.quiet = self.volume.is_quiet();
-        started
+        self.volume.start(alloc, Request { dev, op, range })
     }
 
     /// Does an event. `NotDue` where it isn't due, and then nothing changed; where nothing is in flight or left to do, none is.
@@ -68,16 +66,10 @@ impl NamedVolume {
         ensures same { OnErr result (self.new ≡ self.old) }
         ensures kept { KeepsNames self.old self.new }
     {
-        if self.quiet {
+        if self.is_quiet() {
             return Err(NotDue);
         }
-        match self.volume.step(event) {
-            Ok(outcome) => {
-                self.quiet = self.volume.is_quiet();
-                Ok(outcome)
-            }
-            Err(NotDue) => Err(NotDue),
-        }
+        self.volume.step(event)
     }
 
     /// Does the events that are due, each time the one that is due first, until none is. Each request that ends is told at the
@@ -88,11 +80,9 @@ impl NamedVolume {
         ensures kept { KeepsNames self.old self.new }
         ensures err { IfErr result (λ e. e ≡ NoMemory) }
     {
-        if self.quiet {
+        if self.is_quiet() {
             return Ok(());
         }
-        let done = self.volume.settle(ended);
-        self.quiet = self.volume.is_quiet();
-        done
+        self.volume.settle(ended)
     }
 }

@@ -15,6 +15,3 @@ mod stored;
 mod telling;
 
 pub use origin::NamedVolume;
-
-#[cfg(test)]
-mod tests;

@@ -28,19 +28,18 @@ pub struct NamedVolume {
     pub(crate) volume: Resting<Stack>,
     pub(crate) asked: u64,
     pub(crate) sound: bool,
-    /// Nothing is in flight or left to do.
-    pub(crate) quiet: bool,
 }
 
 impl Model for NamedVolume {
+    ghost use Rattle.volume.specs.Leaving.{is_quiet_of};
     ghost use Rattle.named.specs.State.{Volume};
     ghost use Rattle.named_volume.specs.Held.{settled_in, IsHeld};
 
     ghost Value = { Volume };
 
-    ghost view = { λ m. record { origin = m.origin; under = m.under.items; stale = m.stale; snaps = m.snaps.items; state = settled_in m.volume; given = m.volume.attached; asked = m.asked; sound = m.sound; quiet = m.quiet } };
+    ghost view = { λ m. record { origin = m.origin; under = m.under.items; stale = m.stale; snaps = m.snaps.items; state = settled_in m.volume; given = m.volume.attached; asked = m.asked; sound = m.sound; quiet = is_quiet_of m.volume.events } };
 
-    ghost invariant = { λ m. IsHeld m.snaps.items m.volume m.asked m.sound m.quiet };
+    ghost invariant = { λ m. IsHeld m.snaps.items m.volume m.asked m.sound };
 }
 
 fn snapshot_of(snaps: &[SnapNames], name: &Name) -> Option<usize>
@@ -116,7 +115,6 @@ impl NamedVolume {
                 volume,
                 asked: 0,
                 sound,
-                quiet: true,
             }),
             Err((refusal, device)) => Err((refusal, NamedStack::of_parts(under, device, stale))),
         }
@@ -137,7 +135,6 @@ impl NamedVolume {
             volume,
             asked,
             sound,
-            quiet,
         } = self;
         match volume.close() {
             Ok(stack) => Ok(NamedStack::of_parts(under, stack, stale)),
@@ -151,7 +148,6 @@ impl NamedVolume {
                     volume,
                     asked,
                     sound,
-                    quiet,
                 },
             )),
         }

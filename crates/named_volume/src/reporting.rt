@@ -8,7 +8,7 @@ ghost use Rattle.named.specs.Raw.{raw_under};
 ghost use Rattle.named.specs.Status.{status_in};
 
 use crate::origin::NamedVolume;
-use crate::stored::{chunk_at, state_at, store_at};
+use crate::stored::{chunk_at, look, state_at, store_at};
 use device::MemDisk;
 use named::Role;
 use named_stack::{disk_in, line_in, sectors_of};
@@ -87,6 +87,7 @@ impl NamedVolume {
         requires { IsRoleIn role self.now }
         ensures { self.now.sound ≡ true → self.now.quiet ≡ true → Gives result (status_in role self.now) }
     {
+        look(&self.volume);
         let sectors = u64::from(sectors_of(self.volume.origin()));
         let text = match role {
             Role::Origin => origin_line(alloc, sectors),

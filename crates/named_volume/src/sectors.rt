@@ -114,12 +114,10 @@ impl NamedVolume {
             Ok(asks) => asks,
             Err(refusal) => return Err(refusal),
         };
-        if self.quiet {
+        if self.volume.is_quiet() {
             return self.volume.read(alloc, dev, range);
         }
-        let done = self.volume.read_among(alloc, dev, range, ended);
-        self.quiet = self.volume.is_quiet();
-        done
+        self.volume.read_among(alloc, dev, range, ended)
     }
 
     /// Writes sectors of the origin or of a snapshot, from `first` on. Refused as a read is.
@@ -145,11 +143,9 @@ impl NamedVolume {
             Ok(asks) => asks,
             Err(refusal) => return Err(refusal),
         };
-        if self.quiet {
+        if self.volume.is_quiet() {
             return self.volume.write(alloc, dev, range, bytes);
         }
-        let done = self.volume.write_among(alloc, dev, range, bytes, ended);
-        self.quiet = self.volume.is_quiet();
-        done
+        self.volume.write_among(alloc, dev, range, bytes, ended)
     }
 }

@@ -1,6 +1,9 @@
 // What a volume over stacks tells of the snapshot at a place.
-ghost use Rattle.std.specs.Prelude.{◌≡◌, ◌<◌, length, get_or};
+ghost use Rattle.std.specs.Prelude.{◌≡◌, ◌<◌, true, length, get_or};
+ghost use Rattle.layers.specs.Stack.{stack_layers};
 ghost use Rattle.settling.specs.Snaps.{Snap};
+ghost use Rattle.volume.specs.Leaving.{is_quiet_of};
+ghost use Rattle.resting.specs.Rested.{is_loud_in};
 ghost use Rattle.named.specs.Stacks.{device_of};
 ghost use Rattle.named.specs.Status.{state_of};
 ghost use Rattle.named_volume.specs.Held.{settled_in, IsSettledIn};
@@ -9,6 +12,13 @@ use layers::Stack;
 use plain::SnapId;
 use resting::Resting;
 use status::State;
+
+/// A look at whether the volume is quiet: one that is, and of which no device drops writes, is settled.
+pub(crate) fn look(volume: &Resting<Stack>)
+    ensures { is_quiet_of volume.now.events ≡ true → is_loud_in stack_layers volume.now ≡ true → IsSettledIn volume.now }
+{
+    let _ = volume.is_quiet();
+}
 
 /// The stack of its store.
 pub(crate) fn store_at(volume: &Resting<Stack>, k: usize) -> &Stack

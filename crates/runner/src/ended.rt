@@ -1,26 +1,14 @@
 // The lines of requests that ended.
 ghost use Rattle.std.specs.Prelude.{◌≡◌, OnOk};
 ghost use Rattle.std.specs.Io.KnownBytes.{Appends};
-ghost use Rattle.resting.specs.Commands.{refusal_of};
 ghost use Rattle.runner.specs.Ended.{ended_line, ended_lines, ending_of, line_replies};
 ghost use Rattle.runner.specs.Output.{printed};
 
-use plain::{Failure, Reply as Answered};
+use plain::Reply as Answered;
 use reply::{Ended, Ending, Reply};
-use resting::Replied;
-use sector::Refusal;
+use resting::{Replied, refusal_for};
 use std::io;
 use std::io::Write;
-
-/// Why a request was not done.
-fn refusal_for(failure: Failure) -> Refusal
-    ensures { result ≡ refusal_of failure }
-{
-    match failure {
-        Failure::Invalid => Refusal::Invalid,
-        Failure::Io => Refusal::Io,
-    }
-}
 
 /// How a request ended, by what its volume replied.
 fn ending_of(reply: Answered) -> Ending

@@ -17,6 +17,10 @@ ghost use Rattle.runner.specs.Starts.{AreStartReplies, starts, starts_line};
 ghost use Rattle.runner.specs.Steps.{reworded, told_as, step, answer_of};
 
 use crate::events::step_volume;
+use command::Command::{
+    Create, Disk, Load, Read, Remove, Save, Settle, StartRead, StartWrite, Status, Step, Table,
+    Tick, Write,
+};
 use command::{Command, LINE_LIMIT, said};
 use devices::{
     Held, create_device, line_text, load_disk, make_disk, read_device, remove_device, save_disk,
@@ -31,7 +35,7 @@ use std::alloc::Global;
 use words::{Name, Text};
 
 /// What was to be done is done.
-fn done(call: Result<(), Refusal>) -> Result<Reply, Refusal>
+fn did(call: Result<(), Refusal>) -> Result<Reply, Refusal>
     ensures { result ≡ reworded (λ _. Done) call }
 {
     match call {
@@ -41,7 +45,7 @@ fn done(call: Result<(), Refusal>) -> Result<Reply, Refusal>
 }
 
 /// Bytes that were asked for.
-fn with_bytes(call: Result<Buf, Refusal>) -> Result<Reply, Refusal>
+fn given(call: Result<Buf, Refusal>) -> Result<Reply, Refusal>
     ensures { result ≡ reworded Data call }
 {
     match call {
@@ -51,7 +55,7 @@ fn with_bytes(call: Result<Buf, Refusal>) -> Result<Reply, Refusal>
 }
 
 /// A text that was asked for.
-fn with_text(call: Result<Text, Refusal>) -> Result<Reply, Refusal>
+fn text(call: Result<Text, Refusal>) -> Result<Reply, Refusal>
     ensures { result ≡ reworded Said call }
 {
     match call {
@@ -61,7 +65,7 @@ fn with_text(call: Result<Text, Refusal>) -> Result<Reply, Refusal>
 }
 
 /// The number of a request that was started.
-fn numbered(call: Result<ReqId, Refusal>) -> Result<Reply, Refusal>
+fn number(call: Result<ReqId, Refusal>) -> Result<Reply, Refusal>
     ensures { result ≡ reworded Number call }
 {
     match call {
@@ -114,42 +118,21 @@ fn obey(
     ensures named { AreNamed (table_of held.old) → AreNamed (table_of held.new) }
 {
     match command {
-        Command::Disk { name, sectors } => done(make_disk(alloc, held, name, sectors)),
-        Command::Create { name, line } => done(create_device(alloc, held, name, line)),
-        Command::Remove { name } => done(remove_device(held, &name)),
-        Command::Load { disk, first, bytes } => done(load_disk(held, &disk, first, &bytes)),
-        Command::Save { disk, first, count } => {
-            with_bytes(save_disk(alloc, held, &disk, first, count))
-        }
-        Command::Message { device, message } => tell_device(alloc, held, &device, &message),
-        Command::Tick { seconds } => {
-            tick(held, seconds);
-            Ok(Reply::Done)
-        }
-        Command::Read {
-            device,
-            first,
-            count,
-        } => with_bytes(read_device(alloc, held, &device, first, count, ended)),
-        Command::Write {
-            device,
-            first,
-            bytes,
-        } => done(write_device(alloc, held, &device, first, &bytes, ended)),
-        Command::StartRead {
-            device,
-            first,
-            count,
-        } => numbered(start_read(alloc, held, &device, first, count)),
-        Command::StartWrite {
-            device,
-            first,
-            bytes,
-        } => numbered(start_write(alloc, held, &device, first, bytes)),
-        Command::Step { volume, event } => step_volume(held, &volume, &event, ended),
-        Command::Settle { volume } => done(settle_device(held, &volume, ended)),
-        Command::Status { device } => with_text(status_text(alloc, held, &device)),
-        Command::Table { device } => with_text(line_text(alloc, held, &device)),
+        Disk { name, sectors } => did(make_disk(alloc, held, name, sectors)),
+        Create { name, line } => did(create_device(alloc, held, name, line)),
+        Remove { name } => did(remove_device(held, &name)),
+        Load { disk, first, bytes } => did(load_disk(held, &disk, first, &bytes)),
+        Save { disk, first, count } => given(save_disk(alloc, held, &disk, first, count)),
+        Command::Message { name, message } => tell_device(alloc, held, &name, &message),
+        Tick { seconds } => did(Ok(tick(held, seconds))),
+        Read { name, first, count } => given(read_device(alloc, held, &name, first, count, ended)),
+        Write { name, first, bytes } => did(write_device(alloc, held, &name, first, &bytes, ended)),
+        StartRead { name, first, count } => number(start_read(alloc, held, &name, first, count)),
+        StartWrite { name, first, bytes } => number(start_write(alloc, held, &name, first, bytes)),
+        Step { volume, event } => step_volume(held, &volume, &event, ended),
+        Settle { volume } => did(settle_device(held, &volume, ended)),
+        Status { name } => text(status_text(alloc, held, &name)),
+        Table { name } => text(line_text(alloc, held, &name)),
     }
 }
 

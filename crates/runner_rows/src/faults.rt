@@ -1,6 +1,6 @@
 // Texts about layers that fail: flakey and dust layers by the time and by messages, error layers always.
 
-use crate::texts::printed;
+use crate::texts::answers;
 use std::alloc::{AllocError, Global};
 use std::test::Fail;
 
@@ -22,10 +22,7 @@ fn prints_a_flakey_line_and_takes_no_wrong_one(rt: HostRuntime) -> Result<(), Fa
         err 10 BadTable\n\
         err 10 BadTable\n\
         ";
-    let (out, status) = printed(rt.alloc(), text)?;
-    assert_eq!(rt; out.as_slice(), want.as_bytes());
-    assert_eq!(rt; status, 1);
-    Ok(())
+    answers(&rt, text, want, 1)
 }
 
 #[test]
@@ -62,10 +59,7 @@ fn fails_a_write_and_saves_its_chunk_once(rt: HostRuntime) -> Result<(), Fail> {
         ok 0 128 snapshot 3/64 2\n\
         ok 512*11\n\
         ";
-    let (out, status) = printed(rt.alloc(), text)?;
-    assert_eq!(rt; out.as_slice(), want.as_bytes());
-    assert_eq!(rt; status, 1);
-    Ok(())
+    answers(&rt, text, want, 1)
 }
 
 #[test]
@@ -102,10 +96,7 @@ fn spoils_a_snapshot_whose_copy_reads_a_bad_block(rt: HostRuntime) -> Result<(),
         ok good\n\
         ok 512*11\n\
         ";
-    let (out, status) = printed(rt.alloc(), text)?;
-    assert_eq!(rt; out.as_slice(), want.as_bytes());
-    assert_eq!(rt; status, 1);
-    Ok(())
+    answers(&rt, text, want, 1)
 }
 
 #[test]
@@ -126,10 +117,7 @@ fn takes_no_store_that_always_fails(rt: HostRuntime) -> Result<(), Fail> {
         ok\n\
         err 8 Io\n\
         ";
-    let (out, status) = printed(rt.alloc(), text)?;
-    assert_eq!(rt; out.as_slice(), want.as_bytes());
-    assert_eq!(rt; status, 1);
-    Ok(())
+    answers(&rt, text, want, 1)
 }
 
 #[test]
@@ -166,10 +154,7 @@ fn takes_no_store_whose_invalid_mark_failed(rt: HostRuntime) -> Result<(), Fail>
         ok\n\
         err 16 Stale\n\
         ";
-    let (out, status) = printed(rt.alloc(), text)?;
-    assert_eq!(rt; out.as_slice(), want.as_bytes());
-    assert_eq!(rt; status, 1);
-    Ok(())
+    answers(&rt, text, want, 1)
 }
 
 /// A text at whose end a snapshot was spoiled, and the mark of that could not be written to its store; and its answers.
@@ -210,8 +195,9 @@ fn takes_the_store_again_once_its_first_sector_is_loaded(rt: HostRuntime) -> Res
         load cow 0 512*00\n\
         create snap 0 128 snapshot base cow P 1\n\
         status snap\n\
+        read snap 5 1\n\
         ";
-    let answers = "\
+    let wanted = "\
         ok\n\
         err 3 Busy\n\
         ok\n\
@@ -222,13 +208,41 @@ fn takes_the_store_again_once_its_first_sector_is_loaded(rt: HostRuntime) -> Res
         ok\n\
         ok\n\
         ok 0 128 snapshot 2/64 2\n\
+        ok 512*aa\n\
         ";
     text.push_str(more)?;
-    want.push_str(answers)?;
-    let (out, status) = printed(rt.alloc(), &text)?;
-    assert_eq!(rt; out.as_slice(), want.as_bytes());
-    assert_eq!(rt; status, 1);
-    Ok(())
+    want.push_str(wanted)?;
+    answers(&rt, &text, &want, 1)
+}
+
+#[test]
+fn says_that_a_store_is_stale_before_that_its_volume_is_busy(rt: HostRuntime) -> Result<(), Fail> {
+    let (mut text, mut want) = stale_store(rt.alloc())?;
+    let more = "\
+        remove snap\n\
+        start vol read 0 1\n\
+        create snap 0 128 snapshot base fl P 1\n\
+        disk cow2 64\n\
+        create snap 0 128 snapshot base cow2 P 1\n\
+        save cow2 0 64\n\
+        settle vol\n\
+        create snap 0 128 snapshot base fl P 1\n\
+        create snap 0 128 snapshot base cow2 P 1\n\
+        ";
+    let wanted = "\
+        ok\n\
+        ok 3\n\
+        err 16 Stale\n\
+        ok\n\
+        err 4 NotQuiet\n\
+        ok 32768*00\n\
+        reply 3 512*11\nok\n\
+        err 16 Stale\n\
+        ok\n\
+        ";
+    text.push_str(more)?;
+    want.push_str(wanted)?;
+    answers(&rt, &text, &want, 1)
 }
 
 #[test]
@@ -264,8 +278,5 @@ fn has_no_status_line_of_a_layer(rt: HostRuntime) -> Result<(), Fail> {
         ok\nok\nok\n\
         err 1 NoSuchDevice\n\
         ";
-    let (out, status) = printed(rt.alloc(), text)?;
-    assert_eq!(rt; out.as_slice(), want.as_bytes());
-    assert_eq!(rt; status, 1);
-    Ok(())
+    answers(&rt, text, want, 1)
 }

@@ -1,6 +1,6 @@
 // Texts about requests in flight: started by one command, and ended by an event of another.
 
-use crate::texts::printed;
+use crate::texts::answers;
 use std::test::Fail;
 
 #[test]
@@ -12,6 +12,7 @@ fn holds_a_write_until_its_chunk_is_published(rt: HostRuntime) -> Result<(), Fai
         create snap 0 128 snapshot base cow P 1\n\
         start vol write 5 512*aa\n\
         step vol issue 1\n\
+        step vol copy-write 1\n\
         step vol copy-read 1\n\
         step vol issue 1\n\
         step vol copy-write 1\n\
@@ -20,25 +21,24 @@ fn holds_a_write_until_its_chunk_is_published(rt: HostRuntime) -> Result<(), Fai
         step vol issue 1\n\
         step vol publish 1\n\
         step vol issue 1\n\
+        step vol issue 1\n\
         settle vol\n\
         save base 5 1\n\
         save cow 1 1\n\
         ";
     let want = "\
         ok\nok\nok\nok\nok 1\n\
-        err 19 NotDue\nok\n\
+        err 19 NotDue\nerr 19 NotDue\nok\n\
         err 19 NotDue\nok\n\
         err 19 NotDue\nok\n\
         err 19 NotDue\nok\n\
         reply 1 written\nok\n\
+        err 19 NotDue\n\
         ok\n\
         ok 512*aa\n\
         ok 1*05 7*00 1*02 503*00\n\
         ";
-    let (out, status) = printed(rt.alloc(), text)?;
-    assert_eq!(rt; out.as_slice(), want.as_bytes());
-    assert_eq!(rt; status, 1);
-    Ok(())
+    answers(&rt, text, want, 1)
 }
 
 #[test]
@@ -73,10 +73,7 @@ fn waits_for_the_copies_of_all_snapshots(rt: HostRuntime) -> Result<(), Fail> {
         reply 2 written\nok\n\
         ok 0 128 snapshot 3/64 2\n\
         ";
-    let (out, status) = printed(rt.alloc(), text)?;
-    assert_eq!(rt; out.as_slice(), want.as_bytes());
-    assert_eq!(rt; status, 1);
-    Ok(())
+    answers(&rt, text, want, 1)
 }
 
 #[test]
@@ -114,10 +111,7 @@ fn commits_copies_in_the_order_in_which_they_began(rt: HostRuntime) -> Result<()
         reply 3 written\n\
         ok\n\
         ";
-    let (out, status) = printed(rt.alloc(), text)?;
-    assert_eq!(rt; out.as_slice(), want.as_bytes());
-    assert_eq!(rt; status, 1);
-    Ok(())
+    answers(&rt, text, want, 1)
 }
 
 #[test]
@@ -150,10 +144,7 @@ fn publishes_no_chunk_that_a_request_still_reads(rt: HostRuntime) -> Result<(), 
         reply 3 written\nok\n\
         ok 512*11\n\
         ";
-    let (out, status) = printed(rt.alloc(), text)?;
-    assert_eq!(rt; out.as_slice(), want.as_bytes());
-    assert_eq!(rt; status, 1);
-    Ok(())
+    answers(&rt, text, want, 1)
 }
 
 #[test]
@@ -183,10 +174,7 @@ fn refuses_the_requests_of_a_snapshot_that_is_spoiled(rt: HostRuntime) -> Result
         reply 3 err 6 Invalid\n\
         ok\n\
         ";
-    let (out, status) = printed(rt.alloc(), text)?;
-    assert_eq!(rt; out.as_slice(), want.as_bytes());
-    assert_eq!(rt; status, 1);
-    Ok(())
+    answers(&rt, text, want, 1)
 }
 
 #[test]
@@ -220,10 +208,7 @@ fn keeps_a_snapshot_until_its_invalid_mark_is_tried(rt: HostRuntime) -> Result<(
         err 19 NotDue\n\
         ok\n\
         ";
-    let (out, status) = printed(rt.alloc(), text)?;
-    assert_eq!(rt; out.as_slice(), want.as_bytes());
-    assert_eq!(rt; status, 1);
-    Ok(())
+    answers(&rt, text, want, 1)
 }
 
 #[test]
@@ -255,10 +240,7 @@ fn prints_the_replies_before_what_a_read_gives(rt: HostRuntime) -> Result<(), Fa
         ok 512*11 512*aa\n\
         ok 7\n\
         ";
-    let (out, status) = printed(rt.alloc(), text)?;
-    assert_eq!(rt; out.as_slice(), want.as_bytes());
-    assert_eq!(rt; status, 0);
-    Ok(())
+    answers(&rt, text, want, 0)
 }
 
 #[test]
@@ -289,10 +271,7 @@ fn prints_the_replies_before_the_line_of_a_write(rt: HostRuntime) -> Result<(), 
         ok 512*bb\n\
         ok 512*11\n\
         ";
-    let (out, status) = printed(rt.alloc(), text)?;
-    assert_eq!(rt; out.as_slice(), want.as_bytes());
-    assert_eq!(rt; status, 0);
-    Ok(())
+    answers(&rt, text, want, 0)
 }
 
 #[test]
@@ -325,10 +304,7 @@ fn prints_the_replies_before_a_refusal_too(rt: HostRuntime) -> Result<(), Fail> 
         ok 0 128 snapshot Invalid\n\
         ok 1*53 1*6e 1*41 1*70 4*00 1*01 3*00 1*01 499*00\n\
         ";
-    let (out, status) = printed(rt.alloc(), text)?;
-    assert_eq!(rt; out.as_slice(), want.as_bytes());
-    assert_eq!(rt; status, 1);
-    Ok(())
+    answers(&rt, text, want, 1)
 }
 
 #[test]
@@ -364,10 +340,7 @@ fn settles_all_that_is_in_flight(rt: HostRuntime) -> Result<(), Fail> {
         ok 512*77\n\
         ok 1*05 7*00 1*02 7*00 1*09 7*00 1*03 487*00\n\
         ";
-    let (out, status) = printed(rt.alloc(), text)?;
-    assert_eq!(rt; out.as_slice(), want.as_bytes());
-    assert_eq!(rt; status, 0);
-    Ok(())
+    answers(&rt, text, want, 0)
 }
 
 #[test]
@@ -402,10 +375,7 @@ fn starts_no_request_over_two_chunks(rt: HostRuntime) -> Result<(), Fail> {
         ok 2\n\
         reply 2 1024*00\nok\n\
         ";
-    let (out, status) = printed(rt.alloc(), text)?;
-    assert_eq!(rt; out.as_slice(), want.as_bytes());
-    assert_eq!(rt; status, 1);
-    Ok(())
+    answers(&rt, text, want, 1)
 }
 
 #[test]
@@ -432,10 +402,7 @@ fn starts_requests_of_one_piece_without_a_snapshot(rt: HostRuntime) -> Result<()
         ok 1048576*00\n\
         ok 5\n\
         ";
-    let (out, status) = printed(rt.alloc(), text)?;
-    assert_eq!(rt; out.as_slice(), want.as_bytes());
-    assert_eq!(rt; status, 1);
-    Ok(())
+    answers(&rt, text, want, 1)
 }
 
 #[test]
@@ -446,7 +413,7 @@ fn starts_requests_of_origins_and_snapshots_alone(rt: HostRuntime) -> Result<(),
         create vol 0 128 snapshot-origin fl\n\
         start nosuch read 0 0\n\
         start nosuch read 0 1\n\
-        start base read 0 1\n\
+        start base read 128 1\n\
         start fl write 0 512*aa\n\
         start vol read 0 1\n\
         step nosuch issue 1\n\
@@ -468,10 +435,7 @@ fn starts_requests_of_origins_and_snapshots_alone(rt: HostRuntime) -> Result<(),
         reply 1 512*00\nok\n\
         err 19 NotDue\n\
         ";
-    let (out, status) = printed(rt.alloc(), text)?;
-    assert_eq!(rt; out.as_slice(), want.as_bytes());
-    assert_eq!(rt; status, 1);
-    Ok(())
+    answers(&rt, text, want, 1)
 }
 
 #[test]
@@ -492,10 +456,7 @@ fn takes_no_sixty_fifth_request(rt: HostRuntime) -> Result<(), Fail> {
         want.push_str(&format!(in rt.alloc(); "reply {number} 512*00\n")?)?;
     }
     want.push_str("reply 65 512*00\nok\n")?;
-    let (out, status) = printed(rt.alloc(), &text)?;
-    assert_eq!(rt; out.as_slice(), want.as_bytes());
-    assert_eq!(rt; status, 1);
-    Ok(())
+    answers(&rt, &text, &want, 1)
 }
 
 #[test]
@@ -510,6 +471,7 @@ fn removes_and_attaches_nothing_while_a_request_is_in_flight(rt: HostRuntime) ->
         start vol read 0 1\n\
         remove snap\n\
         remove vol\n\
+        create s2 0 128 snapshot base nosuch P 1\n\
         create s2 0 128 snapshot base cow2 P 1\n\
         status snap\n\
         settle vol\n\
@@ -522,6 +484,7 @@ fn removes_and_attaches_nothing_while_a_request_is_in_flight(rt: HostRuntime) ->
         ok 2\n\
         err 4 NotQuiet\n\
         err 3 Busy\n\
+        err 1 NoSuchDevice\n\
         err 4 NotQuiet\n\
         ok 0 128 snapshot 2/64 2\n\
         reply 2 512*11\nok\n\
@@ -529,10 +492,7 @@ fn removes_and_attaches_nothing_while_a_request_is_in_flight(rt: HostRuntime) ->
         ok\n\
         ok\n\
         ";
-    let (out, status) = printed(rt.alloc(), text)?;
-    assert_eq!(rt; out.as_slice(), want.as_bytes());
-    assert_eq!(rt; status, 1);
-    Ok(())
+    answers(&rt, text, want, 1)
 }
 
 #[test]
@@ -563,10 +523,7 @@ fn removes_no_origin_while_a_request_is_in_flight(rt: HostRuntime) -> Result<(),
         ok 1\n\
         reply 1 512*aa\nok\n\
         ";
-    let (out, status) = printed(rt.alloc(), text)?;
-    assert_eq!(rt; out.as_slice(), want.as_bytes());
-    assert_eq!(rt; status, 1);
-    Ok(())
+    answers(&rt, text, want, 1)
 }
 
 #[test]
@@ -600,10 +557,7 @@ fn says_that_a_copy_met_a_bad_block(rt: HostRuntime) -> Result<(), Fail> {
         reply 2 written\nok\n\
         ok 512*aa 512*11\n\
         ";
-    let (out, status) = printed(rt.alloc(), text)?;
-    assert_eq!(rt; out.as_slice(), want.as_bytes());
-    assert_eq!(rt; status, 1);
-    Ok(())
+    answers(&rt, text, want, 1)
 }
 
 #[test]
@@ -638,10 +592,7 @@ fn says_that_a_copy_and_the_invalid_mark_were_not_written(rt: HostRuntime) -> Re
         ok\n\
         err 16 Stale\n\
         ";
-    let (out, status) = printed(rt.alloc(), text)?;
-    assert_eq!(rt; out.as_slice(), want.as_bytes());
-    assert_eq!(rt; status, 1);
-    Ok(())
+    answers(&rt, text, want, 1)
 }
 
 #[test]
@@ -674,8 +625,41 @@ fn answers_io_where_the_device_of_a_request_fails(rt: HostRuntime) -> Result<(),
         ok\n\
         ok 512*aa\n\
         ";
-    let (out, status) = printed(rt.alloc(), text)?;
-    assert_eq!(rt; out.as_slice(), want.as_bytes());
-    assert_eq!(rt; status, 0);
-    Ok(())
+    answers(&rt, text, want, 0)
+}
+
+#[test]
+fn settles_what_no_step_ended(rt: HostRuntime) -> Result<(), Fail> {
+    let text = "\
+        disk base 128\n\
+        disk cow 64\n\
+        create vol 0 128 snapshot-origin base\n\
+        create snap 0 128 snapshot base cow P 8\n\
+        start vol read 3 1\n\
+        start snap read 4 1\n\
+        start snap read 128 1\n\
+        remove snap\n\
+        step vol issue 2\n\
+        step vol issue 2\n\
+        settle vol\n\
+        step vol issue 1\n\
+        remove snap\n\
+        start vol read 5 1\n\
+        remove vol\n\
+        ";
+    let want = "\
+        ok\nok\nok\nok\n\
+        ok 1\n\
+        ok 2\n\
+        err 2 OutOfRange\n\
+        err 4 NotQuiet\n\
+        reply 2 512*00\nok\n\
+        err 19 NotDue\n\
+        reply 1 512*00\nok\n\
+        err 19 NotDue\n\
+        ok\n\
+        ok 3\n\
+        err 4 NotQuiet\n\
+        ";
+    answers(&rt, text, want, 1)
 }

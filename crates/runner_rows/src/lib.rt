@@ -14,6 +14,8 @@ mod flights;
 #[cfg(test)]
 mod refused;
 #[cfg(test)]
+mod stacked;
+#[cfg(test)]
 mod tables;
 #[cfg(test)]
 mod texts;

@@ -1,6 +1,6 @@
 // Table lines that are printed, which devices are told, and commands about single events, of which none is due.
 
-use crate::texts::printed;
+use crate::texts::answers;
 use std::test::Fail;
 
 #[test]
@@ -35,10 +35,7 @@ fn prints_the_chunk_of_the_store(rt: HostRuntime) -> Result<(), Fail> {
         ok\n\
         ok 0 128 snapshot base cow P 2\n\
         ";
-    let (out, status) = printed(rt.alloc(), text)?;
-    assert_eq!(rt; out.as_slice(), want.as_bytes());
-    assert_eq!(rt; status, 0);
-    Ok(())
+    answers(&rt, text, want, 0)
 }
 
 #[test]
@@ -72,10 +69,7 @@ fn prints_the_table_line_of_each_device_that_has_one(rt: HostRuntime) -> Result<
         ok 0 130 snapshot base cow2 P 4\n\
         err 10 BadTable\n\
         ";
-    let (out, status) = printed(rt.alloc(), text)?;
-    assert_eq!(rt; out.as_slice(), want.as_bytes());
-    assert_eq!(rt; status, 1);
-    Ok(())
+    answers(&rt, text, want, 1)
 }
 
 #[test]
@@ -113,10 +107,7 @@ fn makes_layers_and_no_merge(rt: HostRuntime) -> Result<(), Fail> {
         ok\n\
         err 10 BadTable\n\
         ";
-    let (out, status) = printed(rt.alloc(), text)?;
-    assert_eq!(rt; out.as_slice(), want.as_bytes());
-    assert_eq!(rt; status, 1);
-    Ok(())
+    answers(&rt, text, want, 1)
 }
 
 #[test]
@@ -145,10 +136,7 @@ fn tells_nothing_to_disks_and_origins(rt: HostRuntime) -> Result<(), Fail> {
         err 10 BadTable\n\
         err 10 BadTable\n\
         ";
-    let (out, status) = printed(rt.alloc(), text)?;
-    assert_eq!(rt; out.as_slice(), want.as_bytes());
-    assert_eq!(rt; status, 1);
-    Ok(())
+    answers(&rt, text, want, 1)
 }
 
 #[test]
@@ -178,10 +166,7 @@ fn leaves_no_event_due(rt: HostRuntime) -> Result<(), Fail> {
         err 19 NotDue\n\
         err 19 NotDue\n\
         ";
-    let (out, status) = printed(rt.alloc(), text)?;
-    assert_eq!(rt; out.as_slice(), want.as_bytes());
-    assert_eq!(rt; status, 1);
-    Ok(())
+    answers(&rt, text, want, 1)
 }
 
 #[test]
@@ -217,10 +202,7 @@ fn asks_for_a_volume_and_for_snapshots(rt: HostRuntime) -> Result<(), Fail> {
         err 1 NoSuchDevice\n\
         err 10 BadTable\n\
         ";
-    let (out, status) = printed(rt.alloc(), text)?;
-    assert_eq!(rt; out.as_slice(), want.as_bytes());
-    assert_eq!(rt; status, 1);
-    Ok(())
+    answers(&rt, text, want, 1)
 }
 
 #[test]
@@ -235,8 +217,5 @@ fn finds_no_event_due_for_a_snapshot_of_another_volume(rt: HostRuntime) -> Resul
         step vol2 write-area snap\n\
         ";
     let want = "ok\nok\nok\nok\nok\nok\nerr 19 NotDue\n";
-    let (out, status) = printed(rt.alloc(), text)?;
-    assert_eq!(rt; out.as_slice(), want.as_bytes());
-    assert_eq!(rt; status, 1);
-    Ok(())
+    answers(&rt, text, want, 1)
 }

@@ -2,6 +2,7 @@
 
 use runner::{exit_status, run};
 use std::alloc::{AllocError, Global};
+use std::process::Abort;
 use std::test::Fail;
 
 /// What is printed for a text, and the exit status.
@@ -12,6 +13,19 @@ pub fn printed(alloc: Global, text: &str) -> Result<(Vec<u8>, u8), Fail> {
     let status = exit_status(&ran);
     ran?;
     Ok((out, status))
+}
+
+/// A text is answered by these lines, and the program ends with this status.
+pub fn answers(
+    rt: &(impl Abort + AllocGlobal),
+    text: &str,
+    want: &str,
+    status: u8,
+) -> Result<(), Fail> {
+    let (out, ended) = printed(rt.alloc(), text)?;
+    assert_eq!(rt; out.as_slice(), want.as_bytes());
+    assert_eq!(rt; ended, status);
+    Ok(())
 }
 
 #[test]
@@ -38,10 +52,7 @@ fn shows_a_fresh_store_and_its_snapshot(rt: HostRuntime) -> Result<(), Fail> {
         ok 1*53 1*6e 1*41 1*70 1*01 3*00 1*01 3*00 1*01 499*00\n\
         ok 512*00\n\
         ";
-    let (out, status) = printed(rt.alloc(), text)?;
-    assert_eq!(rt; out.as_slice(), want.as_bytes());
-    assert_eq!(rt; status, 0);
-    Ok(())
+    answers(&rt, text, want, 0)
 }
 
 #[test]
@@ -72,10 +83,7 @@ fn saves_a_chunk_before_the_origin_is_written(rt: HostRuntime) -> Result<(), Fai
         ok 1*05 7*00 1*02 503*00\n\
         ok 512*11\n\
         ";
-    let (out, status) = printed(rt.alloc(), text)?;
-    assert_eq!(rt; out.as_slice(), want.as_bytes());
-    assert_eq!(rt; status, 0);
-    Ok(())
+    answers(&rt, text, want, 0)
 }
 
 #[test]
@@ -112,10 +120,7 @@ fn saves_a_chunk_once(rt: HostRuntime) -> Result<(), Fail> {
         ok 0 128 snapshot 3/64 2\n\
         ok 512*11\n\
         ";
-    let (out, status) = printed(rt.alloc(), text)?;
-    assert_eq!(rt; out.as_slice(), want.as_bytes());
-    assert_eq!(rt; status, 0);
-    Ok(())
+    answers(&rt, text, want, 0)
 }
 
 #[test]
@@ -142,10 +147,7 @@ fn marks_the_store_that_lacks_its_next_area(rt: HostRuntime) -> Result<(), Fail>
         ok\n\
         ok 0 128 snapshot Invalid\n\
         ";
-    let (out, status) = printed(rt.alloc(), text)?;
-    assert_eq!(rt; out.as_slice(), want.as_bytes());
-    assert_eq!(rt; status, 0);
-    Ok(())
+    answers(&rt, text, want, 0)
 }
 
 #[test]
@@ -176,10 +178,7 @@ fn goes_on_in_a_second_area(rt: HostRuntime) -> Result<(), Fail> {
         ok 0 128 snapshot 36/64 3\n\
         ok 1*20 7*00 1*23 503*00\n\
         ";
-    let (out, status) = printed(rt.alloc(), text)?;
-    assert_eq!(rt; out.as_slice(), want.as_bytes());
-    assert_eq!(rt; status, 0);
-    Ok(())
+    answers(&rt, text, want, 0)
 }
 
 #[test]
@@ -212,10 +211,7 @@ fn marks_the_store_that_is_full_past_its_first_area(rt: HostRuntime) -> Result<(
         ok 512*bb\n\
         ok 1*53 1*6e 1*41 1*70 4*00 1*01 3*00 1*01 499*00\n\
         ";
-    let (out, status) = printed(rt.alloc(), text)?;
-    assert_eq!(rt; out.as_slice(), want.as_bytes());
-    assert_eq!(rt; status, 1);
-    Ok(())
+    answers(&rt, text, want, 1)
 }
 
 #[test]
@@ -248,10 +244,7 @@ fn saves_a_short_last_chunk_short(rt: HostRuntime) -> Result<(), Fail> {
         ok 512*11 512*aa\n\
         err 2 OutOfRange\n\
         ";
-    let (out, status) = printed(rt.alloc(), text)?;
-    assert_eq!(rt; out.as_slice(), want.as_bytes());
-    assert_eq!(rt; status, 1);
-    Ok(())
+    answers(&rt, text, want, 1)
 }
 
 #[test]
@@ -284,10 +277,7 @@ fn shows_the_same_after_it_is_attached_again(rt: HostRuntime) -> Result<(), Fail
         ok\n\
         ok 1*05 7*00 1*02 7*00 1*06 7*00 1*03 487*00\n\
         ";
-    let (out, status) = printed(rt.alloc(), text)?;
-    assert_eq!(rt; out.as_slice(), want.as_bytes());
-    assert_eq!(rt; status, 0);
-    Ok(())
+    answers(&rt, text, want, 0)
 }
 
 #[test]
@@ -316,10 +306,7 @@ fn goes_on_behind_a_full_area_that_is_attached_again(rt: HostRuntime) -> Result<
         ok\n\
         ok 0 128 snapshot 35/64 3\n\
         ";
-    let (out, status) = printed(rt.alloc(), text)?;
-    assert_eq!(rt; out.as_slice(), want.as_bytes());
-    assert_eq!(rt; status, 0);
-    Ok(())
+    answers(&rt, text, want, 0)
 }
 
 #[test]
@@ -352,10 +339,7 @@ fn clears_the_pairs_behind_the_end(rt: HostRuntime) -> Result<(), Fail> {
         ok 512*11\n\
         ok 0 128 snapshot 3/64 2\n\
         ";
-    let (out, status) = printed(rt.alloc(), text)?;
-    assert_eq!(rt; out.as_slice(), want.as_bytes());
-    assert_eq!(rt; status, 0);
-    Ok(())
+    answers(&rt, text, want, 0)
 }
 
 #[test]
@@ -380,10 +364,7 @@ fn takes_no_other_version(rt: HostRuntime) -> Result<(), Fail> {
         ok 1*53 1*6e 1*41 1*70 1*01 3*00 1*02 3*00 1*01 499*00\n\
         ok 32256*00\n\
         ";
-    let (out, status) = printed(rt.alloc(), text)?;
-    assert_eq!(rt; out.as_slice(), want.as_bytes());
-    assert_eq!(rt; status, 1);
-    Ok(())
+    answers(&rt, text, want, 1)
 }
 
 #[test]
@@ -408,10 +389,7 @@ fn takes_no_other_magic_number(rt: HostRuntime) -> Result<(), Fail> {
         ok 1*53 1*6e 1*41 1*71 1*01 3*00 1*01 3*00 1*01 499*00\n\
         ok 32256*00\n\
         ";
-    let (out, status) = printed(rt.alloc(), text)?;
-    assert_eq!(rt; out.as_slice(), want.as_bytes());
-    assert_eq!(rt; status, 1);
-    Ok(())
+    answers(&rt, text, want, 1)
 }
 
 #[test]
@@ -436,10 +414,7 @@ fn takes_no_chunk_of_three_sectors(rt: HostRuntime) -> Result<(), Fail> {
         ok 1*53 1*6e 1*41 1*70 1*01 3*00 1*01 3*00 1*03 499*00\n\
         ok 32256*00\n\
         ";
-    let (out, status) = printed(rt.alloc(), text)?;
-    assert_eq!(rt; out.as_slice(), want.as_bytes());
-    assert_eq!(rt; status, 1);
-    Ok(())
+    answers(&rt, text, want, 1)
 }
 
 #[test]
@@ -468,10 +443,7 @@ fn takes_no_pair_past_the_end_of_the_store(rt: HostRuntime) -> Result<(), Fail> 
         ok 1*05 7*00 1*22 503*00\n\
         ok 31744*00\n\
         ";
-    let (out, status) = printed(rt.alloc(), text)?;
-    assert_eq!(rt; out.as_slice(), want.as_bytes());
-    assert_eq!(rt; status, 1);
-    Ok(())
+    answers(&rt, text, want, 1)
 }
 
 #[test]
@@ -496,10 +468,7 @@ fn takes_no_store_that_is_marked(rt: HostRuntime) -> Result<(), Fail> {
         ok 1*53 1*6e 1*41 1*70 4*00 1*01 3*00 1*01 499*00\n\
         ok 32256*00\n\
         ";
-    let (out, status) = printed(rt.alloc(), text)?;
-    assert_eq!(rt; out.as_slice(), want.as_bytes());
-    assert_eq!(rt; status, 1);
-    Ok(())
+    answers(&rt, text, want, 1)
 }
 
 #[test]
@@ -522,10 +491,7 @@ fn takes_a_header_of_zeros_for_a_fresh_store(rt: HostRuntime) -> Result<(), Fail
         ok\n\
         ok 1*53 1*6e 1*41 1*70 1*01 3*00 1*01 3*00 1*01 499*00\n\
         ";
-    let (out, status) = printed(rt.alloc(), text)?;
-    assert_eq!(rt; out.as_slice(), want.as_bytes());
-    assert_eq!(rt; status, 0);
-    Ok(())
+    answers(&rt, text, want, 0)
 }
 
 #[test]
@@ -544,10 +510,7 @@ fn takes_no_store_of_one_sector(rt: HostRuntime) -> Result<(), Fail> {
         ok\n\
         err 15 StoreTooSmall\n\
         ";
-    let (out, status) = printed(rt.alloc(), text)?;
-    assert_eq!(rt; out.as_slice(), want.as_bytes());
-    assert_eq!(rt; status, 1);
-    Ok(())
+    answers(&rt, text, want, 1)
 }
 
 #[test]
@@ -574,10 +537,7 @@ fn spoils_a_snapshot_whose_write_finds_the_store_full(rt: HostRuntime) -> Result
         err 6 Invalid\n\
         ok 0 128 snapshot Invalid\n\
         ";
-    let (out, status) = printed(rt.alloc(), text)?;
-    assert_eq!(rt; out.as_slice(), want.as_bytes());
-    assert_eq!(rt; status, 1);
-    Ok(())
+    answers(&rt, text, want, 1)
 }
 
 #[test]
@@ -606,10 +566,7 @@ fn saves_no_chunk_for_a_write_of_another_snapshot(rt: HostRuntime) -> Result<(),
         ok\n\
         ok 0 128 snapshot 3/64 2\n\
         ";
-    let (out, status) = printed(rt.alloc(), text)?;
-    assert_eq!(rt; out.as_slice(), want.as_bytes());
-    assert_eq!(rt; status, 0);
-    Ok(())
+    answers(&rt, text, want, 0)
 }
 
 #[test]
@@ -628,10 +585,7 @@ fn takes_no_store_that_may_overflow(rt: HostRuntime) -> Result<(), Fail> {
         ok\n\
         err 10 BadTable\n\
         ";
-    let (out, status) = printed(rt.alloc(), text)?;
-    assert_eq!(rt; out.as_slice(), want.as_bytes());
-    assert_eq!(rt; status, 1);
-    Ok(())
+    answers(&rt, text, want, 1)
 }
 
 /// A text that takes eight snapshots of one origin, and its answers.
@@ -653,20 +607,14 @@ fn takes_no_ninth_snapshot(rt: HostRuntime) -> Result<(), Fail> {
     let (mut text, mut want) = eight_snapshots(rt.alloc())?;
     text.push_str("disk c9 8\ncreate s9 0 128 snapshot base c9 P 1\nsave c9 0 8\n")?;
     want.push_str("ok\nerr 9 TooMany\nok 4096*00\n")?;
-    let (out, status) = printed(rt.alloc(), &text)?;
-    assert_eq!(rt; out.as_slice(), want.as_bytes());
-    assert_eq!(rt; status, 1);
-    Ok(())
+    answers(&rt, &text, &want, 1)
 }
 
 #[test]
 fn prints_nothing_for_nothing(rt: HostRuntime) -> Result<(), Fail> {
     let text = "";
     let want = "";
-    let (out, status) = printed(rt.alloc(), text)?;
-    assert_eq!(rt; out.as_slice(), want.as_bytes());
-    assert_eq!(rt; status, 0);
-    Ok(())
+    answers(&rt, text, want, 0)
 }
 
 #[test]
@@ -678,10 +626,7 @@ fn takes_a_last_line_without_its_end(rt: HostRuntime) -> Result<(), Fail> {
         ok\n\
         ok 512*00\n\
         ";
-    let (out, status) = printed(rt.alloc(), text)?;
-    assert_eq!(rt; out.as_slice(), want.as_bytes());
-    assert_eq!(rt; status, 0);
-    Ok(())
+    answers(&rt, text, want, 0)
 }
 
 #[test]
@@ -696,8 +641,5 @@ fn goes_on_after_a_line_that_is_no_command(rt: HostRuntime) -> Result<(), Fail> 
         ok\n\
         ok 512*00\n\
         ";
-    let (out, status) = printed(rt.alloc(), text)?;
-    assert_eq!(rt; out.as_slice(), want.as_bytes());
-    assert_eq!(rt; status, 1);
-    Ok(())
+    answers(&rt, text, want, 1)
 }

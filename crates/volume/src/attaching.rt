@@ -67,6 +67,7 @@ impl<B: Block> Volume<B> {
         ensures admitted { IfOk result (λ _. attach_refusal store.stale chunk self.old ≡ None) }
         ensures taken { IfOk result (λ number. is_loud_in_all B.layers self.old ≡ true → is_loud (B.layers store.device) ≡ true → IsTaken (plain_of B.contents B.layers self.old) number (shown_array (B.contents self.old.origin) (B.contents store.device)) (plain_of B.contents B.layers self.new)) }
         ensures refused { IfErr result (λ e. IsNotTaken store.stale chunk (B.size self.old.origin) (B.size store.device) (B.contents store.device) self.old e.0) }
+        ensures unread { IfErr result (λ e. attach_refusal store.stale chunk self.old ≡ Some e.0 → e.1 ≡ store) }
         ensures gained { IfOk result (λ number. IsGained B.layers B.size number store self.old self.new) }
         ensures exact { IfOk result (λ number. is_loud_in_all B.layers self.old ≡ true → is_loud (B.layers store.device) ≡ true → IsAttachedAs B.contents B.layers number chunk store self.old self.new) }
         ensures back { IfErr result (λ e. e.0 ≢ NoMemory → is_quiet_of self.old ≡ true → is_loud_in_all B.layers self.old ≡ true → is_loud (B.layers store.device) ≡ true → attached_by (self.old.attached + 1) chunk (store_of B.contents B.layers store) (volume_in B.contents B.layers self.old) ≡ refused_attach e.0 (store_of B.contents B.layers e.1) (volume_in B.contents B.layers self.old)) }

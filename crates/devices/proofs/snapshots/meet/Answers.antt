@@ -2,7 +2,7 @@ use Rattle.devices.specs.Devices.{table_of}
 use Rattle.named.proofs.AtPlace.{put_back}
 use Rattle.named.proofs.SoundFrames.{stack_sound, volume_quiet, volume_sound}
 use Rattle.devices.proofs.Places.{placed}
-use Rattle.devices.proofs.Meeting.{met_ok, met_err, attached_named, put_back_named}
+use Rattle.devices.proofs.Meeting.{met_ok, met_err, busy_ok, busy_err, attached_named, put_back_named}
 use Rattle.devices.proofs.snapshots.meet.Goals as goal
 
 pub returns-in-Ok : goal.returns-in-Ok
@@ -13,6 +13,9 @@ returns-in-Ok c = record {
       (c.in-Ok.ensures.ok (volume_sound (table_of c.args.held.now) c.args.v c.index_mut.result.now sound c.requires.volume c.index_mut.ensures.value)
       (volume_quiet (table_of c.args.held.now) c.args.v c.index_mut.result.now sound c.requires.volume c.index_mut.ensures.value)
       (stack_sound (table_of c.args.held.now) c.args.i c.remove-stack.result sound c.requires.stack c.remove-stack.ensures.value));
+  busy =
+      busy_ok c.args.i c.args.v (table_of c.args.held.now) _ c.remove-stack.result c.index_mut.result.now
+      c.requires.stack c.remove-stack.ensures.value c.requires.volume c.index_mut.ensures.value c.in-Ok.ensures.still;
   named = λ none room named.
       attached_named (table_of c.args.held.now) c.args.name c.args.i c.args.v c.remove-stack.result c.index_mut.result.now c.attach.new.self c.remove-stack.new.self.items
       none room c.requires.stack c.remove-stack.ensures.value c.requires.volume c.index_mut.ensures.value c.remove-stack.ensures.items c.in-Ok.ensures.named named;
@@ -29,6 +32,12 @@ returns-in-Err c = record {
       (volume_quiet (table_of c.args.held.now) c.args.v c.index_mut.result.now sound c.requires.volume c.index_mut.ensures.value)
       (stack_sound (table_of c.args.held.now) c.args.i c.remove-stack.result sound c.requires.stack c.remove-stack.ensures.value))
       (λ none. c.in-Err.ensures.starved none);
+  busy =
+      busy_err c.args.i c.args.v (table_of c.args.held.now) c.remove-stack.result c.in-Err.stack c.index_mut.result.now _ _ c.in-Err.refusal
+      c.requires.stack c.remove-stack.ensures.value c.requires.volume c.index_mut.ensures.value
+      (placed c.args.held.now.stacks.items c.remove-stack.new.self.items c.put_stack_back.new.stacks.items c.args.i c.in-Err.stack c.requires.stack c.remove-stack.ensures.items c.put_stack_back.ensures)
+      (put_back c.args.held.now.volumes.items c.args.v c.index_mut.result.now c.attach.new.self c.index_mut.ensures.value c.in-Err.ensures.same)
+      c.in-Err.ensures.busy;
   named = λ none room named.
       put_back_named (table_of c.args.held.now) c.args.i c.remove-stack.result c.in-Err.stack c.put_stack_back.new.stacks.items _ c.requires.stack c.remove-stack.ensures.value
       (placed c.args.held.now.stacks.items c.remove-stack.new.self.items c.put_stack_back.new.stacks.items c.args.i c.in-Err.stack c.requires.stack c.remove-stack.ensures.items c.put_stack_back.ensures)

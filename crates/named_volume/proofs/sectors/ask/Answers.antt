@@ -1,4 +1,4 @@
-use Rattle.std.proofs.Common.{◌≡◌, ◌≤◌, ◌+◌, ℕ, ap, sym, ◌∙◌, refl, subst, arith}
+use Rattle.std.proofs.Common.{◌≡◌, ℕ, ap, sym, ◌∙◌, refl, subst, arith}
 use Rattle.std.specs.Prelude.{Ok, Err}
 use Rattle.layers.specs.declared.stack.Stack.{Stack}
 use Rattle.settling.specs.Devices.{sectors_of}

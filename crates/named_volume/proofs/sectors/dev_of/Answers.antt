@@ -1,4 +1,4 @@
-use Rattle.std.proofs.Common.{get_or, sym, ◌∙◌, refl}
+use Rattle.std.proofs.Common.{get_or, sym}
 use Rattle.named_volume.proofs.Places.{snapshot_dev, at_place, dev_there}
 use Rattle.named_volume.proofs.sectors.dev_of.Goals as goal
 

@@ -1,7 +1,6 @@
 use Rattle.std.proofs.Common.{sym, ap, ◌∙◌, subst}
 use Rattle.layers.specs.declared.stack.Stack.{Stack}
 use Rattle.layers.specs.Stack.{stack_contents, stack_size}
-use Rattle.settling.specs.Snaps.{Snap}
 use Rattle.resting.specs.Rested.{Attached}
 use Rattle.resting.specs.Using.{IsUsed}
 use Rattle.named.specs.Status.{state_of}

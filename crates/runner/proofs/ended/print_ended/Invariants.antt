@@ -1,5 +1,4 @@
 -- The lines of the requests so far are printed.
-use Rattle.std.proofs.Common.{◌≡◌}
 use Rattle.std.specs.Io.KnownBytes.{Appends}
 use Rattle.runner.specs.Ended.{ended_lines}
 use Rattle.runner.specs.Output.{printed}

@@ -22,10 +22,10 @@ returns-in-Tick-clause-named c = λ named. subst AreNamed (sym c.tick.ensures) (
 
 pub returns-in-StartRead-clause-asks : goal.returns-in-StartRead-clause-asks
 returns-in-StartRead-clause-asks c =
-    let P : Command → Type 0 = λ command. IsFirst (first_refusal command (table_of c.args.held.now)) (told (reworded Some c.numbered.result)) in
-    subst P (sym c.in-StartRead.is) (numbered_first (read_asked c.in-StartRead.device c.in-StartRead.first c.in-StartRead.count (table_of c.args.held.now)) c.start_read.result c.numbered.result c.start_read.ensures.asks c.numbered.ensures)
+    let P : Command → Type 0 = λ command. IsFirst (first_refusal command (table_of c.args.held.now)) (told (reworded Some c.number.result)) in
+    subst P (sym c.in-StartRead.is) (numbered_first (read_asked c.in-StartRead.name c.in-StartRead.first c.in-StartRead.count (table_of c.args.held.now)) c.start_read.result c.number.result c.start_read.ensures.asks c.number.ensures)
 
 pub returns-in-StartWrite-clause-asks : goal.returns-in-StartWrite-clause-asks
 returns-in-StartWrite-clause-asks c =
-    let P : Command → Type 0 = λ command. IsFirst (first_refusal command (table_of c.args.held.now)) (told (reworded Some c.numbered-in-StartWrite.result)) in
-    subst P (sym c.in-StartWrite.is) (numbered_first (write_asked c.in-StartWrite.device c.in-StartWrite.first c.in-StartWrite.bytes (table_of c.args.held.now)) c.start_write.result c.numbered-in-StartWrite.result c.start_write.ensures.asks c.numbered-in-StartWrite.ensures)
+    let P : Command → Type 0 = λ command. IsFirst (first_refusal command (table_of c.args.held.now)) (told (reworded Some c.number-in-StartWrite.result)) in
+    subst P (sym c.in-StartWrite.is) (numbered_first (write_asked c.in-StartWrite.name c.in-StartWrite.first c.in-StartWrite.bytes (table_of c.args.held.now)) c.start_write.result c.number-in-StartWrite.result c.start_write.ensures.asks c.number-in-StartWrite.ensures)

@@ -1,9 +1,8 @@
-use Rattle.std.proofs.Common.{◌≡◌, ◌<◌, ◌≤◌, length, get_or, refl, sym, ap, ◌∙◌, subst, arith, inl, inr}
+use Rattle.std.proofs.Common.{◌≡◌, length, get_or, refl, sym, ap, ◌∙◌, arith, inl, inr}
 use Rattle.std.specs.List.{remove}
 use Rattle.std.proofs.lemmas.List.Edits.{length-remove}
 use Rattle.named.specs.State.{Names, Stacked}
 use Rattle.named.specs.Stacks.{device_of}
-use Rattle.resting.specs.Rested.{Attached}
 use Rattle.named_volume.proofs.Places.{at_place, dev_there}
 use Rattle.named_volume.proofs.Parts.{no_both, parted_is, parted_not, given_loud}
 use Rattle.named_volume.proofs.origin.NamedVolume.detach.Goals as goal
@@ -16,14 +15,14 @@ unreachable-requires c =
     let there = dev_there c.number-number.result c.self.inside.volume.snaps (get_or c.self.inside.volume.snaps c.args.k at.0) (c.number-number.ensures.first at.0) in
     elim c.in-Err.ensures.err.0 [
       | inl none ↦ no_both _ there none.1
-      | inr busy ↦ no_both _ (sym c.self.invariant.still ∙ c.if-not-self.false) busy.1
+      | inr busy ↦ no_both _ (sym c.is_quiet.ensures.value ∙ c.if-not-is_quiet.false) busy.1
     ]
 
-pub returns-then-not-self-clause-busy : goal.returns-then-not-self-clause-busy
-returns-then-not-self-clause-busy c =
+pub returns-then-not-is_quiet-clause-busy : goal.returns-then-not-is_quiet-clause-busy
+returns-then-not-is_quiet-clause-busy c =
     let lt = rw (← c.self.view_is) at c.requires in
     let many = c.self.invariant.many in
-    rw (← c.self.view_is) (parted_not c.args.k _ c.self.inside.volume refl lt (omega (arith, lt, many)) c.if-not-self.true)
+    rw (← c.self.view_is) (parted_not c.args.k _ c.self.inside.volume refl lt (omega (arith, lt, many)) (sym c.is_quiet.ensures.value ∙ c.if-not-is_quiet.true))
 
 pub invariant_of-self : goal.invariant_of-self
 invariant_of-self c =
@@ -40,9 +39,7 @@ invariant_of-self c =
       requests = rw out.requests old.requests;
       copies = rw out.copies old.copies;
       few = old.few;
-      still = c.if-not-self.false ∙ sym c.in-Ok.ensures.quiet.1;
-      loud = λ sound. (c.detach.ensures.settled (old.settled sound c.if-not-self.false)).loud;
-      settled = λ sound quiet. c.detach.ensures.settled (old.settled sound quiet);
+      loud = λ sound. (c.detach.ensures.settled (c.is_quiet.ensures.rest c.if-not-is_quiet.false (old.loud sound))).loud;
     }
 
 pub returns-clause-parted : goal.returns-clause-parted
@@ -50,10 +47,10 @@ returns-clause-parted c =
     let lt = rw (← c.self.view_is) at c.requires in
     let many = c.self.invariant.many in
     rw (← c.self.view_is)
-    (parted_is c.args.k _ c.self.inside.volume c.detach.new.self c.number-number.result c.remove.result c.in-Ok.given refl lt c.if-not-self.false c.remove.ensures.value (omega (arith, lt, many)) c.number-number.ensures.value c.in-Ok.ensures.left
-    c.of_parts.result _ (c.of_parts.ensures ∙ ap (λ (n : Names). let s : Stacked = record { names = n.store; device = device_of c.in-Ok.given.device; stale = c.in-Ok.given.stale } in s) c.store.view_is) (rw c.remove.ensures.items (rw c.in-Ok.ensures.left.attached refl)))
+    (parted_is c.args.k _ c.self.inside.volume c.detach.new.self c.number-number.result c.remove.result c.in-Ok.given refl lt (sym c.is_quiet.ensures.value ∙ c.if-not-is_quiet.false) c.remove.ensures.value (omega (arith, lt, many)) c.number-number.ensures.value c.in-Ok.ensures.left
+    c.of_parts.result _ (c.of_parts.ensures ∙ ap (λ (n : Names). let s : Stacked = record { names = n.store; device = device_of c.in-Ok.given.device; stale = c.in-Ok.given.stale } in s) c.store.view_is) (rw c.remove.ensures.items (rw c.in-Ok.ensures.left.attached (rw (c.in-Ok.ensures.quiet.1 ∙ sym c.in-Ok.ensures.quiet.0) refl))))
 
 pub returns-clause-loud : goal.returns-clause-loud
 returns-clause-loud c =
     rw (← c.self.view_is) (λ sound.
-    rw c.of_parts.ensures (given_loud c.number-number.result c.in-Ok.given c.self.inside.volume c.detach.new.self c.in-Ok.ensures.left (c.self.invariant.settled sound c.if-not-self.false)))
+    rw c.of_parts.ensures (given_loud c.number-number.result c.in-Ok.given c.self.inside.volume c.detach.new.self c.in-Ok.ensures.left (c.is_quiet.ensures.rest c.if-not-is_quiet.false (c.self.invariant.loud sound))))

@@ -1,4 +1,4 @@
-use Rattle.std.proofs.Common.{◌≡◌, ◌+◌, refl, sym, ap, ◌∙◌}
+use Rattle.std.proofs.Common.{refl, sym, ◌∙◌}
 use Rattle.chunk.specs.Pieces.{span_of}
 use Rattle.named_volume.proofs.Serves.{read_refused, read_does}
 use Rattle.named_volume.proofs.origin.NamedVolume.read.Goals as goal
@@ -8,8 +8,8 @@ returns-in-Err-clause-done c =
     rw (← c.self.view_is) (λ sound quiet.
     read_refused c.args.role c.args.first c.args.count _ _ c.in-Err.refusal (c.in-Err.ensures.err _ refl refl) (rw c.in-Err.ensures.same refl) c.in-Err.ensures.known)
 
-pub returns-then-self-clause-done : goal.returns-then-self-clause-done
-returns-then-self-clause-done c =
+pub returns-then-is_quiet-clause-done : goal.returns-then-is_quiet-clause-done
+returns-then-is_quiet-clause-done c =
     rw (← c.self.view_is) (λ sound quiet.
-    read_does c.args.role c.args.first c.args.count _ _ c.in-Ok.asks.0 (span_of c.in-Ok.asks.1) c.self.inside.volume c.read.new.self (c.in-Ok.ensures.ok _ refl refl) refl (rw c.read.ensures.kept.attached (rw c.in-Ok.ensures.more.0 refl))
-    (c.self.invariant.settled sound quiet) c.in-Ok.ensures.there c.read.result c.read.ensures.done c.read.ensures.refused)
+    read_does c.args.role c.args.first c.args.count _ _ c.in-Ok.asks.0 (span_of c.in-Ok.asks.1) c.self.inside.volume c.read.new.self (c.in-Ok.ensures.ok _ refl refl) refl (rw c.read.ensures.kept.attached (rw c.in-Ok.ensures.more.0 (rw (c.read.ensures.quiet ∙ sym c.if-is_quiet.true ∙ c.is_quiet.ensures.value) refl)))
+    (c.is_quiet.ensures.rest c.if-is_quiet.true (c.self.invariant.loud sound)) c.in-Ok.ensures.there c.read.result c.read.ensures.done c.read.ensures.refused)

@@ -4,4 +4,4 @@ use Rattle.named_volume.proofs.origin.NamedVolume.start.Goals as goal
 
 pub returns-clause-flies : goal.returns-clause-flies
 returns-clause-flies c =
-    start_flies stack_contents stack_layers _ _ _ c.is_quiet-self-inside.result c.start-started.result c.is_quiet-self-inside.ensures.value c.start-started.ensures.ok
+    start_flies stack_contents stack_layers _ _ _ c.start.result c.start.ensures.ok

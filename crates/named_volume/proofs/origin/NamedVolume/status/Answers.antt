@@ -14,5 +14,5 @@ returns-in-Ok c =
     rw (← c.self.view_is) (λ sound quiet. elim c.match-role.branch [
       | in-Origin w ↦ rw w.in-Origin.is (origin_says c.from-sectors.result c.in-Ok.text _ w.origin_line-text.result (sym w.text-is ∙ c.in-Ok.is) w.origin_line-text.ensures size)
       | in-Snapshot w ↦ (let lt = rw w.in-Snapshot.is at needs in
-          rw w.in-Snapshot.is (snapshot_says w.in-Snapshot.k c.from-sectors.result w.state_at.result c.in-Ok.text _ c.self.inside.volume w.snapshot_line-text.result refl (omega (arith, lt, many)) (w.state_at.ensures (c.self.invariant.settled sound quiet)) (sym w.text-is ∙ c.in-Ok.is) w.snapshot_line-text.ensures size))
+          rw w.in-Snapshot.is (snapshot_says w.in-Snapshot.k c.from-sectors.result w.state_at.result c.in-Ok.text _ c.self.inside.volume w.snapshot_line-text.result refl (omega (arith, lt, many)) (w.state_at.ensures (c.look.ensures quiet (c.self.invariant.loud sound))) (sym w.text-is ∙ c.in-Ok.is) w.snapshot_line-text.ensures size))
     ])

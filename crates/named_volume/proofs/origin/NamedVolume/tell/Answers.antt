@@ -7,9 +7,9 @@ use Rattle.named_volume.proofs.origin.NamedVolume.tell.Goals as goal
 pub invariant_of-self : goal.invariant_of-self
 invariant_of-self c =
     let told = c.tell_role.ensures in
-    stays_held _ c.self.inside.volume c.tell_role.new.volume _ _ _ c.self.invariant told.kept told.requests told.copies told.quiet told.settled
+    stays_held _ c.self.inside.volume c.tell_role.new.volume _ _ c.self.invariant told.kept told.requests told.copies
 
 pub returns : goal.returns
 returns c =
     rw (← c.self.view_is)
-    (mounted c.args.role c.args.message.now c.tell_role.result _ _ (settled_in c.tell_role.new.volume) (rw c.tell_role.ensures.kept.attached refl) c.tell_role.ensures.steps)
+    (mounted c.args.role c.args.message.now c.tell_role.result _ _ (settled_in c.tell_role.new.volume) (rw c.tell_role.ensures.kept.attached (rw c.tell_role.ensures.quiet refl)) c.tell_role.ensures.steps)

@@ -1,0 +1,22 @@
+-- A snapshot of a volume with requests in flight. That none is taken is this project's own.
+use Rattle.std.specs.Prelude.{◌≡◌, ◌⊎◌, ℕ, false, Result, Ok, Err, if◌then◌else◌}
+use Rattle.sector.specs.declared.refusal.Refusal.{Refusal}
+use Rattle.sector.specs.declared.refusal.Refusal.TheVariants.{NoMemory, NotQuiet, Stale}
+use Rattle.table.specs.declared.lines.Target.{Target}
+use Rattle.table.specs.declared.lines.Target.TheVariants.{Origin, Snapshot, Merge, Flakey, Dust, Error}
+use Rattle.named.specs.State.{Table}
+use Rattle.named.specs.Snapshots.{Named, named_in}
+
+-- Of a volume with anything left to do no snapshot is taken, and nothing changes: a stack with a mark is Stale first.
+abbrev pub IsBusyRefused : Result (Unit {0}) Refusal → Table → Table → Result Named Refusal → Type 0
+IsBusyRefused result old new (Err e) = Unit {0}
+IsBusyRefused result old new (Ok n) = n.volume.quiet ≡ false → (new ≡ old) × ((result ≡ Err NoMemory) ⊎ (result ≡ Err (if n.stacked.stale then Stale else NotQuiet)))
+
+-- the same of a table line
+abbrev pub IsBusyTarget : Result (Unit {0}) Refusal → Table → Table → ℕ → Target → Type 0
+IsBusyTarget result old new sectors (Snapshot device store chunk) = IsBusyRefused result old new (named_in sectors device store old)
+IsBusyTarget result old new sectors (Flakey device offset up down features) = Unit {0}
+IsBusyTarget result old new sectors (Origin device) = Unit {0}
+IsBusyTarget result old new sectors (Merge device store chunk) = Unit {0}
+IsBusyTarget result old new sectors (Dust device block) = Unit {0}
+IsBusyTarget result old new sectors Error = Unit {0}
