@@ -70,7 +70,7 @@ area_zeroed_picture o rs a v w h e loud =
     ∙ picture_kept v.chunk (area_place v.chunk a) o v.store w.store v.pairs h.text.some e.only (area_unnamed o rs v h a) (h.stored loud) (e.stored loud)
 
 -- a published chunk, and one that is not, with pairs and their marks more
-published_more : (ps qs : List Pair) (ms ns : List Mark) (c : ℕ) → All (λ (n : Mark). place_of ps n.chunk ≡ None) ns → IsPublished ps ms c → IsPublished (ps ++ qs) (ms ++ ns) c
+pub published_more : (ps qs : List Pair) (ms ns : List Mark) (c : ℕ) → All (λ (n : Mark). place_of ps n.chunk ≡ None) ns → IsPublished ps ms c → IsPublished (ps ++ qs) (ms ++ ns) c
 published_more ps qs ms ns c fresh old = record {
   placed = placed_at (place_of ps c) refl;
   unmarked = All-append (λ m. m.chunk ≢ c) ms ns old.unmarked (All-weaker (λ n. place_of ps n.chunk ≡ None) (λ m. m.chunk ≢ c) (λ n none e. old.placed (ap (place_of ps) (sym e) ∙ none)) ns fresh);
@@ -172,7 +172,7 @@ module _ (o : List ℕ) (rs : List Flight) (count a : ℕ) (v w : SnapBooks) (h 
   same_at loud i lt = picture-only v.chunk (area_place v.chunk a) o v.store w.store (v.pairs ++ new) h.text.some e.only unnamed_now i
       ∙ picture-more v.chunk o v.store v.pairs new none_now (copied_now loud) i lt
 
-  fresh_marks : All (λ (n : Mark). place_of v.pairs n.chunk ≡ None) (map mark_of first)
+  pub fresh_marks : All (λ (n : Mark). place_of v.pairs n.chunk ≡ None) (map mark_of first)
   fresh_marks = All-map (λ (n : Mark). place_of v.pairs n.chunk ≡ None) mark_of first (λ k d lt.
       let p = get_or first k d in
       let len : length first ≡ count = length-take-le count v.copies e.few in

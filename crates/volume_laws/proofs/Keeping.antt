@@ -141,7 +141,7 @@ placed_more ps qs c named = at (place_of ps c) refl
     at None is = absurd (named is)
     at (Some n) is = λ none. some_ne_none n (sym (place_of-front_kept ps qs c n is) ∙ none)
 
-placed_behind : (ps qs : List Pair) (c : ℕ) → place_of qs c ≢ None → place_of (ps ++ qs) c ≡ None → ⊥
+pub placed_behind : (ps qs : List Pair) (c : ℕ) → place_of qs c ≢ None → place_of (ps ++ qs) c ≡ None → ⊥
 placed_behind [] qs c named none = named none
 placed_behind (p ∷ ps) qs c named none = elim (cases_Bool (nat_eq p.old c)) [
   | inl same ↦ (let got : Some p.new ≡ None = rw same at none in some_ne_none p.new got)

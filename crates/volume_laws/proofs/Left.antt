@@ -16,10 +16,10 @@ use Rattle.volume_laws.specs.Books.{SnapBooks}
 use Rattle.volume_laws.specs.Steps.{ReadsCopy, WritesCopy, ZeroesArea, Commits, Unmarks, SpoilsSnap, CopyGoesOn, mark_of}
 use Rattle.volume_laws.specs.Due.{DueSnap, steps_at, steps_of, left_in, left_of}
 
-abbrev flag : Bool → ℕ
+abbrev pub flag : Bool → ℕ
 flag b = if b then 1 else 0
 
-flag_le : (b : Bool) → flag b ≤ 1
+pub flag_le : (b : Bool) → flag b ≤ 1
 flag_le true = omega arith
 flag_le false = omega arith
 

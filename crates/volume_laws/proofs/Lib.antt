@@ -35,3 +35,10 @@ pub mod MergeEvents
 pub mod MergeIssue
 pub mod WholeMerge
 pub mod Routed
+pub mod MergeDue
+pub mod MergeQuiet
+pub mod MergeLeft
+pub mod MergeWaiting
+pub mod MergeSaved
+pub mod MergeTests
+pub mod MergeSteps

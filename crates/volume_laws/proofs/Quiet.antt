@@ -75,7 +75,7 @@ all_done snaps rs e k d lt =
     }
 
 -- a test that fails of some element
-fails_any : {X : Type 0} (test : X → Bool) (xs : List X) → list_all test xs ≡ false → Any (λ x. test x ≡ false) xs
+pub fails_any : {X : Type 0} (test : X → Bool) (xs : List X) → list_all test xs ≡ false → Any (λ x. test x ≡ false) xs
 fails_any test [] e = absurd (false≢true (sym e))
 fails_any test (x ∷ xs) e = elim (cases_Bool (test x)) [
   | inl here ↦ (let rest : list_all test xs ≡ false = rw here at e in
@@ -83,12 +83,12 @@ fails_any test (x ∷ xs) e = elim (cases_Bool (test x)) [
   | inr fails ↦ (0, x, omega arith, refl, fails)
 ]
 
-and_false : (a b : Bool) → (a && b) ≡ false → (a ≡ false) ⊎ (b ≡ false)
+pub and_false : (a b : Bool) → (a && b) ≡ false → (a ≡ false) ⊎ (b ≡ false)
 and_false true b e = inr e
 and_false false b e = inl refl
 
 -- a snapshot with nothing left is saved, where it is saving
-done_saved : (s : SnapBooks) (first : ℕ) → IsDone s → (s.live ≡ true → IsSaving (first / s.chunk) s) → is_saved first s ≡ false → ⊥
+pub done_saved : (s : SnapBooks) (first : ℕ) → IsDone s → (s.live ≡ true → IsSaving (first / s.chunk) s) → is_saved first s ≡ false → ⊥
 done_saved s first done saving e = at s.live refl
   where
     c : ℕ
@@ -111,13 +111,15 @@ done_saved s first done saving e = at s.live refl
     at true live = false≢true (sym e ∙ (rw live (published live)))
     at false dead = false≢true (sym e ∙ (rw dead refl))
 
--- no request is held
-no_wait : (v : Books) (f : Flight) → All IsDone v.snaps → WaitsHolds v.merge v.snaps f → v.merge ≡ None → f.route ≡ Held → ⊥
-no_wait v f done h none held = at (kind_of f.request) refl
-  where
-    ungrouped : is_grouped v.merge f ≡ false
-    ungrouped = ap (λ m. is_grouped m f) none
+-- no invalid mark is untried
+pub all_tried : (snaps : List SnapBooks) → All IsDone snaps → list_any (λ s. s.untried) snaps ≡ false
+all_tried [] all = refl
+all_tried (s ∷ ss) all = rw (All-head IsDone s ss all).tried (all_tried ss (All-tail IsDone s ss all))
 
+-- no request is held whose chunk is in no group
+no_wait : (v : Books) (f : Flight) → All IsDone v.snaps → WaitsHolds v.merge v.snaps f → is_grouped v.merge f ≡ false → f.route ≡ Held → ⊥
+no_wait v f done h ungrouped held = at (kind_of f.request) refl
+  where
     snap_left : (n : ℕ) → Any (WaitsFor n f) v.snaps → ⊥
     snap_left n (k, s, within, is, waits) =
         let d : IsDone s = subst IsDone is (done k s within) in
@@ -125,10 +127,6 @@ no_wait v f done h none held = at (kind_of f.request) refl
           | inl (j, p, in_copies, at, same) ↦ omega (arith, in_copies, ap length d.copies)
           | inr (placed, (j, m, in_marks, at, same)) ↦ omega (arith, in_marks, ap length d.marks)
         ]
-
-    all_tried : (snaps : List SnapBooks) → All IsDone snaps → list_any (λ s. s.untried) snaps ≡ false
-    all_tried [] all = refl
-    all_tried (s ∷ ss) all = rw (All-head IsDone s ss all).tried (all_tried ss (All-tail IsDone s ss all))
 
     write_left : kind_of f.request ≡ OriginWrite → ⊥
     write_left kind =
@@ -144,19 +142,19 @@ no_wait v f done h none held = at (kind_of f.request) refl
     at (SnapRead n) is = h.snap_read n is held
     at (SnapWrite n) is = snap_left n (h.snap_write n is held)
 
-unrouted : (route : Route) → is_routed route ≡ false → route ≡ Held
+pub unrouted : (route : Route) → is_routed route ≡ false → route ≡ Held
 unrouted Held e = refl
 unrouted Origin e = absurd (false≢true (sym e))
 unrouted (Store place) e = absurd (false≢true (sym e))
 unrouted Refused e = absurd (false≢true (sym e))
 
-none_left : (v : Books) (rs : List Flight) → All (λ f. is_issuable f ≡ false) rs → All (WaitsHolds v.merge v.snaps) rs → All IsDone v.snaps → v.merge ≡ None → rs ≡ []
+pub none_left : (v : Books) (rs : List Flight) → All (λ f. is_issuable f ≡ false) rs → All (WaitsHolds v.merge v.snaps) rs → All IsDone v.snaps → ((f : Flight) → is_grouped v.merge f ≡ false) → rs ≡ []
 none_left v [] idle waits done none = refl
 none_left v (f ∷ fs) idle waits done none =
-    absurd (no_wait v f done (All-head (WaitsHolds v.merge v.snaps) f fs waits) none (unrouted f.route (All-head (λ x. is_issuable x ≡ false) f fs idle)))
+    absurd (no_wait v f done (All-head (WaitsHolds v.merge v.snaps) f fs waits) (none f) (unrouted f.route (All-head (λ x. is_issuable x ≡ false) f fs idle)))
 
 pub quiet : (v : Books) (snaps : List DueSnap) → Waits v → v.merge ≡ None → map books_of snaps ≡ v.snaps → due_of snaps v.requests ≡ None → IsQuiet v
 quiet v snaps h none shown e =
     let idle = nothing_due snaps v.requests e in
     let done : All IsDone v.snaps = subst (All IsDone) shown (All-map IsDone books_of snaps (all_done snaps v.requests idle)) in
-    record { requests = none_left v v.requests idle.issued h.held done none; snaps = done }
+    record { requests = none_left v v.requests idle.issued h.held done (λ f. ap (λ m. is_grouped m f) none); snaps = done }

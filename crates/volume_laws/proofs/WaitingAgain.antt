@@ -26,11 +26,11 @@ use Rattle.volume_laws.proofs.Keeping.{published_test}
 use Rattle.volume_laws.proofs.Placing.{placed_cases}
 use Rattle.volume_laws.proofs.Spoiling.{alone_in}
 
--- all but that an origin write is not clear
+-- All but that an origin write is not clear. What saves its chunk is asked only where the new route holds it again.
 pub record HalfWaits (merge : Option MergeBooks) (snaps : List SnapBooks) (f : Flight) : Type 0 where
   pub origin_read : kind_of f.request ≡ OriginRead → f.route ≢ Held
   pub snap_read : (n : ℕ) → kind_of f.request ≡ SnapRead n → f.route ≢ Held
-  pub saving : kind_of f.request ≡ OriginWrite → f.route ≡ Held → is_grouped merge f ≡ false → All (λ s. s.live ≡ true → IsSaving (chunk_of s.chunk f) s) snaps
+  pub saving : kind_of f.request ≡ OriginWrite → f.route ≡ Held → is_grouped merge f ≡ false → new_route merge (is_clear snaps) f ≡ Held → All (λ s. s.live ≡ true → IsSaving (chunk_of s.chunk f) s) snaps
   pub snap_write : (n : ℕ) → kind_of f.request ≡ SnapWrite n → f.route ≡ Held → Any (WaitsFor n f) snaps
   pub read_goes : kind_of f.request ≡ OriginRead → f.route ≢ Refused
   pub write_goes : kind_of f.request ≡ OriginWrite → f.route ≢ Refused
@@ -101,7 +101,7 @@ again_waits merge snaps f h =
       origin_read = λ kind held. h.origin_read kind (was held).0;
       snap_read = λ n kind held. h.snap_read n kind (was held).0;
       origin_write = λ kind held free. new_held merge (is_clear snaps) f ((was held).1 kind) (same_group merge f (again_route_of (kind_of f.request) f.route (new_route merge (is_clear snaps) f)) ∙ free);
-      saving = λ kind held free. h.saving kind (was held).0 (same_group merge f (again_route_of (kind_of f.request) f.route (new_route merge (is_clear snaps) f)) ∙ free);
+      saving = λ kind held free. h.saving kind (was held).0 (same_group merge f (again_route_of (kind_of f.request) f.route (new_route merge (is_clear snaps) f)) ∙ free) ((was held).1 kind);
       snap_write = λ n kind held. any_same n f (h.snap_write n kind (was held).0);
       read_goes = λ kind e. h.read_goes kind (refused e);
       write_goes = λ kind e. h.write_goes kind (refused e);
@@ -152,7 +152,7 @@ waits_tried k s s' v u w h e t again = waits_rerouted u w
     half f old = record {
       origin_read = old.origin_read;
       snap_read = old.snap_read;
-      saving = λ kind held free. All-set (λ x. x.live ≡ true → IsSaving (chunk_of x.chunk f) x) v.snaps k s' (λ live. absurd (false≢true (sym t.live ∙ live))) (old.saving kind held free);
+      saving = λ kind held free _. All-set (λ x. x.live ≡ true → IsSaving (chunk_of x.chunk f) x) v.snaps k s' (λ live. absurd (false≢true (sym t.live ∙ live))) (old.saving kind held free);
       snap_write = λ n kind held. any_other (WaitsFor n f) v.snaps k s s' e.within e.was (λ waits. absurd (false≢true (sym t.was ∙ waits.live))) (old.snap_write n kind held);
       read_goes = old.read_goes;
       write_goes = old.write_goes;
@@ -331,7 +331,7 @@ waits_published k j m s s' v u x w h e t places again = waits_rerouted x w
     half f old = record {
       origin_read = λ is held. old.origin_read is (was_held f held);
       snap_read = λ n is held. old.snap_read n is (was_held f held);
-      saving = λ is held free. All-set (λ y. y.live ≡ true → IsSaving (chunk_of y.chunk f) y) v.snaps k s'
+      saving = λ is held free _. All-set (λ y. y.live ≡ true → IsSaving (chunk_of y.chunk f) y) v.snaps k s'
           (λ live. (let before : IsSaving (chunk_of s.chunk f) s = subst (λ (y : SnapBooks). y.live ≡ true → IsSaving (chunk_of y.chunk f) y) (sym e.was) (old.saving is (was_held f held) (free_before f free) k s e.within) (sym t.same.live ∙ live) in
           subst (λ c. IsSaving (chunk_of c f) s') (sym t.same.chunk) (saves (chunk_of s.chunk f) before)))
           (old.saving is (was_held f held) (free_before f free));

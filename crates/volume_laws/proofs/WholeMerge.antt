@@ -37,7 +37,7 @@ use Rattle.volume_laws.proofs.MergeEvents.{merge_read, merge_write, merge_write_
 use Rattle.volume_laws.proofs.MergeIssue.{merge_place_write, merge_place_picture, merge_disk_write, merge_disk_picture, merge_place_read, merge_disk_read}
 
 -- another state of the merge that shows the same
-silent_merge : (o : List ℕ) (n : ℕ) (l : Bool) (vs : List SnapBooks) (m m' : MergeBooks) (rs : List Flight) → Holds (books o n l vs (Some m) rs) → MergeHolds o rs m' → m'.number ≡ m.number → (m.loud ≡ true → picture m'.chunk o m'.store ≡ picture m.chunk o m.store)
+pub silent_merge : (o : List ℕ) (n : ℕ) (l : Bool) (vs : List SnapBooks) (m m' : MergeBooks) (rs : List Flight) → Holds (books o n l vs (Some m) rs) → MergeHolds o rs m' → m'.number ≡ m.number → (m.loud ≡ true → picture m'.chunk o m'.store ≡ picture m.chunk o m.store)
     → IsSilent (books o n l vs (Some m) rs) (books o n l vs (Some m') rs)
 silent_merge o n l vs m m' rs h merge number same = record {
   holds = record { whole = h.whole; merge = merge; snaps = h.snaps; requests = h.requests; numbers = h.numbers };

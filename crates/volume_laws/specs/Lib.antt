@@ -7,5 +7,8 @@ pub mod Steps
 pub mod Again
 pub mod Outcomes
 pub mod Due
+pub mod MergeDue
 pub mod Waits
+pub mod MergeWaits
+pub mod MergeSteps
 pub mod Shape

@@ -1,0 +1,4 @@
+pub mod Changes
+pub mod Groups
+pub mod Looks
+pub mod Stages

@@ -1,0 +1,6 @@
+pub mod Due
+pub mod Held
+pub mod Lists
+pub mod Looks
+pub mod Merging
+pub mod Steps

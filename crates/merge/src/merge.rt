@@ -1,0 +1,129 @@
+// A merge, its beginning and its end, and what callers ask of its store.
+ghost use Rattle.std.specs.Prelude.{◌≡◌, ℕ, ◌+◌, ◌*◌, ◌<◌, ◌≤◌, length, replicate, IfOk, IfErr, None, true, false};
+ghost use Rattle.sector.specs.declared.refusal.Refusal.TheVariants.{NoMemory};
+ghost use Rattle.chunk.specs.Sizes.{is_chunk};
+ghost use Rattle.model.specs.Picture.{place_of as place_in};
+ghost use Rattle.store.specs.declared.state.Left.TheVariants.{Nothing};
+ghost use Rattle.store.specs.Held.{committed, pending as pending_of};
+
+use crate::Group;
+use chunk_alloc::Usage;
+use device::Block;
+use plain::SnapId;
+use sector::{Chunk, Refusal, SECTOR_BYTES};
+use std::alloc::Global;
+use std::marker::Model;
+use store::Store;
+
+/// A store that is being merged into its origin. Contracts see the number of its snapshot, the device of its store with the
+/// store's state, its pairs, the present group, the buffer, and whether it failed.
+#[derive(Drop)]
+pub struct Merge<B: Block> {
+    pub(crate) number: SnapId,
+    pub(crate) store: Store<B>,
+    pub(crate) group: Option<Group>,
+    /// A chunk of room.
+    pub(crate) buffer: Vec<u8>,
+    /// One of its operations was answered by a fault, and it was not resumed.
+    pub(crate) failed: bool,
+}
+
+impl<B: Block> Model for Merge<B> {
+    ghost use Rattle.merge.specs.Merging.{Merging};
+
+    ghost Value = { Merging B };
+
+    ghost use Rattle.std.specs.Prelude.{length};
+    ghost use Rattle.store.specs.Held.{committed, pending};
+    ghost use Rattle.merge.specs.Held.{IsMerging};
+
+    ghost view = { λ m. record { number = m.number; device = m.store.device; state = m.store.state; next = m.store.places.next; pairs = committed m.store.exceptions; group = m.group; buffer = m.buffer.items; failed = m.failed } };
+
+    ghost invariant = { λ m. IsMerging m.store.state (length (pending m.store.exceptions)) (committed m.store.exceptions) m.group m.buffer.items m.failed };
+}
+
+impl<B: Block> Merge<B> {
+    /// Begins the merge of a snapshot's store, which the load's writes have left ready and which has no copies under way.
+    /// `NoMemory` where memory for a chunk is refused: the store is given back as it was.
+    pub fn begin(
+        alloc: Global,
+        number: SnapId,
+        store: Store<B>,
+    ) -> Result<Merge<B>, (Refusal, Store<B>)>
+        requires allowed { is_chunk store.state.chunk ≡ true }
+        requires ready { store.state.left ≡ Nothing }
+        requires idle { length (pending_of store.exceptions) ≡ 0 }
+        ensures begun { IfOk result (λ m. m ≡ record { number = number; device = store.device; state = store.state; next = store.places.next; pairs = committed store.exceptions; group = None; buffer = replicate (512 * store.state.chunk) 0; failed = false }) }
+        ensures refused { IfErr result (λ e. (e.0 ≡ NoMemory) × (e.1 ≡ store)) }
+    {
+        let Ok(buffer) = vec![in alloc; 0u8; SECTOR_BYTES * store.chunk() as usize] else {
+            return Err((Refusal::NoMemory, store));
+        };
+        Ok(Merge {
+            number,
+            store,
+            group: None,
+            buffer,
+            failed: false,
+        })
+    }
+
+    /// Gives the device of the store back, as it is.
+    pub fn into_device(self) -> B
+        ensures { result ≡ self.device }
+    {
+        let Merge {
+            number: _,
+            store,
+            group: _,
+            buffer: _,
+            failed: _,
+        } = self;
+        store.into_device()
+    }
+
+    /// The number of its snapshot.
+    pub fn number(&self) -> SnapId
+        ensures { result ≡ self.now.number }
+    {
+        self.number
+    }
+
+    /// The sectors of a chunk.
+    pub fn chunk(&self) -> u32
+        ensures is { result ≡ self.now.state.chunk }
+        ensures allowed { is_chunk result ≡ true }
+    {
+        self.store.chunk()
+    }
+
+    /// The sectors of the origin.
+    pub fn sectors(&self) -> u64
+        ensures { result ≡ self.now.state.origin }
+    {
+        self.store.state.origin
+    }
+
+    /// The device of its store.
+    pub fn device(&self) -> &B
+        ensures { result.now ≡ self.now.device }
+    {
+        self.store.device()
+    }
+
+    /// The numbers of a status line, in sectors.
+    pub fn usage(&self) -> Usage
+        ensures allocated { result.allocated ≡ self.now.next * self.now.state.chunk }
+        ensures total { result.total ≡ self.now.state.size }
+        ensures metadata { result.metadata ≡ (self.now.state.current + 2) * self.now.state.chunk }
+    {
+        self.store.usage()
+    }
+
+    /// The chunk of the store with the copy of a chunk of the origin.
+    pub fn place_of(&self, chunk: Chunk) -> Option<Chunk>
+        ensures { result ≡ place_in self.now.pairs chunk }
+    {
+        self.store.get(chunk)
+    }
+}

@@ -1,0 +1,68 @@
+// Requests at the place of a pair.
+ghost use Rattle.std.specs.Prelude.{◌≡◌, ℕ, ◌+◌, ◌*◌, ◌<◌, ◌≤◌, ◌++◌, Bool, length, is_ok, OnOk, OnErr, Some, true};
+ghost use Rattle.sector.specs.Bytes.{sectors_at};
+ghost use Rattle.device.specs.declared.operation.Operation.TheVariants.{Reads, Writes};
+ghost use Rattle.device.specs.Layers.{is_loud};
+ghost use Rattle.model.specs.Picture.{place_of as place_in};
+ghost use Rattle.store.specs.Operations.{IsOneOperation};
+ghost use Rattle.volume_laws.specs.MergeSteps.{WritesStore};
+ghost use Rattle.merge.specs.Lists.{released_of};
+ghost use Rattle.merge.specs.Steps.{WritesPlaceOf};
+ghost use Rattle.merge.specs.Merging.{books_of, due_of};
+
+use crate::Merge;
+use device::{Block, Io};
+use sector::Chunk;
+
+impl<B: Block> Merge<B> {
+    /// Writes so many sectors at the place of a pair, from one of its sectors on. At `Io` nothing changed but
+    /// the device's counts and layers.
+    pub fn write_at(&mut self, place: Chunk, first: u32, count: u32, bytes: &[u8]) -> Result<(), Io>
+        requires placed { (c : ℕ) × (place_in (self.old.pairs ++ released_of self.old.group) c ≡ Some place) }
+        requires some { 0 < count }
+        requires part { first + count ≤ self.old.state.chunk }
+        requires room { length bytes.now ≡ 512 * count }
+
+        ensures operation { IsOneOperation (Writes (self.old.state.chunk * place + first) count) (is_ok result) (B.layers self.old.device) (B.layers self.new.device) (B.fault_count self.old.device) (B.fault_count self.new.device) (B.done_count self.old.device) (B.done_count self.new.device) }
+        ensures loud { is_loud (B.layers self.new.device) ≡ is_loud (B.layers self.old.device) }
+        ensures writes { OnOk result ((loud : Bool) → (loud ≡ true → is_loud (B.layers self.old.device) ≡ true) → WritesStore (B.contents self.new.device) (due_of B.contents loud self.old) (due_of B.contents loud self.new) × WritesPlaceOf place first bytes.now (books_of B.contents loud self.old) (books_of B.contents loud self.new)) }
+        ensures same { OnErr result (B.contents self.new.device ≡ B.contents self.old.device) }
+        ensures durable { B.durable self.new.device ≡ B.durable self.old.device }
+        ensures size { B.size self.new.device ≡ B.size self.old.device }
+        ensures fields { self.new ≡ record self.old { device = self.new.device } }
+    {
+        match self.store.write_chunk(place, first, count, bytes) {
+            Ok(()) => Ok(()),
+            Err(io) => Err(io),
+        }
+    }
+
+    /// Reads so many sectors at the place of a pair, from one of its sectors on. At `Io` the buffer is as it
+    /// was.
+    pub fn read_at(
+        &mut self,
+        place: Chunk,
+        first: u32,
+        count: u32,
+        out: &mut [u8],
+    ) -> Result<(), Io>
+        requires placed { (c : ℕ) × (place_in (self.old.pairs ++ released_of self.old.group) c ≡ Some place) }
+        requires some { 0 < count }
+        requires part { first + count ≤ self.old.state.chunk }
+        requires room { length out.old ≡ 512 * count }
+
+        ensures operation { IsOneOperation (Reads (self.old.state.chunk * place + first) count) (is_ok result) (B.layers self.old.device) (B.layers self.new.device) (B.fault_count self.old.device) (B.fault_count self.new.device) (B.done_count self.old.device) (B.done_count self.new.device) }
+        ensures loud { is_loud (B.layers self.new.device) ≡ is_loud (B.layers self.old.device) }
+        ensures data { OnOk result (out.new ≡ sectors_at (B.contents self.old.device) (self.old.state.chunk * place + first) count) }
+        ensures err { OnErr result (out.new ≡ out.old) }
+        ensures same { B.contents self.new.device ≡ B.contents self.old.device }
+        ensures durable { B.durable self.new.device ≡ B.durable self.old.device }
+        ensures size { B.size self.new.device ≡ B.size self.old.device }
+        ensures fields { self.new ≡ record self.old { device = self.new.device } }
+    {
+        match self.store.read_chunk(place, first, count, out) {
+            Ok(()) => Ok(()),
+            Err(io) => Err(io),
+        }
+    }
+}

@@ -1,0 +1,52 @@
+-- Why a merge goes on: what it keeps of its group, of the other snapshots, and of its place in the areas.
+use Rattle.std.specs.Prelude.{◌≡◌, ◌≢◌, ℕ, ◌+◌, ◌*◌, ◌/◌, ◌≤◌, true, List, [], ◌∷◌, ◌++◌, length, Option, Some, None}
+use Rattle.std.specs.List.{All}
+use Rattle.sector.specs.declared.pair.Pair.{Pair}
+use Rattle.volume_laws.specs.Books.{SnapBooks, MergeBooks, Books, group_of}
+use Rattle.volume_laws.specs.Published.{IsSaved}
+use Rattle.volume_laws.specs.MergeDue.{DueMerge, last_of}
+use Rattle.volume_laws.specs.Waits.{IsSaving, IsQuiet}
+
+-- the pair whose chunk is copied next: the one in the buffer, or the last that waits
+abbrev pub next_pairs : List Pair → Option Pair → List Pair
+next_pairs (q ∷ pairs) last = q ∷ pairs
+next_pairs [] None = []
+next_pairs [] (Some q) = q ∷ []
+
+abbrev pub next_in : MergeBooks → List Pair
+next_in m = next_pairs m.reading (last_of m.waiting)
+
+-- each live snapshot has the chunk of a pair, or a copy of it is under way
+abbrev pub IsSavedSoon : ℕ → List SnapBooks → Pair → Type 0
+IsSavedSoon chunk snaps q = All (λ s. s.live ≡ true → IsSaving (chunk * q.old / s.chunk) s) snaps
+
+-- each live snapshot has published it
+abbrev pub IsSavedIn : ℕ → List SnapBooks → Pair → Type 0
+IsSavedIn chunk snaps q = All (IsSaved (chunk * q.old)) snaps
+
+-- the live snapshots have chunks of so many sectors
+abbrev pub HaveChunk : ℕ → List SnapBooks → Type 0
+HaveChunk chunk snaps = All (λ s. s.live ≡ true → s.chunk ≡ chunk) snaps
+
+-- the stages of a group: at most one chunk is in the buffer; what is flushed is copied; what is released is committed
+pub record IsStaged (d : DueMerge) : Type 0 where
+  pub one : length d.books.reading ≤ 1
+  pub read : d.flushed ≡ true → d.books.waiting ≡ []
+  pub written : d.flushed ≡ true → d.books.reading ≡ []
+  pub copied : d.books.released ≢ [] → d.books.copied ≡ []
+  pub over : d.books.released ≢ [] → d.books.waiting ≡ []
+  pub out : d.books.released ≢ [] → d.books.reading ≡ []
+  pub none : d.failed ≡ true → group_of d.books ≡ []
+
+-- A merge among the other snapshots. area: the pairs fill the areas below the current one, and the slots in use of that one.
+pub record MergeGoes (snaps : List SnapBooks) (d : DueMerge) : Type 0 where
+  pub staged : IsStaged d
+  pub ending : (kept : List Pair) × (d.books.pairs ≡ kept ++ (d.books.waiting ++ (d.books.reading ++ d.books.copied)))
+  pub area : length d.books.pairs ≡ d.current * (32 * d.books.chunk) + d.filled
+  pub next : All (IsSavedSoon d.books.chunk snaps) (next_in d.books)
+  pub saved : All (IsSavedIn d.books.chunk snaps) (d.books.copied ++ d.books.released)
+
+-- a volume with a merge is quiet where no request is in flight, nothing is left of any snapshot, and no group is formed
+pub record IsQuietMerge (v : Books) (d : DueMerge) : Type 0 where
+  pub volume : IsQuiet v
+  pub group : group_of d.books ≡ []
