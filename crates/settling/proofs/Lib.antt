@@ -24,3 +24,16 @@ pub mod Shown
 pub mod Moments
 pub mod Attaching
 pub mod Opened
+pub mod MergeSaves
+pub mod MergeRuns
+pub mod MergeCopies
+pub mod MergeShows
+pub mod MergeEnds
+pub mod MergeBegins
+pub mod MergeServes
+pub mod Named
+pub mod Undoes
+pub mod MergeLaws
+pub mod MergeCommands
+pub mod MergeFaultless
+pub mod MergeReads

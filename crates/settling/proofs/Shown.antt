@@ -25,7 +25,7 @@ use Rattle.settling.proofs.Chunks.{save_chunk}
 use Rattle.settling.proofs.WritesSettle.{save_bytes, save_all_bytes}
 
 -- a snapshot that is live after a chunk was saved was live before, and has it as `settled` saves it
-live_saved : (c : ℕ) (origin : Device) (s : Snap) → (save c origin s).snap.live ≡ true → (s.live ≡ true) × (stored_of (save c origin s).snap ≡ saved s.chunk origin.bytes s.store.bytes c)
+pub live_saved : (c : ℕ) (origin : Device) (s : Snap) → (save c origin s).snap.live ≡ true → (s.live ≡ true) × (stored_of (save c origin s).snap ≡ saved s.chunk origin.bytes s.store.bytes c)
 unfolding saved
 live_saved c origin s live = elim (cases_Bool s.live) [
   | inr out ↦ (let is = saves_nothing c origin s (rw out refl) in absurd (true≢false (sym live ∙ ap (λ (x : Saving). x.snap.live) is ∙ out)))

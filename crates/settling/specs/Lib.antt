@@ -17,3 +17,6 @@ pub mod Running
 pub mod Shown
 pub mod Attaching
 pub mod Moments
+pub mod Merges
+pub mod MergeShown
+pub mod Undone
