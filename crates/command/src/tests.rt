@@ -231,10 +231,15 @@ fn reads_a_table_line(rt: HostRuntime) -> Result<(), Fail> {
         return Err(Fail::from("no create"));
     };
     assert_eq!(rt; name.as_slice(), b"snap".as_slice());
-    let Target::Snapshot { name, store, chunk } = &line.target else {
+    let Target::Snapshot {
+        device,
+        store,
+        chunk,
+    } = &line.target
+    else {
         return Err(Fail::from("no snapshot"));
     };
-    assert_eq!(rt; name.as_slice(), b"base".as_slice());
+    assert_eq!(rt; device.as_slice(), b"base".as_slice());
     assert_eq!(rt; store.as_slice(), b"cow".as_slice());
     assert_eq!(rt; (line.sectors, *chunk), (128, 16));
     Ok(())
