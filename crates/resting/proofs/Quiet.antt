@@ -1,5 +1,5 @@
 -- A volume of which nothing is left to do.
-use Rattle.std.proofs.Common.{◌≡◌, ℕ, Bool, true, false, List, [], ◌∷◌, length, map, refl, ap, ◌∙◌}
+use Rattle.std.proofs.Common.{◌≡◌, ℕ, true, false, List, [], ◌∷◌, length, map, refl, ap, ◌∙◌}
 use Rattle.std.specs.Prelude.{◌==◌, ◌&&◌, not}
 use Rattle.std.specs.List.{All, list_all}
 use Rattle.std.proofs.lemmas.List.Elements.{All-head, All-tail}
@@ -7,7 +7,6 @@ use Rattle.device.specs.Layers.{Layer}
 use Rattle.pending.specs.declared.copies.ChunkCopy.{ChunkCopy}
 use Rattle.pending.specs.declared.flights.Flight.{Flight}
 use Rattle.volume_laws.specs.Waits.{IsDone, IsQuiet}
-use Rattle.settling.specs.Held.{Held}
 use Rattle.settling.specs.Rest.{IsResting}
 use Rattle.settling.specs.Seen.{copying_of, going_of}
 use Rattle.snapshot.specs.Kept.{Kept, books_of as snap_books}

@@ -1,5 +1,5 @@
 -- The request was served, or refused.
-use Rattle.std.proofs.Common.{inl, inr, None, sym, subst, List, arith}
+use Rattle.std.proofs.Common.{inl, inr, None, subst, List, arith}
 use Rattle.resting.specs.declared.flights.Replied.{Replied}
 use Rattle.resting.specs.Rested.{rested_of}
 use Rattle.resting.specs.Draining.{IsAnsweredAmong}

@@ -2,7 +2,7 @@
 use Rattle.std.proofs.Common.{refl, ap}
 use Rattle.chunk.specs.Pieces.{span_of}
 use Rattle.plain.specs.declared.request.Op.TheVariants.{Write}
-use Rattle.plain.specs.declared.request.Reply.TheVariants.{Data, Written}
+use Rattle.plain.specs.declared.request.Reply.TheVariants.{Written}
 use Rattle.resting.proofs.Amongs.{piece_served, piece_failed, piece_refused}
 use Rattle.resting.proofs.among_pieces.write_piece_among.Goals as goal
 
