@@ -2,3 +2,5 @@ pub mod Limits
 pub mod Chunks
 pub mod Cuts
 pub mod Whole
+pub mod PiecePlaces
+pub mod Runs

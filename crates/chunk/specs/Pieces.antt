@@ -1,3 +1,4 @@
+-- To be believed: `run`'s output, a volume's steps or its attach are said in these words.
 -- A range cut at the borders of chunks, as device-mapper cuts a request.
 use Rattle.std.specs.Prelude.{◌≡◌, ℕ, ◌+◌, ◌-◌, ◌*◌, ◌/◌, ◌<◌, ◌==◌, min, max, List, [], ◌∷◌, length, map, All, if◌then◌else◌}
 use Rattle.std.specs.List.{range_with_len}

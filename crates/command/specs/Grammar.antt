@@ -1,3 +1,4 @@
+-- To be believed: `run`'s output, a volume's steps or its attach are said in these words.
 -- What the words of a command line say. The commands are this project's own choice; the table line after
 -- `create` is the kernel's. In each command every word's form is looked at first (BadTable), then the chunk of
 -- a table line (BadChunk), then the number of sectors (OutOfRange).

@@ -1,3 +1,4 @@
+-- To be believed: `run`'s output, a volume's steps or its attach are said in these words.
 -- What a whole line says. The rule is this project's own choice. In this order: a line that is too long is
 -- BadTable, whatever it holds; comments and blank lines say nothing; a byte that isn't printable ASCII is
 -- BadTable; then the words are looked at.

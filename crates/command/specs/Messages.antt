@@ -1,3 +1,4 @@
+-- To be believed: `run`'s output, a volume's steps or its attach are said in these words.
 -- The messages to layers, by their words. They are those of the kernel's page on dm-dust, without its write-fail count,
 -- `quiet` and `listbadblocks`; the form of a block's number is this project's own.
 use Rattle.std.specs.Prelude.{ℕ, List, [], ◌∷◌, if◌then◌else◌, Result, Ok, Err, codes}

@@ -1,7 +1,6 @@
 -- A header that was written is read as its source.
-use Rattle.std.proofs.Common.{◌≡◌, ℕ, ◌-◌, ◌^◌, ◌<◌, List, [], ◌++◌, replicate, Bool, true, false, if◌then◌else◌, ◌&&◌, nat_le, Ok, Err, refl, ap, ◌∙◌, sym, arith, append_assoc, length-append}
+use Rattle.std.proofs.Common.{◌≡◌, ℕ, ◌-◌, ◌^◌, ◌<◌, List, [], ◌++◌, replicate, Bool, true, false, if◌then◌else◌, ◌&&◌, nat_le, Ok, Err, refl, ap, ◌∙◌, sym, arith, append_assoc, length-append, inl, inr}
 use Rattle.std.proofs.lemmas.Bool.{leb-true, cases_Bool, true≢false}
-use Rattle.std.proofs.Common.{inl, inr}
 use Rattle.std.specs.Int.{is_power_of_two}
 use Rattle.sector.specs.Number.{number_at, number_bytes}
 use Rattle.sector.proofs.Numbers.{length-number_bytes}

@@ -1,3 +1,4 @@
+-- To be believed: `run`'s output, a volume's steps or its attach are said in these words.
 -- What the first sector of a store says, and the text of a header: the format of dm-snap-persistent.c. The order of the
 -- refusals, and that an invalid header is refused, are this project's own choice.
 use Rattle.std.specs.Prelude.{◌≡◌, ◌≢◌, ◌==◌, ℕ, ◌-◌, List, ◌++◌, replicate, Bool, true, not, if◌then◌else◌, Result, Ok, Err}

@@ -1,3 +1,4 @@
+-- To be believed: `run`'s output, a volume's steps or its attach are said in these words.
 -- The layers above a disk, as plain data, and what they do with an operation: a table of cases.
 -- Sources: the kernel's pages on dm-flakey and dm-dust. What a flush does, and that a write takes blocks off dust's
 -- list only where it succeeded, is this project's own choice.

@@ -4,7 +4,7 @@ use Rattle.std.specs.Prelude.{Result, Ok, Err}
 use Rattle.sector.specs.declared.refusal.Refusal.{Refusal}
 use Rattle.device.specs.Layers.{is_loud}
 use Rattle.named.specs.State.{Stacked, Volume, Table}
-use Rattle.settling.specs.Attaching.{given_back}
+use Rattle.settled.specs.Attaching.{given_back}
 use Rattle.named.specs.Changes.{Changes}
 use Rattle.named.specs.Messages.{snap_at}
 use Rattle.named.specs.Origins.{still}

@@ -3,3 +3,4 @@ pub mod InVolume
 pub mod Meeting
 pub mod Leaving
 pub mod Closing
+pub mod Ruled

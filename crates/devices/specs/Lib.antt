@@ -1,2 +1,4 @@
 pub mod Devices
 pub mod Busy
+pub mod Ruled
+pub mod Flights

@@ -9,12 +9,13 @@ ghost use Rattle.named.specs.Places.{place_of};
 ghost use Rattle.named.specs.Sound.{drops_writes, is_sound};
 ghost use Rattle.devices.specs.Busy.{IsBusyTarget};
 ghost use Rattle.devices.specs.Devices.{table_of};
+ghost use Rattle.devices.specs.Ruled.{is_sound_target};
 
 use crate::find::{find, is_full};
 use crate::held::Held;
 use crate::lay::{features_of, lay_dust, lay_error, lay_flakey};
 use crate::origins::make_origin;
-use crate::snapshots::make_snapshot;
+use crate::attaching::make_snapshot;
 use layers::Flakey;
 use sector::Refusal;
 use std::alloc::Global;
@@ -31,7 +32,7 @@ fn made(
     target: Target,
 ) -> Result<(), Refusal>
     requires { is_target target ≡ true }
-    ensures done { is_sound (table_of held.old) ≡ true → Does result (table_of held.new) (λ t. t ≡ table_of held.old) (made name sectors target (table_of held.old)) }
+    ensures done { is_sound_target sectors target (table_of held.old) ≡ true → Does result (table_of held.new) (λ t. t ≡ table_of held.old) (made name sectors target (table_of held.old)) }
     ensures busy { IsBusyTarget result (table_of held.old) (table_of held.new) sectors target }
     ensures named { place_of name (table_of held.old) ≡ None → nat_le 64 (device_count (table_of held.old)) ≡ false → AreNamed (table_of held.old) → AreNamed (table_of held.new) }
 {
@@ -71,7 +72,7 @@ fn is_merge(target: &Target) -> bool
 #[tactic(auto, unfolding(named::specs::Creating::create))]
 pub fn create_device(alloc: Global, held: &mut Held, name: Name, line: Line) -> Result<(), Refusal>
     requires { is_line line ≡ true }
-    ensures done { is_sound (table_of held.old) ≡ true → Does result (table_of held.new) (λ t. t ≡ table_of held.old) (create name line (table_of held.old)) }
+    ensures done { is_sound_target line.sectors line.target (table_of held.old) ≡ true → Does result (table_of held.new) (λ t. t ≡ table_of held.old) (create name line (table_of held.old)) }
     ensures busy { is_merge line.target ≡ false → place_of name (table_of held.old) ≡ None → nat_le 64 (device_count (table_of held.old)) ≡ false → IsBusyTarget result (table_of held.old) (table_of held.new) line.sectors line.target }
     ensures sound { is_sound (table_of held.old) ≡ true → drops_writes line.target ≡ false → is_sound (table_of held.new) ≡ true }
     ensures named { AreNamed (table_of held.old) → AreNamed (table_of held.new) }

@@ -1,7 +1,7 @@
 // Requests that one command starts and later ones end, and the events of a volume, one by one.
-ghost use Rattle.std.specs.Prelude.{◌≡◌, ◌<◌, ◌≤◌, ◌*◌, ℕ, List, length, true, false, Some, Ok, Err, IfOk, IfErr, OnOk, OnErr, MatchResult};
+ghost use Rattle.std.specs.Prelude.{◌≡◌, ◌<◌, ◌≤◌, ◌*◌, ℕ, List, length, is_ok, true, false, Some, Ok, Err, IfOk, IfErr, OnOk, OnErr, MatchResult};
 ghost use Rattle.std.specs.Option.{option_copied};
-ghost use Rattle.plain.specs.declared.request.Op.TheVariants.{Write};
+ghost use Rattle.plain.specs.declared.request.Op.TheVariants.{Read, Write};
 ghost use Rattle.named.specs.Changes.{Does, refused};
 ghost use Rattle.named.specs.Events.{event_asked, event_at, numbered, origin_at, origin_by, rested, settle, snapshot_at, snapshot_named, step_event};
 ghost use Rattle.named.specs.Naming.{AreNamed};
@@ -11,16 +11,18 @@ ghost use Rattle.named.specs.Sound.{is_sound};
 ghost use Rattle.named.specs.Starting.{asked_at, read_asked, write_asked};
 ghost use Rattle.named.specs.declared.place.Place.TheVariants.{In};
 ghost use Rattle.named.specs.declared.place.Role.TheVariants.{Origin, Snapshot};
+ghost use Rattle.named_volume.specs.Flights.{IsStepped};
 ghost use Rattle.named_volume.specs.Names.{KeepsNames};
 ghost use Rattle.devices.specs.Devices.{Flies, KeepsOthers, table_of};
+ghost use Rattle.devices.specs.Flights.{IsDoneFor, IsNotDueIn, IsSettledAmong, IsStartedAs, event_of, number_about};
+ghost use Rattle.devices.specs.Ruled.{is_quiet_in, rests_at, volume_for};
 
 use crate::find::find_device;
 use crate::held::Held;
 use command::Event;
 use named::{Place, Role};
 use named_stack::{some_sectors, whole_sectors};
-use plain::{NotDue, Op, Outcome, ReqId, SnapId};
-use resting::Replied;
+use plain::{NotDue, Op, Outcome, Replied, ReqId, SnapId};
 use sector::{Buf, Refusal};
 use std::alloc::Global;
 use words::Name;
@@ -40,6 +42,8 @@ fn start_at(
     requires few { count ≤ 2048 }
     requires bytes { (b : List ℕ) → op ≡ Write b → length b ≡ 512 * count }
     ensures asks { IfErr (asked_at (In v role) first count (table_of held.old)) (λ e. result ≡ Err e) }
+    ensures stays { IfErr (asked_at (In v role) first count (table_of held.old)) (λ _. table_of held.new ≡ table_of held.old) }
+    ensures started { IfOk result (λ number. IfOk (asked_at (In v role) first count (table_of held.old)) (λ asks. IsInVolume (IsStartedAs op number asks) v (table_of held.old) (table_of held.new) (volume_at v (table_of held.old)))) }
     ensures flies { OnOk result (IsInVolume (λ was now. now.quiet ≡ false) v (table_of held.old) (table_of held.new) (volume_at v (table_of held.old))) }
     ensures one { IsInVolume KeepsNames v (table_of held.old) (table_of held.new) (volume_at v (table_of held.old)) }
     ensures named { AreNamed (table_of held.old) → AreNamed (table_of held.new) }
@@ -60,6 +64,8 @@ pub fn start_read(
     count: u32,
 ) -> Result<ReqId, Refusal>
     ensures asks { IfErr (read_asked name.now first count (table_of held.old)) (λ e. result ≡ Err e) }
+    ensures stays { IfErr (read_asked name.now first count (table_of held.old)) (λ _. table_of held.new ≡ table_of held.old) }
+    ensures started { IfOk result (λ number. IfOk (read_asked name.now first count (table_of held.old)) (λ asks. IsDoneFor name.now (IsStartedAs Read number asks) (table_of held.old) (table_of held.new))) }
     ensures flies { OnOk result (Flies name.now (table_of held.old) (table_of held.new)) }
     ensures one { KeepsOthers name.now (table_of held.old) (table_of held.new) }
     ensures named { AreNamed (table_of held.old) → AreNamed (table_of held.new) }
@@ -82,6 +88,8 @@ pub fn start_write(
     bytes: Buf,
 ) -> Result<ReqId, Refusal>
     ensures asks { IfErr (write_asked name.now first bytes (table_of held.old)) (λ e. result ≡ Err e) }
+    ensures stays { IfErr (write_asked name.now first bytes (table_of held.old)) (λ _. table_of held.new ≡ table_of held.old) }
+    ensures started { IfOk result (λ number. IfOk (write_asked name.now first bytes (table_of held.old)) (λ asks. IsDoneFor name.now (IsStartedAs (Write bytes) number asks) (table_of held.old) (table_of held.new))) }
     ensures flies { OnOk result (Flies name.now (table_of held.old) (table_of held.new)) }
     ensures one { KeepsOthers name.now (table_of held.old) (table_of held.new) }
     ensures named { AreNamed (table_of held.old) → AreNamed (table_of held.new) }
@@ -146,6 +154,7 @@ fn about(held: &Held, place: Place, snapshot: &Name) -> Result<(usize, SnapId), 
     ensures value { MatchResult result (λ at. event_at place (Some snapshot.now) (table_of held.now) ≡ Ok at.0) (λ e. event_at place (Some snapshot.now) (table_of held.now) ≡ Err e) }
     ensures within { IfOk result (λ at. at.0 < length held.now.volumes.items) }
     ensures place { IfOk result (λ at. place ≡ In at.0 Origin) }
+    ensures number { IfOk result (λ at. at.1 ≡ number_about (Some snapshot.now) (table_of held.now)) }
 {
     let other = find_device(held, snapshot)?;
     let v = origin_at(place)?;
@@ -162,11 +171,26 @@ fn asked(held: &Held, place: Place, event: &Event) -> Result<(usize, SnapId), Re
     ensures value { MatchResult result (λ at. event_at place (snapshot_named event.now) (table_of held.now) ≡ Ok at.0) (λ e. event_at place (snapshot_named event.now) (table_of held.now) ≡ Err e) }
     ensures within { IfOk result (λ at. at.0 < length held.now.volumes.items) }
     ensures place { IfOk result (λ at. place ≡ In at.0 Origin) }
+    ensures number { IfOk result (λ at. at.1 ≡ number_about (snapshot_named event.now) (table_of held.now)) }
 {
     match snapshot_named(event) {
         None => Ok((origin_at(place)?, 0)),
         Some(snapshot) => about(held, place, snapshot),
     }
+}
+
+/// Does an event of a volume.
+fn step_at(held: &mut Held, v: usize, event: plain::Event) -> Result<Outcome, NotDue>
+    requires { v < length held.old.volumes.items }
+    ensures idle { is_quiet_in (volume_at v (table_of held.old)) ≡ true → is_ok result ≡ false }
+    ensures stepped { IfOk result (λ outcome. IsInVolume (IsStepped event outcome) v (table_of held.old) (table_of held.new) (volume_at v (table_of held.old))) }
+    ensures due { is_quiet_in (volume_at v (table_of held.old)) ≡ false → OnErr result (IsNotDueIn event (volume_at v (table_of held.old))) }
+    ensures same { OnErr result (table_of held.new ≡ table_of held.old) }
+    ensures one { IsInVolume KeepsNames v (table_of held.old) (table_of held.new) (volume_at v (table_of held.old)) }
+    ensures sound { is_sound (table_of held.old) ≡ true → is_sound (table_of held.new) ≡ true }
+    ensures named { AreNamed (table_of held.old) → AreNamed (table_of held.new) }
+{
+    held.volumes[v].step(event)
 }
 
 /// `step VOL EVENT`: does one event of an origin's volume. In this order: `NoSuchDevice` for a name that no device has, the
@@ -175,7 +199,9 @@ fn asked(held: &Held, place: Place, event: &Event) -> Result<(usize, SnapId), Re
 #[tactic(auto, unfolding(named::specs::Events::event_asked, named::specs::Events::step_event, crate::specs::Devices::KeepsOthers))]
 pub fn step_device(held: &mut Held, name: &Name, event: &Event) -> Result<Outcome, Refusal>
     ensures asks { IfErr (event_asked name.now event.now (table_of held.old)) (λ e. result ≡ Err e) }
-    ensures done { is_sound (table_of held.old) ≡ true → Does result (table_of held.new) (λ t. t ≡ table_of held.old) (refused (table_of held.old) (step_event name.now event.now (table_of held.old))) }
+    ensures done { is_quiet_in (volume_for name.now (table_of held.old)) ≡ true → Does result (table_of held.new) (λ t. t ≡ table_of held.old) (refused (table_of held.old) (step_event name.now event.now (table_of held.old))) }
+    ensures stepped { IfOk result (λ outcome. IsDoneFor name.now (IsStepped (event_of event.now (table_of held.old)) outcome) (table_of held.old) (table_of held.new)) }
+    ensures due { OnErr result (IfOk (event_asked name.now event.now (table_of held.old)) (λ v. is_quiet_in (volume_at v (table_of held.old)) ≡ false → IsNotDueIn (event_of event.now (table_of held.old)) (volume_at v (table_of held.old)))) }
     ensures err { OnErr result (table_of held.new ≡ table_of held.old) }
     ensures one { KeepsOthers name.now (table_of held.old) (table_of held.new) }
     ensures sound { is_sound (table_of held.old) ≡ true → is_sound (table_of held.new) ≡ true }
@@ -183,10 +209,23 @@ pub fn step_device(held: &mut Held, name: &Name, event: &Event) -> Result<Outcom
 {
     let place = find_device(held, name)?;
     let (v, number) = asked(held, place, event)?;
-    match held.volumes[v].step(numbered(event, number)) {
+    match step_at(held, v, numbered(event, number)) {
         Ok(outcome) => Ok(outcome),
         Err(NotDue) => Err(Refusal::NotDue),
     }
+}
+
+/// Does all events of a volume that are left to do.
+fn settle_at(held: &mut Held, v: usize, ended: &mut Vec<Replied>) -> Result<(), Refusal>
+    requires { v < length held.old.volumes.items }
+    ensures idle { is_quiet_in (volume_at v (table_of held.old)) ≡ true → (table_of held.new ≡ table_of held.old) × (ended.new.items ≡ ended.old.items) × (result ≡ Ok tt) }
+    ensures drained { IsInVolume (IsSettledAmong ended.old.items ended.new.items) v (table_of held.old) (table_of held.new) (volume_at v (table_of held.old)) }
+    ensures rested { OnOk result (rests_at v (table_of held.new) ≡ Ok tt) }
+    ensures one { IsInVolume KeepsNames v (table_of held.old) (table_of held.new) (volume_at v (table_of held.old)) }
+    ensures sound { is_sound (table_of held.old) ≡ true → is_sound (table_of held.new) ≡ true }
+    ensures named { AreNamed (table_of held.old) → AreNamed (table_of held.new) }
+{
+    held.volumes[v].settle(ended)
 }
 
 /// `settle VOL`: does all events of an origin's volume that are left to do. The replies to requests that end in it go to the
@@ -195,8 +234,10 @@ pub fn step_device(held: &mut Held, name: &Name, event: &Event) -> Result<Outcom
 #[tactic(auto, unfolding(named::specs::Events::origin_by, named::specs::Events::rested, named::specs::Events::settle, crate::specs::Devices::KeepsOthers))]
 pub fn settle_device(held: &mut Held, name: &Name, ended: &mut Vec<Replied>) -> Result<(), Refusal>
     ensures asks { IfErr (origin_by name.now (table_of held.old)) (λ e. result ≡ Err e) }
-    ensures done { is_sound (table_of held.old) ≡ true → Does result (table_of held.new) (λ t. t ≡ table_of held.old) (record { answer = settle name.now (table_of held.old); left = table_of held.old }) }
-    ensures told { is_sound (table_of held.old) ≡ true → ended.new.items ≡ ended.old.items }
+    ensures stays { IfErr (origin_by name.now (table_of held.old)) (λ _. (table_of held.new ≡ table_of held.old) × (ended.new.items ≡ ended.old.items)) }
+    ensures done { is_quiet_in (volume_for name.now (table_of held.old)) ≡ true → Does result (table_of held.new) (λ t. t ≡ table_of held.old) (record { answer = settle name.now (table_of held.old); left = table_of held.old }) }
+    ensures told { is_quiet_in (volume_for name.now (table_of held.old)) ≡ true → ended.new.items ≡ ended.old.items }
+    ensures drained { IfOk (origin_by name.now (table_of held.old)) (λ v. IsDoneFor name.now (IsSettledAmong ended.old.items ended.new.items) (table_of held.old) (table_of held.new)) }
     ensures rested { OnOk result (rested name.now (table_of held.old) (table_of held.new) ≡ Ok tt) }
     ensures one { KeepsOthers name.now (table_of held.old) (table_of held.new) }
     ensures sound { is_sound (table_of held.old) ≡ true → is_sound (table_of held.new) ≡ true }
@@ -204,5 +245,5 @@ pub fn settle_device(held: &mut Held, name: &Name, ended: &mut Vec<Replied>) -> 
 {
     let place = find_device(held, name)?;
     let v = origin_at(place)?;
-    held.volumes[v].settle(ended)
+    settle_at(held, v, ended)
 }

@@ -11,7 +11,7 @@ ghost use Rattle.devices.specs.Devices.{table_of};
 use crate::find::find_device;
 use crate::held::Held;
 use crate::origins::close;
-use crate::snapshots::detach;
+use crate::attaching::detach;
 use named::{Place, Role};
 use sector::Refusal;
 use words::Name;

@@ -1,19 +1,22 @@
 // Reading and writing origins and snapshots.
-ghost use Rattle.std.specs.Prelude.{◌≡◌, ◌⊎◌, ◌<◌, ◌≤◌, ◌*◌, length, true};
+ghost use Rattle.std.specs.Prelude.{◌≡◌, ◌⊎◌, ◌<◌, ◌≤◌, ◌*◌, length, true, Err, IfErr, IfOk};
 ghost use Rattle.named.specs.Changes.{Does};
 ghost use Rattle.named.specs.Naming.{AreNamed};
 ghost use Rattle.named.specs.Places.{IsPlaceIn, volume_at};
 ghost use Rattle.named.specs.Sectors.{IsInVolume, IsPartWritten, IsReadAsked, IsReadStarved, IsWriteStarved, in_volume, read, read_in, write, written_in};
 ghost use Rattle.named.specs.Sound.{is_sound};
+ghost use Rattle.named.specs.Starting.{asked_at, read_asked, write_asked};
 ghost use Rattle.named.specs.declared.place.Place.TheVariants.{In};
 ghost use Rattle.named_volume.specs.Names.{KeepsNames};
 ghost use Rattle.devices.specs.Devices.{KeepsOthers, table_of};
+ghost use Rattle.devices.specs.Flights.{IsDoneFor, IsReadAmong, IsWrittenAmong};
+ghost use Rattle.devices.specs.Ruled.{is_quiet_in, is_sound_in, volume_for};
 
 use crate::find::find_device;
 use crate::held::Held;
 use named::{Place, Role};
 use named_stack::{some_sectors, whole_sectors};
-use resting::Replied;
+use plain::Replied;
 use sector::{Buf, Refusal};
 use std::alloc::Global;
 use words::Name;
@@ -31,8 +34,11 @@ fn read_at(
     requires place { IsPlaceIn (In v role) (table_of held.old) }
     requires some { 0 < count }
     requires few { count ≤ 2048 }
-    ensures done { is_sound (table_of held.old) ≡ true → Does result (table_of held.new) (λ t. (t ≡ table_of held.old) ⊎ IsInVolume (IsReadAsked count) v (table_of held.old) t (volume_at v (table_of held.old))) (in_volume v (table_of held.old) (read_in role first count) (volume_at v (table_of held.old))) }
-    ensures told { is_sound (table_of held.old) ≡ true → ended.new.items ≡ ended.old.items }
+    ensures done { is_sound_in (volume_at v (table_of held.old)) ≡ true → Does result (table_of held.new) (λ t. (t ≡ table_of held.old) ⊎ IsInVolume (IsReadAsked count) v (table_of held.old) t (volume_at v (table_of held.old))) (in_volume v (table_of held.old) (read_in role first count) (volume_at v (table_of held.old))) }
+    ensures told { is_quiet_in (volume_at v (table_of held.old)) ≡ true → ended.new.items ≡ ended.old.items }
+    ensures asks { IfErr (asked_at (In v role) first count (table_of held.old)) (λ e. result ≡ Err e) }
+    ensures stays { IfErr (asked_at (In v role) first count (table_of held.old)) (λ _. (table_of held.new ≡ table_of held.old) × (ended.new.items ≡ ended.old.items)) }
+    ensures among { IfOk (asked_at (In v role) first count (table_of held.old)) (λ asks. IsInVolume (IsReadAmong result ended.old.items ended.new.items asks) v (table_of held.old) (table_of held.new) (volume_at v (table_of held.old))) }
     ensures one { IsInVolume KeepsNames v (table_of held.old) (table_of held.new) (volume_at v (table_of held.old)) }
     ensures sound { is_sound (table_of held.old) ≡ true → is_sound (table_of held.new) ≡ true }
     ensures named { AreNamed (table_of held.old) → AreNamed (table_of held.new) }
@@ -45,7 +51,7 @@ fn read_at(
 /// the sectors don't lie inside the origin, `TooMany` where the volume has taken too many, then what its devices answer.
 /// Devices are met also where they answer with an error; `NoMemory` may come before and after that. Requests that are in
 /// flight may end in it: their replies go to the end of `ended`.
-#[tactic(auto, unfolding(named::specs::Sectors::read, named::specs::Sectors::IsReadStarved, crate::specs::Devices::KeepsOthers))]
+#[tactic(auto, unfolding(named::specs::Starting::read_asked, named::specs::Starting::asked_by, named::specs::Sectors::read, named::specs::Sectors::IsReadStarved, crate::specs::Devices::KeepsOthers))]
 pub fn read_device(
     alloc: Global,
     held: &mut Held,
@@ -54,8 +60,11 @@ pub fn read_device(
     count: u32,
     ended: &mut Vec<Replied>,
 ) -> Result<Buf, Refusal>
-    ensures done { is_sound (table_of held.old) ≡ true → Does result (table_of held.new) (λ t. (t ≡ table_of held.old) ⊎ IsReadStarved name.now first count (table_of held.old) t) (read name.now first count (table_of held.old)) }
-    ensures told { is_sound (table_of held.old) ≡ true → ended.new.items ≡ ended.old.items }
+    ensures done { is_sound_in (volume_for name.now (table_of held.old)) ≡ true → Does result (table_of held.new) (λ t. (t ≡ table_of held.old) ⊎ IsReadStarved name.now first count (table_of held.old) t) (read name.now first count (table_of held.old)) }
+    ensures told { is_quiet_in (volume_for name.now (table_of held.old)) ≡ true → ended.new.items ≡ ended.old.items }
+    ensures asks { IfErr (read_asked name.now first count (table_of held.old)) (λ e. result ≡ Err e) }
+    ensures stays { IfErr (read_asked name.now first count (table_of held.old)) (λ _. (table_of held.new ≡ table_of held.old) × (ended.new.items ≡ ended.old.items)) }
+    ensures among { IfOk (read_asked name.now first count (table_of held.old)) (λ asks. IsDoneFor name.now (IsReadAmong result ended.old.items ended.new.items asks) (table_of held.old) (table_of held.new)) }
     ensures one { KeepsOthers name.now (table_of held.old) (table_of held.new) }
     ensures sound { is_sound (table_of held.old) ≡ true → is_sound (table_of held.new) ≡ true }
     ensures named { AreNamed (table_of held.old) → AreNamed (table_of held.new) }
@@ -82,8 +91,11 @@ fn write_at(
     requires some { 0 < count }
     requires few { count ≤ 2048 }
     requires room { length bytes.now ≡ 512 * count }
-    ensures done { is_sound (table_of held.old) ≡ true → Does result (table_of held.new) (λ t. (t ≡ table_of held.old) ⊎ IsInVolume (IsPartWritten role first count bytes.now) v (table_of held.old) t (volume_at v (table_of held.old))) (in_volume v (table_of held.old) (written_in role first count bytes.now) (volume_at v (table_of held.old))) }
-    ensures told { is_sound (table_of held.old) ≡ true → ended.new.items ≡ ended.old.items }
+    ensures done { is_sound_in (volume_at v (table_of held.old)) ≡ true → Does result (table_of held.new) (λ t. (t ≡ table_of held.old) ⊎ IsInVolume (IsPartWritten role first count bytes.now) v (table_of held.old) t (volume_at v (table_of held.old))) (in_volume v (table_of held.old) (written_in role first count bytes.now) (volume_at v (table_of held.old))) }
+    ensures told { is_quiet_in (volume_at v (table_of held.old)) ≡ true → ended.new.items ≡ ended.old.items }
+    ensures asks { IfErr (asked_at (In v role) first count (table_of held.old)) (λ e. result ≡ Err e) }
+    ensures stays { IfErr (asked_at (In v role) first count (table_of held.old)) (λ _. (table_of held.new ≡ table_of held.old) × (ended.new.items ≡ ended.old.items)) }
+    ensures among { IfOk (asked_at (In v role) first count (table_of held.old)) (λ asks. IsInVolume (IsWrittenAmong bytes.now result ended.old.items ended.new.items asks) v (table_of held.old) (table_of held.new) (volume_at v (table_of held.old))) }
     ensures one { IsInVolume KeepsNames v (table_of held.old) (table_of held.new) (volume_at v (table_of held.old)) }
     ensures sound { is_sound (table_of held.old) ≡ true → is_sound (table_of held.new) ≡ true }
     ensures named { AreNamed (table_of held.old) → AreNamed (table_of held.new) }
@@ -96,7 +108,7 @@ fn write_at(
 /// or a layer, `OutOfRange` where the sectors don't lie inside the origin, `TooMany` where the volume has taken too many,
 /// then what its devices answer. `NoMemory` may come where some first pieces were written. Requests that are in flight may
 /// end in it: their replies go to the end of `ended`.
-#[tactic(auto, unfolding(named::specs::Sectors::write, named::specs::Sectors::IsWriteStarved, crate::specs::Devices::KeepsOthers))]
+#[tactic(auto, unfolding(named::specs::Starting::write_asked, named::specs::Starting::asked_by, named::specs::Sectors::write, named::specs::Sectors::IsWriteStarved, crate::specs::Devices::KeepsOthers))]
 pub fn write_device(
     alloc: Global,
     held: &mut Held,
@@ -105,8 +117,11 @@ pub fn write_device(
     bytes: &Buf,
     ended: &mut Vec<Replied>,
 ) -> Result<(), Refusal>
-    ensures done { is_sound (table_of held.old) ≡ true → Does result (table_of held.new) (λ t. (t ≡ table_of held.old) ⊎ IsWriteStarved name.now first bytes.now (table_of held.old) t) (write name.now first bytes.now (table_of held.old)) }
-    ensures told { is_sound (table_of held.old) ≡ true → ended.new.items ≡ ended.old.items }
+    ensures done { is_sound_in (volume_for name.now (table_of held.old)) ≡ true → Does result (table_of held.new) (λ t. (t ≡ table_of held.old) ⊎ IsWriteStarved name.now first bytes.now (table_of held.old) t) (write name.now first bytes.now (table_of held.old)) }
+    ensures told { is_quiet_in (volume_for name.now (table_of held.old)) ≡ true → ended.new.items ≡ ended.old.items }
+    ensures asks { IfErr (write_asked name.now first bytes.now (table_of held.old)) (λ e. result ≡ Err e) }
+    ensures stays { IfErr (write_asked name.now first bytes.now (table_of held.old)) (λ _. (table_of held.new ≡ table_of held.old) × (ended.new.items ≡ ended.old.items)) }
+    ensures among { IfOk (write_asked name.now first bytes.now (table_of held.old)) (λ asks. IsDoneFor name.now (IsWrittenAmong bytes.now result ended.old.items ended.new.items asks) (table_of held.old) (table_of held.new)) }
     ensures one { KeepsOthers name.now (table_of held.old) (table_of held.new) }
     ensures sound { is_sound (table_of held.old) ≡ true → is_sound (table_of held.new) ≡ true }
     ensures named { AreNamed (table_of held.old) → AreNamed (table_of held.new) }

@@ -1,19 +1,21 @@
 -- The whole arena, after each of its calls.
-use Rattle.std.proofs.Common.{◌≡◌, ◌≢◌, inl, inr, ℕ, suc, ◌+◌, ◌-◌, ◌%◌, ◌<◌, ◌≤◌, List, [], ◌∷◌, ◌++◌, length, get_or, take, drop, set, map, reverse, replicate, arith, refl, ap, ◌∙◌, sym, subst, length-append}
+use Rattle.std.proofs.Common.{◌≡◌, ◌≢◌, inl, inr, ℕ, suc, ◌+◌, ◌-◌, ◌/◌, ◌%◌, ◌^◌, ◌<◌, ◌≤◌, List, [], ◌∷◌, ◌++◌, length, get_or, take, drop, set, map, reverse, replicate, arith, refl, ap, ◌∙◌, sym, subst, length-append, append_assoc, drop-cons}
 use Rattle.std.proofs.lemmas.Bool.{cases_eq, cases_lt}
-use Rattle.std.proofs.lemmas.List.{reverse-append, get_or-set_other, length-set, length-map, map-append, take_more, take-append-drop, get_or-replicate, length-replicate}
-use Rattle.std.proofs.Common.{drop-cons}
+use Rattle.std.proofs.lemmas.List.{reverse-append, get_or-set_other, length-set, map-append, take_more, take-append-drop, get_or-replicate, length-replicate}
 use Rattle.std.proofs.Math.Seq.{take-append_seam}
 use Rattle.sector.specs.declared.pair.Pair.{Pair}
-use Rattle.exception_arena.specs.Links.{node_at, pair_at, begun_at, led, list_from, Leads, count_of, omit, head_at, AreHung}
-use Rattle.exception_arena.specs.Arenas.{IsQueue, StandsOnOne, IsArena, HasRoom, IsSound, IsTaken}
+use Rattle.exception_arena.specs.declared.run.Run.{Run}
+use Rattle.exception_arena.specs.Runs.{pair_after, pairs_from, pairs_in, IsRun, GoesOn}
+use Rattle.exception_arena.proofs.Runs.{run_one, run_length, run_more, run_less}
+use Rattle.exception_arena.specs.Links.{node_at, run_at, begun_at, pairs_on, led, recount, list_from, Leads, count_of, omit, head_at, AreHung}
+use Rattle.exception_arena.specs.Arenas.{IsQueue, StandsOnOne, IsArena, HasRoom, HoldsRuns, IsSound, IsTaken}
 use Rattle.exception_arena.specs.declared.node.Link.{Link}
 use Rattle.exception_arena.specs.declared.node.Link.TheVariants.{Nowhere, To}
 use Rattle.exception_arena.specs.declared.node.Node.{Node}
 use Rattle.exception_arena.specs.declared.queue.Queue.{Queue}
-use Rattle.exception_arena.proofs.Places.{SameOn, leads_kept, leads_some, walked, led_same, led_other, led_pair, led_apart, count_here, count_there, count-append, count-reverse, count-drop, pairs_kept, begun_kept}
+use Rattle.exception_arena.proofs.Places.{SameOn, recount_same, recount_other, recount_next, recount_first, leads_alike, pairs-last, leads_kept, leads_some, walked, led_same, led_other, led_run, led_apart, count_here, count_there, count-append, count-reverse, count-drop, pairs_kept, begun_kept}
 use Rattle.exception_arena.proofs.Queues.{omit_count, omit_length}
-use Rattle.exception_arena.proofs.Hung.{hung_kept, hung_more, hung_less}
+use Rattle.exception_arena.proofs.Hung.{hung_alike, hung_kept, hung_more, hung_less}
 
 -- the lists that are walked are the ones that it holds
 pub lists_are : (nodes : List Node) (heads : List Link) (slots : List ℕ) (free : Link) (queue : Queue) (frees waiting : List ℕ) → IsArena nodes heads slots free queue frees waiting → (list_from nodes free ≡ frees) × (list_from nodes queue.first ≡ waiting)
@@ -22,13 +24,23 @@ lists_are nodes heads slots free queue frees waiting a = (
   walked nodes queue.first waiting (length nodes) a.queued.chain (omega (arith, a.one.all)),
 )
 
-pub sound_of : (nodes : List Node) (heads : List Link) (slots : List ℕ) (free : Link) (queue : Queue) (reserved nodes_capacity slots_capacity : ℕ) (frees waiting : List ℕ) → IsArena nodes heads slots free queue frees waiting → HasRoom heads slots queue reserved nodes_capacity slots_capacity → IsSound nodes heads slots free queue reserved nodes_capacity slots_capacity
-sound_of nodes heads slots free queue reserved nodes_capacity slots_capacity frees waiting a room =
+pub sound_of : (nodes : List Node) (heads : List Link) (slots : List ℕ) (free : Link) (queue : Queue) (count reserved nodes_capacity slots_capacity : ℕ) (frees waiting : List ℕ) → IsArena nodes heads slots free queue frees waiting → HasRoom heads slots queue count reserved nodes_capacity slots_capacity → HoldsRuns nodes slots waiting count → IsSound nodes heads slots free queue count reserved nodes_capacity slots_capacity
+sound_of nodes heads slots free queue count reserved nodes_capacity slots_capacity frees waiting a room held =
     let (f, w) = lists_are nodes heads slots free queue frees waiting a in
     record {
       arena = subst (λ x. IsArena nodes heads slots free queue x (list_from nodes queue.first)) (sym f) (subst (λ x. IsArena nodes heads slots free queue frees x) (sym w) a);
       room = room;
+      held = subst (λ x. HoldsRuns nodes slots x count) (sym w) held;
     }
+
+-- the runs are as they were, and no node more is pending
+held_kept : (nodes nodes' : List Node) (slots waiting waiting' : List ℕ) (count : ℕ) → ((i : ℕ) → 0 < count_of i slots → run_at nodes' i ≡ run_at nodes i) → ((i : ℕ) → 0 < count_of i waiting' → run_at nodes' i ≡ run_at nodes i) → ((i : ℕ) → count_of i waiting' ≤ count_of i waiting) → HoldsRuns nodes slots waiting count → HoldsRuns nodes' slots waiting' count
+held_kept nodes nodes' slots waiting waiting' count same same' less held = record {
+  runs = λ i some. subst IsRun (sym (same i some)) (held.runs i some);
+  begun = λ i some. subst IsRun (sym (same' i some)) (held.begun i (omega (arith, less i)));
+  single = λ i some. ap (λ (r : Run). r.count) (same' i some) ∙ held.single i (omega (arith, less i));
+  many = ap length (pairs_kept nodes nodes' slots same) ∙ held.many;
+}
 
 -- a queue whose nodes are as they were
 pub queue_kept : (nodes nodes' : List Node) (queue : Queue) (is : List ℕ) → SameOn nodes nodes' is → length nodes ≤ length nodes' → IsQueue nodes queue is → IsQueue nodes' queue is
@@ -84,7 +96,7 @@ abandoned nodes nodes1 heads slots free queue queue1 frees waiting j a some q ot
     }
 
 -- a pending pair is committed: its node goes to its bucket, and to the end of the slots
-pub finished : (nodes nodes1 : List Node) (heads : List Link) (slots : List ℕ) (free : Link) (queue queue1 : Queue) (frees waiting : List ℕ) (j k : ℕ) → IsArena nodes heads slots free queue frees waiting → 0 < count_of j waiting → IsQueue nodes1 queue1 (omit j waiting) → ((i : ℕ) → count_of i waiting ≡ 0 → node_at nodes1 i ≡ node_at nodes i) → length nodes1 ≡ length nodes → k ≡ (pair_at nodes1 j).old % length heads
+pub finished : (nodes nodes1 : List Node) (heads : List Link) (slots : List ℕ) (free : Link) (queue queue1 : Queue) (frees waiting : List ℕ) (j k : ℕ) → IsArena nodes heads slots free queue frees waiting → 0 < count_of j waiting → IsQueue nodes1 queue1 (omit j waiting) → ((i : ℕ) → count_of i waiting ≡ 0 → node_at nodes1 i ≡ node_at nodes i) → length nodes1 ≡ length nodes → k ≡ (run_at nodes1 j).first.old / 256 % length heads
     → IsArena (led nodes1 j (head_at heads k)) (set heads k (To j)) (slots ++ j ∷ []) free queue1 frees (omit j waiting)
 finished nodes nodes1 heads slots free queue queue1 frees waiting j k a some q others len at =
     let next : Link = head_at heads k in
@@ -107,7 +119,7 @@ finished nodes nodes1 heads slots free queue queue1 frees waiting j k a some q o
     }
 
 -- the last committed pair is taken away: its node goes to the free list
-pub removed : (nodes : List Node) (heads : List Link) (slots slots1 : List ℕ) (free : Link) (queue : Queue) (frees waiting : List ℕ) (j k : ℕ) → IsArena nodes heads slots free queue frees waiting → slots ≡ slots1 ++ j ∷ [] → k ≡ (pair_at nodes j).old % length heads
+pub removed : (nodes : List Node) (heads : List Link) (slots slots1 : List ℕ) (free : Link) (queue : Queue) (frees waiting : List ℕ) (j k : ℕ) → IsArena nodes heads slots free queue frees waiting → slots ≡ slots1 ++ j ∷ [] → k ≡ (run_at nodes j).first.old / 256 % length heads
     → (j < length nodes) × IsArena (led nodes j free) (set heads k (node_at nodes j).next) slots1 (To j) queue (j ∷ frees) waiting
 removed nodes heads slots slots1 free queue frees waiting j k a last at =
     let nodes1 : List Node = led nodes j free in
@@ -205,7 +217,7 @@ pub hung_none : (nodes : List Node) (n : ℕ) → AreHung nodes (replicate n Now
 hung_none nodes n b lt = get_or-replicate n b Nowhere Nowhere (omega (arith, length-replicate n Nowhere))
 
 -- one slot more
-pub hung_slot : (nodes nodes1 : List Node) (heads : List Link) (slots : List ℕ) (i j k : ℕ) → i < length slots → j ≡ get_or slots i 0 → ((x : ℕ) → count_of x slots ≤ 1) → j < length nodes → k ≡ (pair_at nodes j).old % length heads → AreHung nodes heads (reverse (take i slots)) → nodes1 ≡ led nodes j (head_at heads k)
+pub hung_slot : (nodes nodes1 : List Node) (heads : List Link) (slots : List ℕ) (i j k : ℕ) → i < length slots → j ≡ get_or slots i 0 → ((x : ℕ) → count_of x slots ≤ 1) → j < length nodes → k ≡ (run_at nodes j).first.old / 256 % length heads → AreHung nodes heads (reverse (take i slots)) → nodes1 ≡ led nodes j (head_at heads k)
     → AreHung nodes1 (set heads k (To j)) (reverse (take (i + 1) slots))
 hung_slot nodes nodes1 heads slots i j k lt is once inside at hung led1 =
     let order : reverse (take (i + 1) slots) ≡ j ∷ reverse (take i slots) = ap reverse (take_more slots i 0 lt ∙ ap (λ x. take i slots ++ x ∷ []) (sym is)) ∙ reverse-append (take i slots) (j ∷ []) in
@@ -216,74 +228,100 @@ hung_slot nodes nodes1 heads slots i j k lt is once inside at hung led1 =
 
 -- as whole: what the arena stands for, after each call
 
-pub abandoned_sound : (nodes nodes1 nodes2 : List Node) (heads : List Link) (slots : List ℕ) (free : Link) (queue queue1 : Queue) (reserved nodes_capacity nodes_capacity1 slots_capacity j : ℕ) → IsSound nodes heads slots free queue reserved nodes_capacity slots_capacity → 0 < count_of j (list_from nodes queue.first)
-    → IsQueue nodes1 queue1 (omit j (list_from nodes queue.first)) → ((i : ℕ) → pair_at nodes1 i ≡ pair_at nodes i) → ((i : ℕ) → count_of i (list_from nodes queue.first) ≡ 0 → node_at nodes1 i ≡ node_at nodes i) → length nodes1 ≡ length nodes → nodes2 ≡ led nodes1 j free → nodes_capacity1 ≡ nodes_capacity
-    → IsSound nodes2 heads slots (To j) queue1 reserved nodes_capacity1 slots_capacity × ((map (pair_at nodes2) slots ≡ map (pair_at nodes) slots) × (map (begun_at nodes2) (list_from nodes2 queue1.first) ≡ map (begun_at nodes) (omit j (list_from nodes queue.first))))
-abandoned_sound nodes nodes1 nodes2 heads slots free queue queue1 reserved nodes_capacity nodes_capacity1 slots_capacity j sound some q pairs others len last same =
+pub abandoned_sound : (nodes nodes1 nodes2 : List Node) (heads : List Link) (slots : List ℕ) (free : Link) (queue queue1 : Queue) (count reserved nodes_capacity nodes_capacity1 slots_capacity j : ℕ) → IsSound nodes heads slots free queue count reserved nodes_capacity slots_capacity → 0 < count_of j (list_from nodes queue.first)
+    → IsQueue nodes1 queue1 (omit j (list_from nodes queue.first)) → ((i : ℕ) → run_at nodes1 i ≡ run_at nodes i) → ((i : ℕ) → count_of i (list_from nodes queue.first) ≡ 0 → node_at nodes1 i ≡ node_at nodes i) → length nodes1 ≡ length nodes → nodes2 ≡ led nodes1 j free → nodes_capacity1 ≡ nodes_capacity
+    → IsSound nodes2 heads slots (To j) queue1 count reserved nodes_capacity1 slots_capacity × ((pairs_on nodes2 slots ≡ pairs_on nodes slots) × (map (begun_at nodes2) (list_from nodes2 queue1.first) ≡ map (begun_at nodes) (omit j (list_from nodes queue.first))))
+abandoned_sound nodes nodes1 nodes2 heads slots free queue queue1 count reserved nodes_capacity nodes_capacity1 slots_capacity j sound some q pairs others len last same =
     let frees : List ℕ = list_from nodes free in
     let waiting : List ℕ = list_from nodes queue.first in
     let a : IsArena nodes2 heads slots (To j) queue1 (j ∷ frees) (omit j waiting) = subst (λ x. IsArena x heads slots (To j) queue1 (j ∷ frees) (omit j waiting)) (sym last) (abandoned nodes nodes1 heads slots free queue queue1 frees waiting j sound.arena some q others len) in
     let lt : j < length nodes1 = let h = sound.arena.queued.inside j some in omega arith in
-    let pairs2 : (i : ℕ) → pair_at nodes2 i ≡ pair_at nodes i = λ i. ap (λ x. pair_at x i) last ∙ led_pair nodes1 j i free lt ∙ pairs i in
+    let pairs2 : (i : ℕ) → run_at nodes2 i ≡ run_at nodes i = λ i. ap (λ x. run_at x i) last ∙ led_run nodes1 j i free lt ∙ pairs i in
     let less : queue1.count + 1 ≡ queue.count = omega (arith, q.many, omit_length j waiting some, sound.arena.queued.many) in (
-      sound_of nodes2 heads slots (To j) queue1 reserved nodes_capacity1 slots_capacity (j ∷ frees) (omit j waiting) a (record {
+      sound_of nodes2 heads slots (To j) queue1 count reserved nodes_capacity1 slots_capacity (j ∷ frees) (omit j waiting) a (record {
         nodes_room = let r = sound.room.nodes_room in omega arith;
         slots_room = let r = sound.room.slots_room in omega arith;
         buckets = let r = sound.room.buckets in omega arith;
-      }),
+        numbers = let r = sound.room.numbers in omega arith;
+      }) (held_kept nodes nodes2 slots waiting (omit j waiting) count (λ i s. pairs2 i) (λ i s. pairs2 i) (λ i. omega (arith, omit_count j waiting i some)) sound.held),
       (
         pairs_kept nodes nodes2 slots (λ i s. pairs2 i),
         ap (map (begun_at nodes2)) (lists_are nodes2 heads slots (To j) queue1 (j ∷ frees) (omit j waiting) a).1 ∙ begun_kept nodes nodes2 (omit j waiting) (λ i s. pairs2 i),
       ),
     )
 
-pub finished_sound : (nodes nodes1 nodes2 : List Node) (heads heads1 : List Link) (slots slots1 : List ℕ) (free : Link) (queue queue1 : Queue) (reserved nodes_capacity nodes_capacity1 slots_capacity slots_capacity1 j : ℕ) → IsSound nodes heads slots free queue reserved nodes_capacity slots_capacity → 0 < count_of j (list_from nodes queue.first)
-    → IsQueue nodes1 queue1 (omit j (list_from nodes queue.first)) → ((i : ℕ) → pair_at nodes1 i ≡ pair_at nodes i) → ((i : ℕ) → count_of i (list_from nodes queue.first) ≡ 0 → node_at nodes1 i ≡ node_at nodes i) → length nodes1 ≡ length nodes
-    → nodes2 ≡ led nodes1 j (head_at heads ((pair_at nodes1 j).old % length heads)) → heads1 ≡ set heads ((pair_at nodes1 j).old % length heads) (To j) → slots1 ≡ slots ++ j ∷ [] → nodes_capacity1 ≡ nodes_capacity → slots_capacity1 ≡ slots_capacity
-    → IsSound nodes2 heads1 slots1 free queue1 reserved nodes_capacity1 slots_capacity1 × ((map (pair_at nodes2) slots1 ≡ map (pair_at nodes) slots ++ pair_at nodes j ∷ []) × (map (begun_at nodes2) (list_from nodes2 queue1.first) ≡ map (begun_at nodes) (omit j (list_from nodes queue.first))))
-finished_sound nodes nodes1 nodes2 heads heads1 slots slots1 free queue queue1 reserved nodes_capacity nodes_capacity1 slots_capacity slots_capacity1 j sound some q pairs others len last heads_are slots_are same same1 =
+pub finished_sound : (nodes nodes1 nodes2 : List Node) (heads heads1 : List Link) (slots slots1 : List ℕ) (free : Link) (queue queue1 : Queue) (count reserved nodes_capacity nodes_capacity1 slots_capacity slots_capacity1 j : ℕ) → IsSound nodes heads slots free queue count reserved nodes_capacity slots_capacity → 0 < count_of j (list_from nodes queue.first)
+    → IsQueue nodes1 queue1 (omit j (list_from nodes queue.first)) → ((i : ℕ) → run_at nodes1 i ≡ run_at nodes i) → ((i : ℕ) → count_of i (list_from nodes queue.first) ≡ 0 → node_at nodes1 i ≡ node_at nodes i) → length nodes1 ≡ length nodes
+    → nodes2 ≡ led nodes1 j (head_at heads ((run_at nodes1 j).first.old / 256 % length heads)) → heads1 ≡ set heads ((run_at nodes1 j).first.old / 256 % length heads) (To j) → slots1 ≡ slots ++ j ∷ [] → nodes_capacity1 ≡ nodes_capacity → slots_capacity1 ≡ slots_capacity
+    → IsSound nodes2 heads1 slots1 free queue1 (count + 1) reserved nodes_capacity1 slots_capacity1 × ((pairs_on nodes2 slots1 ≡ pairs_on nodes slots ++ (run_at nodes j).first ∷ []) × (map (begun_at nodes2) (list_from nodes2 queue1.first) ≡ map (begun_at nodes) (omit j (list_from nodes queue.first))))
+finished_sound nodes nodes1 nodes2 heads heads1 slots slots1 free queue queue1 count reserved nodes_capacity nodes_capacity1 slots_capacity slots_capacity1 j sound some q pairs others len last heads_are slots_are same same1 =
     let frees : List ℕ = list_from nodes free in
     let waiting : List ℕ = list_from nodes queue.first in
-    let k : ℕ = (pair_at nodes1 j).old % length heads in
+    let k : ℕ = (run_at nodes1 j).first.old / 256 % length heads in
     let f = finished nodes nodes1 heads slots free queue queue1 frees waiting j k sound.arena some q others len refl in
     let a : IsArena nodes2 heads1 slots1 free queue1 frees (omit j waiting) = subst (λ x. IsArena x heads1 slots1 free queue1 frees (omit j waiting)) (sym last) (subst (λ x. IsArena (led nodes1 j (head_at heads k)) x slots1 free queue1 frees (omit j waiting)) (sym heads_are) (subst (λ x. IsArena (led nodes1 j (head_at heads k)) (set heads k (To j)) x free queue1 frees (omit j waiting)) (sym slots_are) f)) in
     let lt : j < length nodes1 = let h = sound.arena.queued.inside j some in omega arith in
-    let pairs2 : (i : ℕ) → pair_at nodes2 i ≡ pair_at nodes i = λ i. ap (λ x. pair_at x i) last ∙ led_pair nodes1 j i (head_at heads k) lt ∙ pairs i in
+    let pairs2 : (i : ℕ) → run_at nodes2 i ≡ run_at nodes i = λ i. ap (λ x. run_at x i) last ∙ led_run nodes1 j i (head_at heads k) lt ∙ pairs i in
     let less : queue1.count + 1 ≡ queue.count = omega (arith, q.many, omit_length j waiting some, sound.arena.queued.many) in
     let more : length slots1 ≡ length slots + 1 = ap length slots_are ∙ length-append slots (j ∷ []) in
-    let wide : length heads1 ≡ length heads = ap length heads_are ∙ length-set heads k (To j) in (
-      sound_of nodes2 heads1 slots1 free queue1 reserved nodes_capacity1 slots_capacity1 frees (omit j waiting) a (record {
+    let wide : length heads1 ≡ length heads = ap length heads_are ∙ length-set heads k (To j) in
+    let one : (run_at nodes j).count ≡ 1 = sound.held.single j some in
+    let p : pairs_on nodes2 slots1 ≡ pairs_on nodes slots ++ (run_at nodes j).first ∷ [] =
+    pairs_kept nodes nodes2 slots1 (λ i s. pairs2 i) ∙ ap (pairs_on nodes) slots_are ∙ pairs-last nodes slots j
+    ∙ ap (λ x. pairs_on nodes slots ++ pairs_from (run_at nodes j).first x) one ∙ ap (λ x. pairs_on nodes slots ++ x) (run_one (run_at nodes j).first) in
+    let held : HoldsRuns nodes2 slots1 (omit j waiting) (count + 1) = record {
+      runs = λ i s. elim (cases_eq j i) [
+        | inl e ↦ subst (λ x. IsRun (run_at nodes2 x)) e (subst IsRun (sym (pairs2 j)) (sound.held.begun j some))
+        | inr ne ↦ subst IsRun (sym (pairs2 i)) (sound.held.runs i (omega (arith, ap (count_of i) slots_are, count-append i slots (j ∷ []), count_there i j [] ne)))
+      ];
+      begun = λ i s. subst IsRun (sym (pairs2 i)) (sound.held.begun i (omega (arith, omit_count j waiting i some)));
+      single = λ i s. ap (λ (r : Run). r.count) (pairs2 i) ∙ sound.held.single i (omega (arith, omit_count j waiting i some));
+      many = omega (arith, ap length p, length-append (pairs_on nodes slots) ((run_at nodes j).first ∷ []), sound.held.many);
+    } in (
+      sound_of nodes2 heads1 slots1 free queue1 (count + 1) reserved nodes_capacity1 slots_capacity1 frees (omit j waiting) a (record {
         nodes_room = let r = sound.room.nodes_room in omega arith;
         slots_room = let r = sound.room.slots_room in omega arith;
         buckets = let r = sound.room.buckets in omega arith;
-      }),
+        numbers = let r = sound.room.numbers in omega arith;
+      }) held,
       (
-        pairs_kept nodes nodes2 slots1 (λ i s. pairs2 i) ∙ ap (map (pair_at nodes)) slots_are ∙ map-append (pair_at nodes) slots (j ∷ []),
+        p,
         ap (map (begun_at nodes2)) (lists_are nodes2 heads1 slots1 free queue1 frees (omit j waiting) a).1 ∙ begun_kept nodes nodes2 (omit j waiting) (λ i s. pairs2 i),
       ),
     )
 
-pub removed_sound : (nodes nodes1 : List Node) (heads heads1 : List Link) (slots slots1 : List ℕ) (free : Link) (queue : Queue) (reserved nodes_capacity nodes_capacity1 slots_capacity slots_capacity1 j : ℕ) → IsSound nodes heads slots free queue reserved nodes_capacity slots_capacity → slots ≡ slots1 ++ j ∷ []
-    → nodes1 ≡ led nodes j free → heads1 ≡ set heads ((pair_at nodes j).old % length heads) (node_at nodes j).next → nodes_capacity1 ≡ nodes_capacity → slots_capacity1 ≡ slots_capacity
-    → IsSound nodes1 heads1 slots1 (To j) queue reserved nodes_capacity1 slots_capacity1 × ((map (pair_at nodes1) slots1 ≡ take (length (map (pair_at nodes) slots) - 1) (map (pair_at nodes) slots)) × (map (begun_at nodes1) (list_from nodes1 queue.first) ≡ map (begun_at nodes) (list_from nodes queue.first)))
-removed_sound nodes nodes1 heads heads1 slots slots1 free queue reserved nodes_capacity nodes_capacity1 slots_capacity slots_capacity1 j sound last nodes_are heads_are same same1 =
+pub removed_sound : (nodes nodes1 : List Node) (heads heads1 : List Link) (slots slots1 : List ℕ) (free : Link) (queue : Queue) (count reserved nodes_capacity nodes_capacity1 slots_capacity slots_capacity1 j : ℕ) → IsSound nodes heads slots free queue count reserved nodes_capacity slots_capacity → slots ≡ slots1 ++ j ∷ [] → (run_at nodes j).count ≤ 1
+    → nodes1 ≡ led nodes j free → heads1 ≡ set heads ((run_at nodes j).first.old / 256 % length heads) (node_at nodes j).next → nodes_capacity1 ≡ nodes_capacity → slots_capacity1 ≡ slots_capacity
+    → IsSound nodes1 heads1 slots1 (To j) queue (count - 1) reserved nodes_capacity1 slots_capacity1 × ((pairs_on nodes1 slots1 ≡ take (length (pairs_on nodes slots) - 1) (pairs_on nodes slots)) × (map (begun_at nodes1) (list_from nodes1 queue.first) ≡ map (begun_at nodes) (list_from nodes queue.first)))
+removed_sound nodes nodes1 heads heads1 slots slots1 free queue count reserved nodes_capacity nodes_capacity1 slots_capacity slots_capacity1 j sound last short nodes_are heads_are same same1 =
     let frees : List ℕ = list_from nodes free in
     let waiting : List ℕ = list_from nodes queue.first in
-    let k : ℕ = (pair_at nodes j).old % length heads in
+    let k : ℕ = (run_at nodes j).first.old / 256 % length heads in
     let (lt, f) = removed nodes heads slots slots1 free queue frees waiting j k sound.arena last refl in
     let a : IsArena nodes1 heads1 slots1 (To j) queue (j ∷ frees) waiting = subst (λ x. IsArena x heads1 slots1 (To j) queue (j ∷ frees) waiting) (sym nodes_are) (subst (λ x. IsArena (led nodes j free) x slots1 (To j) queue (j ∷ frees) waiting) (sym heads_are) f) in
-    let pairs : (i : ℕ) → pair_at nodes1 i ≡ pair_at nodes i = λ i. ap (λ x. pair_at x i) nodes_are ∙ led_pair nodes j i free lt in
+    let pairs : (i : ℕ) → run_at nodes1 i ≡ run_at nodes i = λ i. ap (λ x. run_at x i) nodes_are ∙ led_run nodes j i free lt in
     let less : length slots ≡ length slots1 + 1 = ap length last ∙ length-append slots1 (j ∷ []) in
     let wide : length heads1 ≡ length heads = ap length heads_are ∙ length-set heads k (node_at nodes j).next in
-    let parts : map (pair_at nodes) slots ≡ map (pair_at nodes) slots1 ++ pair_at nodes j ∷ [] = ap (map (pair_at nodes)) last ∙ map-append (pair_at nodes) slots1 (j ∷ []) in
-    let n : length (map (pair_at nodes) slots1) ≡ length (map (pair_at nodes) slots) - 1 = omega (arith, length-map slots1 (pair_at nodes), length-map slots (pair_at nodes)) in (
-      sound_of nodes1 heads1 slots1 (To j) queue reserved nodes_capacity1 slots_capacity1 (j ∷ frees) waiting a (record {
+    let on : 0 < count_of j slots = omega (arith, ap (count_of j) last, count-append j slots1 (j ∷ []), count_here j j [] refl) in
+    let one : (run_at nodes j).count ≡ 1 = omega (arith, (sound.held.runs j on).some) in
+    let parts : pairs_on nodes slots ≡ pairs_on nodes slots1 ++ (run_at nodes j).first ∷ [] = ap (pairs_on nodes) last ∙ pairs-last nodes slots1 j
+    ∙ ap (λ x. pairs_on nodes slots1 ++ pairs_from (run_at nodes j).first x) one ∙ ap (λ x. pairs_on nodes slots1 ++ x) (run_one (run_at nodes j).first) in
+    let n : length (pairs_on nodes slots1) ≡ length (pairs_on nodes slots) - 1 = omega (arith, ap length parts, length-append (pairs_on nodes slots1) ((run_at nodes j).first ∷ [])) in
+    let p : pairs_on nodes1 slots1 ≡ pairs_on nodes slots1 = pairs_kept nodes nodes1 slots1 (λ i s. pairs i) in
+    let held : HoldsRuns nodes1 slots1 waiting (count - 1) = record {
+      runs = λ i s. subst IsRun (sym (pairs i)) (sound.held.runs i (omega (arith, ap (count_of i) last, count-append i slots1 (j ∷ []))));
+      begun = λ i s. subst IsRun (sym (pairs i)) (sound.held.begun i s);
+      single = λ i s. ap (λ (r : Run). r.count) (pairs i) ∙ sound.held.single i s;
+      many = ap length p ∙ n ∙ ap (λ x. x - 1) sound.held.many;
+    } in (
+      sound_of nodes1 heads1 slots1 (To j) queue (count - 1) reserved nodes_capacity1 slots_capacity1 (j ∷ frees) waiting a (record {
         nodes_room = let r = sound.room.nodes_room in omega arith;
         slots_room = let r = sound.room.slots_room in omega arith;
         buckets = let r = sound.room.buckets in omega arith;
-      }),
+        numbers = let r = sound.room.numbers in omega arith;
+      }) held,
       (
-        pairs_kept nodes nodes1 slots1 (λ i s. pairs i) ∙ sym (take-append_seam (map (pair_at nodes) slots1) (pair_at nodes j ∷ [])) ∙ ap (λ x. take x (map (pair_at nodes) slots1 ++ pair_at nodes j ∷ [])) n ∙ ap (take (length (map (pair_at nodes) slots) - 1)) (sym parts),
+        p ∙ sym (take-append_seam (pairs_on nodes slots1) ((run_at nodes j).first ∷ [])) ∙ ap (λ x. take x (pairs_on nodes slots1 ++ (run_at nodes j).first ∷ [])) n ∙ ap (take (length (pairs_on nodes slots) - 1)) (sym parts),
         ap (map (begun_at nodes1)) (lists_are nodes1 heads1 slots1 (To j) queue (j ∷ frees) waiting a).1 ∙ begun_kept nodes nodes1 waiting (λ i s. pairs i),
       ),
     )
@@ -303,11 +341,11 @@ begun_ready nodes nodes1 heads slots free queue frees waiting j a taken others =
     let q : IsQueue nodes1 queue waiting = queue_kept nodes nodes1 queue waiting on off.1.1 a.queued in
     ((on, on_slots), ((q, walked nodes1 queue.first waiting (length nodes1) q.chain (omega (arith, a.one.all, off.1.1))), (omega (arith, off.0), off.1.0)))
 
-pub begun_sound : (nodes nodes1 nodes2 : List Node) (heads : List Link) (slots : List ℕ) (free free1 : Link) (queue queue2 : Queue) (reserved reserved1 nodes_capacity nodes_capacity1 slots_capacity j : ℕ) (pair : Pair) → IsSound nodes heads slots free queue reserved nodes_capacity slots_capacity
-    → Leads nodes1 free1 (drop 1 (list_from nodes free)) → IsTaken (list_from nodes free) (length nodes) j (length nodes1) → ((i : ℕ) → i ≢ j → i < length nodes → node_at nodes1 i ≡ node_at nodes i) → node_at nodes1 j ≡ record { pair = pair; next = Nowhere }
-    → IsQueue nodes2 queue2 (list_from nodes1 queue.first ++ j ∷ []) → ((i : ℕ) → pair_at nodes2 i ≡ pair_at nodes1 i) → ((i : ℕ) → count_of i (list_from nodes1 queue.first) ≡ 0 → node_at nodes2 i ≡ node_at nodes1 i) → length nodes2 ≡ length nodes1 → nodes_capacity1 ≡ nodes_capacity → reserved1 + 1 ≡ reserved
-    → IsSound nodes2 heads slots free1 queue2 reserved1 nodes_capacity1 slots_capacity × ((map (pair_at nodes2) slots ≡ map (pair_at nodes) slots) × (map (begun_at nodes2) (list_from nodes2 queue2.first) ≡ map (begun_at nodes) (list_from nodes queue.first) ++ record { id = j; pair = pair } ∷ []))
-begun_sound nodes nodes1 nodes2 heads slots free free1 queue queue2 reserved reserved1 nodes_capacity nodes_capacity1 slots_capacity j pair sound freed taken others node queued pairs2 others2 len same less =
+pub begun_sound : (nodes nodes1 nodes2 : List Node) (heads : List Link) (slots : List ℕ) (free free1 : Link) (queue queue2 : Queue) (count reserved reserved1 nodes_capacity nodes_capacity1 slots_capacity j : ℕ) (pair : Pair) → IsSound nodes heads slots free queue count reserved nodes_capacity slots_capacity
+    → Leads nodes1 free1 (drop 1 (list_from nodes free)) → IsTaken (list_from nodes free) (length nodes) j (length nodes1) → ((i : ℕ) → i ≢ j → i < length nodes → node_at nodes1 i ≡ node_at nodes i) → node_at nodes1 j ≡ record { run = record { first = pair; count = 1 }; next = Nowhere } → IsRun (record { first = pair; count = 1 })
+    → IsQueue nodes2 queue2 (list_from nodes1 queue.first ++ j ∷ []) → ((i : ℕ) → run_at nodes2 i ≡ run_at nodes1 i) → ((i : ℕ) → count_of i (list_from nodes1 queue.first) ≡ 0 → node_at nodes2 i ≡ node_at nodes1 i) → length nodes2 ≡ length nodes1 → nodes_capacity1 ≡ nodes_capacity → reserved1 + 1 ≡ reserved
+    → IsSound nodes2 heads slots free1 queue2 count reserved1 nodes_capacity1 slots_capacity × ((pairs_on nodes2 slots ≡ pairs_on nodes slots) × (map (begun_at nodes2) (list_from nodes2 queue2.first) ≡ map (begun_at nodes) (list_from nodes queue.first) ++ record { id = j; pair = pair } ∷ []))
+begun_sound nodes nodes1 nodes2 heads slots free free1 queue queue2 count reserved reserved1 nodes_capacity nodes_capacity1 slots_capacity j pair sound freed taken others node fits queued pairs2 others2 len same less =
     let frees : List ℕ = list_from nodes free in
     let waiting : List ℕ = list_from nodes queue.first in
     let ready = begun_ready nodes nodes1 heads slots free queue frees waiting j sound.arena taken others in
@@ -316,17 +354,34 @@ begun_sound nodes nodes1 nodes2 heads slots free free1 queue queue2 reserved res
     let o : (i : ℕ) → count_of i waiting ≡ 0 → node_at nodes2 i ≡ node_at nodes1 i = subst (λ x. (i : ℕ) → count_of i x ≡ 0 → node_at nodes2 i ≡ node_at nodes1 i) e others2 in
     let a : IsArena nodes2 heads slots free1 queue2 (drop 1 frees) (waiting ++ j ∷ []) = begun nodes nodes1 nodes2 heads slots free free1 queue queue2 frees waiting j sound.arena freed taken others q o len in
     let more : queue2.count ≡ queue.count + 1 = omega (arith, q.many, sound.arena.queued.many, length-append waiting (j ∷ [])) in
-    let own : pair_at nodes2 j ≡ pair = pairs2 j ∙ ap (λ (n : Node). n.pair) node in (
-      sound_of nodes2 heads slots free1 queue2 reserved1 nodes_capacity1 slots_capacity (drop 1 frees) (waiting ++ j ∷ []) a (record {
+    let own : run_at nodes2 j ≡ record { first = pair; count = 1 } = pairs2 j ∙ ap (λ (n : Node). n.run) node in
+    let held : HoldsRuns nodes2 slots (waiting ++ j ∷ []) count = record {
+      runs = λ i s. subst IsRun (sym (pairs2 i ∙ ap (λ (n : Node). n.run) (ready.0.1.same i s))) (sound.held.runs i s);
+      begun = λ i s. elim (cases_eq j i) [
+        | inl e ↦ subst (λ x. IsRun (run_at nodes2 x)) e (subst IsRun (sym own) fits)
+        | inr ne ↦ (
+            let on : 0 < count_of i waiting = omega (arith, count-append i waiting (j ∷ []), count_there i j [] ne) in
+            subst IsRun (sym (pairs2 i ∙ ap (λ (n : Node). n.run) (ready.0.0.same i on))) (sound.held.begun i on))
+      ];
+      single = λ i s. elim (cases_eq j i) [
+        | inl e ↦ subst (λ x. (run_at nodes2 x).count ≡ 1) e (ap (λ (r : Run). r.count) own)
+        | inr ne ↦ (
+            let on : 0 < count_of i waiting = omega (arith, count-append i waiting (j ∷ []), count_there i j [] ne) in
+            ap (λ (r : Run). r.count) (pairs2 i ∙ ap (λ (n : Node). n.run) (ready.0.0.same i on)) ∙ sound.held.single i on)
+      ];
+      many = ap length (pairs_kept nodes nodes2 slots (λ i s. pairs2 i ∙ ap (λ (n : Node). n.run) (ready.0.1.same i s))) ∙ sound.held.many;
+    } in (
+      sound_of nodes2 heads slots free1 queue2 count reserved1 nodes_capacity1 slots_capacity (drop 1 frees) (waiting ++ j ∷ []) a (record {
         nodes_room = let r = sound.room.nodes_room in omega arith;
         slots_room = let r = sound.room.slots_room in omega arith;
         buckets = let r = sound.room.buckets in omega arith;
-      }),
+        numbers = let r = sound.room.numbers in omega arith;
+      }) held,
       (
-        pairs_kept nodes nodes2 slots (λ i s. pairs2 i ∙ ap (λ (n : Node). n.pair) (ready.0.1.same i s)),
+        pairs_kept nodes nodes2 slots (λ i s. pairs2 i ∙ ap (λ (n : Node). n.run) (ready.0.1.same i s)),
         ap (map (begun_at nodes2)) (lists_are nodes2 heads slots free1 queue2 (drop 1 frees) (waiting ++ j ∷ []) a).1 ∙ map-append (begun_at nodes2) waiting (j ∷ [])
-            ∙ ap (λ x. x ++ begun_at nodes2 j ∷ []) (begun_kept nodes nodes2 waiting (λ i s. pairs2 i ∙ ap (λ (n : Node). n.pair) (ready.0.0.same i s)))
-            ∙ ap (λ (p : Pair). map (begun_at nodes) waiting ++ record { id = j; pair = p } ∷ []) own,
+            ∙ ap (λ x. x ++ begun_at nodes2 j ∷ []) (begun_kept nodes nodes2 waiting (λ i s. pairs2 i ∙ ap (λ (n : Node). n.run) (ready.0.0.same i s)))
+            ∙ ap (λ (r : Run). map (begun_at nodes) waiting ++ record { id = j; pair = r.first } ∷ []) own,
       ),
     )
 
@@ -361,21 +416,127 @@ taken_list nodes free frees at node is l once =
     (omega arith, (front, leads_kept nodes (set nodes at node) (node_at nodes at).next (drop 1 frees) (record { same = λ i some. get_or-set_other nodes at i node _ (λ e. let h : count_of i (drop 1 frees) ≡ count_of at (drop 1 frees) = ap (λ x. count_of x (drop 1 frees)) e in omega (arith, once at)) }) rest))
 
 -- room is reserved: the vectors are as they were, and the buckets may have been made anew
-pub reserved_lists : (nodes nodes0 nodes1 : List Node) (heads heads1 : List Link) (slots slots0 : List ℕ) (free : Link) (queue : Queue) (reserved nodes_capacity slots_capacity : ℕ) → IsSound nodes heads slots free queue reserved nodes_capacity slots_capacity
-    → nodes0 ≡ nodes → slots0 ≡ slots → (AreHung nodes0 heads (reverse slots0) → AreHung nodes1 heads1 (reverse slots0)) → ((i : ℕ) → pair_at nodes1 i ≡ pair_at nodes0 i) → ((i : ℕ) → count_of i slots0 ≡ 0 → node_at nodes1 i ≡ node_at nodes0 i) → length nodes1 ≡ length nodes0
+pub reserved_lists : (nodes nodes0 nodes1 : List Node) (heads heads1 : List Link) (slots slots0 : List ℕ) (free : Link) (queue : Queue) (count reserved nodes_capacity slots_capacity : ℕ) → IsSound nodes heads slots free queue count reserved nodes_capacity slots_capacity
+    → nodes0 ≡ nodes → slots0 ≡ slots → (AreHung nodes0 heads (reverse slots0) → AreHung nodes1 heads1 (reverse slots0)) → ((i : ℕ) → run_at nodes1 i ≡ run_at nodes0 i) → ((i : ℕ) → count_of i slots0 ≡ 0 → node_at nodes1 i ≡ node_at nodes0 i) → length nodes1 ≡ length nodes0
     → IsArena nodes1 heads1 slots free queue (list_from nodes free) (list_from nodes queue.first) × (map (begun_at nodes1) (list_from nodes1 queue.first) ≡ map (begun_at nodes) (list_from nodes queue.first))
-reserved_lists nodes nodes0 nodes1 heads heads1 slots slots0 free queue reserved nodes_capacity slots_capacity sound e0 s0 hung pairs others len =
+reserved_lists nodes nodes0 nodes1 heads heads1 slots slots0 free queue count reserved nodes_capacity slots_capacity sound e0 s0 hung pairs others len =
     let frees : List ℕ = list_from nodes free in
     let waiting : List ℕ = list_from nodes queue.first in
     let hung1 : AreHung nodes1 heads1 (reverse slots) = subst (λ s. AreHung nodes1 heads1 (reverse s)) s0 (hung (subst (λ n. AreHung n heads (reverse slots0)) (sym e0) (subst (λ s. AreHung nodes heads (reverse s)) (sym s0) sound.arena.hung))) in
     let a : IsArena nodes1 heads1 slots free queue frees waiting = hung_anew nodes nodes1 heads heads1 slots free queue frees waiting sound.arena hung1 (λ i off. others i (ap (count_of i) s0 ∙ off) ∙ ap (λ n. node_at n i) e0) (len ∙ ap length e0) in
-    (a, ap (map (begun_at nodes1)) (lists_are nodes1 heads1 slots free queue frees waiting a).1 ∙ begun_kept nodes nodes1 waiting (λ i s. pairs i ∙ ap (λ n. pair_at n i) e0))
+    (a, ap (map (begun_at nodes1)) (lists_are nodes1 heads1 slots free queue frees waiting a).1 ∙ begun_kept nodes nodes1 waiting (λ i s. pairs i ∙ ap (λ n. run_at n i) e0))
 
-pub reserved_sound : (nodes nodes0 nodes1 : List Node) (heads heads1 : List Link) (slots slots0 slots1 : List ℕ) (free : Link) (queue : Queue) (reserved reserved1 nodes_capacity nodes_capacity1 slots_capacity slots_capacity1 : ℕ) → IsSound nodes heads slots free queue reserved nodes_capacity slots_capacity
-    → nodes0 ≡ nodes → slots0 ≡ slots → slots1 ≡ slots → (AreHung nodes0 heads (reverse slots0) → AreHung nodes1 heads1 (reverse slots0)) → ((i : ℕ) → pair_at nodes1 i ≡ pair_at nodes0 i) → ((i : ℕ) → count_of i slots0 ≡ 0 → node_at nodes1 i ≡ node_at nodes0 i) → length nodes1 ≡ length nodes0
-    → queue.count + (length slots + reserved1) ≤ nodes_capacity1 → queue.count + (length slots + reserved1) ≤ slots_capacity1 → queue.count + (length slots + reserved1) ≤ length heads1
-    → IsSound nodes1 heads1 slots1 free queue reserved1 nodes_capacity1 slots_capacity1
-reserved_sound nodes nodes0 nodes1 heads heads1 slots slots0 slots1 free queue reserved reserved1 nodes_capacity nodes_capacity1 slots_capacity slots_capacity1 sound e0 s0 s1 hung pairs others len in_nodes in_slots in_heads =
-    let a = (reserved_lists nodes nodes0 nodes1 heads heads1 slots slots0 free queue reserved nodes_capacity slots_capacity sound e0 s0 hung pairs others len).0 in
-    let s : IsSound nodes1 heads1 slots free queue reserved1 nodes_capacity1 slots_capacity1 = sound_of nodes1 heads1 slots free queue reserved1 nodes_capacity1 slots_capacity1 (list_from nodes free) (list_from nodes queue.first) a (record { nodes_room = in_nodes; slots_room = in_slots; buckets = in_heads }) in
-    subst (λ s. IsSound nodes1 heads1 s free queue reserved1 nodes_capacity1 slots_capacity1) (sym s1) s
+pub reserved_sound : (nodes nodes0 nodes1 : List Node) (heads heads1 : List Link) (slots slots0 slots1 : List ℕ) (free : Link) (queue : Queue) (count reserved reserved1 nodes_capacity nodes_capacity1 slots_capacity slots_capacity1 : ℕ) → IsSound nodes heads slots free queue count reserved nodes_capacity slots_capacity
+    → nodes0 ≡ nodes → slots0 ≡ slots → slots1 ≡ slots → (AreHung nodes0 heads (reverse slots0) → AreHung nodes1 heads1 (reverse slots0)) → ((i : ℕ) → run_at nodes1 i ≡ run_at nodes0 i) → ((i : ℕ) → count_of i slots0 ≡ 0 → node_at nodes1 i ≡ node_at nodes0 i) → length nodes1 ≡ length nodes0
+    → queue.count + (length slots + reserved1) ≤ nodes_capacity1 → queue.count + (length slots + reserved1) ≤ slots_capacity1 → queue.count + (length slots + reserved1) ≤ length heads1 → queue.count + (count + reserved1) < 2 ^ 64
+    → IsSound nodes1 heads1 slots1 free queue count reserved1 nodes_capacity1 slots_capacity1
+reserved_sound nodes nodes0 nodes1 heads heads1 slots slots0 slots1 free queue count reserved reserved1 nodes_capacity nodes_capacity1 slots_capacity slots_capacity1 sound e0 s0 s1 hung pairs others len in_nodes in_slots in_heads in_numbers =
+    let a = (reserved_lists nodes nodes0 nodes1 heads heads1 slots slots0 free queue count reserved nodes_capacity slots_capacity sound e0 s0 hung pairs others len).0 in
+    let same : (i : ℕ) → run_at nodes1 i ≡ run_at nodes i = λ i. pairs i ∙ ap (λ n. run_at n i) e0 in
+    let s : IsSound nodes1 heads1 slots free queue count reserved1 nodes_capacity1 slots_capacity1 = sound_of nodes1 heads1 slots free queue count reserved1 nodes_capacity1 slots_capacity1 (list_from nodes free) (list_from nodes queue.first) a (record { nodes_room = in_nodes; slots_room = in_slots; buckets = in_heads; numbers = in_numbers }) (held_kept nodes nodes1 slots (list_from nodes queue.first) (list_from nodes queue.first) count (λ i s. same i) (λ i s. same i) (λ i. omega arith) sound.held) in
+    subst (λ s. IsSound nodes1 heads1 s free queue count reserved1 nodes_capacity1 slots_capacity1) (sym s1) s
+
+-- the last run is of another length
+pub length_last : (nodes : List Node) (slots slots0 : List ℕ) (last : ℕ) → slots ≡ slots0 ++ last ∷ [] → length (pairs_on nodes slots) ≡ length (pairs_on nodes slots0) + (run_at nodes last).count
+length_last nodes slots slots0 last ends =
+    ap length (ap (pairs_on nodes) ends ∙ pairs-last nodes slots0 last) ∙ length-append (pairs_on nodes slots0) (pairs_in (run_at nodes last))
+    ∙ ap (λ x. length (pairs_on nodes slots0) + x) (run_length (run_at nodes last).first (run_at nodes last).count)
+
+pub recounted_sound : (nodes nodes1 : List Node) (heads : List Link) (slots slots0 : List ℕ) (free : Link) (queue : Queue) (count count1 reserved nodes_capacity nodes_capacity1 slots_capacity last n : ℕ) → IsSound nodes heads slots free queue count reserved nodes_capacity slots_capacity → slots ≡ slots0 ++ last ∷ []
+    → IsRun (record { first = (run_at nodes last).first; count = n }) → nodes1 ≡ recount nodes last n → nodes_capacity1 ≡ nodes_capacity → length (pairs_on nodes slots0) + n ≡ count1 → queue.count + (count1 + reserved) < 2 ^ 64
+    → IsSound nodes1 heads slots free queue count1 reserved nodes_capacity1 slots_capacity × ((pairs_on nodes1 slots ≡ pairs_on nodes slots0 ++ pairs_from (run_at nodes last).first n) × (map (begun_at nodes1) (list_from nodes1 queue.first) ≡ map (begun_at nodes) (list_from nodes queue.first)))
+recounted_sound nodes nodes1 heads slots slots0 free queue count count1 reserved nodes_capacity nodes_capacity1 slots_capacity last n sound ends run is same total numbers =
+    let frees : List ℕ = list_from nodes free in
+    let waiting : List ℕ = list_from nodes queue.first in
+    let counts : (i : ℕ) → count_of i slots ≡ count_of i slots0 + count_of i (last ∷ []) = λ i. ap (count_of i) ends ∙ count-append i slots0 (last ∷ []) in
+    let own : count_of last (last ∷ []) ≡ 1 = count_here last last [] refl in
+    let on : 0 < count_of last slots = omega (arith, counts last) in
+    let inside : last < length nodes = slot_inside (length nodes) frees waiting slots sound.arena.one last on in
+    let off : count_of last slots0 ≡ 0 = omega (arith, counts last, slot_once (length nodes) frees waiting slots sound.arena.one last) in
+    let idle : count_of last waiting ≡ 0 = off_waiting (length nodes) frees waiting slots sound.arena.one last (omega arith) in
+    let len : length nodes1 ≡ length nodes = ap length is ∙ length-set nodes last _ in
+    let next : (i : ℕ) → (node_at nodes1 i).next ≡ (node_at nodes i).next = λ i. ap (λ x. (node_at x i).next) is ∙ recount_next nodes last i n inside in
+    let first : (i : ℕ) → (run_at nodes1 i).first ≡ (run_at nodes i).first = λ i. ap (λ x. (run_at x i).first) is ∙ recount_first nodes last i n inside in
+    let other : (i : ℕ) → i ≢ last → run_at nodes1 i ≡ run_at nodes i = λ i ne. ap (λ x. run_at x i) is ∙ ap (λ (x : Node). x.run) (recount_other nodes last i n ne) in
+    let self : run_at nodes1 last ≡ record { first = (run_at nodes last).first; count = n } = ap (λ x. run_at x last) is ∙ ap (λ (x : Node). x.run) (recount_same nodes last n inside) in
+    let apart0 : (i : ℕ) → 0 < count_of i slots0 → i ≢ last = λ i s e. (let h : count_of i slots0 ≡ count_of last slots0 = ap (λ x. count_of x slots0) e in omega arith) in
+    let apart1 : (i : ℕ) → 0 < count_of i waiting → i ≢ last = λ i s e. (let h : count_of i waiting ≡ count_of last waiting = ap (λ x. count_of x waiting) e in omega arith) in
+    let q : IsQueue nodes queue waiting = sound.arena.queued in
+    let a : IsArena nodes1 heads slots free queue frees waiting = record {
+      freed = leads_alike nodes nodes1 free frees next sound.arena.freed;
+      queued = record {
+        chain = leads_alike nodes nodes1 queue.first waiting next q.chain;
+        end = q.end;
+        many = q.many;
+        inside = λ i some. (let h = q.inside i some in omega arith);
+        once = q.once;
+      };
+      hung = hung_alike nodes nodes1 heads (reverse slots) next first sound.arena.hung;
+      one = subst (λ n. StandsOnOne n frees waiting slots) (sym len) sound.arena.one;
+    } in
+    let p : pairs_on nodes1 slots ≡ pairs_on nodes slots0 ++ pairs_from (run_at nodes last).first n =
+    ap (pairs_on nodes1) ends ∙ pairs-last nodes1 slots0 last
+    ∙ ap (λ x. x ++ pairs_in (run_at nodes1 last)) (pairs_kept nodes nodes1 slots0 (λ i s. other i (apart0 i s)))
+    ∙ ap (λ (r : Run). pairs_on nodes slots0 ++ pairs_in r) self in
+    let held : HoldsRuns nodes1 slots waiting count1 = record {
+      runs = λ i s. elim (cases_eq i last) [
+        | inl e ↦ subst (λ x. IsRun (run_at nodes1 x)) (sym e) (subst IsRun (sym self) run)
+        | inr ne ↦ subst IsRun (sym (other i ne)) (sound.held.runs i s)
+      ];
+      begun = λ i s. subst IsRun (sym (other i (apart1 i s))) (sound.held.begun i s);
+      single = λ i s. ap (λ (r : Run). r.count) (other i (apart1 i s)) ∙ sound.held.single i s;
+      many = omega (arith, ap length p, length-append (pairs_on nodes slots0) (pairs_from (run_at nodes last).first n), run_length (run_at nodes last).first n);
+    } in (
+      sound_of nodes1 heads slots free queue count1 reserved nodes_capacity1 slots_capacity frees waiting a (record {
+        nodes_room = let r = sound.room.nodes_room in omega arith;
+        slots_room = sound.room.slots_room;
+        buckets = sound.room.buckets;
+        numbers = numbers;
+      }) held,
+      (p, ap (map (begun_at nodes1)) (lists_are nodes1 heads slots free queue frees waiting a).1 ∙ begun_kept nodes nodes1 waiting (λ i s. other i (apart1 i s))),
+    )
+
+-- a pending pair is committed at the end of the last run: its node goes to the free list, and the run gets longer
+pub joined_sound : (nodes nodes1 nodes2 nodes3 : List Node) (heads : List Link) (slots slots0 : List ℕ) (free : Link) (queue queue1 : Queue) (count reserved nodes_capacity nodes_capacity1 nodes_capacity2 slots_capacity j last : ℕ) → IsSound nodes heads slots free queue count reserved nodes_capacity slots_capacity → 0 < count_of j (list_from nodes queue.first)
+    → IsQueue nodes1 queue1 (omit j (list_from nodes queue.first)) → ((i : ℕ) → run_at nodes1 i ≡ run_at nodes i) → ((i : ℕ) → count_of i (list_from nodes queue.first) ≡ 0 → node_at nodes1 i ≡ node_at nodes i) → length nodes1 ≡ length nodes → nodes2 ≡ led nodes1 j free → nodes_capacity1 ≡ nodes_capacity
+    → slots ≡ slots0 ++ last ∷ [] → GoesOn (run_at nodes1 last) (run_at nodes1 j).first → nodes3 ≡ recount nodes2 last ((run_at nodes2 last).count + 1) → nodes_capacity2 ≡ nodes_capacity1
+    → IsSound nodes3 heads slots (To j) queue1 (count + 1) reserved nodes_capacity2 slots_capacity × ((pairs_on nodes3 slots ≡ pairs_on nodes slots ++ (run_at nodes j).first ∷ []) × (map (begun_at nodes3) (list_from nodes3 queue1.first) ≡ map (begun_at nodes) (omit j (list_from nodes queue.first))))
+joined_sound nodes nodes1 nodes2 nodes3 heads slots slots0 free queue queue1 count reserved nodes_capacity nodes_capacity1 nodes_capacity2 slots_capacity j last sound some q pairs others len back same ends on longer same2 =
+    let waiting : List ℕ = list_from nodes queue.first in
+    let s = abandoned_sound nodes nodes1 nodes2 heads slots free queue queue1 count reserved nodes_capacity nodes_capacity1 slots_capacity j sound some q pairs others len back same in
+    let lt : j < length nodes1 = let h = sound.arena.queued.inside j some in omega arith in
+    let run2 : run_at nodes2 last ≡ run_at nodes1 last = ap (λ x. run_at x last) back ∙ led_run nodes1 j last free lt in
+    let on2 : GoesOn (run_at nodes2 last) (run_at nodes1 j).first = subst (λ r. GoesOn r (run_at nodes1 j).first) (sym run2) on in
+    let here : 0 < count_of last slots = omega (arith, ap (count_of last) ends, count-append last slots0 (last ∷ []), count_here last last [] refl) in
+    let less : queue1.count + 1 ≡ queue.count = omega (arith, q.many, omit_length j waiting some, sound.arena.queued.many) in
+    let run : Run = run_at nodes2 last in
+    let one : (run_at nodes1 j).count ≡ 1 = ap (λ (x : Run). x.count) (pairs j) ∙ sound.held.single j some in
+    let fits : IsRun (run_at nodes1 j) = subst IsRun (sym (pairs j)) (sound.held.begun j some) in
+    let r = recounted_sound nodes2 nodes3 heads slots slots0 (To j) queue1 count (count + 1) reserved nodes_capacity1 nodes_capacity2 slots_capacity last (run.count + 1) s.0 ends
+    (run_more run (run_at nodes1 j).first (s.0.held.runs last here) on2 (omega (arith, fits.old_fits)) (omega (arith, fits.new_fits))) longer same2
+    (omega (arith, length_last nodes2 slots slots0 last ends, s.0.held.many)) (omega (arith, sound.room.numbers)) in
+    let step : run.count + 1 ≡ suc run.count = omega arith in
+    let p : pairs_on nodes2 slots0 ++ pairs_from run.first (run.count + 1) ≡ pairs_on nodes2 slots ++ (run_at nodes1 j).first ∷ [] =
+    ap (λ x. pairs_on nodes2 slots0 ++ pairs_from run.first x) step
+    ∙ sym (append_assoc (pairs_on nodes2 slots0) (pairs_in run) (pair_after run.first run.count ∷ []))
+    ∙ ap (λ x. x ++ pair_after run.first run.count ∷ []) (sym (ap (pairs_on nodes2) ends ∙ pairs-last nodes2 slots0 last))
+    ∙ ap (λ x. pairs_on nodes2 slots ++ x ∷ []) (sym on2.next) in
+    (r.0, (r.1.0 ∙ p ∙ ap (λ x. x ++ (run_at nodes1 j).first ∷ []) s.1.0 ∙ ap (λ (x : Run). pairs_on nodes slots ++ x.first ∷ []) (pairs j), r.1.1 ∙ s.1.1))
+
+-- the last pair of a run of more than one is taken away
+pub shortened_sound : (nodes nodes1 : List Node) (heads : List Link) (slots slots0 : List ℕ) (free : Link) (queue : Queue) (count reserved nodes_capacity nodes_capacity1 slots_capacity last : ℕ) → IsSound nodes heads slots free queue count reserved nodes_capacity slots_capacity → slots ≡ slots0 ++ last ∷ []
+    → 1 < (run_at nodes last).count → nodes1 ≡ recount nodes last ((run_at nodes last).count - 1) → nodes_capacity1 ≡ nodes_capacity
+    → IsSound nodes1 heads slots free queue (count - 1) reserved nodes_capacity1 slots_capacity × ((pairs_on nodes1 slots ≡ take (length (pairs_on nodes slots) - 1) (pairs_on nodes slots)) × (map (begun_at nodes1) (list_from nodes1 queue.first) ≡ map (begun_at nodes) (list_from nodes queue.first)))
+shortened_sound nodes nodes1 heads slots slots0 free queue count reserved nodes_capacity nodes_capacity1 slots_capacity last sound ends more shorter same =
+    let run : Run = run_at nodes last in
+    let here : 0 < count_of last slots = omega (arith, ap (count_of last) ends, count-append last slots0 (last ∷ []), count_here last last [] refl) in
+    let r = recounted_sound nodes nodes1 heads slots slots0 free queue count (count - 1) reserved nodes_capacity nodes_capacity1 slots_capacity last (run.count - 1) sound ends
+    (run_less run (sound.held.runs last here) more) shorter same
+    (omega (arith, length_last nodes slots slots0 last ends, sound.held.many)) (omega (arith, sound.room.numbers)) in
+    let front : List Pair = pairs_on nodes slots0 ++ pairs_from run.first (run.count - 1) in
+    let step : run.count ≡ suc (run.count - 1) = omega arith in
+    let parts : pairs_on nodes slots ≡ front ++ pair_after run.first (run.count - 1) ∷ [] =
+    ap (pairs_on nodes) ends ∙ pairs-last nodes slots0 last ∙ ap (λ x. pairs_on nodes slots0 ++ pairs_from run.first x) step
+    ∙ sym (append_assoc (pairs_on nodes slots0) (pairs_from run.first (run.count - 1)) (pair_after run.first (run.count - 1) ∷ [])) in
+    let n : length front ≡ length (pairs_on nodes slots) - 1 = omega (arith, ap length parts, length-append front (pair_after run.first (run.count - 1) ∷ [])) in
+    (r.0, (r.1.0 ∙ sym (take-append_seam front (pair_after run.first (run.count - 1) ∷ [])) ∙ ap (λ x. take x (front ++ pair_after run.first (run.count - 1) ∷ [])) n ∙ ap (take (length (pairs_on nodes slots) - 1)) (sym parts), r.1.1))

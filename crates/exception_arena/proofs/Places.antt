@@ -1,9 +1,10 @@
 -- Lists of places, and the nodes that lead through them.
-use Rattle.std.proofs.Common.{◌≡◌, ◌≢◌, inl, inr, ℕ, zero, suc, ◌+◌, ◌<◌, ◌≤◌, List, [], ◌∷◌, ◌++◌, length, get_or, take, drop, map, reverse, arith, refl, ap, ◌∙◌, sym, subst, length-drop, drop-cons}
+use Rattle.std.proofs.Common.{◌≡◌, ◌≢◌, inl, inr, ℕ, zero, suc, ◌+◌, ◌<◌, ◌≤◌, List, [], ◌∷◌, ◌++◌, length, get_or, take, drop, map, reverse, arith, refl, ap, ◌∙◌, sym, subst, append_assoc, length-drop, drop-cons}
 use Rattle.std.proofs.lemmas.Bool.{cases_eq, cond-true, cond-false, eq-eqb, ne_eqb}
-use Rattle.std.proofs.lemmas.List.{reverse-append, get_or-set_same, get_or-set_other, take-append-drop, drop-drop}
-use Rattle.sector.specs.declared.pair.Pair.{Pair}
-use Rattle.exception_arena.specs.Links.{node_at, pair_at, begun_at, led, walk, Leads, count_of}
+use Rattle.std.proofs.lemmas.List.{append-nil, reverse-append, get_or-set_same, get_or-set_other, take-append-drop, drop-drop}
+use Rattle.exception_arena.specs.declared.run.Run.{Run}
+use Rattle.exception_arena.specs.Runs.{pairs_in}
+use Rattle.exception_arena.specs.Links.{node_at, run_at, begun_at, pairs_on, led, recount, walk, Leads, count_of}
 use Rattle.exception_arena.specs.declared.node.Link.{Link}
 use Rattle.exception_arena.specs.declared.node.Link.TheVariants.{Nowhere, To}
 use Rattle.exception_arena.specs.declared.node.Node.{Node}
@@ -46,17 +47,24 @@ leads_kept nodes nodes' link (i ∷ is) s l =
     let e : node_at nodes i ≡ node_at nodes' i = sym (same_head nodes nodes' i is s) in
     (l.0, leads_kept nodes nodes' (node_at nodes' i).next is (same_rest nodes nodes' i is s) (subst (λ (n : Node). Leads nodes n.next is) e l.1))
 
--- the pairs of nodes whose pairs are as they were
-pub pairs_kept : (nodes nodes' : List Node) (is : List ℕ) → ((i : ℕ) → 0 < count_of i is → pair_at nodes' i ≡ pair_at nodes i) → map (pair_at nodes') is ≡ map (pair_at nodes) is
+-- the pairs of nodes whose runs are as they were
+pub pairs_kept : (nodes nodes' : List Node) (is : List ℕ) → ((i : ℕ) → 0 < count_of i is → run_at nodes' i ≡ run_at nodes i) → pairs_on nodes' is ≡ pairs_on nodes is
 pairs_kept nodes nodes' [] s = refl
 pairs_kept nodes nodes' (i ∷ is) s =
-    ap (λ x. x ∷ map (pair_at nodes') is) (s i (omega (arith, count_here i i is refl)))
-    ∙ ap (λ x. pair_at nodes i ∷ x) (pairs_kept nodes nodes' is (λ j lt. s j (omega arith)))
+    ap (λ x. pairs_in x ++ pairs_on nodes' is) (s i (omega (arith, count_here i i is refl)))
+    ∙ ap (λ x. pairs_in (run_at nodes i) ++ x) (pairs_kept nodes nodes' is (λ j lt. s j (omega arith)))
 
-pub begun_kept : (nodes nodes' : List Node) (is : List ℕ) → ((i : ℕ) → 0 < count_of i is → pair_at nodes' i ≡ pair_at nodes i) → map (begun_at nodes') is ≡ map (begun_at nodes) is
+pub pairs-append : (nodes : List Node) (a b : List ℕ) → pairs_on nodes (a ++ b) ≡ pairs_on nodes a ++ pairs_on nodes b
+pairs-append nodes [] b = refl
+pairs-append nodes (i ∷ a) b = ap (λ x. pairs_in (run_at nodes i) ++ x) (pairs-append nodes a b) ∙ sym (append_assoc (pairs_in (run_at nodes i)) (pairs_on nodes a) (pairs_on nodes b))
+
+pub pairs-last : (nodes : List Node) (a : List ℕ) (i : ℕ) → pairs_on nodes (a ++ i ∷ []) ≡ pairs_on nodes a ++ pairs_in (run_at nodes i)
+pairs-last nodes a i = pairs-append nodes a (i ∷ []) ∙ ap (λ x. pairs_on nodes a ++ x) (append-nil (pairs_in (run_at nodes i)))
+
+pub begun_kept : (nodes nodes' : List Node) (is : List ℕ) → ((i : ℕ) → 0 < count_of i is → run_at nodes' i ≡ run_at nodes i) → map (begun_at nodes') is ≡ map (begun_at nodes) is
 begun_kept nodes nodes' [] s = refl
 begun_kept nodes nodes' (i ∷ is) s =
-    ap (λ (p : Pair). record { id = i; pair = p } ∷ map (begun_at nodes') is) (s i (omega (arith, count_here i i is refl)))
+    ap (λ (r : Run). record { id = i; pair = r.first } ∷ map (begun_at nodes') is) (s i (omega (arith, count_here i i is refl)))
     ∙ ap (λ x. begun_at nodes i ∷ x) (begun_kept nodes nodes' is (λ j lt. s j (omega arith)))
 
 -- the list that is walked is the one that a link leads through
@@ -79,17 +87,41 @@ leads_some nodes at (i ∷ is) l =
     (ap (λ x. x ∷ is) s, subst (λ x. Leads nodes (node_at nodes x).next is) s l.1)
 
 -- a node that leads elsewhere
-pub led_same : (nodes : List Node) (i : ℕ) (next : Link) → i < length nodes → node_at (led nodes i next) i ≡ record { pair = pair_at nodes i; next = next }
+pub led_same : (nodes : List Node) (i : ℕ) (next : Link) → i < length nodes → node_at (led nodes i next) i ≡ record { run = run_at nodes i; next = next }
 led_same nodes i next lt = get_or-set_same nodes i _ _ lt
 
 pub led_other : (nodes : List Node) (i j : ℕ) (next : Link) → j ≢ i → node_at (led nodes i next) j ≡ node_at nodes j
 led_other nodes i j next ne = get_or-set_other nodes i j _ _ ne
 
-pub led_pair : (nodes : List Node) (i j : ℕ) (next : Link) → i < length nodes → pair_at (led nodes i next) j ≡ pair_at nodes j
-led_pair nodes i j next lt = elim (cases_eq j i) [
-  | inl e ↦ subst (λ k. pair_at (led nodes i next) k ≡ pair_at nodes k) (sym e) (ap (λ (n : Node). n.pair) (led_same nodes i next lt))
-  | inr ne ↦ ap (λ (n : Node). n.pair) (led_other nodes i j next ne)
+pub led_run : (nodes : List Node) (i j : ℕ) (next : Link) → i < length nodes → run_at (led nodes i next) j ≡ run_at nodes j
+led_run nodes i j next lt = elim (cases_eq j i) [
+  | inl e ↦ subst (λ k. run_at (led nodes i next) k ≡ run_at nodes k) (sym e) (ap (λ (n : Node). n.run) (led_same nodes i next lt))
+  | inr ne ↦ ap (λ (n : Node). n.run) (led_other nodes i j next ne)
 ]
+
+-- a node whose run is of another length leads where it led, and its run begins with the pair that it began with
+pub recount_same : (nodes : List Node) (i count : ℕ) → i < length nodes → node_at (recount nodes i count) i ≡ record { run = record { first = (run_at nodes i).first; count = count }; next = (node_at nodes i).next }
+recount_same nodes i count lt = get_or-set_same nodes i _ _ lt
+
+pub recount_other : (nodes : List Node) (i j count : ℕ) → j ≢ i → node_at (recount nodes i count) j ≡ node_at nodes j
+recount_other nodes i j count ne = get_or-set_other nodes i j _ _ ne
+
+pub recount_next : (nodes : List Node) (i j count : ℕ) → i < length nodes → (node_at (recount nodes i count) j).next ≡ (node_at nodes j).next
+recount_next nodes i j count lt = elim (cases_eq j i) [
+  | inl e ↦ subst (λ k. (node_at (recount nodes i count) k).next ≡ (node_at nodes k).next) (sym e) (ap (λ (n : Node). n.next) (recount_same nodes i count lt))
+  | inr ne ↦ ap (λ (n : Node). n.next) (recount_other nodes i j count ne)
+]
+
+pub recount_first : (nodes : List Node) (i j count : ℕ) → i < length nodes → (run_at (recount nodes i count) j).first ≡ (run_at nodes j).first
+recount_first nodes i j count lt = elim (cases_eq j i) [
+  | inl e ↦ subst (λ k. (run_at (recount nodes i count) k).first ≡ (run_at nodes k).first) (sym e) (ap (λ (n : Node). n.run.first) (recount_same nodes i count lt))
+  | inr ne ↦ ap (λ (n : Node). n.run.first) (recount_other nodes i j count ne)
+]
+
+-- nodes that lead where they led
+pub leads_alike : (nodes nodes' : List Node) (link : Link) (is : List ℕ) → ((i : ℕ) → (node_at nodes' i).next ≡ (node_at nodes i).next) → Leads nodes link is → Leads nodes' link is
+leads_alike nodes nodes' link [] same l = l
+leads_alike nodes nodes' link (i ∷ is) same l = (l.0, leads_alike nodes nodes' (node_at nodes' i).next is same (subst (λ x. Leads nodes x is) (sym (same i)) l.1))
 
 -- a list that a node does not stand on
 pub led_apart : (nodes : List Node) (i : ℕ) (next : Link) (is : List ℕ) → count_of i is ≡ 0 → SameOn nodes (led nodes i next) is

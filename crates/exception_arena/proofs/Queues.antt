@@ -3,13 +3,13 @@ use Rattle.std.proofs.Common.{◌≡◌, ◌≢◌, ◌⊎◌, inl, inr, ℕ, �
 use Rattle.std.proofs.lemmas.Bool.{cases_eq, cond-true, cond-false, eq-eqb, ne_eqb}
 use Rattle.std.proofs.lemmas.List.{length-set}
 use Rattle.exception_arena.specs.Pending.{begun_under, without}
-use Rattle.exception_arena.specs.Links.{node_at, pair_at, begun_at, led, Leads, count_of, omit, before_of, last_of, relink, first_after, IsInside}
+use Rattle.exception_arena.specs.Links.{node_at, run_at, begun_at, led, Leads, count_of, omit, before_of, last_of, relink, first_after, IsInside}
 use Rattle.exception_arena.specs.Arenas.{IsQueue}
 use Rattle.exception_arena.specs.declared.node.Link.{Link}
 use Rattle.exception_arena.specs.declared.node.Link.TheVariants.{Nowhere, To}
 use Rattle.exception_arena.specs.declared.node.Node.{Node}
 use Rattle.exception_arena.specs.declared.queue.Queue.{Queue}
-use Rattle.exception_arena.proofs.Places.{leads_kept, led_same, led_other, led_pair, led_apart, count_here, count_there, count-append, leads_none, come_front, come_more}
+use Rattle.exception_arena.proofs.Places.{leads_kept, led_same, led_other, led_run, led_apart, count_here, count_there, count-append, leads_none, come_front, come_more}
 
 -- one place omitted
 pub omit_here : (j i : ℕ) (is : List ℕ) → i ≡ j → omit j (i ∷ is) ≡ is
@@ -124,9 +124,9 @@ pub relink_others : (nodes : List Node) (link next : Link) (is : List ℕ) → I
 relink_others nodes Nowhere next is on k none = refl
 relink_others nodes (To at) next is on k none = led_other nodes at k next (apart k at is none on)
 
-pub relink_pairs : (nodes : List Node) (link next : Link) → IsInside (length nodes) link → (k : ℕ) → pair_at (relink nodes link next) k ≡ pair_at nodes k
+pub relink_pairs : (nodes : List Node) (link next : Link) → IsInside (length nodes) link → (k : ℕ) → run_at (relink nodes link next) k ≡ run_at nodes k
 relink_pairs nodes Nowhere next on k = refl
-relink_pairs nodes (To at) next on k = led_pair nodes at k next on
+relink_pairs nodes (To at) next on k = led_run nodes at k next on
 
 pub relink_length : (nodes : List Node) (link next : Link) → length (relink nodes link next) ≡ length nodes
 relink_length nodes Nowhere next = refl
@@ -217,10 +217,10 @@ under_none nodes j (i ∷ is) none = elim (cases_eq i j) [
   | inr ne ↦ cond-false _ _ _ (ne_eqb _ _ ne) ∙ under_none nodes j is (omega arith)
 ]
 
-pub under_some : (nodes : List Node) (j : ℕ) (is : List ℕ) → IsSome (begun_under j (map (begun_at nodes) is)) → (0 < count_of j is) × (begun_under j (map (begun_at nodes) is) ≡ Some (pair_at nodes j))
+pub under_some : (nodes : List Node) (j : ℕ) (is : List ℕ) → IsSome (begun_under j (map (begun_at nodes) is)) → (0 < count_of j is) × (begun_under j (map (begun_at nodes) is) ≡ Some (run_at nodes j).first)
 under_some nodes j [] some = absurd (let e : false ≡ true = some in cc)
 under_some nodes j (i ∷ is) some = elim (cases_eq i j) [
-  | inl e ↦ (omega (arith, count_here j i is e), cond-true _ _ _ (eq-eqb _ _ e) ∙ ap (λ x. Some (pair_at nodes x)) e)
+  | inl e ↦ (omega (arith, count_here j i is e), cond-true _ _ _ (eq-eqb _ _ e) ∙ ap (λ x. Some (run_at nodes x).first) e)
   | inr ne ↦ (
       let miss : begun_under j (map (begun_at nodes) (i ∷ is)) ≡ begun_under j (map (begun_at nodes) is) = cond-false _ _ _ (ne_eqb _ _ ne) in
       let (c, u) = under_some nodes j is (subst IsSome miss some) in

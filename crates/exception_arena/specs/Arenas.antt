@@ -1,7 +1,8 @@
 -- When an arena's fields stand for lists of pairs.
-use Rattle.std.specs.Prelude.{◌≡◌, ℕ, ◌+◌, ◌<◌, ◌≤◌, List, [], ◌∷◌, length, map, reverse}
+use Rattle.std.specs.Prelude.{◌≡◌, ℕ, ◌+◌, ◌^◌, ◌<◌, ◌≤◌, List, [], ◌∷◌, length, map, reverse}
 use Rattle.exception_arena.specs.Kept.{Kept}
-use Rattle.exception_arena.specs.Links.{pair_at, begun_at, list_from, Leads, count_of, last_of, AreHung}
+use Rattle.exception_arena.specs.Runs.{IsRun}
+use Rattle.exception_arena.specs.Links.{run_at, begun_at, pairs_on, list_from, Leads, count_of, last_of, AreHung}
 use Rattle.exception_arena.specs.declared.node.Link.{Link}
 use Rattle.exception_arena.specs.declared.node.Link.TheVariants.{Nowhere}
 use Rattle.exception_arena.specs.declared.node.Node.{Node}
@@ -28,16 +29,25 @@ pub record IsArena (nodes : List Node) (heads : List Link) (slots : List ℕ) (f
   pub hung : AreHung nodes heads (reverse slots)
   pub one : StandsOnOne (length nodes) frees waiting slots
 
--- an arena with room for so many more pairs to begin, of so many nodes and slots without more memory
-pub record HasRoom (heads : List Link) (slots : List ℕ) (queue : Queue) (reserved nodes_capacity slots_capacity : ℕ) : Type 0 where
+-- an arena of so many committed pairs with room for so many more to begin, of so many nodes and runs without more memory
+pub record HasRoom (heads : List Link) (slots : List ℕ) (queue : Queue) (count reserved nodes_capacity slots_capacity : ℕ) : Type 0 where
   pub nodes_room : queue.count + (length slots + reserved) ≤ nodes_capacity
   pub slots_room : queue.count + (length slots + reserved) ≤ slots_capacity
   pub buckets : queue.count + (length slots + reserved) ≤ length heads
+  pub numbers : queue.count + (count + reserved) < 2 ^ 64
+
+-- the committed nodes hold runs, the pending ones one pair each, and the committed pairs are so many
+pub record HoldsRuns (nodes : List Node) (slots waiting : List ℕ) (count : ℕ) : Type 0 where
+  pub runs : (i : ℕ) → 0 < count_of i slots → IsRun (run_at nodes i)
+  pub begun : (i : ℕ) → 0 < count_of i waiting → IsRun (run_at nodes i)
+  pub single : (i : ℕ) → 0 < count_of i waiting → (run_at nodes i).count ≡ 1
+  pub many : length (pairs_on nodes slots) ≡ count
 
 -- what is true of every arena
-pub record IsSound (nodes : List Node) (heads : List Link) (slots : List ℕ) (free : Link) (queue : Queue) (reserved nodes_capacity slots_capacity : ℕ) : Type 0 where
+pub record IsSound (nodes : List Node) (heads : List Link) (slots : List ℕ) (free : Link) (queue : Queue) (count reserved nodes_capacity slots_capacity : ℕ) : Type 0 where
   pub arena : IsArena nodes heads slots free queue (list_from nodes free) (list_from nodes queue.first)
-  pub room : HasRoom heads slots queue reserved nodes_capacity slots_capacity
+  pub room : HasRoom heads slots queue count reserved nodes_capacity slots_capacity
+  pub held : HoldsRuns nodes slots (list_from nodes queue.first) count
 
 -- which node of so many is taken, and how many nodes there are then: the first free one, or a new one where none is free
 abbrev pub IsTaken : List ℕ → ℕ → ℕ → ℕ → Type 0
@@ -47,7 +57,7 @@ IsTaken (free ∷ frees) n place n1 = (place ≡ free) × (n1 ≡ n)
 -- what it stands for
 abbrev pub kept : List Node → List ℕ → Queue → ℕ → Kept
 kept nodes slots queue reserved = record {
-  committed = map (pair_at nodes) slots;
+  committed = pairs_on nodes slots;
   pending = map (begun_at nodes) (list_from nodes queue.first);
   reserved = reserved;
 }

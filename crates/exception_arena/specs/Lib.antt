@@ -1,4 +1,5 @@
 pub mod Pending
 pub mod Kept
+pub mod Runs
 pub mod Links
 pub mod Arenas

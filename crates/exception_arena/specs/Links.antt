@@ -1,6 +1,8 @@
 -- Nodes that lead to one another, and the lists that they stand on. A list is the list of the places of its nodes.
-use Rattle.std.specs.Prelude.{◌≡◌, ◌==◌, ℕ, zero, suc, ◌+◌, ◌%◌, ◌<◌, List, [], ◌∷◌, length, slice_set, if◌then◌else◌, slice_index_or}
+use Rattle.std.specs.Prelude.{◌≡◌, ◌==◌, ℕ, zero, suc, ◌+◌, ◌/◌, ◌%◌, ◌<◌, List, [], ◌∷◌, ◌++◌, length, slice_set, if◌then◌else◌, slice_index_or}
 use Rattle.sector.specs.declared.pair.Pair.{Pair}
+use Rattle.exception_arena.specs.declared.run.Run.{Run}
+use Rattle.exception_arena.specs.Runs.{pairs_in}
 use Rattle.exception_arena.specs.declared.begun.Begun.{Begun}
 use Rattle.exception_arena.specs.declared.node.Link.{Link}
 use Rattle.exception_arena.specs.declared.node.Link.TheVariants.{Nowhere, To}
@@ -8,19 +10,28 @@ use Rattle.exception_arena.specs.declared.node.Node.{Node}
 
 -- the node at a place
 abbrev pub node_at : List Node → ℕ → Node
-node_at nodes i = slice_index_or nodes i (record { pair = record { old = 0; new = 0 }; next = Nowhere })
+node_at nodes i = slice_index_or nodes i (record { run = record { first = record { old = 0; new = 0 }; count = 0 }; next = Nowhere })
 
--- its pair
-abbrev pub pair_at : List Node → ℕ → Pair
-pair_at nodes i = (node_at nodes i).pair
+-- its run
+abbrev pub run_at : List Node → ℕ → Run
+run_at nodes i = (node_at nodes i).run
 
--- its pair as a pending one: its number is its place
+-- the pair that it holds as a pending one: its number is its place
 abbrev pub begun_at : List Node → ℕ → Begun
-begun_at nodes i = record { id = i; pair = (node_at nodes i).pair }
+begun_at nodes i = record { id = i; pair = (node_at nodes i).run.first }
+
+-- the pairs of the runs of these nodes, one run after another
+abbrev pub pairs_on : List Node → List ℕ → List Pair
+pairs_on nodes [] = []
+pairs_on nodes (i ∷ is) = pairs_in (run_at nodes i) ++ pairs_on nodes is
+
+-- the nodes after the run at a place is of so many pairs
+abbrev pub recount : List Node → ℕ → ℕ → List Node
+recount nodes i count = slice_set nodes i (record { run = record { first = (node_at nodes i).run.first; count = count }; next = (node_at nodes i).next })
 
 -- the nodes after the one at a place leads elsewhere
 abbrev pub led : List Node → ℕ → Link → List Node
-led nodes i next = slice_set nodes i (record { pair = (node_at nodes i).pair; next = next })
+led nodes i next = slice_set nodes i (record { run = (node_at nodes i).run; next = next })
 
 -- the nodes from a link on, so many at most
 abbrev pub walk : List Node → ℕ → Link → List ℕ
@@ -60,7 +71,7 @@ last_of link (i ∷ is) = last_of (To i) is
 -- those of a list of places whose old chunk belongs into a bucket
 abbrev pub in_bucket : List Node → ℕ → ℕ → List ℕ → List ℕ
 in_bucket nodes buckets b [] = []
-in_bucket nodes buckets b (i ∷ is) = if (node_at nodes i).pair.old % buckets == b then (i ∷ in_bucket nodes buckets b is) else in_bucket nodes buckets b is
+in_bucket nodes buckets b (i ∷ is) = if (node_at nodes i).run.first.old / 256 % buckets == b then (i ∷ in_bucket nodes buckets b is) else in_bucket nodes buckets b is
 
 -- the head of a bucket
 abbrev pub head_at : List Link → ℕ → Link

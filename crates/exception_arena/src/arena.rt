@@ -4,17 +4,19 @@ ghost use Rattle.exception_arena.specs.Kept.{Kept};
 ghost use Rattle.exception_arena.specs.Arenas.{IsSound, kept};
 
 use crate::chains::{find, hang, make_buckets, take_down};
-use crate::node::{Link, Node, read};
+use crate::node::{Link, Node, lengthen, read, shorten};
 use crate::queue::{Queue, place_in, put_last, take_out};
+use crate::run::Run;
+use crate::slots::{last_of, pair_at, run_before};
 use crate::spare::{put_back, take_node};
 use crate::{Begun, Exceptions, Id};
 use sector::{Chunk, Pair, Refusal};
 use std::alloc::Global;
 use std::marker::Model;
 
-/// The pairs, in nodes that lead to one another. A node stands on the free list, on the pending list, or on the chain of
-/// the bucket of its old chunk, where its pair is committed. The nodes of the committed pairs are also kept in the order
-/// of their slots. The number of a pending pair is the place of its node.
+/// The pairs, in nodes that lead to one another. A node stands on the free list, on the pending list, where it holds one
+/// pair, or on the chain of the bucket of its old chunks, where it holds a run of committed pairs. The nodes of the runs
+/// are also kept in the order of their slots. The number of a pending pair is the place of its node.
 #[derive(Drop)]
 pub struct Arena {
     nodes: Vec<Node>,
@@ -22,6 +24,7 @@ pub struct Arena {
     slots: Vec<usize>,
     free: Link,
     queue: Queue,
+    count: usize,
     reserved: usize,
 }
 
@@ -30,7 +33,7 @@ impl Model for Arena {
 
     ghost view = { λ a. kept a.nodes.items a.slots.items a.queue a.reserved };
 
-    ghost invariant = { λ a. IsSound a.nodes.items a.heads.items a.slots.items a.free a.queue a.reserved (vec_capacity a.nodes) (vec_capacity a.slots) };
+    ghost invariant = { λ a. IsSound a.nodes.items a.heads.items a.slots.items a.free a.queue a.count a.reserved (vec_capacity a.nodes) (vec_capacity a.slots) };
 }
 
 impl Exceptions for Arena {
@@ -51,6 +54,7 @@ impl Exceptions for Arena {
                 last: Link::Nowhere,
                 count: 0,
             },
+            count: 0,
             reserved: 0,
         }
     }
@@ -63,6 +67,9 @@ impl Exceptions for Arena {
             return Err(Refusal::NoMemory);
         };
         let Some(wanted) = used.checked_add(more) else {
+            return Err(Refusal::NoMemory);
+        };
+        let Some(_) = wanted.checked_add(self.count) else {
             return Err(Refusal::NoMemory);
         };
         let Ok(()) = self.nodes.reserve(wanted.saturating_sub(self.nodes.len())) else {
@@ -85,11 +92,12 @@ impl Exceptions for Arena {
     }
 
     fn begin(&mut self, old_chunk: Chunk, new_chunk: Chunk) -> Id {
-        let pair = Pair {
+        let first = Pair {
             old: old_chunk,
             new: new_chunk,
         };
-        let place = take_node(&mut self.nodes, &mut self.free, pair);
+        let run = Run { first, count: 1 };
+        let place = take_node(&mut self.nodes, &mut self.free, run);
         put_last(&mut self.nodes, &mut self.queue, place);
         self.reserved -= 1;
         place as u64
@@ -98,6 +106,14 @@ impl Exceptions for Arena {
     fn finish(&mut self, id: Id) {
         let place = id as usize;
         take_out(&mut self.nodes, &mut self.queue, place);
+        let listed = self.nodes.as_slice();
+        let pair = read(listed, place).run.first;
+        self.count += 1;
+        if let Some(last) = run_before(listed, self.slots.as_slice(), pair) {
+            put_back(&mut self.nodes, &mut self.free, place);
+            lengthen(&mut self.nodes, last);
+            return;
+        }
         hang(&mut self.nodes, &mut self.heads, place);
         self.slots.push_reserved(place);
     }
@@ -118,6 +134,12 @@ impl Exceptions for Arena {
     }
 
     fn remove(&mut self, _old_chunk: Chunk) {
+        self.count -= 1;
+        let last = last_of(self.slots.as_slice());
+        if read(self.nodes.as_slice(), last).run.count > 1 {
+            shorten(&mut self.nodes, last);
+            return;
+        }
         let Some(place) = self.slots.pop() else {
             unreachable!()
         };
@@ -126,7 +148,7 @@ impl Exceptions for Arena {
     }
 
     fn len(&self) -> usize {
-        self.slots.len()
+        self.count
     }
 
     fn pending_len(&self) -> usize {
@@ -137,11 +159,24 @@ impl Exceptions for Arena {
         let place = place_in(self.nodes.as_slice(), self.queue, index);
         Begun {
             id: place as u64,
-            pair: read(self.nodes.as_slice(), place).pair,
+            pair: read(self.nodes.as_slice(), place).run.first,
         }
     }
 
     fn committed_at(&self, index: usize) -> Pair {
-        read(self.nodes.as_slice(), self.slots[index]).pair
+        pair_at(
+            self.nodes.as_slice(),
+            self.slots.as_slice(),
+            self.count,
+            index,
+        )
+    }
+}
+
+#[cfg(test)]
+impl Arena {
+    /// How many runs the committed pairs are.
+    pub fn runs(&self) -> usize {
+        self.slots.len()
     }
 }

@@ -1,8 +1,9 @@
 //! The pairs of a store in memory: the committed ones, in the order of their slots, and the pending ones, whose copies
 //! are on their way. It stands on `sector` and `model`. The trait `Exceptions` is what every form of the list promises
 //! by two lists and a count. `Arena` is the lasting form: its nodes stand in one vector, on a free list, a pending list
-//! and a chain for each bucket, so that a look-up walks one short chain. `PlainExceptions` is the plain form, with which
-//! tests compare it. Whatever is not `reserve` takes no memory, and so cannot fail.
+//! and a chain for each bucket, so that a look-up walks one short chain. A committed node holds a run of up to 256 pairs,
+//! so that pairs that are copied in order take a node in 256. `PlainExceptions` is the plain form, with which tests
+//! compare it. Whatever is not `reserve` takes no memory, and so cannot fail.
 #![tactic(auto)]
 
 mod arena;
@@ -12,7 +13,9 @@ mod exceptions;
 mod node;
 mod plain;
 mod queue;
+mod run;
 mod several;
+mod slots;
 mod spare;
 
 pub use arena::Arena;

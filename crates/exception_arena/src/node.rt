@@ -1,8 +1,8 @@
 // The nodes of the arena, and what leads from one to the next.
-ghost use Rattle.std.specs.Prelude.{◌≡◌, ◌<◌, vec_capacity, length};
-ghost use Rattle.exception_arena.specs.Links.{led, node_at};
+ghost use Rattle.std.specs.Prelude.{◌≡◌, ◌+◌, ◌-◌, ◌<◌, vec_capacity, length};
+ghost use Rattle.exception_arena.specs.Links.{led, recount, node_at, run_at};
 
-use sector::Pair;
+use crate::run::Run;
 
 /// Where a node leads to: to the node at a place of the arena, or nowhere.
 #[derive(Clone, Copy, Debug, PartialEq, Eq)]
@@ -11,10 +11,10 @@ pub enum Link {
     To(usize),
 }
 
-/// A pair, and the next node of the list that it stands on.
+/// A run of pairs, and the next node of the list that it stands on.
 #[derive(Clone, Copy, Debug, PartialEq, Eq)]
 pub struct Node {
-    pub pair: Pair,
+    pub run: Run,
     pub next: Link,
 }
 
@@ -32,6 +32,38 @@ pub fn lead(nodes: &mut Vec<Node>, place: usize, next: Link)
     ensures nodes { nodes.new.items ≡ led nodes.old.items place next }
     ensures capacity { vec_capacity nodes.new ≡ vec_capacity nodes.old }
 {
-    let pair = nodes[place].pair;
-    nodes[place] = Node { pair, next };
+    let run = nodes[place].run;
+    nodes[place] = Node { run, next };
+}
+
+/// Makes the run of a node one pair longer.
+pub fn lengthen(nodes: &mut Vec<Node>, place: usize)
+    requires inside { place < length nodes.old.items }
+    requires room { (run_at nodes.old.items place).count < 256 }
+    ensures nodes { nodes.new.items ≡ recount nodes.old.items place ((run_at nodes.old.items place).count + 1) }
+    ensures capacity { vec_capacity nodes.new ≡ vec_capacity nodes.old }
+{
+    let node = nodes[place];
+    let first = node.run.first;
+    let count = node.run.count + 1;
+    nodes[place] = Node {
+        run: Run { first, count },
+        next: node.next,
+    };
+}
+
+/// Makes the run of a node one pair shorter.
+pub fn shorten(nodes: &mut Vec<Node>, place: usize)
+    requires inside { place < length nodes.old.items }
+    requires some { 0 < (run_at nodes.old.items place).count }
+    ensures nodes { nodes.new.items ≡ recount nodes.old.items place ((run_at nodes.old.items place).count - 1) }
+    ensures capacity { vec_capacity nodes.new ≡ vec_capacity nodes.old }
+{
+    let node = nodes[place];
+    let first = node.run.first;
+    let count = node.run.count - 1;
+    nodes[place] = Node {
+        run: Run { first, count },
+        next: node.next,
+    };
 }

@@ -1,6 +1,6 @@
 // The pending list: the nodes of the pairs that are begun, in the order in which they began.
 ghost use Rattle.std.specs.Prelude.{◌≡◌, ℕ, ◌<◌, ◌++◌, [], ◌∷◌, length, vec_capacity, slice_index_or, ◌≢◌};
-ghost use Rattle.exception_arena.specs.Links.{node_at, pair_at, list_from, count_of, before_of, omit, relink, first_after, IsInside};
+ghost use Rattle.exception_arena.specs.Links.{node_at, run_at, list_from, count_of, before_of, omit, relink, first_after, IsInside};
 ghost use Rattle.exception_arena.specs.Arenas.{IsQueue};
 ghost use Rattle.exception_arena.specs.declared.node.Link.TheVariants.{Nowhere};
 
@@ -68,7 +68,7 @@ pub fn take_out(nodes: &mut Vec<Node>, queue: &mut Queue, place: usize)
     requires queue { IsQueue nodes.old.items queue.old (list_from nodes.old.items queue.old.first) }
     requires here { 0 < count_of place (list_from nodes.old.items queue.old.first) }
     ensures queue { IsQueue nodes.new.items queue.new (omit place (list_from nodes.old.items queue.old.first)) }
-    ensures pairs { (i : ℕ) → pair_at nodes.new.items i ≡ pair_at nodes.old.items i }
+    ensures pairs { (i : ℕ) → run_at nodes.new.items i ≡ run_at nodes.old.items i }
     ensures others { (i : ℕ) → count_of i (list_from nodes.old.items queue.old.first) ≡ 0 → node_at nodes.new.items i ≡ node_at nodes.old.items i }
     ensures len { length nodes.new.items ≡ length nodes.old.items }
     ensures capacity { vec_capacity nodes.new ≡ vec_capacity nodes.old }
@@ -89,7 +89,7 @@ pub fn put_last(nodes: &mut Vec<Node>, queue: &mut Queue, place: usize)
     requires off { count_of place (list_from nodes.old.items queue.old.first) ≡ 0 }
     requires ends { (node_at nodes.old.items place).next ≡ Nowhere }
     ensures queue { IsQueue nodes.new.items queue.new (list_from nodes.old.items queue.old.first ++ place ∷ []) }
-    ensures pairs { (i : ℕ) → pair_at nodes.new.items i ≡ pair_at nodes.old.items i }
+    ensures pairs { (i : ℕ) → run_at nodes.new.items i ≡ run_at nodes.old.items i }
     ensures others { (i : ℕ) → count_of i (list_from nodes.old.items queue.old.first) ≡ 0 → node_at nodes.new.items i ≡ node_at nodes.old.items i }
     ensures len { length nodes.new.items ≡ length nodes.old.items }
     ensures capacity { vec_capacity nodes.new ≡ vec_capacity nodes.old }

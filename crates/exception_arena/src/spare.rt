@@ -5,23 +5,23 @@ ghost use Rattle.exception_arena.specs.Arenas.{IsTaken};
 ghost use Rattle.exception_arena.specs.declared.node.Link.TheVariants.{Nowhere, To};
 
 use crate::node::{Link, Node, lead, read};
-use sector::Pair;
+use crate::run::Run;
 
-/// Takes the first node of the free list for a pair, or a new node where none is free, and answers its place. It leads
+/// Takes the first node of the free list for a run, or a new node where none is free, and answers its place. It leads
 /// nowhere.
-pub fn take_node(nodes: &mut Vec<Node>, free: &mut Link, pair: Pair) -> usize
+pub fn take_node(nodes: &mut Vec<Node>, free: &mut Link, run: Run) -> usize
     requires list { Leads nodes.old.items free.old (list_from nodes.old.items free.old) }
     requires inside { (i : ℕ) → 0 < count_of i (list_from nodes.old.items free.old) → i < length nodes.old.items }
     requires once { (i : ℕ) → count_of i (list_from nodes.old.items free.old) ≤ 1 }
     requires room { length (list_from nodes.old.items free.old) ≡ 0 → length nodes.old.items < vec_capacity nodes.old }
     ensures list { Leads nodes.new.items free.new (drop 1 (list_from nodes.old.items free.old)) }
     ensures taken { IsTaken (list_from nodes.old.items free.old) (length nodes.old.items) result (length nodes.new.items) }
-    ensures node { node_at nodes.new.items result ≡ record { pair = pair; next = Nowhere } }
+    ensures node { node_at nodes.new.items result ≡ record { run = run; next = Nowhere } }
     ensures others { (i : ℕ) → i ≢ result → i < length nodes.old.items → node_at nodes.new.items i ≡ node_at nodes.old.items i }
     ensures capacity { vec_capacity nodes.new ≡ vec_capacity nodes.old }
 {
     let node = Node {
-        pair,
+        run,
         next: Link::Nowhere,
     };
     match *free {

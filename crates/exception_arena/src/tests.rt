@@ -1,5 +1,5 @@
 // Tests of the trait's calls at each form.
-ghost use Rattle.std.specs.Prelude.{◌≡◌, []};
+ghost use Rattle.std.specs.Prelude.{◌≡◌, ℕ, ◌^◌, ◌<◌, []};
 
 use crate::*;
 use sector::{Chunk, Pair, Refusal};
@@ -113,17 +113,35 @@ fn remove_one<E: Exceptions>(exceptions: &mut E) {
     exceptions.remove(last.old);
 }
 
-// One call, by the digits of a number, and what is seen after it. Chunks of the origin come again and again.
-fn call<E: Exceptions>(exceptions: &mut E, number: u64) -> Result<Seen, Refusal> {
+// The pair that begins after another one, by the digits of a number: mostly the next one, so that runs form, and now and
+// then one elsewhere. Chunks of the origin come again and again.
+fn next_pair(before: Pair, number: u64) -> Pair {
+    if (number / 1024).is_multiple_of(16) {
+        Pair {
+            old: number / 16 % 700,
+            new: number,
+        }
+    } else {
+        Pair {
+            old: before.old.wrapping_add(1) % 700,
+            new: before.new.wrapping_add(1),
+        }
+    }
+}
+
+// One call, by the digits of a number, and what is seen after it: a pair is there to begin, and mostly the first pending
+// one ends.
+fn call<E: Exceptions>(exceptions: &mut E, number: u64, pair: Pair) -> Result<Seen, Refusal> {
     let chunk = number / 16 % 700;
     let place = (number / 16384) as usize;
+    let ended = if place.is_multiple_of(8) { place } else { 0 };
     match number % 16 {
         0..=4 => {
             exceptions.reserve(1)?;
-            exceptions.begin(chunk, number);
+            exceptions.begin(pair.old, pair.new);
         }
-        5..=9 => end_one(exceptions, place, false),
-        10 => end_one(exceptions, place, true),
+        5..=9 => end_one(exceptions, ended, false),
+        10 => end_one(exceptions, ended, true),
         11 => remove_one(exceptions),
         12 => exceptions.reserve(place % 50)?,
         _ => {}
@@ -136,17 +154,64 @@ fn the_forms_answer_alike(rt: HostRuntime) -> Result<(), Fail> {
     let mut plain = PlainExceptions::new(rt.alloc());
     let mut arena = Arena::new(rt.alloc());
     let mut state: u64 = 1;
+    let mut pair = Pair { old: 0, new: 2 };
     for step in 0..10_000 {
         state = state
             .wrapping_mul(6_364_136_223_846_793_005)
             .wrapping_add(1_442_695_040_888_963_407);
         let number = state / 65_536;
         assert_eq!(rt;
-            call(&mut arena, number)?,
-            call(&mut plain, number)?,
+            call(&mut arena, number, pair)?,
+            call(&mut plain, number, pair)?,
             "step {step}"
         );
+        if number % 16 < 5 {
+            pair = next_pair(pair, number);
+        }
     }
-    assert!(rt; arena.len() > 1_000, "{} pairs", arena.len());
+    let (pairs, runs) = (arena.len(), arena.runs());
+    assert!(rt;
+        pairs > 1_000 && runs < pairs / 2,
+        "{pairs} pairs, {runs} runs"
+    );
+    Ok(())
+}
+
+// Pairs whose chunks rise by one, so many, from chunk 200 of the origin and 1000 of the store on.
+fn commit_in_order<E: Exceptions>(exceptions: &mut E, count: u64) -> Result<(), Refusal>
+    requires { count < 2 ^ 32 }
+{
+    for i in 0..count {
+        exceptions.reserve(1)?;
+        exceptions.begin(200 + i, 1_000 + i);
+        end_one(exceptions, 0, false);
+    }
+    Ok(())
+}
+
+#[test]
+fn a_run_ends_where_a_multiple_of_256_begins(rt: HostRuntime) -> Result<(), Fail> {
+    let mut arena = Arena::new(rt.alloc());
+    commit_in_order(&mut arena, 600)?;
+    assert_eq!(rt;
+        (arena.len(), arena.runs()),
+        (600, 4),
+        "200 to 255, to 511, to 767, to 799"
+    );
+    for (old, new) in [
+        (199, None),
+        (200, Some(1_000)),
+        (255, Some(1_055)),
+        (256, Some(1_056)),
+        (799, Some(1_599)),
+        (800, None),
+    ] {
+        assert_eq!(rt; arena.get(old), new, "chunk {old}");
+    }
+    for _i in 0..545 {
+        remove_one(&mut arena);
+    }
+    assert_eq!(rt; (arena.len(), arena.runs()), (55, 1));
+    assert_eq!(rt; (arena.get(254), arena.get(255)), (Some(1_054), None));
     Ok(())
 }

@@ -1,11 +1,9 @@
 -- What a read or a write of the device below means for the layer.
-use Rattle.std.proofs.Common.{arith, refl, sym, ap, ◌∙◌, ◌≡◌, ℕ, ◌≤◌, ◌+◌, ◌-◌, ◌*◌, ◌<◌, List, ◌∷◌, length, drop, min, Bool, true, ◌&&◌, false}
-use Rattle.std.specs.Prelude.{IsTrue}
+use Rattle.std.proofs.Common.{arith, refl, sym, ap, ◌∙◌, ◌≡◌, ℕ, ◌≤◌, ◌+◌, ◌-◌, ◌*◌, ◌<◌, List, ◌∷◌, length, drop, min, Bool, true, ◌&&◌, false, ◌⊎◌, inl, inr, get_or, length-take, length-drop}
+use Rattle.std.specs.Prelude.{IsTrue, replicate, take}
 use Rattle.sector.specs.Bytes.{sectors_at, with_sectors, sector_at}
-use Rattle.std.proofs.Common.{◌⊎◌, inl, inr, get_or, length-take, length-drop}
 use Rattle.std.proofs.lemmas.Bool.{cases_lt}
 use Rattle.std.proofs.lemmas.List.{get_or_past, take_all, take-replicate, drop-replicate}
-use Rattle.std.specs.Prelude.{replicate, take}
 use Rattle.sector.proofs.Sectors.{byte_read, sectors_apart}
 use Rattle.device.specs.declared.operation.Operation.TheVariants.{Writes}
 use Rattle.device.specs.declared.operation.Fate.{Fate}

@@ -1,3 +1,4 @@
+-- To be believed: `run`'s output, a volume's steps or its attach are said in these words.
 -- What a message does to layers, and what is answered. Source: the kernel's page on dm-dust; the refusals are this
 -- project's own.
 use Rattle.std.specs.Prelude.{◌≡◌, Option, Some, None, ℕ, ◌*◌, ◌-◌, Bool, true, false, if◌then◌else◌, List, [], ◌∷◌, length, ◌==◌, nat_le}

@@ -1,3 +1,4 @@
+-- To be believed: `run`'s output, a volume's steps or its attach are said in these words.
 -- What lies beside the bytes that a layer shows of the device below it, and so all bytes of the device at the bottom. A
 -- layer is followed by its window, then by the layers below.
 use Rattle.std.specs.Prelude.{ℕ, ◌+◌, ◌*◌, Bool, true, false, Option, Some, None, List, [], ◌∷◌, ◌++◌, take, drop}

@@ -1,3 +1,4 @@
+-- To be believed: `run`'s output, a volume's steps or its attach are said in these words.
 -- The lines of a text, and what a read of one line does to the bytes that a reader has left.
 -- A line ends with a line feed, as in any Unix text. That a long line is cut is this project's own choice.
 use Rattle.std.specs.Prelude.{◌≡◌, ℕ, Bool, List, [], ◌∷◌, length, ◌<◌, ◌≤◌, ◌==◌, if◌then◌else◌, ⊤, Option, Some, None, MatchBool}

@@ -5,7 +5,9 @@
 //! write and another (`proofs/Written.antt`) stand here too, since every crate above that prints uses them.
 #![tactic(auto)]
 
-ghost use Rattle.std.specs.Prelude.{◌≡◌, ◌+◌, ◌<◌, ◌≤◌, [], ◌∷◌, ◌++◌, take, IfOk, MatchOption, vec_capacity, vec_len};
+ghost use Rattle.std.specs.Prelude.{◌≡◌, ◌≢◌, ◌+◌, ◌<◌, ◌≤◌, [], ◌∷◌, ◌++◌, take, IfErr, IfOk, MatchOption, vec_capacity, vec_len};
+ghost use Rattle.std.specs.IoError.{error_kind};
+ghost use Rattle.std.specs.declared.io.ErrorKind.TheVariants.{Interrupted};
 ghost use Rattle.std.specs.Io.KnownBytes.{Consumes, IsAtEnd};
 ghost use Rattle.lines.specs.Lines.{ReadsLine};
 
@@ -15,9 +17,10 @@ use std::io::{ErrorKind, Read};
 /// Takes one byte, or finds the end. A read that was interrupted is made again.
 #[tactic(auto, using(crate::proofs::Known::keeps_same, crate::proofs::Known::keeps_more, crate::proofs::Known::keeps_consumes, crate::proofs::Known::keeps_end))]
 fn next_byte<R: Read>(reader: &mut R) -> io::Result<Option<u8>>
-    ensures { IfOk result (λ byte. MatchOption byte
+    ensures taken { IfOk result (λ byte. MatchOption byte
         (IsAtEnd (R.remaining reader.old) × Consumes (R.remaining reader.old) (R.remaining reader.new) [])
         (λ b. Consumes (R.remaining reader.old) (R.remaining reader.new) (b ∷ []))) }
+    ensures retried { IfErr result (λ e. error_kind e ≢ Interrupted) }
 {
     let mut one = [0u8; 1];
     for _ in 0..u64::MAX {
@@ -31,7 +34,7 @@ fn next_byte<R: Read>(reader: &mut R) -> io::Result<Option<u8>>
             }
         }
     }
-    Err(io::Error::from(ErrorKind::Interrupted))
+    Err(io::Error::from(ErrorKind::TimedOut))
 }
 
 /// Adds a byte to a line, unless it is longer than `max` already.
@@ -51,12 +54,13 @@ fn keep(line: &mut Vec<u8>, byte: u8, max: usize)
 /// bytes, so that it can be told from a shorter one. All of the line is taken from the reader, and its end
 /// with it. A last line without its end counts as a line.
 ///
-/// `line` must have room for `max + 1` bytes and is never made larger. The one error is the reader's own;
-/// then part of a line may have been taken.
+/// `line` must have room for `max + 1` bytes and is never made larger. The one error is the reader's own, and no
+/// read that was interrupted; then part of a line may have been taken.
 #[tactic(auto, using(crate::proofs::LineLemmas::within_start, crate::proofs::LineLemmas::end_of_text, crate::proofs::LineLemmas::end_of_line, crate::proofs::LineLemmas::keep_byte))]
 pub fn read_line<R: Read>(reader: &mut R, line: &mut Vec<u8>, max: usize) -> io::Result<bool>
     requires { max < vec_capacity line.old }
     ensures line { IfOk result (λ more. ReadsLine max (R.remaining reader.old) (R.remaining reader.new) more line.new.items) }
+    ensures retried { IfErr result (λ e. error_kind e ≢ Interrupted) }
     ensures room { vec_capacity line.old ≤ vec_capacity line.new }
 {
     line.clear();

@@ -33,3 +33,6 @@ pub record IsMerging (s : State) (begun : ℕ) (pairs : List Pair) (group : Opti
   pub room : length buffer ≡ 512 * s.chunk
   pub present : (g : Group) → group ≡ Some g → IsGroupOf s pairs g
   pub alone : failed ≡ true → group ≡ None
+  -- a pair is left to a merge that failed
+  pub unfinished : failed ≡ true → 0 < length pairs
+  pub valid : s.valid ≡ true

@@ -1,5 +1,6 @@
 pub mod Due
 pub mod Held
+pub mod InStep
 pub mod Lists
 pub mod Looks
 pub mod Merging

@@ -1,5 +1,5 @@
 // A group is formed, and ends: by its release, or by a fault.
-ghost use Rattle.std.specs.Prelude.{◌≡◌, ℕ, Bool, List, Some, None, true, false};
+ghost use Rattle.std.specs.Prelude.{◌<◌, length, ◌≡◌, ℕ, Bool, List, Some, None, true, false};
 ghost use Rattle.sector.specs.declared.pair.Pair.{Pair};
 ghost use Rattle.store.specs.Grouping.{IsGroup};
 ghost use Rattle.merge.specs.Due.{can_group_of, can_release_of};
@@ -42,6 +42,7 @@ impl<B: Block> Merge<B> {
     pub fn fail(&mut self)
         requires running { self.old.failed ≡ false }
         requires early { can_release_of self.old.group ≡ false }
+        requires unfinished { 0 < length self.old.pairs }
         ensures fields { self.new ≡ record self.old { group = None; failed = true } }
         ensures step { (loud : Bool) → FailsMerge (due_of B.contents loud self.old) (due_of B.contents loud self.new) }
     {

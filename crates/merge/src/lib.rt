@@ -4,7 +4,7 @@
 //! It stands on `store`, which keeps the pairs on the device. It promises of each event the relation between the merge
 //! before and after that `volume_laws` has laws for, the one operation of its device or of the origin disk, and every field
 //! of what contracts see. A device that fails changes nothing but that device's counts and layers; its volume then lets the
-//! merge fail. No call but `begin` takes memory.
+//! merge fail. No call needs memory.
 #![tactic(auto)]
 
 mod committing;

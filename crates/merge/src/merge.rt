@@ -1,17 +1,16 @@
 // A merge, its beginning and its end, and what callers ask of its store.
-ghost use Rattle.std.specs.Prelude.{◌≡◌, ℕ, ◌+◌, ◌*◌, ◌<◌, ◌≤◌, length, replicate, IfOk, IfErr, None, true, false};
-ghost use Rattle.sector.specs.declared.refusal.Refusal.TheVariants.{NoMemory};
+ghost use Rattle.std.specs.Prelude.{◌≡◌, ℕ, ◌+◌, ◌*◌, ◌<◌, ◌≤◌, length, None, true, false};
 ghost use Rattle.chunk.specs.Sizes.{is_chunk};
 ghost use Rattle.model.specs.Picture.{place_of as place_in};
 ghost use Rattle.store.specs.declared.state.Left.TheVariants.{Nothing};
 ghost use Rattle.store.specs.Held.{committed, pending as pending_of};
+ghost use Rattle.merge.specs.InStep.{IsInStep};
 
 use crate::Group;
 use chunk_alloc::Usage;
 use device::Block;
 use plain::SnapId;
-use sector::{Chunk, Refusal, SECTOR_BYTES};
-use std::alloc::Global;
+use sector::Chunk;
 use std::marker::Model;
 use store::Store;
 
@@ -43,29 +42,31 @@ impl<B: Block> Model for Merge<B> {
 }
 
 impl<B: Block> Merge<B> {
-    /// Begins the merge of a snapshot's store, which the load's writes have left ready and which has no copies under way.
-    /// `NoMemory` where memory for a chunk is refused: the store is given back as it was.
-    pub fn begin(
-        alloc: Global,
-        number: SnapId,
-        store: Store<B>,
-    ) -> Result<Merge<B>, (Refusal, Store<B>)>
+    /// Begins the merge of a snapshot's store, which the load's writes have left ready, which was not marked invalid, and
+    /// which has no copies under way. The buffer is a chunk of room; no memory is taken.
+    pub fn begin(number: SnapId, store: Store<B>, buffer: Vec<u8>) -> Merge<B>
         requires allowed { is_chunk store.state.chunk ≡ true }
         requires ready { store.state.left ≡ Nothing }
+        requires valid { store.state.valid ≡ true }
         requires idle { length (pending_of store.exceptions) ≡ 0 }
-        ensures begun { IfOk result (λ m. m ≡ record { number = number; device = store.device; state = store.state; next = store.places.next; pairs = committed store.exceptions; group = None; buffer = replicate (512 * store.state.chunk) 0; failed = false }) }
-        ensures refused { IfErr result (λ e. (e.0 ≡ NoMemory) × (e.1 ≡ store)) }
+        requires room { length buffer.items ≡ 512 * store.state.chunk }
+        ensures begun { result ≡ record { number = number; device = store.device; state = store.state; next = store.places.next; pairs = committed store.exceptions; group = None; buffer = buffer.items; failed = false } }
     {
-        let Ok(buffer) = vec![in alloc; 0u8; SECTOR_BYTES * store.chunk() as usize] else {
-            return Err((Refusal::NoMemory, store));
-        };
-        Ok(Merge {
+        Merge {
             number,
             store,
             group: None,
             buffer,
             failed: false,
-        })
+        }
+    }
+
+    /// A look at its store, which does nothing: store and merge are in step, after every call. Its pairs are such as a load
+    /// accepts; where its layers drop no writes, its bytes hold those pairs and a good header with its chunk size.
+    pub fn look_at_store(&self)
+        ensures in_step { IsInStep B.contents B.layers B.size self.now }
+    {
+        let _ = &self.store;
     }
 
     /// Gives the device of the store back, as it is.
@@ -87,6 +88,13 @@ impl<B: Block> Merge<B> {
         ensures { result ≡ self.now.number }
     {
         self.number
+    }
+
+    /// How many pairs it has left.
+    pub fn len(&self) -> usize
+        ensures { result ≡ length self.now.pairs }
+    {
+        self.store.len()
     }
 
     /// The sectors of a chunk.

@@ -81,8 +81,9 @@ pub fn merge_on<B: Block + Drop>(
     };
     assert!(rt; store.is_ready());
     assert_eq!(rt; (store.pending_len(), store.state.chunk), (0, chunk));
-    match Merge::begin(alloc, 7, store) {
-        Ok(merge) => Ok(merge),
-        Err((refusal, _)) => Err(refusal),
-    }
+    assert!(rt; store.state.valid);
+    let Ok(buffer) = vec![in alloc; 0u8; 512 * chunk as usize] else {
+        return Err(Refusal::NoMemory);
+    };
+    Ok(Merge::begin(7, store, buffer))
 }

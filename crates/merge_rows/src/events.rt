@@ -80,6 +80,7 @@ pub fn do_all<B: Block>(
 pub fn fault<B: Block>(rt: &impl Abort, merge: &mut Merge<B>, origin: &mut B) {
     assert_eq!(rt; do_next(rt, merge, origin), Err(Io));
     assert!(rt; !merge.can_release() && !merge.is_failed());
+    assert!(rt; 0 < merge.len());
     merge.fail();
     assert_eq!(rt; (merge.is_failed(), merge.has_group()), (true, false));
     assert_eq!(rt; do_next(rt, merge, origin), Ok(None));

@@ -1,3 +1,4 @@
+-- To be believed: `run`'s output, a volume's steps or its attach are said in these words.
 -- The place of a store that is handed out next. The rule gives the kernel's numbers; it is stated without a counter.
 use Rattle.std.specs.Prelude.{◌≡◌, ℕ, ◌+◌, ◌*◌, ◌<◌, ◌≤◌, List, false, if◌then◌else◌}
 use Rattle.std.specs.List.{All}

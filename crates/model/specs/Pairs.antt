@@ -1,3 +1,4 @@
+-- To be believed: `run`'s output, a volume's steps or its attach are said in these words.
 -- The pairs that a store holds, read from its raw bytes: the format of dm-snap-persistent.c.
 use Rattle.std.specs.Prelude.{◌≡◌, ◌≢◌, ◌==◌, ℕ, zero, suc, ◌+◌, ◌*◌, ◌/◌, ◌<◌, ◌≤◌, List, [], ◌∷◌, length, if◌then◌else◌, slice_index_or, AllPairs, false}
 use Rattle.std.specs.List.{All}

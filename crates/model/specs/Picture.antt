@@ -1,3 +1,4 @@
+-- To be believed: `run`'s output, a volume's steps or its attach are said in these words.
 -- What a snapshot shows: each chunk that was copied from its place on the store, every other from the origin. The
 -- kernel's admin-guide page on snapshots says so in words.
 use Rattle.std.specs.Prelude.{◌≡◌, ◌==◌, ℕ, ◌+◌, ◌*◌, ◌/◌, ◌%◌, ◌<◌, List, [], ◌∷◌, length, Option, Some, None, if◌then◌else◌, slice_index, map}

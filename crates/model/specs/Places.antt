@@ -1,3 +1,4 @@
+-- To be believed: `run`'s output, a volume's steps or its attach are said in these words.
 -- Chunks, and the places of areas among them: the format of dm-snap-persistent.c. Chunk 0 of a store is its header.
 -- An area is one chunk of 32 pairs a sector; as many chunks of copies follow it, and then the next area.
 use Rattle.std.specs.Prelude.{◌≡◌, ◌≢◌, ◌==◌, ℕ, ◌+◌, ◌*◌, ◌/◌, ◌%◌, List, length, Bool}

@@ -1,3 +1,4 @@
+-- To be believed: `run`'s output, a volume's steps or its attach are said in these words.
 -- The slots of an area, 16 bytes each: the old chunk and the new chunk of a pair, as the format of dm-snap-persistent.c has them.
 use Rattle.std.specs.Prelude.{ℕ, ◌+◌, ◌*◌, List, ◌++◌}
 use Rattle.sector.specs.Bytes.{with_part}

@@ -8,7 +8,7 @@ use Rattle.sector.specs.declared.refusal.Refusal.{Refusal}
 use Rattle.device.specs.Layers.{Layer}
 use Rattle.layers.specs.declared.message.Message.{Message}
 use Rattle.layers.specs.declared.message.Answer.{Answer}
-use Rattle.settling.specs.Snaps.{Snap, Volume as Settled}
+use Rattle.settled.specs.Snaps.{Snap, Volume as Settled}
 use Rattle.named.specs.declared.place.Role.{Role}
 use Rattle.named.specs.declared.place.Role.TheVariants.{Origin, Under, Snapshot, Store}
 use Rattle.named.specs.declared.place.Place.TheVariants.{Free, In}

@@ -15,9 +15,9 @@ use Rattle.settled.specs.Loads.{trimmed, is_loadable, is_too_small}
 use Rattle.cow_header.specs.HeaderText.{header_bytes, found_in}
 use Rattle.cow_header.specs.declared.found.Found.{Found}
 use Rattle.cow_header.specs.declared.found.Found.TheVariants.{Fresh, Header}
-use Rattle.settling.specs.Devices.{Device, sectors_of, answers, met, written_by}
-use Rattle.settling.specs.Snaps.{Snap, Volume as Settled}
-use Rattle.settling.specs.Attaching.{Tried, read_on, write_on, done, read_areas, last_area, has_tail, is_wanted, make, clear, load, load_as, open_store, Store, Attached, refused_attach, taken_by, attached}
+use Rattle.settled.specs.Devices.{Device, sectors_of, answers, met, written_by}
+use Rattle.settled.specs.Snaps.{Snap, Volume as Settled}
+use Rattle.settled.specs.Attaching.{Tried, read_on, write_on, done, read_areas, last_area, has_tail, is_wanted, make, clear, load, load_as, open_store, Store, Attached, refused_attach, taken_by, attached}
 
 loud_layer_after : (l : Layer) (op : Operation) (done : Bool) → is_loud_layer (layer_after l op done) ≡ is_loud_layer l
 loud_layer_after (Flaky moment up down features offset) op done = refl

@@ -1,3 +1,4 @@
+-- To be believed: `run`'s output, a volume's steps or its attach are said in these words.
 -- Making devices by table lines. The order of the refusals is this project's own.
 use Rattle.std.specs.Prelude.{ℕ, Bool, true, false, List, nat_le, is_some, if◌then◌else◌}
 use Rattle.sector.specs.declared.refusal.Refusal.TheVariants.{Busy, TooMany, BadTable}

@@ -1,9 +1,10 @@
+-- To be believed: `run`'s output, a volume's steps or its attach are said in these words.
 -- Making a disk. The commands are this project's own.
 use Rattle.std.specs.Prelude.{ℕ, ◌+◌, ◌*◌, ◌&&◌, not, Bool, false, List, [], ◌∷◌, ◌++◌, length, replicate, sum_by, nat_lt, nat_le, is_some, if◌then◌else◌, Result, Ok, Err}
 use Rattle.sector.specs.declared.refusal.Refusal.{Refusal}
 use Rattle.sector.specs.declared.refusal.Refusal.TheVariants.{Busy, OutOfRange, TooMany}
 use Rattle.device.specs.Layers.{Broken}
-use Rattle.settling.specs.Devices.{Device}
+use Rattle.settled.specs.Devices.{Device}
 use Rattle.named.specs.State.{Stacked, Names, Volume, Table}
 use Rattle.named.specs.Places.{place_of}
 

@@ -1,3 +1,4 @@
+-- To be believed: `run`'s output, a volume's steps or its attach are said in these words.
 -- Events, one by one: which volume an event is asked of, and why it is not done. Where nothing is in flight none is due. The
 -- commands are this project's own.
 use Rattle.std.specs.Prelude.{ℕ, ◌==◌, List, Option, Some, None, if◌then◌else◌, Result, Ok, Err}

@@ -1,3 +1,4 @@
+-- To be believed: `run`'s output, a volume's steps or its attach are said in these words.
 -- Making layers. The targets are those of the kernel's pages on dm-flakey and dm-dust; the order of the refusals is this
 -- project's own.
 use Rattle.std.specs.Prelude.{◌==◌, ℕ, ◌+◌, Bool, false, List, [], ◌∷◌, slice_set, nat_le, if◌then◌else◌, Result, Ok, Err}
@@ -8,7 +9,7 @@ use Rattle.device.specs.Layers.{Layer, Flaky, Dusty, Window, Features}
 use Rattle.layers.specs.Windows.{beside}
 use Rattle.words.specs.Given.{◌>>=◌}
 use Rattle.table.specs.declared.lines.Features.{Features as Words}
-use Rattle.settling.specs.Devices.{Device, sectors_of}
+use Rattle.settled.specs.Devices.{Device, sectors_of}
 use Rattle.named.specs.declared.place.Role.{Role}
 use Rattle.named.specs.declared.place.Role.TheVariants.{Origin, Under, Snapshot, Store}
 use Rattle.named.specs.declared.place.Place.{Place}

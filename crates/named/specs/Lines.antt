@@ -1,3 +1,4 @@
+-- To be believed: `run`'s output, a volume's steps or its attach are said in these words.
 -- Table lines of devices that are there. The lines are those of the kernel's pages on dm-flakey and dm-dust; that a disk has
 -- none is this project's own.
 use Rattle.std.specs.Prelude.{ℕ, zero, suc, ◌+◌, List, ◌∷◌, drop, slice_get, Option, Some, None, Result, Ok, Err}
@@ -10,7 +11,7 @@ use Rattle.table.specs.declared.lines.Line.{Line}
 use Rattle.table.specs.declared.lines.Target.{Target}
 use Rattle.table.specs.declared.lines.Target.TheVariants as targets
 use Rattle.table.specs.Printed.{text_of}
-use Rattle.settling.specs.Devices.{Device, sectors_of}
+use Rattle.settled.specs.Devices.{Device, sectors_of}
 use Rattle.named.specs.declared.place.Role.{Role}
 use Rattle.named.specs.declared.place.Role.TheVariants.{Origin, Under, Snapshot, Store}
 use Rattle.named.specs.declared.place.Place.{Place}

@@ -1,3 +1,4 @@
+-- To be believed: `run`'s output, a volume's steps or its attach are said in these words.
 -- Messages to dust layers, and the time. Sources: the kernel's pages on dm-dust and dm-flakey; the order of the refusals is
 -- this project's own.
 use Rattle.std.specs.Prelude.{ℕ, List, map, slice_get, slice_set, Option, Some, None, Result, Ok, Err}
@@ -9,9 +10,9 @@ use Rattle.layers.specs.declared.message.Answer.{Answer}
 use Rattle.layers.specs.Messages.{Told, Refused, Answered, told}
 use Rattle.layers.specs.Ticks.{layers_ticked}
 use Rattle.words.specs.Given.{◌>>=◌}
-use Rattle.settling.specs.Devices.{Device}
-use Rattle.settling.specs.Snaps.{Snap, Volume as Settled}
-use Rattle.settling.specs.Moments.{relayered, all_relayered}
+use Rattle.settled.specs.Devices.{Device}
+use Rattle.settled.specs.Snaps.{Snap, Volume as Settled}
+use Rattle.settled.specs.Moments.{relayered, all_relayered}
 use Rattle.named.specs.declared.place.Role.{Role}
 use Rattle.named.specs.declared.place.Role.TheVariants.{Origin, Under, Snapshot, Store}
 use Rattle.named.specs.declared.place.Place.{Place}

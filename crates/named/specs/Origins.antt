@@ -1,12 +1,13 @@
+-- To be believed: `run`'s output, a volume's steps or its attach are said in these words.
 -- Origins: made over a stack that nothing uses, and taken away again. The line is the kernel's `snapshot-origin`; the order
 -- of the refusals is this project's own.
-use Rattle.std.specs.Prelude.{◌==◌, ℕ, true, List, [], ◌∷◌, ◌++◌, length, nat_lt, if◌then◌else◌, Result, Ok, Err}
+use Rattle.std.specs.Prelude.{◌==◌, ℕ, true, List, [], ◌∷◌, ◌++◌, length, nat_lt, if◌then◌else◌, None, Result, Ok, Err}
 use Rattle.std.specs.List.{remove}
 use Rattle.sector.specs.declared.refusal.Refusal.{Refusal}
 use Rattle.sector.specs.declared.refusal.Refusal.TheVariants.{Busy, NotQuiet, BadTable}
 use Rattle.device.specs.Layers.{is_loud}
 use Rattle.words.specs.Given.{◌>>=◌}
-use Rattle.settling.specs.Devices.{sectors_of}
+use Rattle.settled.specs.Devices.{sectors_of}
 use Rattle.named.specs.State.{Stacked, Volume, Table}
 use Rattle.named.specs.Places.{stack_at, volume_at}
 use Rattle.named.specs.Layers.{top}
@@ -27,6 +28,7 @@ origin_on name stacked = record {
   asked = 0;
   sound = is_loud stacked.device.layers;
   quiet = true;
+  flying = None;
 }
 
 -- stack i goes to a new volume

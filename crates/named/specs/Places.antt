@@ -1,3 +1,4 @@
+-- To be believed: `run`'s output, a volume's steps or its attach are said in these words.
 -- Where a name stands. The look-up is this project's own.
 use Rattle.std.specs.Prelude.{ℕ, ◌<◌, Bool, List, length, position, slice_get, is_some, if◌then◌else◌, Option, Some, None, Result, Ok, Err}
 use Rattle.std.specs.Str.{bytes_eq}

@@ -1,3 +1,4 @@
+-- To be believed: `run`'s output, a volume's steps or its attach are said in these words.
 -- Loading and saving raw sectors of disks, past all layers. The commands are this project's own.
 use Rattle.std.specs.Prelude.{◌==◌, ℕ, ◌+◌, ◌/◌, ◌%◌, ◌&&◌, Bool, false, List, [], ◌∷◌, length, nat_lt, slice_get, if◌then◌else◌, Option, Some, None, Result, Ok, Err}
 use Rattle.sector.specs.Bytes.{sectors_at, with_sectors}
@@ -7,8 +8,8 @@ use Rattle.device.specs.Layers.{Layer}
 use Rattle.layers.specs.Windows.{raw_of, has_disk}
 use Rattle.words.specs.Given.{◌>>=◌}
 use Rattle.command.specs.Words.{sectors_of}
-use Rattle.settling.specs.Devices.{Device}
-use Rattle.settling.specs.Snaps.{Snap, Volume as Settled}
+use Rattle.settled.specs.Devices.{Device}
+use Rattle.settled.specs.Snaps.{Snap, Volume as Settled}
 use Rattle.named.specs.declared.place.Role.{Role}
 use Rattle.named.specs.declared.place.Role.TheVariants.{Origin, Under, Snapshot, Store}
 use Rattle.named.specs.declared.place.Place.{Place}

@@ -1,3 +1,4 @@
+-- To be believed: `run`'s output, a volume's steps or its attach are said in these words.
 -- Taking devices away. The order of the refusals is this project's own.
 use Rattle.std.specs.Prelude.{ℕ, List, drop, Option, Some, None, Result, Ok, Err}
 use Rattle.std.specs.List.{remove}
@@ -6,7 +7,7 @@ use Rattle.sector.specs.declared.refusal.Refusal.TheVariants.{Busy}
 use Rattle.device.specs.Layers.{Layer}
 use Rattle.layers.specs.Windows.{layers_below, bytes_below}
 use Rattle.words.specs.Given.{◌>>=◌}
-use Rattle.settling.specs.Devices.{Device}
+use Rattle.settled.specs.Devices.{Device}
 use Rattle.named.specs.declared.place.Role.{Role}
 use Rattle.named.specs.declared.place.Role.TheVariants.{Origin, Under, Snapshot, Store}
 use Rattle.named.specs.declared.place.Place.{Place}

@@ -1,3 +1,4 @@
+-- To be believed: `run`'s output, a volume's steps or its attach are said in these words.
 -- Reading and writing origins and snapshots. What they show is the settled machine's; the commands, and that a volume takes
 -- reads and writes of 2^60 sectors in all, so that its numbers never run out, are this project's own.
 use Rattle.std.specs.Prelude.{◌≡◌, ℕ, ◌+◌, ◌<◌, List, nat_lt, if◌then◌else◌, Result, Ok, Err}
@@ -10,11 +11,11 @@ use Rattle.plain.specs.declared.request.Dev.{Dev}
 use Rattle.plain.specs.declared.request.Dev.TheVariants as devs
 use Rattle.plain.specs.declared.request.Reply.{Reply}
 use Rattle.plain.specs.declared.request.Reply.TheVariants.{Data, Written, Refused}
-use Rattle.settling.specs.Devices.{sectors_of as size_of}
-use Rattle.settling.specs.Snaps.{Volume as Settled}
-use Rattle.settling.specs.Pieces.{Answered}
-use Rattle.settling.specs.Commands.{written, read as read_settled, bytes_in}
-use Rattle.resting.specs.Commands.{refusal_of, written_first, pieces_in}
+use Rattle.settled.specs.Devices.{sectors_of as size_of}
+use Rattle.settled.specs.Snaps.{Volume as Settled}
+use Rattle.settled.specs.Pieces.{Answered}
+use Rattle.settled.specs.Commands.{written, read as read_settled, bytes_in, written_first, pieces_in}
+use Rattle.plain.specs.Failures.{refusal_of}
 use Rattle.named.specs.declared.place.Role.{Role}
 use Rattle.named.specs.declared.place.Role.TheVariants.{Origin, Under, Snapshot, Store}
 use Rattle.named.specs.declared.place.Place.{Place}

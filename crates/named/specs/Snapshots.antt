@@ -1,3 +1,4 @@
+-- To be believed: `run`'s output, a volume's steps or its attach are said in these words.
 -- Snapshots: taken over an origin, with a stack that nothing uses as their store, and taken away again. The line is the
 -- kernel's `snapshot`; the order of the refusals is this project's own. What an attach reads, writes and answers is the
 -- settled machine's.
@@ -7,9 +8,9 @@ use Rattle.sector.specs.declared.refusal.Refusal.{Refusal}
 use Rattle.sector.specs.declared.refusal.Refusal.TheVariants.{NoSuchDevice}
 use Rattle.device.specs.Layers.{is_loud}
 use Rattle.words.specs.Given.{◌>>=◌}
-use Rattle.settling.specs.Devices.{sectors_of}
-use Rattle.settling.specs.Snaps.{Volume as Settled}
-use Rattle.settling.specs.Attaching.{Store, Attached, attached, detached, given_back}
+use Rattle.settled.specs.Devices.{sectors_of}
+use Rattle.settled.specs.Snaps.{Volume as Settled}
+use Rattle.settled.specs.Attaching.{Store, Attached, attached, detached, given_back}
 use Rattle.named.specs.declared.place.Role.{Role}
 use Rattle.named.specs.declared.place.Role.TheVariants.{Origin, Under, Snapshot, Store as InStore}
 use Rattle.named.specs.declared.place.Place.{Place}

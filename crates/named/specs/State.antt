@@ -1,8 +1,10 @@
+-- To be believed: `run`'s output, a volume's steps or its attach are said in these words.
 -- What the command program holds: stacks of devices that nothing uses, and volumes, each of which owns the stacks that it
 -- stands on. The shape is this project's own.
-use Rattle.std.specs.Prelude.{ℕ, Bool, List}
-use Rattle.settling.specs.Devices.{Device}
-use Rattle.settling.specs.Snaps.{Volume as Settled}
+use Rattle.std.specs.Prelude.{ℕ, Bool, List, Option}
+use Rattle.settled.specs.Devices.{Device}
+use Rattle.event_machine.specs.Held.{Moving}
+use Rattle.settled.specs.Snaps.{Volume as Settled}
 
 -- A stack that nothing uses: the names of its layers from the top, and of the disk or the error layer at the bottom; its
 -- bytes and layers; and whether a mark stands with the disk at the bottom that an invalid mark could not be written to it.
@@ -20,7 +22,8 @@ pub record Names : Type 0 where
 -- snapshots in order of attaching. The state has the bytes and layers of all its devices, and which snapshots are live.
 -- `given` counts the attaches that were done, `asked` the sectors of the reads and writes that it was asked for; `sound`
 -- tells that none of its devices, nor of those that have left it, drops writes; `quiet`, that no request is in flight, no copy
--- is under way and no invalid mark is wanted.
+-- is under way and no invalid mark is wanted. `flying` is what is in flight while it is not quiet, and what is in memory of its
+-- snapshots then: the event machine without its devices, which the state has.
 pub record Volume : Type 0 where
   pub origin : List ℕ
   pub under : List (List ℕ)
@@ -31,6 +34,7 @@ pub record Volume : Type 0 where
   pub asked : ℕ
   pub sound : Bool
   pub quiet : Bool
+  pub flying : Option Moving
 
 -- all devices
 pub record Table : Type 0 where

@@ -1,3 +1,4 @@
+-- To be believed: `run`'s output, a volume's steps or its attach are said in these words.
 -- Which device has which status line. The lines are those of the kernel's admin-guide page on snapshots; that the numbers
 -- are those of the store's next place and areas is this project's own.
 use Rattle.std.specs.Prelude.{ℕ, ◌+◌, ◌*◌, ◌/◌, List, length, Result, Ok, Err, if◌then◌else◌}
@@ -9,8 +10,8 @@ use Rattle.status.specs.declared.State.{State}
 use Rattle.status.specs.declared.State.TheVariants.{Invalid, Used}
 use Rattle.status.specs.Lines.{origin_text, snapshot_text}
 use Rattle.settled.specs.Saves.{next_of}
-use Rattle.settling.specs.Devices.{Device, sectors_of}
-use Rattle.settling.specs.Snaps.{Snap}
+use Rattle.settled.specs.Devices.{Device, sectors_of}
+use Rattle.settled.specs.Snaps.{Snap}
 use Rattle.named.specs.declared.place.Role.{Role}
 use Rattle.named.specs.declared.place.Role.TheVariants.{Origin, Under, Snapshot, Store}
 use Rattle.named.specs.declared.place.Place.{Place}

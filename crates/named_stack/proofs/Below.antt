@@ -3,7 +3,7 @@ use Rattle.std.proofs.Common.{◌≡◌, ◌≢◌, ℕ, zero, suc, ◌-◌, ◌
 use Rattle.std.specs.Prelude.{Option, Some, None, Ok, is_some}
 use Rattle.std.specs.List.{remove}
 use Rattle.device.specs.Layers.{Layer}
-use Rattle.settling.specs.Devices.{Device}
+use Rattle.settled.specs.Devices.{Device}
 use Rattle.layers.specs.declared.stack.Stack.{Stack, Disk, Flakey', Dust', Error}
 use Rattle.layers.specs.Stack.{stack_layers, stack_contents, below_of}
 use Rattle.layers.specs.declared.broken.Broken.{Broken}

@@ -4,7 +4,7 @@ ghost use Rattle.std.specs.Option.{option_copied};
 ghost use Rattle.layers.specs.Layer.{features_of};
 ghost use Rattle.layers.specs.Stack.{stack_layers};
 ghost use Rattle.table.specs.declared.lines.Target.TheVariants.{Flakey as FlakeyLine};
-ghost use Rattle.settling.specs.Devices.{sectors_of};
+ghost use Rattle.settled.specs.Devices.{sectors_of};
 ghost use Rattle.named.specs.Lines.{device_at, line_in, line_of, target_of, words_of};
 ghost use Rattle.named.specs.Stacks.{device_of};
 

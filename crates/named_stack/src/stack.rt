@@ -2,7 +2,7 @@
 ghost use Rattle.std.specs.Prelude.{◌≡◌, ◌≤◌, ◌<◌, ◌+◌, ◌*◌, ◌/◌, true, false, [], ◌∷◌, length, nat_le, is_some, Some, Ok, Err, MatchResult, IsTrue, OnOk, OnErr, IfErr, IfOk, IfSome};
 ghost use Rattle.device.specs.Disk.{disk_contents};
 ghost use Rattle.device.specs.Layers.{Dusty, is_loud};
-ghost use Rattle.settling.specs.Devices.{sectors_of};
+ghost use Rattle.settled.specs.Devices.{sectors_of};
 ghost use Rattle.named.specs.Disks.{alone, failing};
 ghost use Rattle.named.specs.Layers.{layered, under};
 ghost use Rattle.named.specs.Messages.{stack_ticked, told_free};

@@ -5,8 +5,8 @@ use Rattle.sector.specs.declared.refusal.Refusal.{Refusal}
 use Rattle.sector.specs.declared.refusal.Refusal.TheVariants.{NoMemory, OutOfRange}
 use Rattle.chunk.specs.Pieces.{Span}
 use Rattle.plain.specs.declared.request.Dev.{Dev}
-use Rattle.settling.specs.Devices.{sectors_of as size_of}
-use Rattle.settling.specs.Snaps.{Volume as Settled}
+use Rattle.settled.specs.Devices.{sectors_of as size_of}
+use Rattle.settled.specs.Snaps.{Volume as Settled}
 use Rattle.named.specs.declared.place.Role.{Role}
 use Rattle.named.specs.State.{Volume}
 use Rattle.named.specs.Raw.{fits}

@@ -10,10 +10,10 @@ use Rattle.pending.specs.Kinds.{kind_of}
 use Rattle.pending.specs.declared.flights.Kind.{Kind}
 use Rattle.pending.specs.declared.flights.Kind.TheVariants.{OriginRead, OriginWrite, SnapRead, SnapWrite}
 use Rattle.pending.specs.declared.flights.Route.{Route}
-use Rattle.settling.specs.Held.{Held, Moving}
-use Rattle.settling.specs.Seen.{going_of}
-use Rattle.settling.specs.Stepping.{for_some, first_that, spoil}
-use Rattle.settling.specs.Submitting.{is_filled, needs_none, accepted, declined, read_snap, write_held, write_placed, write_snap, submitted_as}
+use Rattle.event_machine.specs.Held.{Held, Moving}
+use Rattle.event_machine.specs.Seen.{going_of}
+use Rattle.event_machine.specs.Stepping.{for_some, first_that, spoil}
+use Rattle.event_machine.specs.Submitting.{is_filled, needs_none, accepted, declined, read_snap, write_held, write_placed, write_snap, submitted_as}
 use Rattle.volume.specs.Volumed.{Volumed}
 use Rattle.volume.specs.Moved.{moving_of}
 use Rattle.volume.specs.Leaving.{is_quiet_of, is_done_of}

@@ -7,3 +7,4 @@ pub mod Serves
 pub mod Parts
 pub mod Uses
 pub mod Tells
+pub mod Events

@@ -9,8 +9,8 @@ use Rattle.layers.specs.Stack.{stack_contents, stack_layers}
 use Rattle.layers.specs.Beneath.{stack_reads}
 use Rattle.snapshot.specs.declared.opening.StoreDev.{StoreDev}
 use Rattle.store.specs.Reading.{layers_read, AreRead}
-use Rattle.settling.specs.Snaps.{Volume as Settled}
-use Rattle.settling.specs.Attaching.{Store, attached, refused_attach}
+use Rattle.settled.specs.Snaps.{Volume as Settled}
+use Rattle.settled.specs.Attaching.{Store, attached, refused_attach}
 use Rattle.volume.specs.Volumed.{Volumed}
 use Rattle.volume.specs.Leaving.{is_quiet_of}
 use Rattle.volume.specs.Taking.{taking_refusal, attach_refusal, IsNotTaken}

@@ -9,7 +9,7 @@ use Rattle.device.specs.Layers.{is_loud}
 use Rattle.layers.specs.declared.stack.Stack.{Stack}
 use Rattle.layers.specs.Stack.{stack_contents, stack_layers}
 use Rattle.snapshot.specs.declared.opening.StoreDev.{StoreDev}
-use Rattle.settling.specs.Attaching.{detached}
+use Rattle.settled.specs.Attaching.{detached}
 use Rattle.resting.specs.Rested.{Attached, Rested, snap_at as first_snap}
 use Rattle.resting.specs.Leaving.{IsDetachedAs}
 use Rattle.named.specs.Stacks.{device_of}

@@ -8,7 +8,7 @@ use Rattle.std.proofs.lemmas.Option.{slice_get_read}
 use Rattle.layers.specs.declared.stack.Stack.{Stack}
 use Rattle.layers.specs.Stack.{stack_contents, stack_layers}
 use Rattle.plain.specs.declared.request.Dev.TheVariants.{Snap as ToSnap}
-use Rattle.settling.specs.Snaps.{Snap}
+use Rattle.settled.specs.Snaps.{Snap}
 use Rattle.resting.specs.Rested.{Attached, Rested, snap_of, snap_at as first_snap, has_number}
 use Rattle.named.specs.declared.place.Role.TheVariants.{Snapshot}
 use Rattle.named.specs.Messages.{snap_at}

@@ -12,11 +12,12 @@ use Rattle.plain.specs.declared.request.Reply.{Reply}
 use Rattle.plain.specs.declared.request.Reply.TheVariants.{Data, Written, Refused}
 use Rattle.plain.specs.declared.request.Failure.{Failure}
 use Rattle.plain.specs.declared.request.Failure.TheVariants.{Invalid, Io}
-use Rattle.settling.specs.Snaps.{Volume as Settled}
-use Rattle.settling.specs.Pieces.{Answered}
-use Rattle.settling.specs.Commands.{read, written}
+use Rattle.settled.specs.Snaps.{Volume as Settled}
+use Rattle.settled.specs.Pieces.{Answered}
+use Rattle.settled.specs.Commands.{read, written, written_first, pieces_in}
 use Rattle.resting.specs.Rested.{Rested, has_dev}
-use Rattle.resting.specs.Commands.{refusal_of, written_first, pieces_in, IsDoneBy, IsReadRefused, IsWriteRefused}
+use Rattle.plain.specs.Failures.{refusal_of}
+use Rattle.resting.specs.Commands.{IsDoneBy, IsReadRefused, IsWriteRefused}
 use Rattle.resting.proofs.Unread.{read_leaves, refused_read_leaves}
 use Rattle.named.specs.declared.place.Role.{Role}
 use Rattle.named.specs.State.{Volume}

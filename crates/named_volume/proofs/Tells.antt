@@ -7,7 +7,7 @@ use Rattle.layers.specs.Stack.{stack_contents, stack_layers}
 use Rattle.layers.specs.declared.message.Message.{Message}
 use Rattle.layers.specs.declared.message.Answer.{Answer}
 use Rattle.layers.specs.Messages.{Answered, Refused, told}
-use Rattle.settling.specs.Snaps.{Volume as Settled}
+use Rattle.settled.specs.Snaps.{Volume as Settled}
 use Rattle.resting.specs.Rested.{Attached, Rested}
 use Rattle.resting.specs.Telling.{IsOriginTold, IsStoreTold, IsTellRefused, place_relayered}
 use Rattle.named.specs.declared.place.Role.{Role}

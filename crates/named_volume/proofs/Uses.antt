@@ -9,8 +9,8 @@ use Rattle.chunk_alloc.specs.declared.usage.Usage.{Usage}
 use Rattle.status.specs.declared.State.{State}
 use Rattle.status.specs.declared.State.TheVariants.{Invalid, Used}
 use Rattle.status.specs.Lines.{origin_text, snapshot_text}
-use Rattle.settling.specs.Devices.{sectors_of as size_of}
-use Rattle.settling.specs.Snaps.{Snap}
+use Rattle.settled.specs.Devices.{sectors_of as size_of}
+use Rattle.settled.specs.Snaps.{Snap}
 use Rattle.resting.specs.Rested.{Attached, Rested}
 use Rattle.resting.specs.Using.{IsUsed}
 use Rattle.named.specs.declared.place.Role.TheVariants.{Origin, Snapshot}

@@ -1,14 +1,22 @@
 -- What holds of a volume with the names of its devices. This project's own.
-use Rattle.std.specs.Prelude.{◌≡◌, ◌*◌, ◌<◌, ◌≤◌, ℕ, Bool, true, List, length}
+use Rattle.std.specs.Prelude.{◌≡◌, ◌*◌, ◌<◌, ◌≤◌, ℕ, Bool, true, List, length, Option, Some, None, if◌then◌else◌}
 use Rattle.layers.specs.declared.stack.Stack.{Stack}
 use Rattle.layers.specs.Stack.{stack_contents, stack_layers, stack_size}
-use Rattle.settling.specs.Snaps.{Volume as Settled}
+use Rattle.event_machine.specs.Held.{Moving}
+use Rattle.settled.specs.Snaps.{Volume as Settled}
+use Rattle.volume.specs.Volumed.{Volumed}
+use Rattle.volume.specs.Leaving.{is_quiet_of}
+use Rattle.resting.specs.Flying.{flying_of}
 use Rattle.resting.specs.Rested.{Rested, settled_of, is_loud_in, IsSettled}
 use Rattle.named.specs.State.{Names}
 
 -- the settled machine's volume of a volume over stacks
 abbrev pub settled_in : Rested Stack → Settled
 settled_in volume = settled_of stack_contents stack_layers volume
+
+-- what is in flight in a volume of events over stacks, if anything is
+abbrev pub flying_in : Volumed Stack → Option Moving
+flying_in events = if is_quiet_of events then None else Some (flying_of stack_contents stack_layers events)
 
 abbrev pub IsSettledIn : Rested Stack → Type 0
 IsSettledIn volume = IsSettled stack_contents stack_layers stack_size volume

@@ -16,8 +16,8 @@ use words::Name;
 
 impl NamedVolume {
     /// Takes a snapshot of the origin, with a stack as its store, by a table line with this chunk size. Where a request is in
-    /// flight or anything is left to do, `Stale` for a stack with a mark, and else `NotQuiet`, but for `NoMemory`; then the stack
-    /// is given back as it was.
+    /// flight or anything is left to do, `Stale` for a stack with a mark, and else `NotQuiet`, but for `NoMemory`; then the
+    /// stack is given back as it was.
     pub fn attach(
         &mut self,
         alloc: Global,

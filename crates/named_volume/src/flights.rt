@@ -1,10 +1,11 @@
 // Requests that one call starts and later ones end.
-ghost use Rattle.std.specs.Prelude.{◌≡◌, ◌≢◌, ◌*◌, ◌<◌, ◌≤◌, ℕ, List, length, get_or, is_ok, true, false, Ok, Err, IfErr, OnOk, OnErr};
+ghost use Rattle.std.specs.Prelude.{◌≡◌, ◌≢◌, ◌+◌, ◌*◌, ◌<◌, ◌≤◌, ℕ, List, length, get_or, is_ok, true, false, Ok, Err, IfErr, IfOk, OnOk, OnErr};
 ghost use Rattle.sector.specs.declared.refusal.Refusal.TheVariants.{NoMemory, Invalid};
 ghost use Rattle.plain.specs.declared.request.Op.TheVariants.{Write};
-ghost use Rattle.settling.specs.Snaps.{Snap};
+ghost use Rattle.settled.specs.Snaps.{Snap};
 ghost use Rattle.named.specs.Places.{IsRoleIn};
 ghost use Rattle.named.specs.Sectors.{asked_of};
+ghost use Rattle.named_volume.specs.Flights.{IsNotDue, IsNotStarted, IsSettledBy, IsStarted, IsStepped};
 ghost use Rattle.named_volume.specs.Names.{KeepsNames};
 
 use crate::origin::NamedVolume;
@@ -49,7 +50,11 @@ impl NamedVolume {
         requires few { count ≤ 2048 }
         requires bytes { (bytes : List ℕ) → op ≡ Write bytes → length bytes ≡ 512 * count }
         ensures asks { IfErr (asked_of role first count self.old) (λ e. result ≡ Err e) }
+        ensures stays { IfErr (asked_of role first count self.old) (λ _. self.new ≡ self.old) }
         ensures flies { OnOk result (self.new.quiet ≡ false) }
+        ensures started { IfOk result (λ number. IfOk (asked_of role first count self.old) (IsStarted op number self.old self.new)) }
+        ensures refused { IfErr result (λ e. IfOk (asked_of role first count self.old) (IsNotStarted op e self.old self.new)) }
+        ensures counts { IfOk (asked_of role first count self.old) (λ _. self.new.asked ≡ self.old.asked + count) }
         ensures same { IfErr result (λ e. e ≢ Invalid → (self.new.state ≡ self.old.state) × (self.new.quiet ≡ self.old.quiet)) }
         ensures kept { KeepsNames self.old self.new }
     {
@@ -63,6 +68,8 @@ impl NamedVolume {
     /// Does an event. `NotDue` where it isn't due, and then nothing changed; where nothing is in flight or left to do, none is.
     pub fn step(&mut self, event: Event) -> Result<Outcome, NotDue>
         ensures idle { self.old.quiet ≡ true → is_ok result ≡ false }
+        ensures stepped { IfOk result (λ outcome. IsStepped event outcome self.old self.new) }
+        ensures due { self.old.quiet ≡ false → OnErr result (IsNotDue event self.old) }
         ensures same { OnErr result (self.new ≡ self.old) }
         ensures kept { KeepsNames self.old self.new }
     {
@@ -76,6 +83,7 @@ impl NamedVolume {
     /// end of `ended`. `NoMemory` where the allocator refuses room for that, and then the events before it stand.
     pub fn settle(&mut self, ended: &mut Vec<Replied>) -> Result<(), Refusal>
         ensures quiet { OnOk result (self.new.quiet ≡ true) }
+        ensures drained { self.old.quiet ≡ false → IsSettledBy ended.old.items ended.new.items self.old self.new }
         ensures idle { self.old.quiet ≡ true → (self.new ≡ self.old) × (ended.new.items ≡ ended.old.items) × (result ≡ Ok tt) }
         ensures kept { KeepsNames self.old self.new }
         ensures err { IfErr result (λ e. e ≡ NoMemory) }

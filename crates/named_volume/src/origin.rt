@@ -3,7 +3,7 @@ ghost use Rattle.std.specs.Prelude.{◌≡◌, ◌≢◌, ◌⊎◌, ◌<◌, �
 ghost use Rattle.std.specs.Str.{bytes_eq};
 ghost use Rattle.sector.specs.declared.refusal.Refusal.TheVariants.{NoMemory, Busy, NotQuiet};
 ghost use Rattle.device.specs.Layers.{is_loud};
-ghost use Rattle.settling.specs.Devices.{sectors_of as size_of};
+ghost use Rattle.settled.specs.Devices.{sectors_of as size_of};
 ghost use Rattle.named.specs.Places.{role_of, role_among, store_among, is_among, IsRoleAmong, IsRoleIn};
 ghost use Rattle.named.specs.Disks.{devices_in, devices_under};
 ghost use Rattle.named.specs.Origins.{origin_on, stack_under};
@@ -33,11 +33,11 @@ pub struct NamedVolume {
 impl Model for NamedVolume {
     ghost use Rattle.volume.specs.Leaving.{is_quiet_of};
     ghost use Rattle.named.specs.State.{Volume};
-    ghost use Rattle.named_volume.specs.Held.{settled_in, IsHeld};
+    ghost use Rattle.named_volume.specs.Held.{flying_in, settled_in, IsHeld};
 
     ghost Value = { Volume };
 
-    ghost view = { λ m. record { origin = m.origin; under = m.under.items; stale = m.stale; snaps = m.snaps.items; state = settled_in m.volume; given = m.volume.attached; asked = m.asked; sound = m.sound; quiet = is_quiet_of m.volume.events } };
+    ghost view = { λ m. record { origin = m.origin; under = m.under.items; stale = m.stale; snaps = m.snaps.items; state = settled_in m.volume; given = m.volume.attached; asked = m.asked; sound = m.sound; quiet = is_quiet_of m.volume.events; flying = flying_in m.volume.events } };
 
     ghost invariant = { λ m. IsHeld m.snaps.items m.volume m.asked m.sound };
 }

@@ -1,5 +1,5 @@
 // Reads and writes of the origin and of snapshots.
-ghost use Rattle.std.specs.Prelude.{◌≡◌, ◌≢◌, ◌⊎◌, ◌+◌, ◌*◌, ◌<◌, ◌≤◌, length, true, Ok, Err, IfOk, IfErr, OnOk, OnErr};
+ghost use Rattle.std.specs.Prelude.{◌≡◌, ◌≢◌, ◌⊎◌, ◌+◌, ◌*◌, ◌<◌, ◌≤◌, length, true, false, Ok, Err, IfOk, IfErr, OnOk, OnErr};
 ghost use Rattle.sector.specs.declared.refusal.Refusal.TheVariants.{NoMemory, BadTable, TooMany};
 ghost use Rattle.chunk.specs.Pieces.{span_of};
 ghost use Rattle.layers.specs.Stack.{stack_size};
@@ -8,6 +8,7 @@ ghost use Rattle.named.specs.State.{Volume};
 ghost use Rattle.named.specs.Changes.{Does};
 ghost use Rattle.named.specs.Places.{HasRole, IsRoleIn};
 ghost use Rattle.named.specs.Sectors.{asked_of, dev_of, takes, read_in, written_in, IsReadAsked, IsPartWritten};
+ghost use Rattle.named_volume.specs.Flights.{IsReadServed, IsWriteServed};
 ghost use Rattle.named_volume.specs.Held.{settled_in};
 ghost use Rattle.named_volume.specs.Names.{KeepsNames};
 
@@ -106,7 +107,11 @@ impl NamedVolume {
         requires some { 0 < count }
         requires few { count ≤ 2048 }
         ensures done { self.old.sound ≡ true → self.old.quiet ≡ true → Does result self.new (λ v. (v ≡ self.old) ⊎ IsReadAsked count self.old v) (read_in role first count self.old) }
+        ensures among { self.old.quiet ≡ false → IfOk (asked_of role first count self.old) (IsReadServed result ended.old.items ended.new.items self.old self.new) }
+        ensures counts { IfOk (asked_of role first count self.old) (λ _. self.new.asked ≡ self.old.asked + count) }
         ensures told { self.old.quiet ≡ true → ended.new.items ≡ ended.old.items }
+        ensures asks { IfErr (asked_of role first count self.old) (λ e. result ≡ Err e) }
+        ensures stays { IfErr (asked_of role first count self.old) (λ _. (self.new ≡ self.old) × (ended.new.items ≡ ended.old.items)) }
         ensures quiet { self.old.quiet ≡ true → self.new.quiet ≡ true }
         ensures kept { KeepsNames self.old self.new }
     {
@@ -135,7 +140,11 @@ impl NamedVolume {
         requires few { count ≤ 2048 }
         requires room { length bytes.now ≡ 512 * count }
         ensures done { self.old.sound ≡ true → self.old.quiet ≡ true → Does result self.new (λ v. (v ≡ self.old) ⊎ IsPartWritten role first count bytes.now self.old v) (written_in role first count bytes.now self.old) }
+        ensures among { self.old.quiet ≡ false → IfOk (asked_of role first count self.old) (IsWriteServed bytes.now result ended.old.items ended.new.items self.old self.new) }
+        ensures counts { IfOk (asked_of role first count self.old) (λ _. self.new.asked ≡ self.old.asked + count) }
         ensures told { self.old.quiet ≡ true → ended.new.items ≡ ended.old.items }
+        ensures asks { IfErr (asked_of role first count self.old) (λ e. result ≡ Err e) }
+        ensures stays { IfErr (asked_of role first count self.old) (λ _. (self.new ≡ self.old) × (ended.new.items ≡ ended.old.items)) }
         ensures quiet { self.old.quiet ≡ true → self.new.quiet ≡ true }
         ensures kept { KeepsNames self.old self.new }
     {

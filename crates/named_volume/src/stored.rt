@@ -1,7 +1,7 @@
 // What a volume over stacks tells of the snapshot at a place.
 ghost use Rattle.std.specs.Prelude.{◌≡◌, ◌<◌, true, length, get_or};
 ghost use Rattle.layers.specs.Stack.{stack_layers};
-ghost use Rattle.settling.specs.Snaps.{Snap};
+ghost use Rattle.settled.specs.Snaps.{Snap};
 ghost use Rattle.volume.specs.Leaving.{is_quiet_of};
 ghost use Rattle.resting.specs.Rested.{is_loud_in};
 ghost use Rattle.named.specs.Stacks.{device_of};

@@ -1,7 +1,8 @@
 // Messages to the layers of a volume, and the time.
 ghost use Rattle.std.specs.Prelude.{◌≡◌, length};
-ghost use Rattle.layers.specs.Stack.{stack_layers, stack_size};
+ghost use Rattle.layers.specs.Stack.{stack_contents, stack_layers, stack_size};
 ghost use Rattle.volume.specs.Leaving.{is_quiet_of};
+ghost use Rattle.resting.specs.Flying.{flying_of};
 ghost use Rattle.resting.specs.Kept.{KeepsDevices};
 ghost use Rattle.named.specs.Changes.{Steps};
 ghost use Rattle.named.specs.Places.{HasRole, IsRoleIn};
@@ -23,6 +24,7 @@ fn tell_role(volume: &mut Resting<Stack>, role: Role, message: &Message) -> Resu
     ensures requests { volume.new.requests ≡ volume.old.requests }
     ensures copies { volume.new.copies ≡ volume.old.copies }
     ensures quiet { is_quiet_of volume.new.events ≡ is_quiet_of volume.old.events }
+    ensures flying { flying_of stack_contents stack_layers volume.new.events ≡ flying_of stack_contents stack_layers volume.old.events }
 {
     match role {
         Role::Origin | Role::Snapshot(_) => Err(Refusal::BadTable),

@@ -1,3 +1,4 @@
+-- To be believed: `run`'s output, a volume's steps or its attach are said in these words.
 -- Chunks of an origin as copies see them. The last may be short: the rule of the kernel's snapshot target.
 use Rattle.std.specs.Prelude.{ℕ, ◌*◌, ◌-◌, min}
 use Rattle.sector.specs.declared.pair.Pair.{Pair}

@@ -1,3 +1,4 @@
+-- To be believed: `run`'s output, a volume's steps or its attach are said in these words.
 -- What is due in a volume's lists: the first of a kind. The numbers in a list go up, so the first is the least.
 use Rattle.std.specs.Prelude.{not, ℕ, Bool, true, false, List, [], ◌∷◌, Option, Some, None, min, if◌then◌else◌}
 use Rattle.std.specs.List.{list_any}

@@ -1,3 +1,4 @@
+-- To be believed: `run`'s output, a volume's steps or its attach are said in these words.
 -- What a request is, and how callers see a request in flight: its number and what was asked, no route and no buffer.
 use Rattle.std.specs.Prelude.{ℕ, ◌*◌, List, []}
 use Rattle.plain.specs.declared.request.Request.{Request}

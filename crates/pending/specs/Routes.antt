@@ -1,3 +1,4 @@
+-- To be believed: `run`'s output, a volume's steps or its attach are said in these words.
 -- How requests are routed, at submit and again: this project's own table of the waits that the kernel's admin-guide page
 -- on snapshots describes in words.
 use Rattle.std.specs.Prelude.{◌==◌, ◌&&◌, ℕ, ◌/◌, List, Bool, true, false, Option, Some, None, if◌then◌else◌}

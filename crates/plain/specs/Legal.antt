@@ -1,3 +1,4 @@
+-- To be believed: `run`'s output, a volume's steps or its attach are said in these words.
 -- The legal steps of the plain machine.
 use Rattle.std.specs.Prelude.{◌≡◌, ◌⊎◌, ℕ, List, [], ◌∷◌, ◌++◌, Some, None}
 use Rattle.sector.specs.declared.refusal.Refusal.{Refusal}
@@ -33,12 +34,7 @@ IsLegalStep old event outcome new = (which : List ℕ) × Spoils which old new
 
 -- An accepted request is in flight under its number; snapshots whose stores were found full may be spoiled.
 pub record IsSubmitted (which : List ℕ) (old : Plain) (number : ℕ) (request : Request) (new : Plain) : Type 0 where
-  pub becomes : new ≡ (let next : Plain = record {
-    origin = old.origin;
-    begun = old.begun;
-    saved = (spoiled which old).saved;
-    requests = old.requests ++ record { number = number; request = request } ∷ [];
-  } in next)
+  pub becomes : new ≡ record old { saved = (spoiled which old).saved; requests = old.requests ++ record { number = number; request = request } ∷ [] }
 
 -- A refused request changes nothing, but for a write of a snapshot whose store is found full: that one is spoiled, and the
 -- write is refused with Invalid.
@@ -48,38 +44,23 @@ IsDeclined request refusal old new =
 
 -- A snapshot is taken: of the origin as it is over a fresh store, or of what a written store makes of it.
 pub record IsTaken (old : Plain) (number : ℕ) (array : List ℕ) (new : Plain) : Type 0 where
-  pub becomes : new ≡ (let next : Plain = record {
-    origin = old.origin;
-    begun = old.begun;
-    saved = old.saved ++ record { number = number; saved = Live array } ∷ [];
-    requests = old.requests;
-  } in next)
+  pub becomes : new ≡ record old { saved = old.saved ++ record { number = number; saved = Live array } ∷ [] }
 
 -- A snapshot is taken away, and no array changes.
 pub record IsDetached (old : Plain) (number : ℕ) (new : Plain) : Type 0 where
   pub saved : Saved
   pub found : saved_under number old.saved ≡ Some saved
-  pub becomes : new ≡ (let next : Plain = record {
-    origin = old.origin;
-    begun = old.begun;
-    saved = without_saved number old.saved;
-    requests = old.requests;
-  } in next)
+  pub becomes : new ≡ record old { saved = without_saved number old.saved }
 
 -- A merge begins: the one assignment origin := snapshot.
 pub record IsBegun (old : Plain) (number : ℕ) (new : Plain) : Type 0 where
   pub array : List ℕ
   pub found : saved_under number old.saved ≡ Some (Live array)
   pub alone : old.begun ≡ None
-  pub becomes : new ≡ (let next : Plain = record {
-    origin = array;
-    begun = Some number;
-    saved = without_saved number old.saved;
-    requests = old.requests;
-  } in next)
+  pub becomes : new ≡ record old { origin = array; begun = Some number; saved = without_saved number old.saved }
 
 -- The merged snapshot is taken away, and no array changes.
 pub record IsFinished (old new : Plain) : Type 0 where
   pub number : ℕ
   pub merged : old.begun ≡ Some number
-  pub becomes : new ≡ (let next : Plain = record { origin = old.origin; begun = None; saved = old.saved; requests = old.requests } in next)
+  pub becomes : new ≡ record old { begun = None }

@@ -3,3 +3,5 @@ pub mod Plain
 pub mod Serves
 pub mod Legal
 pub mod Runs
+pub mod Unwritten
+pub mod Failures

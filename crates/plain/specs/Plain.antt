@@ -1,3 +1,4 @@
+-- To be believed: `run`'s output, a volume's steps or its attach are said in these words.
 -- The plain machine: arrays in place of shared chunks, and the requests in flight, each under its number. It is this
 -- project's own; the kernel's admin-guide page on snapshots says in words what it assigns.
 use Rattle.std.specs.Prelude.{◌==◌, ℕ, Bool, List, [], ◌∷◌, Option, Some, None, map, if◌then◌else◌}
@@ -62,5 +63,4 @@ spoiled_entry which entry = if is_in which entry.number then record { number = e
 
 -- these snapshots are spoiled, and nothing else changes
 abbrev pub spoiled : List ℕ → Plain → Plain
-spoiled which plain =
-    record { origin = plain.origin; begun = plain.begun; saved = map (spoiled_entry which) plain.saved; requests = plain.requests }
+spoiled which plain = record plain { saved = map (spoiled_entry which) plain.saved }

@@ -1,5 +1,8 @@
--- The length of a reply.
-use Rattle.std.specs.Prelude.{◌≡◌, ℕ, length}
+-- The length of a reply, and the replies that an outcome brings.
+use Rattle.std.specs.Prelude.{◌≡◌, ℕ, List, [], ◌∷◌, length}
+use Rattle.plain.specs.declared.event.Outcome.{Outcome}
+use Rattle.plain.specs.declared.event.Outcome.TheVariants.{Done, Fault, Reply as Answered}
+use Rattle.plain.specs.declared.request.Replied.{Replied}
 use Rattle.plain.specs.declared.request.Reply.{Reply}
 use Rattle.plain.specs.declared.request.Reply.TheVariants.{Data, Written, Refused}
 
@@ -8,3 +11,9 @@ abbrev pub FitsReply : ℕ → Reply → Type 0
 FitsReply n (Data bytes) = n ≡ length bytes
 FitsReply n Written = Unit {0}
 FitsReply n (Refused failure) = Unit {0}
+
+-- the replies that an event gave
+abbrev pub reply_in : Outcome → List Replied
+reply_in Done = []
+reply_in Fault = []
+reply_in (Answered number reply) = record { number = number; reply = reply } ∷ []

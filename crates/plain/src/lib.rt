@@ -5,9 +5,7 @@
 #![tactic(auto)]
 
 mod event;
-mod machine;
 mod request;
 
 pub use event::{CopyId, Event, NotDue, Outcome};
-pub use machine::Machine;
-pub use request::{Dev, Failure, Op, Reply, ReqId, Request, SnapId};
+pub use request::{Dev, Failure, Op, Replied, Reply, ReqId, Request, SnapId, refusal_for};

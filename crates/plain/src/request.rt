@@ -1,8 +1,9 @@
 // What is asked of a volume, and what it replies.
 ghost use Rattle.std.specs.Prelude.{◌≡◌, ◌≢◌, IfOk, MatchBool, length};
 ghost use Rattle.plain.specs.Replies.{FitsReply};
+ghost use Rattle.plain.specs.Failures.{refusal_of};
 
-use sector::{Buf, Range};
+use sector::{Buf, Range, Refusal};
 use std::alloc::{AllocError, Global};
 
 /// The number of a snapshot in its volume: of its attaching, counted from 1.
@@ -48,6 +49,25 @@ pub enum Reply {
     Data(Buf),
     Written,
     Refused(Failure),
+}
+
+/// How a request that was started ended.
+#[derive(Debug, Drop)]
+pub struct Replied {
+    /// Its number in the volume.
+    pub number: ReqId,
+    /// What it was answered with: the bytes that it read, that it was written, or why it failed.
+    pub reply: Reply,
+}
+
+/// The refusal of a command that ended by a failure.
+pub fn refusal_for(failure: Failure) -> Refusal
+    ensures { result ≡ refusal_of failure }
+{
+    match failure {
+        Failure::Invalid => Refusal::Invalid,
+        Failure::Io => Refusal::Io,
+    }
 }
 
 impl Op {

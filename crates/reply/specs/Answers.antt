@@ -1,3 +1,4 @@
+-- To be believed: `run`'s output, a volume's steps or its attach are said in these words.
 -- What a message to a layer is answered. The messages are those of the kernel's page on dm-dust; the texts of the
 -- answers are this project's own.
 use Rattle.std.specs.Prelude.{codes, decimal}

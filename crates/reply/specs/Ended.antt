@@ -1,3 +1,4 @@
+-- To be believed: `run`'s output, a volume's steps or its attach are said in these words.
 -- The line of a request that was started by one command and ended in another. The form is this project's own choice.
 use Rattle.std.specs.Prelude.{ℕ, List, ◌++◌, codes, decimal}
 use Rattle.reply.specs.declared.ended.Ended.{Ended}

@@ -4,16 +4,16 @@ use Rattle.std.specs.Prelude.{◌==◌, ◌&&◌}
 use Rattle.std.specs.List.{All, list_all}
 use Rattle.std.proofs.lemmas.List.Elements.{All-nil, All-cons, All-head, All-tail}
 use Rattle.device.specs.Layers.{Layer, is_loud}
-use Rattle.settling.specs.Snaps.{Snap, Volume}
-use Rattle.settling.specs.Held.{Held, Moving}
-use Rattle.settling.specs.Rest.{IsResting}
-use Rattle.settling.specs.Requests.{volume_of}
-use Rattle.settling.specs.Moments.{relayered, store_relayered, all_relayered}
-use Rattle.settling.specs.Seen.{going_of}
+use Rattle.settled.specs.Snaps.{Snap, Volume}
+use Rattle.event_machine.specs.Held.{Held, Moving}
+use Rattle.event_machine.specs.Rest.{IsResting}
+use Rattle.event_machine.specs.Requests.{volume_of}
+use Rattle.settled.specs.Moments.{relayered, store_relayered, all_relayered}
+use Rattle.event_machine.specs.Seen.{going_of}
 use Rattle.snapshot.specs.Kept.{Kept}
 use Rattle.volume.specs.Volumed.{Volumed, is_loud_in_all}
 use Rattle.volume.specs.Moved.{held_of, moving_of}
-use Rattle.volume.specs.Whole.{number_of_snap}
+use Rattle.snapshots.specs.Numbers.{number_of_snap}
 use Rattle.volume.specs.Leaving.{is_done_of, is_quiet_of}
 use Rattle.volume.specs.Stepping.{KeepsAll}
 use Rattle.volume.specs.Layering.{held_relayered, moving_relayered}

@@ -9,10 +9,10 @@ use Rattle.chunk.specs.Pieces.{Span}
 use Rattle.plain.specs.declared.request.Dev.{Dev}
 use Rattle.plain.specs.declared.request.Op.TheVariants.{Read, Write}
 use Rattle.plain.specs.declared.request.Reply.{Reply}
-use Rattle.settled.proofs.Runs.{StandsAt}
-use Rattle.settling.specs.Commands.{bytes_in}
+use Rattle.chunk.proofs.Runs.{StandsAt}
+use Rattle.settled.specs.Commands.{bytes_in}
 use Rattle.volume.specs.Volumed.{Volumed}
-use Rattle.resting.specs.declared.flights.Replied.{Replied}
+use Rattle.plain.specs.declared.request.Replied.{Replied}
 use Rattle.resting.specs.Rested.{rested_of}
 use Rattle.resting.specs.Kept.{KeepsDevices}
 use Rattle.resting.specs.Among.{IsPieceServed, IsPieceFailed, AreReadAmong, AreWrittenAmong, IsReadStopped, IsWriteStopped, sectors_of}

@@ -1,6 +1,5 @@
 -- One piece more is served.
-use Rattle.std.proofs.Common.{◌≡◌, ◌≢◌, inl, inr, ℕ, ◌+◌, ◌*◌, Bool, true, false, List, [], ◌∷◌, ◌++◌, get_or, take, drop, Option, Some, None, refl, sym, ◌∙◌, ap, subst, arith}
-use Rattle.std.proofs.Common.{drop-drop}
+use Rattle.std.proofs.Common.{◌≡◌, ◌≢◌, inl, inr, ℕ, ◌+◌, ◌*◌, Bool, true, false, List, [], ◌∷◌, ◌++◌, get_or, take, drop, Option, Some, None, refl, sym, ◌∙◌, ap, subst, arith, drop-drop}
 use Rattle.std.specs.Prelude.{◌==◌, ◌||◌}
 use Rattle.std.specs.List.{list_any}
 use Rattle.std.proofs.lemmas.Bool.{cases_Bool, cond-true, cond-false}
@@ -18,14 +17,15 @@ use Rattle.plain.specs.declared.request.Reply.{Reply}
 use Rattle.plain.specs.declared.request.Reply.TheVariants.{Refused}
 use Rattle.plain.specs.declared.request.Failure.{Failure}
 use Rattle.plain.specs.declared.request.Request.{Request}
-use Rattle.settling.specs.Commands.{bytes_in}
+use Rattle.settled.specs.Commands.{bytes_in}
 use Rattle.snapshot.specs.Kept.{Kept}
 use Rattle.volume.specs.Volumed.{Volumed}
-use Rattle.volume.specs.Leaving.{is_quiet_of, place_of_snap, usage_of}
+use Rattle.snapshots.specs.Finding.{place_of_snap}
+use Rattle.volume.specs.Leaving.{is_quiet_of, usage_of}
 use Rattle.volume.specs.Submitting.{IsRefusedAs}
-use Rattle.resting.specs.declared.flights.Replied.{Replied}
+use Rattle.plain.specs.declared.request.Replied.{Replied}
 use Rattle.resting.specs.Rested.{Attached, attached_of, rested_of, has_number, snap_at}
-use Rattle.resting.specs.Commands.{refusal_of}
+use Rattle.plain.specs.Failures.{refusal_of}
 use Rattle.resting.specs.Serving.{IsGood}
 use Rattle.resting.specs.Draining.{IsDrained}
 use Rattle.resting.specs.Among.{IsServedAmong, IsRefusedAmong, IsRequestOf, IsPieceServed, IsPieceFailed, AreReadAmong, AreWrittenAmong, IsTurnedAway, is_live_dev, live_in, sectors_of}

@@ -3,10 +3,11 @@ use Rattle.std.proofs.Common.{◌≡◌, ℕ, true, List, Option, Some, None, sy
 use Rattle.device.specs.Layers.{Layer}
 use Rattle.plain.specs.declared.request.Request.{Request}
 use Rattle.plain.specs.declared.request.Reply.{Reply}
-use Rattle.settling.specs.Due.{due}
-use Rattle.settling.specs.Submitting.{submitted}
-use Rattle.settling.specs.Rest.{IsAtRest}
-use Rattle.settling.specs.Requests.{volume_of, answer_of}
+use Rattle.event_machine.specs.Due.{due}
+use Rattle.event_machine.specs.Submitting.{submitted}
+use Rattle.event_machine.specs.Rest.{IsAtRest}
+use Rattle.event_machine.specs.Requests.{volume_of}
+use Rattle.settled.specs.Requests.{answer_of}
 use Rattle.volume.specs.Volumed.{Volumed, is_loud_in_all}
 use Rattle.volume.specs.Moved.{moving_of}
 use Rattle.volume.specs.Reaching.{IsRun}

@@ -9,7 +9,8 @@ use Rattle.sector.specs.declared.refusal.Refusal.TheVariants.{Busy, NotQuiet}
 use Rattle.pending.specs.declared.flights.Flight.{Flight}
 use Rattle.snapshot.specs.Kept.{Kept}
 use Rattle.volume.specs.Volumed.{Volumed}
-use Rattle.volume.specs.Leaving.{is_done_of, is_quiet_of, place_of_snap, close_refusal}
+use Rattle.snapshots.specs.Finding.{place_of_snap}
+use Rattle.volume.specs.Leaving.{is_done_of, is_quiet_of, close_refusal}
 use Rattle.resting.specs.Rested.{attached_of, rested_of, snap_at}
 use Rattle.resting.proofs.Leaves.{at_place}
 

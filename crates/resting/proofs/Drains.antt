@@ -14,8 +14,9 @@ use Rattle.plain.specs.Legal.{IsLegalStep}
 use Rattle.volume.specs.Volumed.{Volumed, is_loud_in_all, next_of, plain_of}
 use Rattle.volume.specs.Exact.{IsExact}
 use Rattle.volume.specs.Stepping.{KeepsAll}
-use Rattle.resting.specs.declared.flights.Replied.{Replied}
-use Rattle.resting.specs.Draining.{IsDoneFirst, IsChain, IsDrained, IsAnsweredAmong, reply_in, replied_in, others, reply_to}
+use Rattle.plain.specs.declared.request.Replied.{Replied}
+use Rattle.plain.specs.Replies.{reply_in}
+use Rattle.resting.specs.Draining.{IsDoneFirst, IsChain, IsDrained, IsAnsweredAmong, replied_in, others, reply_to}
 use Rattle.resting.proofs.Settled.{keeps_none, keeps_more}
 
 replied_more : (done : List (Event × Outcome)) (event : Event) (outcome : Outcome) → replied_in (done ++ (event, outcome) ∷ []) ≡ replied_in done ++ reply_in outcome

@@ -10,9 +10,9 @@ use Rattle.chunk.proofs.Limits.{is_chunk-some, is_chunk-small}
 use Rattle.chunk.specs.Pieces.{span_of}
 use Rattle.plain.specs.declared.request.Dev.{Dev}
 use Rattle.plain.specs.declared.request.Op.{Op}
-use Rattle.settled.proofs.Runs.{IsFirstPiece}
-use Rattle.settling.specs.Commands.{piece_of as least_of}
-use Rattle.settling.specs.Requests.{FitsRange}
+use Rattle.chunk.proofs.Runs.{IsFirstPiece}
+use Rattle.settled.specs.Commands.{piece_of as least_of}
+use Rattle.settled.specs.Requests.{FitsRange}
 use Rattle.snapshot.specs.Kept.{Kept}
 use Rattle.volume.specs.Volumed.{Volumed, piece_of}
 use Rattle.resting.specs.Rested.{attached_of, rested_of, snap_of, settled_of, IsSettled}

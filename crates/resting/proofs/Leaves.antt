@@ -5,16 +5,17 @@ use Rattle.std.specs.List.{All, list_all, remove}
 use Rattle.std.proofs.lemmas.Bool.{cases_Bool, cond-true, cond-false}
 use Rattle.std.proofs.lemmas.List.Quantifiers.{position-Some}
 use Rattle.device.specs.Layers.{Layer, is_loud}
-use Rattle.settling.specs.Snaps.{Snap}
-use Rattle.settling.specs.Held.{Held}
-use Rattle.settling.specs.Attaching.{Store, detached, given_back}
-use Rattle.settling.specs.Rest.{IsResting, IsAtRest}
+use Rattle.settled.specs.Snaps.{Snap}
+use Rattle.event_machine.specs.Held.{Held}
+use Rattle.settled.specs.Attaching.{Store, detached, given_back}
+use Rattle.event_machine.specs.Rest.{IsResting, IsAtRest}
 use Rattle.snapshot.specs.Kept.{Kept}
 use Rattle.snapshot.specs.declared.opening.StoreDev.{StoreDev}
 use Rattle.volume_laws.proofs.Lists.{All-remove, map-remove}
 use Rattle.volume.specs.Volumed.{Volumed, is_loud_in_all}
 use Rattle.volume.specs.Moved.{device_of, held_of, moving_of}
-use Rattle.volume.specs.Leaving.{is_done_of, is_quiet_of, place_of_snap, leaving_refusal, detach_refusal, IsWithout}
+use Rattle.snapshots.specs.Finding.{place_of_snap}
+use Rattle.volume.specs.Leaving.{is_done_of, is_quiet_of, leaving_refusal, detach_refusal, IsWithout}
 use Rattle.resting.specs.Rested.{Attached, attached_of, rested_of, snap_of, IsSettled, has_dev, snap_at, without}
 use Rattle.resting.specs.Leaving.{IsDetachedAs}
 use Rattle.resting.proofs.Seen.{loud_same, dev_found, dev_missing}

@@ -10,14 +10,15 @@ use Rattle.device.specs.Layers.{Layer}
 use Rattle.chunk_alloc.specs.declared.usage.Usage.{Usage}
 use Rattle.model.specs.Pairs.{pairs_of}
 use Rattle.settled.specs.Saves.{next_of}
-use Rattle.settling.specs.Held.{Held}
-use Rattle.settling.specs.Rest.{IsKept, IsResting}
+use Rattle.event_machine.specs.Held.{Held}
+use Rattle.event_machine.specs.Rest.{IsKept, IsResting}
 use Rattle.snapshot.specs.Kept.{Kept}
 use Rattle.volume_laws.proofs.Lists.{map-remove}
 use Rattle.volume.specs.Volumed.{Volumed}
 use Rattle.volume.specs.Moved.{held_of}
 use Rattle.volume.specs.Whole.{IsCounted}
-use Rattle.volume.specs.Leaving.{place_of_snap, usage_of}
+use Rattle.snapshots.specs.Finding.{place_of_snap}
+use Rattle.volume.specs.Leaving.{usage_of}
 use Rattle.resting.specs.Rested.{Attached, Rested, attached_of, rested_of, IsSettled, snap_at, without}
 use Rattle.resting.specs.Using.{IsUsed}
 use Rattle.resting.proofs.Leaves.{at_place}

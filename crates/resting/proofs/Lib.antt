@@ -27,3 +27,4 @@ pub mod PlainReads
 pub mod Parts
 pub mod SnapWrites
 pub mod PlainWrites
+pub mod Flying

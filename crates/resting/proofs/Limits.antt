@@ -14,12 +14,14 @@ use Rattle.plain.specs.declared.request.Dev.TheVariants.{Origin, Snap as ToSnap}
 use Rattle.pending.specs.Kinds.{kind_of}
 use Rattle.pending.specs.declared.flights.Kind.{Kind}
 use Rattle.pending.specs.declared.flights.Kind.TheVariants.{OriginRead, OriginWrite, SnapRead, SnapWrite}
-use Rattle.settled.proofs.Writes.{piece_high}
+use Rattle.chunk.proofs.PiecePlaces.{piece_high}
 use Rattle.snapshot.specs.Kept.{Kept}
 use Rattle.volume.specs.Volumed.{Volumed, piece_of}
-use Rattle.volume.specs.Whole.{count_in}
-use Rattle.volume.specs.Leaving.{is_done_of, is_quiet_of, place_of_snap}
-use Rattle.volume.specs.Submitting.{first_of_two, refusal_at, dev_refusal, range_refusal, limit_refusal, is_piece_of, are_too_many, starting, starts, submit_refusal}
+use Rattle.snapshots.specs.Numbers.{count_in}
+use Rattle.snapshots.specs.Finding.{place_of_snap}
+use Rattle.volume.specs.Leaving.{is_done_of, is_quiet_of}
+use Rattle.snapshots.specs.Starting.{starts}
+use Rattle.volume.specs.Submitting.{first_of_two, refusal_at, dev_refusal, range_refusal, limit_refusal, is_piece_of, are_too_many, starting, submit_refusal}
 use Rattle.volume.proofs.Leaves.{quiet_none}
 use Rattle.volume.proofs.Sums.{sum_cons}
 use Rattle.resting.specs.Rested.{rested_of, has_dev}

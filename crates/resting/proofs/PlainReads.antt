@@ -16,16 +16,17 @@ use Rattle.plain.specs.declared.request.Dev.TheVariants.{Origin, Snap as ToSnap}
 use Rattle.plain.specs.declared.request.Reply.{Reply}
 use Rattle.plain.specs.declared.request.Reply.TheVariants.{Data, Written, Refused}
 use Rattle.plain.specs.declared.request.Failure.TheVariants.{Invalid as Declined, Io}
-use Rattle.settling.specs.Snaps.{Volume}
-use Rattle.settling.specs.Pieces.{Answered}
-use Rattle.settling.specs.Commands.{piece_of as least_of, read_pieces, read}
-use Rattle.settling.proofs.Lists.{Each, each_from}
-use Rattle.settling.proofs.Chunks.{HasChunks}
+use Rattle.settled.specs.Snaps.{Volume}
+use Rattle.settled.specs.Pieces.{Answered}
+use Rattle.settled.specs.Commands.{piece_of as least_of, read_pieces, read}
+use Rattle.settled.proofs.Each.{Each, each_from}
+use Rattle.settled.proofs.Chunks.{HasChunks}
 use Rattle.snapshot.specs.Kept.{Kept}
 use Rattle.volume.specs.Volumed.{Volumed}
 use Rattle.volume.specs.Moved.{moving_of}
 use Rattle.resting.specs.Rested.{Attached, Rested, attached_of, rested_of, snap_of, settled_of, IsSettled, has_dev, has_number}
-use Rattle.resting.specs.Commands.{refusal_of, IsDoneBy, IsReadRefused}
+use Rattle.plain.specs.Failures.{refusal_of}
+use Rattle.resting.specs.Commands.{IsDoneBy, IsReadRefused}
 use Rattle.resting.specs.Showing.{Arrays, entry_of, arrays_of, arrays_in, saved_at, saved_of, IsPlainRead, IsReadLost, IsPlainReadRefused, sectors_in}
 use Rattle.resting.proofs.Seen.{settled_same}
 use Rattle.resting.proofs.Rests.{IsInside, IsWell, inside_joined}

@@ -22,21 +22,22 @@ use Rattle.plain.specs.declared.request.Reply.{Reply}
 use Rattle.plain.specs.declared.request.Reply.TheVariants.{Data, Written, Refused}
 use Rattle.plain.specs.declared.request.Failure.{Failure}
 use Rattle.plain.specs.declared.request.Failure.TheVariants.{Invalid as Declined, Io}
-use Rattle.settling.specs.Devices.{Device, answers}
-use Rattle.settling.specs.Snaps.{Snap, Volume}
-use Rattle.settling.specs.Shown.{ShowTheSame}
-use Rattle.settling.specs.Saving.{save}
-use Rattle.settling.specs.Pieces.{Answered, save_all, write_origin, write_snap, in_snap}
-use Rattle.settling.specs.Commands.{piece_of as least_of, write_piece, write_pieces, go_on, written}
-use Rattle.settling.specs.Held.{Held}
-use Rattle.settling.proofs.Lists.{Each}
-use Rattle.settling.proofs.Chunks.{HasChunks}
+use Rattle.settled.specs.Devices.{Device, answers}
+use Rattle.settled.specs.Snaps.{Snap, Volume}
+use Rattle.settled.specs.Shown.{ShowTheSame}
+use Rattle.settled.specs.Saving.{save}
+use Rattle.settled.specs.Pieces.{Answered, save_all, write_origin, write_snap, in_snap}
+use Rattle.settled.specs.Commands.{piece_of as least_of, write_piece, write_pieces, go_on, written}
+use Rattle.event_machine.specs.Held.{Held}
+use Rattle.settled.proofs.Each.{Each}
+use Rattle.settled.proofs.Chunks.{HasChunks}
 use Rattle.settling.proofs.Shown.{origin_write_shows}
-use Rattle.settling.proofs.WritesSettle.{save_all_bytes}
+use Rattle.settled.proofs.SavedBytes.{save_all_bytes}
 use Rattle.snapshot.specs.Kept.{Kept}
 use Rattle.volume.specs.Volumed.{Volumed}
 use Rattle.resting.specs.Rested.{rested_of, settled_of, IsSettled}
-use Rattle.resting.specs.Commands.{refusal_of, IsDoneBy, IsWriteRefused}
+use Rattle.plain.specs.Failures.{refusal_of}
+use Rattle.resting.specs.Commands.{IsDoneBy, IsWriteRefused}
 use Rattle.resting.specs.Showing.{Arrays, entry_of, arrays_of, arrays_in, saved_at, saved_of, IsLive, AreKept, IsWritten, IsLost, IsPlainWrite, IsPlainWriteRefused, pieces_for, sectors_in}
 use Rattle.resting.proofs.Rests.{IsInside, IsWell, one_all, well_orders, well_whole, well_after}
 use Rattle.resting.proofs.Parts.{with_sectors_none, written_none, written_more, lost_more}

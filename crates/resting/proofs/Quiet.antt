@@ -7,8 +7,8 @@ use Rattle.device.specs.Layers.{Layer}
 use Rattle.pending.specs.declared.copies.ChunkCopy.{ChunkCopy}
 use Rattle.pending.specs.declared.flights.Flight.{Flight}
 use Rattle.volume_laws.specs.Waits.{IsDone, IsQuiet}
-use Rattle.settling.specs.Rest.{IsResting}
-use Rattle.settling.specs.Seen.{copying_of, going_of}
+use Rattle.event_machine.specs.Rest.{IsResting}
+use Rattle.event_machine.specs.Seen.{copying_of, going_of}
 use Rattle.snapshot.specs.Kept.{Kept, books_of as snap_books}
 use Rattle.volume.specs.Volumed.{Volumed, books_of}
 use Rattle.volume.specs.Moved.{held_of}

@@ -5,9 +5,9 @@ use Rattle.plain.specs.declared.request.Dev.{Dev}
 use Rattle.plain.specs.declared.request.Reply.{Reply}
 use Rattle.plain.specs.declared.request.Reply.TheVariants.{Data, Written, Refused}
 use Rattle.plain.specs.declared.request.Failure.{Failure}
-use Rattle.settling.specs.Snaps.{Volume}
-use Rattle.settling.specs.Pieces.{Answered}
-use Rattle.settling.specs.Commands.{go_on, bytes_in, read_piece, read_pieces}
+use Rattle.settled.specs.Snaps.{Volume}
+use Rattle.settled.specs.Pieces.{Answered}
+use Rattle.settled.specs.Commands.{go_on, bytes_in, read_piece, read_pieces}
 use Rattle.resting.specs.Serving.{IsGood}
 use Rattle.resting.proofs.WriteRuns.{answer, take_front, joined, ends}
 

@@ -18,11 +18,11 @@ use Rattle.plain.specs.declared.request.Dev.{Dev}
 use Rattle.plain.specs.declared.request.Dev.TheVariants.{Origin, Snap as ToSnap}
 use Rattle.plain.specs.declared.request.Reply.{Reply}
 use Rattle.plain.specs.declared.request.Reply.TheVariants.{Data}
-use Rattle.settling.specs.Devices.{Device, answers, read_reply}
-use Rattle.settling.specs.Snaps.{Snap, Volume}
-use Rattle.settling.specs.Pieces.{Answered, Served, read_place, read_snap, in_snap}
-use Rattle.settling.specs.Commands.{piece_of as least_of, bytes_in, read_piece, read_pieces, read}
-use Rattle.settled.proofs.Runs.{StandsAt}
+use Rattle.settled.specs.Devices.{Device, answers, read_reply}
+use Rattle.settled.specs.Snaps.{Snap, Volume}
+use Rattle.settled.specs.Pieces.{Answered, Served, read_place, read_snap, in_snap}
+use Rattle.settled.specs.Commands.{piece_of as least_of, bytes_in, read_piece, read_pieces, read}
+use Rattle.chunk.proofs.Runs.{StandsAt}
 use Rattle.volume.specs.Volumed.{Volumed}
 use Rattle.resting.specs.Rested.{rested_of, settled_of, IsSettled, has_dev}
 use Rattle.resting.specs.Commands.{IsDoneBy, IsReadRefused}

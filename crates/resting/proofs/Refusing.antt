@@ -9,7 +9,8 @@ use Rattle.plain.specs.declared.request.Request.{Request}
 use Rattle.snapshot.specs.Kept.{Kept}
 use Rattle.volume.specs.Volumed.{Volumed, is_loud_in_all}
 use Rattle.volume.specs.Leaving.{is_done_of, is_quiet_of}
-use Rattle.volume.specs.Submitting.{SameButRoom, unroomed, IsRefusedAs}
+use Rattle.snapshots.specs.Starting.{unroomed}
+use Rattle.volume.specs.Submitting.{SameButRoom, IsRefusedAs}
 use Rattle.resting.specs.Serving.{CanServe}
 use Rattle.resting.proofs.Limits.{only_invalid}
 

@@ -6,16 +6,17 @@ use Rattle.plain.specs.declared.request.Request.{Request}
 use Rattle.plain.specs.declared.request.Dev.{Dev}
 use Rattle.plain.specs.declared.request.Op.{Op}
 use Rattle.settled.specs.Order.{IsInOrder}
-use Rattle.settled.proofs.Writes.{join_le, piece_high}
-use Rattle.settling.specs.Snaps.{Snap, Volume}
-use Rattle.settling.specs.Held.{Held, Moving}
-use Rattle.settling.specs.Rest.{IsResting, IsAtRest}
-use Rattle.settling.specs.Settles.{SettlesTo}
-use Rattle.settling.specs.Submitting.{submitted}
-use Rattle.settling.specs.Requests.{volume_of, answered_by, answer_of, FitsRange, IsInChunk, IsFit}
-use Rattle.settling.proofs.Lists.{Each, all_from, each_from}
+use Rattle.chunk.proofs.PiecePlaces.{join_le, piece_high}
+use Rattle.settled.specs.Snaps.{Snap, Volume}
+use Rattle.event_machine.specs.Held.{Held, Moving}
+use Rattle.event_machine.specs.Rest.{IsResting, IsAtRest}
+use Rattle.event_machine.specs.Settles.{SettlesTo}
+use Rattle.event_machine.specs.Submitting.{submitted}
+use Rattle.event_machine.specs.Requests.{volume_of, IsInChunk, IsFit}
+use Rattle.settled.specs.Requests.{answered_by, answer_of, FitsRange}
+use Rattle.settled.proofs.Each.{Each, all_from, each_from}
 use Rattle.settling.proofs.Requests.{request_settles}
-use Rattle.settling.proofs.Chunks.{HasChunks, answer_keeps}
+use Rattle.settled.proofs.Chunks.{HasChunks, answer_keeps}
 
 -- a live snapshot's store is in order
 abbrev pub IsOrderly : ℕ → Snap → Type 0

@@ -7,16 +7,16 @@ use Rattle.device.specs.Layers.{Layer, is_loud}
 use Rattle.plain.specs.declared.request.Dev.{Dev}
 use Rattle.plain.specs.declared.request.Dev.TheVariants.{Origin, Snap as ToSnap}
 use Rattle.plain.specs.declared.request.Reply.{Reply}
-use Rattle.settling.specs.Snaps.{Snap, Volume}
-use Rattle.settling.specs.Held.{Held}
-use Rattle.settling.specs.Requests.{volume_of}
+use Rattle.settled.specs.Snaps.{Snap, Volume}
+use Rattle.event_machine.specs.Held.{Held}
+use Rattle.event_machine.specs.Requests.{volume_of}
 use Rattle.snapshot.specs.Kept.{Kept}
 use Rattle.volume.specs.Volumed.{Volumed, is_loud_in_all, piece_of}
 use Rattle.volume.specs.Moved.{device_of, held_of, moving_of}
-use Rattle.volume.specs.Whole.{number_of_snap}
+use Rattle.snapshots.specs.Numbers.{number_of_snap}
 use Rattle.volume.specs.Causes.{counts_of}
-use Rattle.volume.specs.Leaving.{place_of_snap}
-use Rattle.volume.proofs.Finds.{any_of, position_none, position_any}
+use Rattle.snapshots.specs.Finding.{place_of_snap}
+use Rattle.snapshots.proofs.Finds.{any_of, position_none, position_any}
 use Rattle.volume.proofs.Relayered.{map_twice}
 use Rattle.resting.specs.Rested.{Attached, Rested, attached_of, rested_of, snap_of, settled_of, is_loud_in, has_number, has_dev, numbers_of, chunks_of, sizes_of}
 use Rattle.resting.specs.Kept.{KeepsDevices}

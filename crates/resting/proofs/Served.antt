@@ -6,15 +6,16 @@ use Rattle.device.specs.Layers.{Layer}
 use Rattle.sector.specs.declared.range.Range.{Range}
 use Rattle.plain.specs.declared.request.Request.{Request}
 use Rattle.plain.specs.declared.request.Reply.{Reply}
-use Rattle.settled.proofs.Writes.{piece_high}
-use Rattle.settling.specs.Snaps.{Snap, Volume}
-use Rattle.settling.specs.Pieces.{Answered}
-use Rattle.settling.specs.Held.{Moving}
-use Rattle.settling.specs.Due.{due}
-use Rattle.settling.specs.Submitting.{submitted}
-use Rattle.settling.specs.Rest.{IsAtRest}
-use Rattle.settling.specs.Settles.{settle, SettlesTo}
-use Rattle.settling.specs.Requests.{volume_of, answer_of, IsInChunk, IsFit}
+use Rattle.chunk.proofs.PiecePlaces.{piece_high}
+use Rattle.settled.specs.Snaps.{Snap, Volume}
+use Rattle.settled.specs.Pieces.{Answered}
+use Rattle.event_machine.specs.Held.{Moving}
+use Rattle.event_machine.specs.Due.{due}
+use Rattle.event_machine.specs.Submitting.{submitted}
+use Rattle.event_machine.specs.Rest.{IsAtRest}
+use Rattle.event_machine.specs.Settles.{settle, SettlesTo}
+use Rattle.event_machine.specs.Requests.{volume_of, IsInChunk, IsFit}
+use Rattle.settled.specs.Requests.{answer_of}
 use Rattle.settling.proofs.Requests.{request_settles, settles_one}
 use Rattle.snapshot.specs.Kept.{Kept}
 use Rattle.volume.specs.Volumed.{Volumed, piece_of}

@@ -4,8 +4,8 @@ use Rattle.device.specs.Layers.{Layer}
 use Rattle.plain.specs.declared.event.Event.{Event}
 use Rattle.plain.specs.declared.event.Outcome.{Outcome}
 use Rattle.plain.specs.declared.request.Reply.{Reply}
-use Rattle.settling.specs.Due.{due}
-use Rattle.settling.specs.Seen.{replied_by}
+use Rattle.event_machine.specs.Due.{due}
+use Rattle.event_machine.specs.Seen.{replied_by}
 use Rattle.volume.specs.Volumed.{Volumed, is_loud_in_all}
 use Rattle.volume.specs.Moved.{moving_of}
 use Rattle.volume.specs.Exact.{IsExact}

@@ -17,13 +17,13 @@ use Rattle.plain.specs.declared.request.Reply.{Reply}
 use Rattle.plain.specs.declared.request.Reply.TheVariants.{Data, Written, Refused}
 use Rattle.plain.specs.declared.request.Failure.TheVariants.{Invalid as Declined, Io}
 use Rattle.settled.proofs.Laws.{option_cases}
-use Rattle.settled.proofs.Shown.{shown_plain, shown_copied, place_inside, one_of}
-use Rattle.settling.specs.Devices.{Device, answers, read_reply}
-use Rattle.settling.specs.Snaps.{Snap, Volume, shown}
-use Rattle.settling.specs.Pieces.{Answered, Served, read_place, read_snap, in_snap}
-use Rattle.settling.specs.Commands.{read_piece, read_pieces, go_on, bytes_in}
-use Rattle.settling.proofs.Lists.{Each}
-use Rattle.settling.proofs.Chunks.{HasChunks}
+use Rattle.settled.proofs.PictureSectors.{shown_plain, shown_copied, place_inside, one_of}
+use Rattle.settled.specs.Devices.{Device, answers, read_reply}
+use Rattle.settled.specs.Snaps.{Snap, Volume, shown}
+use Rattle.settled.specs.Pieces.{Answered, Served, read_place, read_snap, in_snap}
+use Rattle.settled.specs.Commands.{read_piece, read_pieces, go_on, bytes_in}
+use Rattle.settled.proofs.Each.{Each}
+use Rattle.settled.proofs.Chunks.{HasChunks}
 use Rattle.resting.specs.Showing.{Arrays, entry_of, arrays_of, saved_at, saved_of, sectors_in}
 use Rattle.resting.proofs.Rests.{IsOrderly, IsInside, IsWell, well_orders, well_whole, well_after}
 

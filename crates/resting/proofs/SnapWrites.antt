@@ -17,20 +17,20 @@ use Rattle.settled.specs.Saves.{Saving as Stored, next_of, saved}
 use Rattle.settled.specs.Order.{IsInOrder}
 use Rattle.settled.proofs.Saved.{AfterSaving, IsSavedTo}
 use Rattle.settled.proofs.Laws.{saving_law, option_cases}
-use Rattle.settled.proofs.Writes.{piece_low}
-use Rattle.settled.proofs.Shown.{place_inside, one_of}
-use Rattle.settling.specs.Devices.{Device, answers, written_by}
-use Rattle.settling.specs.Snaps.{Snap, shown}
-use Rattle.settling.specs.Saving.{Saving, next_place, is_full, has_chunk, save}
-use Rattle.settling.specs.Pieces.{Answered, Served, write_place, write_snap, in_snap}
-use Rattle.settling.specs.Held.{Held}
-use Rattle.settling.specs.Rest.{IsResting}
-use Rattle.settling.proofs.Lists.{Each}
-use Rattle.settling.proofs.Chunks.{HasChunks, save_chunk}
-use Rattle.settling.proofs.Saves.{saves_nothing, saves_full, saves_copy, chunk_read, stored_of, save_live}
-use Rattle.settling.proofs.Resting.{copy_keeps}
+use Rattle.chunk.proofs.PiecePlaces.{piece_low}
+use Rattle.settled.proofs.PictureSectors.{place_inside, one_of}
+use Rattle.settled.specs.Devices.{Device, answers, written_by}
+use Rattle.settled.specs.Snaps.{Snap, shown}
+use Rattle.settled.specs.Saving.{Saving, next_place, is_full, has_chunk, save}
+use Rattle.settled.specs.Pieces.{Answered, Served, write_place, write_snap, in_snap}
+use Rattle.event_machine.specs.Held.{Held}
+use Rattle.event_machine.specs.Rest.{IsResting}
+use Rattle.settled.proofs.Each.{Each}
+use Rattle.settled.proofs.Chunks.{HasChunks, save_chunk}
+use Rattle.settled.proofs.Saves.{saves_nothing, saves_full, saves_copy, chunk_read, stored_of, save_live}
+use Rattle.settled.proofs.Keeps.{copy_keeps}
 use Rattle.settling.proofs.PlaceRests.{place_rests}
-use Rattle.settling.proofs.WritesSettle.{save_bytes}
+use Rattle.settled.proofs.SavedBytes.{save_bytes}
 use Rattle.resting.specs.Showing.{entry_of, saved_at, with_bytes, changed_at}
 use Rattle.resting.proofs.Rests.{IsOrderly, IsInside}
 
@@ -48,7 +48,7 @@ save_number c origin s = elim (cases_Bool (not s.live || has_chunk c s)) [
   ]
 ]
 
--- a snapshot that is live after a chunk was saved was live before, and has it as `settled` saves it
+-- a snapshot that is live after a chunk was saved was live before, and has it as `specs/Saves` of `settled` saves it
 live_saved : (c : ℕ) (origin : Device) (s : Snap) → (save c origin s).snap.live ≡ true → (s.live ≡ true) × (stored_of (save c origin s).snap ≡ saved s.chunk origin.bytes s.store.bytes c)
 unfolding saved
 live_saved c origin s live = elim (cases_Bool s.live) [

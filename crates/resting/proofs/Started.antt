@@ -9,9 +9,9 @@ use Rattle.plain.specs.declared.request.Reply.{Reply}
 use Rattle.pending.specs.Kinds.{kind_of}
 use Rattle.pending.specs.declared.flights.Kind.{Kind}
 use Rattle.pending.specs.declared.flights.Kind.TheVariants.{OriginRead, OriginWrite, SnapRead, SnapWrite}
-use Rattle.settling.specs.Held.{Held, Moving}
-use Rattle.settling.specs.Stepping.{for_some, first_that}
-use Rattle.settling.specs.Submitting.{needs_none, is_filled, started_by, read_snap, write_held, write_placed, write_snap, declined, submitted_as, submitted}
+use Rattle.event_machine.specs.Held.{Held, Moving}
+use Rattle.event_machine.specs.Stepping.{for_some, first_that}
+use Rattle.event_machine.specs.Submitting.{needs_none, is_filled, started_by, read_snap, write_held, write_placed, write_snap, declined, submitted_as, submitted}
 use Rattle.volume_laws.specs.Again.{published_place}
 use Rattle.volume.specs.Volumed.{Volumed}
 use Rattle.volume.specs.Moved.{held_of, moving_of}

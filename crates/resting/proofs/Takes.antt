@@ -4,9 +4,9 @@ use Rattle.std.specs.Prelude.{◌==◌, ◌&&◌}
 use Rattle.std.specs.List.{list_all}
 use Rattle.sector.specs.declared.refusal.Refusal.{Refusal}
 use Rattle.device.specs.Layers.{Layer, is_loud}
-use Rattle.settling.specs.Snaps.{Volume}
-use Rattle.settling.specs.Attaching.{attached, refused_attach}
-use Rattle.settling.specs.Rest.{IsAtRest}
+use Rattle.settled.specs.Snaps.{Volume}
+use Rattle.settled.specs.Attaching.{attached, refused_attach}
+use Rattle.event_machine.specs.Rest.{IsAtRest}
 use Rattle.snapshot.specs.declared.opening.StoreDev.{StoreDev}
 use Rattle.volume.specs.Volumed.{Volumed, is_loud_in_all}
 use Rattle.volume.specs.Moved.{moving_of}

@@ -8,17 +8,17 @@ use Rattle.layers.specs.declared.message.Answer.{Answer}
 use Rattle.layers.specs.declared.message.Message.{Message}
 use Rattle.layers.specs.Messages.{Told, Answered, Refused, NeedsRoom, answer_of, told}
 use Rattle.plain.specs.declared.request.Dev.TheVariants.{Origin, Snap as ToSnap}
-use Rattle.settling.specs.Devices.{Device}
-use Rattle.settling.specs.Snaps.{Snap, Volume}
-use Rattle.settling.specs.Requests.{volume_of}
-use Rattle.settling.specs.Moments.{store_relayered}
+use Rattle.settled.specs.Devices.{Device}
+use Rattle.settled.specs.Snaps.{Snap, Volume}
+use Rattle.event_machine.specs.Requests.{volume_of}
+use Rattle.settled.specs.Moments.{store_relayered}
 use Rattle.snapshot.specs.Kept.{Kept}
 use Rattle.volume.specs.Volumed.{Volumed}
-use Rattle.volume.specs.Leaving.{place_of_snap}
+use Rattle.snapshots.specs.Finding.{place_of_snap}
 use Rattle.volume.specs.Layering.{Measures}
 use Rattle.volume.specs.Moved.{device_of, moving_of}
 use Rattle.volume.specs.Telling.{layers_left, layers_told, IsTold, IsNotTold}
-use Rattle.volume.proofs.Finds.{position_within}
+use Rattle.snapshots.proofs.Finds.{position_within}
 use Rattle.volume.proofs.Told.{snap_told, untold_moving}
 use Rattle.resting.specs.Rested.{Attached, attached_of, rested_of, snap_of, settled_of}
 use Rattle.resting.specs.Telling.{place_relayered, IsOriginTold, IsStoreTold, IsTellRefused}

@@ -12,12 +12,12 @@ use Rattle.plain.specs.declared.request.Dev.{Dev}
 use Rattle.plain.specs.declared.request.Dev.TheVariants.{Origin, Snap as ToSnap}
 use Rattle.plain.specs.declared.request.Reply.{Reply}
 use Rattle.plain.specs.declared.request.Reply.TheVariants.{Data, Written, Refused}
-use Rattle.settling.specs.Devices.{Device, met}
-use Rattle.settling.specs.Snaps.{Snap, Volume}
-use Rattle.settling.specs.Pieces.{Answered, Served, read_place, read_snap, in_snap}
-use Rattle.settling.specs.Commands.{read_piece, read_pieces, go_on, bytes_in, read}
+use Rattle.settled.specs.Devices.{Device, met}
+use Rattle.settled.specs.Snaps.{Snap, Volume}
+use Rattle.settled.specs.Pieces.{Answered, Served, read_place, read_snap, in_snap}
+use Rattle.settled.specs.Commands.{read_piece, read_pieces, go_on, bytes_in, read, read_first, pieces_first}
 use Rattle.resting.specs.Rested.{Attached, Rested, snap_of, settled_of, IsSettled}
-use Rattle.resting.specs.Commands.{read_first, pieces_first, IsDoneBy, IsReadRefused}
+use Rattle.resting.specs.Commands.{IsDoneBy, IsReadRefused}
 use Rattle.resting.specs.Unread.{IsUnmoved, AreUnmoved}
 
 met_same : (device : Device) (first count : ℕ) → IsUnmoved device → met device (Reads first count) ≡ device

@@ -6,8 +6,8 @@ use Rattle.device.specs.Layers.{Layer}
 use Rattle.chunk.specs.Pieces.{Span, span_of, pieces_of}
 use Rattle.plain.specs.declared.request.Dev.{Dev}
 use Rattle.plain.specs.declared.request.Reply.TheVariants.{Written}
-use Rattle.settling.specs.Snaps.{Volume}
-use Rattle.settling.specs.Commands.{piece_of as least_of, write_piece, write_pieces, written}
+use Rattle.settled.specs.Snaps.{Volume}
+use Rattle.settled.specs.Commands.{piece_of as least_of, write_piece, write_pieces, written}
 use Rattle.volume.specs.Volumed.{Volumed}
 use Rattle.resting.specs.Rested.{rested_of, settled_of, IsSettled, has_dev}
 use Rattle.resting.specs.Commands.{IsDoneBy, IsWriteRefused}

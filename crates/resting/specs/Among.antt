@@ -13,13 +13,13 @@ use Rattle.plain.specs.declared.request.Reply.{Reply}
 use Rattle.plain.specs.declared.request.Reply.TheVariants.{Refused}
 use Rattle.plain.specs.declared.request.Failure.{Failure}
 use Rattle.plain.specs.declared.request.Request.{Request}
-use Rattle.settling.specs.Commands.{bytes_in}
+use Rattle.settled.specs.Commands.{bytes_in}
 use Rattle.volume.specs.Volumed.{Volumed, piece_of}
 use Rattle.volume.specs.Leaving.{is_quiet_of}
 use Rattle.volume.specs.Submitting.{IsAcceptedAs, IsRefusedAs}
-use Rattle.resting.specs.declared.flights.Replied.{Replied}
+use Rattle.plain.specs.declared.request.Replied.{Replied}
 use Rattle.resting.specs.Rested.{Attached, Rested, rested_of, has_dev}
-use Rattle.resting.specs.Commands.{refusal_of}
+use Rattle.plain.specs.Failures.{refusal_of}
 use Rattle.resting.specs.Serving.{IsGood}
 use Rattle.resting.specs.Draining.{IsDrained, IsAnsweredAmong}
 

@@ -1,42 +1,24 @@
 -- When a command on a device is refused, and what it leaves: this project's own. What it does where it is not refused, or
--- answers Invalid or Io, is the settled machine's (`settling`).
-use Rattle.std.specs.Prelude.{◌≡◌, ◌⊎◌, ℕ, ◌<◌, true, false, List, [], length, take}
+-- answers Invalid or Io, is the settled machine's (`settled`).
+use Rattle.std.specs.Prelude.{◌≡◌, ◌⊎◌, ℕ, ◌<◌, true, false, List}
 use Rattle.sector.specs.declared.refusal.Refusal.{Refusal}
-use Rattle.sector.specs.declared.refusal.Refusal.TheVariants.{NoSuchDevice, NoMemory, Invalid as InvalidRefusal, Io as IoRefusal}
+use Rattle.sector.specs.declared.refusal.Refusal.TheVariants.{NoSuchDevice, NoMemory}
 use Rattle.device.specs.Layers.{Layer}
-use Rattle.chunk.specs.Pieces.{Span, pieces_of}
+use Rattle.chunk.specs.Pieces.{Span}
 use Rattle.plain.specs.declared.request.Dev.{Dev}
 use Rattle.plain.specs.declared.request.Reply.{Reply}
 use Rattle.plain.specs.declared.request.Reply.TheVariants.{Data, Written, Refused}
 use Rattle.plain.specs.declared.request.Failure.{Failure}
-use Rattle.plain.specs.declared.request.Failure.TheVariants.{Invalid, Io}
-use Rattle.settling.specs.Snaps.{Volume}
-use Rattle.settling.specs.Pieces.{Answered}
-use Rattle.settling.specs.Commands.{piece_of, write_pieces, read_pieces, written, read}
+use Rattle.settled.specs.Snaps.{Volume}
+use Rattle.settled.specs.Pieces.{Answered}
+use Rattle.settled.specs.Commands.{written, read, written_first, read_first, pieces_in}
 use Rattle.resting.specs.Rested.{Rested, settled_of, IsSettled, has_dev}
-
-abbrev pub refusal_of : Failure → Refusal
-refusal_of Invalid = InvalidRefusal
-refusal_of Io = IoRefusal
+use Rattle.plain.specs.Failures.{refusal_of}
 
 -- where the volume is settled, this was done, with this reply
 abbrev pub IsDoneBy : {B : Type 0} → (B → List ℕ) → (B → List Layer) → (B → ℕ) → (Volume → Answered) → Reply → Rested B → Rested B → Type 0
 IsDoneBy contents layers size command reply old new =
     IsSettled contents layers size old → command (settled_of contents layers old) ≡ record { volume = settled_of contents layers new; reply = reply }
-
--- the first pieces of a write, and those of a read
-abbrev pub pieces_first : ℕ → Span → Volume → List Span
-pieces_first count span v = take count (pieces_of (piece_of v.snaps) span)
-
-abbrev pub written_first : ℕ → Dev → Span → List ℕ → Volume → Answered
-written_first count dev span bytes v = write_pieces dev (pieces_first count span v) bytes v
-
-abbrev pub read_first : ℕ → Dev → Span → Volume → Answered
-read_first count dev span v = read_pieces dev (pieces_first count span v) [] v
-
--- how many pieces a range has
-abbrev pub pieces_in : Span → Volume → ℕ
-pieces_in span v = length (pieces_of (piece_of v.snaps) span)
 
 -- Why a write is refused: its device is not there, and nothing changed; or a piece failed; or memory was refused, and some
 -- first pieces stand, but not all.

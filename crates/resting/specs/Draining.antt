@@ -4,14 +4,14 @@ use Rattle.std.specs.Prelude.{◌≡◌, ◌==◌, ℕ, true, List, [], ◌∷�
 use Rattle.device.specs.Layers.{Layer}
 use Rattle.plain.specs.declared.event.Event.{Event}
 use Rattle.plain.specs.declared.event.Outcome.{Outcome}
-use Rattle.plain.specs.declared.event.Outcome.TheVariants.{Done, Fault, Reply as Answered}
 use Rattle.plain.specs.declared.request.Reply.{Reply}
 use Rattle.plain.specs.declared.request.Reply.TheVariants.{Refused}
 use Rattle.plain.specs.declared.request.Failure.TheVariants.{Invalid}
 use Rattle.plain.specs.Legal.{IsLegalStep}
+use Rattle.plain.specs.Replies.{reply_in}
 use Rattle.volume.specs.Volumed.{Volumed, is_loud_in_all, next_of, plain_of}
 use Rattle.volume.specs.Exact.{IsExact}
-use Rattle.resting.specs.declared.flights.Replied.{Replied}
+use Rattle.plain.specs.declared.request.Replied.{Replied}
 
 -- the event that was due first was done, with this outcome
 pub record IsDoneFirst {B : Type 0} (contents : B → List ℕ) (layers : B → List Layer) (event : Event) (outcome : Outcome) (old new : Volumed B) : Type 0 where
@@ -25,11 +25,6 @@ IsChain contents layers [] old new = new ≡ old
 IsChain contents layers (x ∷ xs) old new = (mid : Volumed _) × IsDoneFirst contents layers x.0 x.1 old mid × IsChain contents layers xs mid new
 
 -- the replies that they gave, in this order
-abbrev pub reply_in : Outcome → List Replied
-reply_in Done = []
-reply_in Fault = []
-reply_in (Answered number reply) = record { number = number; reply = reply } ∷ []
-
 abbrev pub replied_in : List (Event × Outcome) → List Replied
 replied_in [] = []
 replied_in (x ∷ done) = reply_in x.1 ++ replied_in done

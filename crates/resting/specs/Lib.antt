@@ -11,3 +11,4 @@ pub mod Telling
 pub mod Showing
 pub mod Draining
 pub mod Among
+pub mod Flying

@@ -4,8 +4,8 @@ use Rattle.std.specs.List.{list_any, list_all}
 use Rattle.device.specs.Layers.{Layer, is_loud}
 use Rattle.plain.specs.declared.request.Dev.{Dev}
 use Rattle.plain.specs.declared.request.Dev.TheVariants.{Origin, Snap as ToSnap}
-use Rattle.settling.specs.Rest.{IsAtRest}
-use Rattle.settling.specs.Snaps.{Snap, Volume}
+use Rattle.event_machine.specs.Rest.{IsAtRest}
+use Rattle.settled.specs.Snaps.{Snap, Volume}
 use Rattle.snapshot.specs.Kept.{Kept}
 use Rattle.volume.specs.Volumed.{Volumed}
 use Rattle.volume.specs.Moved.{device_of, moving_of}

@@ -9,14 +9,15 @@ use Rattle.plain.specs.declared.request.Dev.{Dev}
 use Rattle.plain.specs.declared.request.Reply.{Reply}
 use Rattle.plain.specs.declared.request.Reply.TheVariants.{Data, Written, Refused}
 use Rattle.plain.specs.declared.request.Failure.{Failure}
-use Rattle.settling.specs.Snaps.{Volume}
-use Rattle.settling.specs.Pieces.{Answered}
-use Rattle.settling.specs.Commands.{bytes_in}
+use Rattle.settled.specs.Snaps.{Volume}
+use Rattle.settled.specs.Pieces.{Answered}
+use Rattle.settled.specs.Commands.{bytes_in}
 use Rattle.plain.specs.declared.request.Op.{Op}
-use Rattle.settling.specs.Requests.{FitsRange}
+use Rattle.settled.specs.Requests.{FitsRange}
 use Rattle.volume.specs.Volumed.{Volumed, piece_of}
 use Rattle.resting.specs.Rested.{Rested, rested_of, settled_of, IsSettled, has_dev}
-use Rattle.resting.specs.Commands.{refusal_of, IsDoneBy}
+use Rattle.plain.specs.Failures.{refusal_of}
+use Rattle.resting.specs.Commands.{IsDoneBy}
 
 -- A request that a volume at rest accepts, where its snapshot is live: its device is there, its range lies inside the
 -- origin and one piece, and numbers are left.

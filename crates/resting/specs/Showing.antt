@@ -9,8 +9,8 @@ use Rattle.plain.specs.Plain.{Saved, Live, Invalid, Entry}
 use Rattle.plain.specs.declared.request.Dev.{Dev}
 use Rattle.plain.specs.declared.request.Dev.TheVariants.{Origin, Snap as ToSnap}
 use Rattle.device.specs.Layers.{Layer}
-use Rattle.settling.specs.Snaps.{Snap, Volume, shown}
-use Rattle.settling.specs.Commands.{piece_of}
+use Rattle.settled.specs.Snaps.{Snap, Volume, shown}
+use Rattle.settled.specs.Commands.{piece_of}
 use Rattle.resting.specs.Rested.{Rested, settled_of}
 
 -- the origin's array, and what each snapshot shows, in order of attaching

@@ -7,8 +7,8 @@ use Rattle.device.specs.Layers.{Layer}
 use Rattle.layers.specs.declared.message.Answer.{Answer}
 use Rattle.layers.specs.declared.message.Message.{Message}
 use Rattle.layers.specs.Messages.{Answered, Refused, NeedsRoom, told}
-use Rattle.settling.specs.Snaps.{Volume}
-use Rattle.settling.specs.Moments.{origin_relayered, store_relayered}
+use Rattle.settled.specs.Snaps.{Volume}
+use Rattle.settled.specs.Moments.{origin_relayered, store_relayered}
 use Rattle.resting.specs.Rested.{Attached, Rested, snap_of, settled_of}
 
 -- other layers on the store of this snapshot, which stands at place k

@@ -4,16 +4,16 @@ ghost use Rattle.std.specs.Prelude.{◌≡◌, ◌⊎◌, ℕ, ◌+◌, ◌*◌,
 ghost use Rattle.plain.specs.declared.request.Reply.{Reply as AnyReply};
 ghost use Rattle.plain.specs.declared.request.Op.TheVariants.{Read, Write};
 ghost use Rattle.chunk.specs.Pieces.{span_of, pieces_of};
-ghost use Rattle.settling.specs.Commands.{bytes_in};
+ghost use Rattle.settled.specs.Commands.{bytes_in};
 ghost use Rattle.volume.specs.Volumed.{piece_of};
 ghost use Rattle.resting.specs.Rested.{has_dev, rested_of};
+ghost use Rattle.resting.specs.Flying.{IsWhole};
 ghost use Rattle.resting.specs.Kept.{KeepsDevices};
 ghost use Rattle.resting.specs.Among.{AreReadAmong, AreWrittenAmong, IsPieceFailed, IsPieceServed, IsReadRefusedAmong, IsReadStopped, IsWriteRefusedAmong, IsWriteStopped, pieces_among};
 
 use crate::among::serve_among;
-use crate::pieces::refusal_for;
 use crate::serving::is_there;
-use crate::{Replied, Resting};
+use crate::{Replied, Resting, refusal_for};
 use chunk::Geometry;
 use device::Block;
 use plain::{Dev, Op, Reply, Request};
@@ -177,6 +177,7 @@ impl<B: Block> Resting<B> {
         ensures read { IfOk result (λ bytes. AreReadAmong B.contents B.layers dev (pieces_among (span_of range) self.old) bytes self.old.events self.new.events ended.old.items ended.new.items) }
         ensures refused { IfErr result (λ refusal. IsReadRefusedAmong B.contents B.layers B.size dev (pieces_among (span_of range) self.old) refusal self.old self.new ended.old.items ended.new.items) }
         ensures there { OnOk result (has_dev dev self.old ≡ true) }
+        ensures whole { IsWhole self.old × IsWhole self.new }
         ensures kept { KeepsDevices B.layers B.size self.old self.new }
         ensures requests { self.new.requests ≤ self.old.requests + range.count }
         ensures copies { self.new.copies ≤ self.old.copies + 8 * range.count }
@@ -213,6 +214,7 @@ impl<B: Block> Resting<B> {
         ensures written { OnOk result (AreWrittenAmong B.contents B.layers dev (pieces_among (span_of range) self.old) bytes.now self.old.events self.new.events ended.old.items ended.new.items) }
         ensures refused { IfErr result (λ refusal. IsWriteRefusedAmong B.contents B.layers B.size dev (pieces_among (span_of range) self.old) bytes.now refusal self.old self.new ended.old.items ended.new.items) }
         ensures there { OnOk result (has_dev dev self.old ≡ true) }
+        ensures whole { IsWhole self.old × IsWhole self.new }
         ensures kept { KeepsDevices B.layers B.size self.old self.new }
         ensures requests { self.new.requests ≤ self.old.requests + range.count }
         ensures copies { self.new.copies ≤ self.old.copies + 8 * range.count }

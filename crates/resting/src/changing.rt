@@ -3,7 +3,7 @@ ghost use Rattle.std.specs.Prelude.{◌≡◌, ◌≢◌, ◌⊎◌, ℕ, ◌+�
 ghost use Rattle.sector.specs.declared.refusal.Refusal.TheVariants.{Busy, NoMemory, NoSuchDevice, NotQuiet};
 ghost use Rattle.device.specs.Layers.{is_loud};
 ghost use Rattle.plain.specs.declared.request.Dev.TheVariants.{Snap};
-ghost use Rattle.settling.specs.Attaching.{attached, refused_attach};
+ghost use Rattle.settled.specs.Attaching.{attached, refused_attach};
 ghost use Rattle.resting.specs.Rested.{Attached, rested_of, settled_of, IsSettled, has_dev, snap_at};
 ghost use Rattle.resting.specs.Leaving.{IsDetachedAs};
 ghost use Rattle.resting.specs.Taking.{IsTakenAs};

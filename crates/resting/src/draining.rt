@@ -3,6 +3,7 @@ ghost use Rattle.std.specs.Prelude.{◌≡◌, IfErr, OnOk, IfOk, true};
 ghost use Rattle.sector.specs.declared.refusal.Refusal.TheVariants.{NoMemory};
 ghost use Rattle.volume.specs.Leaving.{is_quiet_of};
 ghost use Rattle.resting.specs.Rested.{rested_of};
+ghost use Rattle.resting.specs.Flying.{IsWhole};
 ghost use Rattle.resting.specs.Kept.{KeepsDevices};
 ghost use Rattle.resting.specs.Draining.{IsDrained, IsAnsweredAmong};
 
@@ -78,6 +79,7 @@ impl<B: Block> Resting<B> {
         ensures drained { IsDrained B.contents B.layers self.old.events self.new.events ended.old.items ended.new.items }
         ensures quiet { OnOk result (is_quiet_of self.new.events ≡ true) }
         ensures err { IfErr result (λ refusal. refusal ≡ NoMemory) }
+        ensures whole { IsWhole self.old × IsWhole self.new }
         ensures kept { KeepsDevices B.layers B.size self.old self.new }
         ensures requests { self.new.requests ≡ self.old.requests }
         ensures copies { self.new.copies ≡ self.old.copies }

@@ -6,7 +6,7 @@ ghost use Rattle.plain.specs.declared.request.Reply.{Reply as AnyReply};
 ghost use Rattle.plain.specs.declared.request.Reply.TheVariants.{Refused};
 ghost use Rattle.plain.specs.declared.request.Op.TheVariants.{Write};
 ghost use Rattle.plain.specs.Legal.{IsLegalStep};
-ghost use Rattle.settling.specs.Submitting.{submitted};
+ghost use Rattle.event_machine.specs.Submitting.{submitted};
 ghost use Rattle.volume_laws.specs.Due.{is_due};
 ghost use Rattle.volume.specs.Volumed.{dues_of, is_loud_in_all, next_of, plain_of};
 ghost use Rattle.volume.specs.Moved.{moving_of};
@@ -15,24 +15,16 @@ ghost use Rattle.volume.specs.Causes.{HasCause, IsOneAtMost};
 ghost use Rattle.volume.specs.Leaving.{is_quiet_of};
 ghost use Rattle.volume.specs.Submitting.{submit_refusal, IsAcceptedAs, IsRefusedAs};
 ghost use Rattle.resting.specs.Rested.{rested_of, settled_of, is_loud_in, IsSettled};
+ghost use Rattle.resting.specs.Flying.{IsWhole};
 ghost use Rattle.resting.specs.Kept.{KeepsDevices};
 
 use crate::Resting;
 use crate::serving::look;
 use device::Block;
-use plain::{Event, NotDue, Outcome, Reply, ReqId, Request};
+use plain::{Event, NotDue, Outcome, ReqId, Request};
 use sector::Refusal;
 use std::alloc::Global;
 use volume::Volume;
-
-/// How a request that was started ended.
-#[derive(Debug, Drop)]
-pub struct Replied {
-    /// Its number in the volume.
-    pub number: ReqId,
-    /// What it was answered with: the bytes that it read, that it was written, or why it failed.
-    pub reply: Reply,
-}
 
 /// Whether a volume of events is quiet. One that is, and of which no device drops writes, is settled.
 fn is_still<B: Block>(volume: &Volume<B>) -> bool
@@ -114,6 +106,7 @@ impl<B: Block> Resting<B> {
         ensures declined { IfErr result (λ refusal. refusal ≡ Invalid → (number : ℕ) (replied : Option AnyReply) → submitted number request (moving_of B.contents B.layers replied self.old.events) ≡ moving_of B.contents B.layers (Some (Refused IsInvalid)) self.new.events) }
         ensures starved { IfErr result (λ refusal. refusal ≢ Invalid → (replied : Option AnyReply) → moving_of B.contents B.layers replied self.new.events ≡ moving_of B.contents B.layers replied self.old.events) }
         ensures same { IfErr result (λ refusal. refusal ≢ Invalid → (settled_of B.contents B.layers self.new ≡ settled_of B.contents B.layers self.old) × (is_quiet_of self.new.events ≡ is_quiet_of self.old.events)) }
+        ensures whole { IsWhole self.old × IsWhole self.new }
         ensures kept { KeepsDevices B.layers B.size self.old self.new }
         ensures requests { self.new.requests ≤ self.old.requests + 1 }
         ensures copies { self.new.copies ≤ self.old.copies + 8 }
@@ -132,6 +125,7 @@ impl<B: Block> Resting<B> {
         ensures cause { IfOk result (λ outcome. HasCause B.fault_count event outcome self.old.events self.new.events) }
         ensures one { OnOk result (IsOneAtMost B.done_count self.old.events self.new.events) }
         ensures same { OnErr result (self.new ≡ self.old) }
+        ensures whole { IsWhole self.old × IsWhole self.new }
         ensures kept { KeepsDevices B.layers B.size self.old self.new }
         ensures requests { self.new.requests ≡ self.old.requests }
         ensures copies { self.new.copies ≡ self.old.copies }

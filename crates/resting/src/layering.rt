@@ -1,9 +1,10 @@
 // The layers of a volume's devices, which know of time.
 ghost use Rattle.std.specs.Prelude.{◌≡◌};
 ghost use Rattle.layers.specs.Ticks.{layers_ticked};
-ghost use Rattle.settling.specs.Moments.{all_relayered};
+ghost use Rattle.settled.specs.Moments.{all_relayered};
 ghost use Rattle.resting.specs.Rested.{rested_of, settled_of, IsSettled};
 ghost use Rattle.volume.specs.Leaving.{is_quiet_of};
+ghost use Rattle.resting.specs.Flying.{flying_of};
 ghost use Rattle.resting.specs.Kept.{KeepsDevices};
 
 use crate::Resting;
@@ -13,6 +14,7 @@ use volume::Volume;
 /// Lets so many seconds pass for a volume of events.
 fn pass<B: Layered>(volume: &mut Volume<B>, seconds: u32)
     ensures quiet { is_quiet_of volume.new ≡ is_quiet_of volume.old }
+    ensures flying { flying_of B.contents B.layers volume.new ≡ flying_of B.contents B.layers volume.old }
     ensures moved { settled_of B.contents B.layers (rested_of volume.new) ≡ all_relayered (layers_ticked seconds) (settled_of B.contents B.layers (rested_of volume.old)) }
     ensures settled { IsSettled B.contents B.layers B.size (rested_of volume.old) → IsSettled B.contents B.layers B.size (rested_of volume.new) }
     ensures kept { KeepsDevices B.layers B.size (rested_of volume.old) (rested_of volume.new) }
@@ -31,6 +33,7 @@ impl<B: Layered> Resting<B> {
         ensures requests { self.new.requests ≡ self.old.requests }
         ensures copies { self.new.copies ≡ self.old.copies }
         ensures quiet { is_quiet_of self.new.events ≡ is_quiet_of self.old.events }
+        ensures flying { flying_of B.contents B.layers self.new.events ≡ flying_of B.contents B.layers self.old.events }
     {
         pass(&mut self.volume, seconds)
     }

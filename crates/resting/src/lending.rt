@@ -3,6 +3,7 @@ ghost use Rattle.std.specs.Prelude.{◌≡◌, ℕ, ◌<◌, length, slice_index
 ghost use Rattle.std.specs.List.{remove};
 ghost use Rattle.snapshot.specs.Kept.{Kept};
 ghost use Rattle.volume.specs.Leaving.{usage_of};
+ghost use Rattle.resting.specs.Flying.{IsWhole};
 ghost use Rattle.resting.specs.Rested.{Attached, IsSettled, snap_at, without};
 ghost use Rattle.resting.specs.Using.{IsUsed};
 
@@ -50,6 +51,7 @@ impl<B: Block> Resting<B> {
     /// the volume is settled, they are those of the store's own bytes.
     pub fn usage(&self, k: usize) -> Option<Usage>
         requires { k < length self.now.snaps }
+        ensures whole { IsWhole self.now }
         ensures is { (d : Kept B) → result ≡ usage_of (slice_index_or self.now.events.snaps k d) }
         ensures live { (d : Attached B) → is_some result ≡ (slice_index_or self.now.snaps k d).live }
         ensures used { IfSome result (λ usage. IsSettled B.contents B.layers B.size self.now → (d : Attached B) → IsUsed B.contents B.size (slice_index_or self.now.snaps k d) usage) }

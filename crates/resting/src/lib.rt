@@ -22,6 +22,5 @@ mod resting;
 mod serving;
 mod telling;
 
-pub use flights::Replied;
-pub use pieces::refusal_for;
+pub use plain::{Replied, refusal_for};
 pub use resting::Resting;

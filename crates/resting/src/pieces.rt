@@ -3,31 +3,21 @@ ghost use Rattle.std.specs.Prelude.{◌≡◌, ◌⊎◌, ℕ, ◌+◌, ◌*◌,
 ghost use Rattle.plain.specs.declared.request.Reply.TheVariants.{Data, Refused, Written};
 ghost use Rattle.plain.specs.declared.request.Op.TheVariants.{Read, Write};
 ghost use Rattle.chunk.specs.Pieces.{span_of};
-ghost use Rattle.settling.specs.Commands.{write_piece as piece_written, read_piece as piece_read, written, read};
+ghost use Rattle.settled.specs.Commands.{write_piece as piece_written, read_piece as piece_read, written, read};
 ghost use Rattle.resting.specs.Rested.{rested_of, IsSettled};
 ghost use Rattle.resting.specs.Kept.{KeepsDevices};
 ghost use Rattle.resting.specs.Between.{IsBetween};
-ghost use Rattle.resting.specs.Commands.{refusal_of, IsDoneBy, IsWriteRefused, IsReadRefused};
+ghost use Rattle.resting.specs.Commands.{IsDoneBy, IsWriteRefused, IsReadRefused};
 ghost use Rattle.resting.specs.Showing.{arrays_in, pieces_for, IsPlainRead, IsPlainReadRefused, IsPlainWrite, IsPlainWriteRefused};
 ghost use Rattle.resting.specs.Serving.{CanAsk, CanServe, IsPieceDone, IsPieceRead, IsPieceRefused};
 
 use crate::serving::serve;
 use chunk::Geometry;
 use device::Block;
-use plain::{Dev, Failure, Op, Reply, Request};
+use plain::{Dev, Op, Reply, Request, refusal_for};
 use sector::{Buf, Range, Refusal, SECTOR_BYTES};
 use std::alloc::Global;
 use volume::Volume;
-
-/// The refusal of a command that ended by a failure.
-pub fn refusal_for(failure: Failure) -> Refusal
-    ensures { result ≡ refusal_of failure }
-{
-    match failure {
-        Failure::Invalid => Refusal::Invalid,
-        Failure::Io => Refusal::Io,
-    }
-}
 
 /// Writes one piece. At `NoMemory` nothing changed.
 fn write_piece<B: Block>(

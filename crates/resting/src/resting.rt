@@ -5,7 +5,7 @@ ghost use Rattle.device.specs.Layers.{is_loud};
 ghost use Rattle.plain.specs.declared.request.Reply.TheVariants.{Data, Written};
 ghost use Rattle.chunk.specs.Pieces.{span_of};
 ghost use Rattle.volume.specs.Leaving.{is_quiet_of};
-ghost use Rattle.settling.specs.Commands.{written, read};
+ghost use Rattle.settled.specs.Commands.{written, read};
 ghost use Rattle.resting.specs.Rested.{has_dev, rested_of, IsSettled};
 ghost use Rattle.resting.specs.Kept.{KeepsDevices};
 ghost use Rattle.resting.specs.Commands.{IsDoneBy, IsWriteRefused, IsReadRefused};
@@ -63,9 +63,9 @@ impl<B: Block> Resting<B> {
         self.volume.len()
     }
 
-    /// Reads sectors of the origin or of a snapshot of a quiet volume. The range is cut into pieces of the snapshots' chunk size, which are
-    /// read in order. Where the volume is settled, it is the settled machine's read: it gives the bytes of the array that
-    /// the device shows, and changes nothing that the origin or a snapshot shows, answered or refused.
+    /// Reads sectors of the origin or of a snapshot of a quiet volume. The range is cut into pieces of the snapshots' chunk
+    /// size, which are read in order. Where the volume is settled, it is the settled machine's read: it gives the bytes of
+    /// the array that the device shows, and changes nothing that the origin or a snapshot shows, answered or refused.
     ///
     /// Refused: there is no such snapshot (`NoSuchDevice`), and then nothing changed; the snapshot is spoiled (`Invalid`), or
     /// the device of a piece failed (`Io`), after the pieces before it were read; or memory is refused (`NoMemory`), after
@@ -94,8 +94,8 @@ impl<B: Block> Resting<B> {
         read_pieces(&mut self.volume, alloc, dev, range)
     }
 
-    /// Writes sectors of the origin or of a snapshot of a quiet volume. The range is cut into pieces of the snapshots' chunk size, which are
-    /// written in order. Where the volume is settled, it is the settled machine's write: the bytes stand in the array of its
+    /// Writes sectors of the origin or of a snapshot of a quiet volume. The range is cut into pieces of the snapshots' chunk
+    /// size, which are written in order. Where the volume is settled, it is the settled machine's write: the bytes stand in the array of its
     /// device. Of a write to the origin, each snapshot shows what it showed, or is spoiled; one to a snapshot changes what
     /// that shows alone.
     ///

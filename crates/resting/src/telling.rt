@@ -2,6 +2,7 @@
 ghost use Rattle.std.specs.Prelude.{◌≡◌, ◌<◌, length, slice_index_or, IfOk, IfErr};
 ghost use Rattle.resting.specs.Rested.{Attached, rested_of, settled_of, IsSettled};
 ghost use Rattle.volume.specs.Leaving.{is_quiet_of};
+ghost use Rattle.resting.specs.Flying.{flying_of};
 ghost use Rattle.resting.specs.Kept.{KeepsDevices};
 ghost use Rattle.resting.specs.Telling.{IsOriginTold, IsStoreTold, IsTellRefused};
 
@@ -19,6 +20,7 @@ fn tell_origin<B: Layered>(
     message: &Message,
 ) -> Result<Answer, Refusal>
     ensures quiet { is_quiet_of volume.new ≡ is_quiet_of volume.old }
+    ensures flying { flying_of B.contents B.layers volume.new ≡ flying_of B.contents B.layers volume.old }
     ensures ok { IfOk result (λ answer. IsOriginTold B.contents B.layers depth message.now answer (rested_of volume.old) (rested_of volume.new)) }
     ensures err { IfErr result (λ refusal. IsTellRefused (B.layers volume.old.origin) depth message.now refusal × (settled_of B.contents B.layers (rested_of volume.new) ≡ settled_of B.contents B.layers (rested_of volume.old))) }
     ensures settled { IsSettled B.contents B.layers B.size (rested_of volume.old) → IsSettled B.contents B.layers B.size (rested_of volume.new) }
@@ -41,6 +43,7 @@ fn tell_store<B: Layered>(
 ) -> Result<Answer, Refusal>
     requires place { k < length volume.old.snaps }
     ensures quiet { is_quiet_of volume.new ≡ is_quiet_of volume.old }
+    ensures flying { flying_of B.contents B.layers volume.new ≡ flying_of B.contents B.layers volume.old }
     ensures ok { IfOk result (λ answer. IsStoreTold B.contents B.layers k depth message.now answer (rested_of volume.old) (rested_of volume.new)) }
     ensures err { IfErr result (λ refusal. ((d : Attached B) → IsTellRefused (B.layers (slice_index_or (rested_of volume.old).snaps k d).store) depth message.now refusal) × (settled_of B.contents B.layers (rested_of volume.new) ≡ settled_of B.contents B.layers (rested_of volume.old))) }
     ensures settled { IsSettled B.contents B.layers B.size (rested_of volume.old) → IsSettled B.contents B.layers B.size (rested_of volume.new) }
@@ -67,6 +70,7 @@ impl<B: Layered> Resting<B> {
         ensures requests { self.new.requests ≡ self.old.requests }
         ensures copies { self.new.copies ≡ self.old.copies }
         ensures quiet { is_quiet_of self.new.events ≡ is_quiet_of self.old.events }
+        ensures flying { flying_of B.contents B.layers self.new.events ≡ flying_of B.contents B.layers self.old.events }
     {
         tell_origin(&mut self.volume, depth, message)
     }
@@ -86,6 +90,7 @@ impl<B: Layered> Resting<B> {
         ensures requests { self.new.requests ≡ self.old.requests }
         ensures copies { self.new.copies ≡ self.old.copies }
         ensures quiet { is_quiet_of self.new.events ≡ is_quiet_of self.old.events }
+        ensures flying { flying_of B.contents B.layers self.new.events ≡ flying_of B.contents B.layers self.old.events }
     {
         tell_store(&mut self.volume, k, depth, message)
     }

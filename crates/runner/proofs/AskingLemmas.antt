@@ -7,7 +7,7 @@ use Rattle.command.specs.Line.{said_of}
 use Rattle.command.specs.declared.grammar.Command.{Command}
 use Rattle.reply.specs.declared.Reply.{Reply}
 use Rattle.reply.specs.declared.Reply.TheVariants.{Number, Refused}
-use Rattle.resting.specs.declared.flights.Replied.{Replied}
+use Rattle.plain.specs.declared.request.Replied.{Replied}
 use Rattle.named.specs.State.{Table}
 use Rattle.runner.specs.Asking.{refusal_in, first_refusal, said_first, line_first, IsFirst}
 use Rattle.runner.specs.Ended.{line_replies}
@@ -79,3 +79,12 @@ pub first_lines : (first : Option Refusal) (ended : List Replied) (own : Option 
 first_lines None ended own asks none = tt
 first_lines (Some e) ended own asks none =
     let P : List Replied → Type 0 = λ es. IsFirst (Some e) (line_replies es own) in subst P (sym none) asks
+
+-- what is known where there is a first refusal, apart
+pub first_none : (P : Type 0) (first : Option Refusal) (before ended now : List Replied) → IfSome first (λ _. P × (ended ≡ before)) → before ≡ now → IfSome first (λ _. ended ≡ now)
+first_none P None before ended now h none = tt
+first_none P (Some e) before ended now h none = h.1 ∙ none
+
+pub first_stays : (P Q : Type 0) (first : Option Refusal) → IfSome first (λ _. P × Q) → IfSome first (λ _. P)
+first_stays P Q None h = tt
+first_stays P Q (Some e) h = h.0

@@ -1,20 +1,21 @@
 -- One line of a desk.
 use Rattle.std.proofs.Common.{◌≡◌, ℕ, List, [], ◌∷◌, Option, Some, sym, ap, ◌∙◌, inl, inr, subst, arith, true, false, ◌<◌, ◌^◌, length}
-use Rattle.std.specs.Prelude.{Ok, Err}
+use Rattle.std.specs.Prelude.{Ok, Err, IfSome}
 use Rattle.sector.specs.declared.refusal.Refusal.{Refusal}
 use Rattle.reply.specs.declared.Reply.{Reply}
 use Rattle.reply.specs.declared.Reply.TheVariants.{Refused}
-use Rattle.resting.specs.declared.flights.Replied.{Replied}
+use Rattle.plain.specs.declared.request.Replied.{Replied}
 use Rattle.runner.specs.declared.summary.Summary.{Summary}
 use Rattle.named.specs.Changes.{Does}
 use Rattle.named.specs.Naming.{AreNamed}
-use Rattle.named.specs.Sound.{is_sound}
 use Rattle.named.specs.State.{Table}
 use Rattle.runner.specs.Steps.{answer_of}
 use Rattle.runner.specs.Starts.{AreStartReplies, starts_line}
 use Rattle.runner.specs.Counts.{with_lines}
 use Rattle.runner.specs.Ended.{line_replies}
 use Rattle.runner.specs.Output.{Outcome, Standing, answered, counted, empty, outcome, outcome_of, IsStarved, MayBe, followed}
+use Rattle.runner.specs.Done.{IsLineDone, IsToldFor}
+use Rattle.runner.specs.Ruled.{is_ruled_line}
 use Rattle.runner.specs.Asking.{IsFirst, line_first}
 use Rattle.runner.proofs.EndedLemmas.{all_lines_counted}
 use Rattle.runner.proofs.AskingLemmas.{memory_or_not}
@@ -42,17 +43,22 @@ start_alone line ended own number none does =
     let P : List Replied → Type 0 = λ es. AreStartReplies (line_replies es own) in subst P (sym (none does)) (number does)
 
 -- what a line did, as its desk shows it
-pub line_done : (line : List ℕ) (old : Standing) (was table : Table) (summary now : Summary) (ended : List Replied) (own : Option Reply) (P : List Reply → Type 0) → old ≡ record { table = was; summary = summary } → (is_sound was ≡ true → starts_line line ≡ false → MayBe line was (record { replies = answered own; table = table })) → (is_sound was ≡ true → ended ≡ []) → IsFirst (line_first line was) (line_replies ended own) → (starts_line line ≡ true → AreStartReplies (line_replies ended own)) → now ≡ counted (line_replies ended own) summary → P (line_replies ended own) → (done : Outcome) × (is_sound old.table ≡ true → starts_line line ≡ false → MayBe line old.table done) × IsFirst (line_first line old.table) done.replies × (starts_line line ≡ true → AreStartReplies done.replies) × (record { table = table; summary = now } ≡ followed old done) × P done.replies
-line_done line old was table summary now ended own P view may none asks number is last =
+pub line_done : (line : List ℕ) (old : Standing) (was table : Table) (summary now : Summary) (ended : List Replied) (own : Option Reply) (P : List Reply → Type 0) → old ≡ record { table = was; summary = summary } → (is_ruled_line line was ≡ true → MayBe line was (record { replies = answered own; table = table })) → (is_ruled_line line was ≡ true → ended ≡ [])
+    → IsFirst (line_first line was) (line_replies ended own) → IfSome (line_first line was) (λ _. table ≡ was) → (starts_line line ≡ true → AreStartReplies (line_replies ended own)) → IsToldFor line was (record { replies = line_replies ended own; table = table }) → now ≡ counted (line_replies ended own) summary → P (line_replies ended own)
+    → (done : Outcome) × IsLineDone line old.table done × (record { table = table; summary = now } ≡ followed old done) × P done.replies
+line_done line old was table summary now ended own P view may none asks stays number told is last =
     let replies = line_replies ended own in
     let same : was ≡ old.table = sym (ap (λ (s : Standing). s.table) view) in
-    let Q : Table → Type 0 = λ t. is_sound t ≡ true → starts_line line ≡ false → MayBe line t (record { replies = replies; table = table }) in
-    let F : Table → Type 0 = λ t. IsFirst (line_first line t) replies in
-    let here : Q was = λ sound other. none_ended line was table ended own (none sound) (may sound other) in (
+    let D : Table → Type 0 = λ t. IsLineDone line t (record { replies = replies; table = table }) in
+    let here : D was = record {
+      rule = λ ruled. none_ended line was table ended own (none ruled) (may ruled);
+      first = asks;
+      stays = stays;
+      number = number;
+      told = told;
+    } in (
       record { replies = replies; table = table },
-      subst Q same here,
-      subst F same asks,
-      number,
+      subst D same here,
       ap (λ n. record { table = table; summary = n }) (is ∙ ap (λ (s : Standing). counted replies s.summary) (sym view)),
       last,
     )

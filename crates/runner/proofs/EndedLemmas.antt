@@ -7,7 +7,7 @@ use Rattle.std.proofs.lemmas.List.Concat.{flat_map-cons}
 use Rattle.lines.proofs.Written.{appends_more}
 use Rattle.reply.specs.declared.Reply.{Reply}
 use Rattle.reply.specs.Texts.{text_of}
-use Rattle.resting.specs.declared.flights.Replied.{Replied}
+use Rattle.plain.specs.declared.request.Replied.{Replied}
 use Rattle.runner.specs.declared.summary.Summary.{Summary}
 use Rattle.runner.specs.Counts.{capped, with_lines, with_reply}
 use Rattle.runner.specs.Ended.{ended_line, ended_lines, line_replies}

@@ -4,5 +4,7 @@ pub mod StepLemmas
 pub mod CountLemmas
 pub mod EndedLemmas
 pub mod AskingLemmas
+pub mod RuledLemmas
+pub mod LeftLemmas
 pub mod DeskLemmas
 pub mod RunLemmas

@@ -11,8 +11,8 @@ use Rattle.layers.specs.declared.message.Answer.{Answer}
 use Rattle.layers.specs.declared.message.Answer.TheVariants.{Done}
 use Rattle.layers.specs.Messages.{Told, Answered, Refused, told, told_with, layer_told, dust_told, is_past, is_listed}
 use Rattle.words.specs.Given.{◌>>=◌}
-use Rattle.settling.specs.Devices.{Device}
-use Rattle.settling.specs.Snaps.{Snap, Volume as Settled}
+use Rattle.settled.specs.Devices.{Device}
+use Rattle.settled.specs.Snaps.{Snap, Volume as Settled}
 use Rattle.named.specs.declared.place.Role.{Role}
 use Rattle.named.specs.declared.place.Role.TheVariants.{Origin, Under, Snapshot, Store}
 use Rattle.named.specs.declared.place.Place.{Place}

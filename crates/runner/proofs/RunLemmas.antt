@@ -20,11 +20,11 @@ use Rattle.named.specs.Sound.{is_sound}
 use Rattle.named.specs.State.{Table}
 use Rattle.runner.specs.Steps.{answer_of, obeyed}
 use Rattle.runner.specs.Sound.{is_sound_said, is_sound_line, are_sound_lines, is_sound_text}
-use Rattle.runner.specs.Starts.{starts_line}
+use Rattle.runner.specs.Ruled.{is_ruled_line}
 use Rattle.runner.specs.Counts.{summary_of, refuses_with}
 use Rattle.runner.specs.Output.{Outcome, Standing, outcome, outcome_of, replies_from, replies_of, output_of, printed, empty, IsPartSaid, IsStarved, MayBe, MayAnswer, counted, followed}
 use Rattle.runner.proofs.CountLemmas.{all_counted, count_append, none_counted}
-use Rattle.runner.proofs.StepLemmas.{line_starts}
+use Rattle.runner.proofs.RuledLemmas.{line_ruled}
 
 -- Whatever the lines that are left may answer, all lines may answer these replies and that; and no device drops writes, nor
 -- will one that the lines make.
@@ -79,7 +79,7 @@ may_be_kept line kept table done is (inr e) = inr (e.0, starved_kept line kept t
 
 -- what a line did, and that it leaves devices that drop no writes
 pub record IsDone (kept : List ℕ) (table : Table) (done : Outcome) : Type 0 where
-  pub may : is_sound table ≡ true → starts_line kept ≡ false → MayBe kept table done
+  pub may : is_ruled_line kept table ≡ true → MayBe kept table done
   pub sound : is_sound table ≡ true → is_sound_line kept ≡ true → is_sound done.table ≡ true
 
 -- one line more
@@ -95,7 +95,7 @@ led_on text left left' line kept table done replies led cut keeps is =
       lines = both.1;
       may = λ rest follows.
           let here : MayAnswer table (lines_of left) (done.replies ++ rest) =
-          subst (λ lines. P lines (done.replies ++ rest)) (sym cut) (done, rest, may_be_kept line kept table done keeps (is.may led.sound (line_starts kept sound)), refl, follows) in
+          subst (λ lines. P lines (done.replies ++ rest)) (sym cut) (done, rest, may_be_kept line kept table done keeps (is.may (line_ruled kept table led.sound sound)), refl, follows) in
           subst Q (sym (append_assoc replies done.replies rest)) (led.may (done.replies ++ rest) here);
     }
 
@@ -106,7 +106,7 @@ leads_on (Some text) (Some left) None kept table done replies on read is = absur
 leads_on (Some text) (Some left) (Some left') kept table done replies on read is = λ sound.
     led_on text left left' read.0 kept table done replies (on sound) read.1 read.2 is
 
-pub goes_on : (text left left' before now now' : Option (List ℕ)) (kept : List ℕ) (old new : Standing) (done : Outcome) → Follows text left before now old → ReadsLine 65536 left left' true kept → (is_sound old.table ≡ true → starts_line kept ≡ false → MayBe kept old.table done) → (is_sound old.table ≡ true → is_sound_line kept ≡ true → is_sound new.table ≡ true) → new ≡ followed old done → Appends now now' (printed done.replies) → Follows text left' before now' new
+pub goes_on : (text left left' before now now' : Option (List ℕ)) (kept : List ℕ) (old new : Standing) (done : Outcome) → Follows text left before now old → ReadsLine 65536 left left' true kept → (is_ruled_line kept old.table ≡ true → MayBe kept old.table done) → (is_sound old.table ≡ true → is_sound_line kept ≡ true → is_sound new.table ≡ true) → new ≡ followed old done → Appends now now' (printed done.replies) → Follows text left' before now' new
 goes_on text left left' before now now' kept old new done (replies, was, counts, on) read may sound is more =
     let W : List ℕ → Type 0 = λ bytes. Appends before now' bytes in
     let L : Table → Type 0 = λ table. LeadsOn text left' table (replies ++ done.replies) in

@@ -6,8 +6,8 @@ use Rattle.reply.specs.declared.Reply.{Reply}
 use Rattle.reply.specs.declared.Reply.TheVariants.{Ended}
 use Rattle.reply.specs.declared.ended.Ending.{Ending}
 use Rattle.reply.specs.declared.ended.Ending.TheVariants.{Data, Written, Refused}
-use Rattle.resting.specs.declared.flights.Replied.{Replied}
-use Rattle.resting.specs.Commands.{refusal_of}
+use Rattle.plain.specs.declared.request.Replied.{Replied}
+use Rattle.plain.specs.Failures.{refusal_of}
 use Rattle.runner.specs.Output.{answered}
 
 -- how a request ended, by what its volume replied

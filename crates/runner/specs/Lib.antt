@@ -7,3 +7,6 @@ pub mod Asking
 pub mod Output
 pub mod Ended
 pub mod Exit
+pub mod Ruled
+pub mod Left
+pub mod Done

@@ -1,3 +1,4 @@
+-- To be believed: `run`'s output, a volume's steps or its attach are said in these words.
 -- What each command answers, and the devices after it. Which number a request gets that a command starts, and when it ends, is
 -- its volume's own affair, where each event has its contract; texts with such commands are left out where this machine is used.
 use Rattle.std.specs.Prelude.{ℕ, List, Option, Some, None, Result, Ok, Err}

@@ -1,13 +1,18 @@
 // Lines in, lines out.
-ghost use Rattle.std.specs.Prelude.{◌≡◌, [], true, false, MatchResult, IfErr, IfSome, OnOk};
+ghost use Rattle.std.specs.Prelude.{◌≡◌, [], true, MatchResult, IfErr, IfSome, OnOk, Option, Result};
 ghost use Rattle.std.specs.Io.KnownBytes.{Appends};
+ghost use Rattle.sector.specs.declared.refusal.Refusal.{Refusal as AnyRefusal};
+ghost use Rattle.reply.specs.declared.Reply.{Reply as AnyReply};
 ghost use Rattle.named.specs.Naming.{AreNamed};
 ghost use Rattle.named.specs.Sound.{is_sound};
 ghost use Rattle.devices.specs.Devices.{table_of};
 ghost use Rattle.runner.specs.Asking.{IsFirst, line_first};
 ghost use Rattle.runner.specs.Counts.{summary_of};
 ghost use Rattle.runner.specs.Exit.{IsMemory, IsWriters};
-ghost use Rattle.runner.specs.Output.{Outcome, MayBe, answered, empty, followed, printed};
+ghost use Rattle.runner.specs.Done.{IsLineDone};
+ghost use Rattle.runner.specs.Left.{IsLineLeft};
+ghost use Rattle.runner.specs.Output.{Outcome, MayBe, answered, empty, followed, printed, told};
+ghost use Rattle.runner.specs.Ruled.{is_ruled_line};
 ghost use Rattle.runner.specs.Sound.{is_sound_line};
 ghost use Rattle.runner.specs.Starts.{AreStartReplies, starts_line};
 
@@ -16,8 +21,8 @@ use crate::error::RunError;
 use crate::step::answer;
 use crate::summary::Summary;
 use devices::Held;
+use plain::Replied;
 use reply::Reply;
-use resting::Replied;
 use std::alloc::Global;
 use std::io::Write;
 use std::marker::Model;
@@ -47,12 +52,13 @@ impl Model for Desk {
 /// Does what a line says, and gives what it prints: its answer, or its refusal. Requests that end in it go to the end of
 /// `ended`.
 fn outcome(alloc: Global, held: &mut Held, line: &[u8], ended: &mut Vec<Replied>) -> Option<Reply>
-    ensures done { is_sound (table_of held.old) ≡ true → starts_line line.now ≡ false → MayBe line.now (table_of held.old) (record { replies = answered result; table = table_of held.new }) }
+    ensures done { is_ruled_line line.now (table_of held.old) ≡ true → MayBe line.now (table_of held.old) (record { replies = answered result; table = table_of held.new }) }
     ensures asks { IsFirst (line_first line.now (table_of held.old)) (answered result) }
     ensures number { starts_line line.now ≡ true → AreStartReplies (answered result) }
     ensures alone { starts_line line.now ≡ true → ended.new.items ≡ ended.old.items }
-    ensures still { IfSome (line_first line.now (table_of held.old)) (λ _. ended.new.items ≡ ended.old.items) }
-    ensures told { is_sound (table_of held.old) ≡ true → ended.new.items ≡ ended.old.items }
+    ensures still { IfSome (line_first line.now (table_of held.old)) (λ _. (table_of held.new ≡ table_of held.old) × (ended.new.items ≡ ended.old.items)) }
+    ensures told { is_ruled_line line.now (table_of held.old) ≡ true → ended.new.items ≡ ended.old.items }
+    ensures left { (own : Result (Option AnyReply) AnyRefusal) × (answered result ≡ told own) × IsLineLeft line.now own (table_of held.old) (table_of held.new) ended.old.items ended.new.items }
     ensures sound { is_sound (table_of held.old) ≡ true → is_sound_line line.now ≡ true → is_sound (table_of held.new) ≡ true }
     ensures named { AreNamed (table_of held.old) → AreNamed (table_of held.new) }
 {
@@ -90,9 +96,7 @@ impl Desk {
     /// changes no device, but that of a read, a write or a settle some part may have been done. The one error is
     /// `RunError::Write`, the writer's own; then the line was done all the same, and part of what it prints may be printed.
     pub fn line<W: Write>(&mut self, line: &[u8], writer: &mut W) -> Result<(), RunError>
-        ensures done { (done : Outcome) × (is_sound self.old.table ≡ true → starts_line line.now ≡ false → MayBe line.now self.old.table done)
-            × IsFirst (line_first line.now self.old.table) done.replies
-            × (starts_line line.now ≡ true → AreStartReplies done.replies) × (self.new ≡ followed self.old done)
+        ensures done { (done : Outcome) × IsLineDone line.now self.old.table done × (self.new ≡ followed self.old done)
             × OnOk result (Appends (W.contents writer.old) (W.contents writer.new) (printed done.replies)) }
         // No device drops writes, and nothing is in flight, until a line makes one that does or starts a request.
         ensures sound { is_sound self.old.table ≡ true → is_sound_line line.now ≡ true → is_sound self.new.table ≡ true }

@@ -4,9 +4,8 @@ ghost use Rattle.std.specs.Io.KnownBytes.{Appends};
 ghost use Rattle.runner.specs.Ended.{ended_line, ended_lines, ending_of, line_replies};
 ghost use Rattle.runner.specs.Output.{printed};
 
-use plain::Reply as Answered;
+use plain::{Replied, Reply as Answered, refusal_for};
 use reply::{Ended, Ending, Reply};
-use resting::{Replied, refusal_for};
 use std::io;
 use std::io::Write;
 

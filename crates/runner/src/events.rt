@@ -5,15 +5,16 @@ ghost use Rattle.named.specs.Events.{event_asked, step_event};
 ghost use Rattle.named.specs.Naming.{AreNamed};
 ghost use Rattle.named.specs.Sound.{is_sound};
 ghost use Rattle.devices.specs.Devices.{table_of};
+ghost use Rattle.devices.specs.Ruled.{is_quiet_in, volume_for};
 ghost use Rattle.runner.specs.Asking.{IsFirst, refusal_in};
+ghost use Rattle.runner.specs.Left.{IsStepLeft};
 ghost use Rattle.runner.specs.Output.{told};
 ghost use Rattle.runner.specs.Steps.{reworded};
 
 use command::Event;
 use devices::{Held, step_device};
-use plain::Outcome;
+use plain::{Outcome, Replied};
 use reply::Reply;
-use resting::Replied;
 use sector::Refusal;
 use words::Name;
 
@@ -26,10 +27,11 @@ pub fn step_volume(
     event: &Event,
     ended: &mut Vec<Replied>,
 ) -> Result<Reply, Refusal>
-    ensures done { is_sound (table_of held.old) ≡ true → Does result (table_of held.new) (λ t. t ≡ table_of held.old) (refused (table_of held.old) (step_event name.now event.now (table_of held.old))) }
-    ensures told { is_sound (table_of held.old) ≡ true → ended.new.items ≡ ended.old.items }
+    ensures done { is_quiet_in (volume_for name.now (table_of held.old)) ≡ true → Does result (table_of held.new) (λ t. t ≡ table_of held.old) (refused (table_of held.old) (step_event name.now event.now (table_of held.old))) }
+    ensures told { is_quiet_in (volume_for name.now (table_of held.old)) ≡ true → ended.new.items ≡ ended.old.items }
     ensures asks { IsFirst (refusal_in (event_asked name.now event.now (table_of held.old))) (told (reworded Some result)) }
-    ensures still { IfSome (refusal_in (event_asked name.now event.now (table_of held.old))) (λ _. ended.new.items ≡ ended.old.items) }
+    ensures still { IfSome (refusal_in (event_asked name.now event.now (table_of held.old))) (λ _. (table_of held.new ≡ table_of held.old) × (ended.new.items ≡ ended.old.items)) }
+    ensures left { IsStepLeft name.now event.now result (table_of held.old) (table_of held.new) ended.old.items ended.new.items }
     ensures err { OnErr result (table_of held.new ≡ table_of held.old) }
     ensures kept { OnErr result (ended.new.items ≡ ended.old.items) }
     ensures sound { is_sound (table_of held.old) ≡ true → is_sound (table_of held.new) ≡ true }

@@ -1,5 +1,5 @@
 // What each line does.
-ghost use Rattle.std.specs.Prelude.{◌≡◌, ◌≢◌, true, false, Some, IfSome, MatchResult};
+ghost use Rattle.std.specs.Prelude.{◌≡◌, ◌≢◌, true, Some, IfSome, MatchResult};
 ghost use Rattle.sector.specs.declared.refusal.Refusal.TheVariants.{NoMemory};
 ghost use Rattle.layers.specs.declared.message.Answer.TheVariants as answers;
 ghost use Rattle.reply.specs.declared.Reply.TheVariants.{Done, Data, Said, Number};
@@ -11,7 +11,9 @@ ghost use Rattle.named.specs.Sound.{is_sound};
 ghost use Rattle.devices.specs.Devices.{table_of};
 ghost use Rattle.runner.specs.Asking.{IsFirst, first_refusal, line_first};
 ghost use Rattle.runner.specs.Lawful.{is_lawful};
+ghost use Rattle.runner.specs.Left.{IsLeft, IsLineLeft};
 ghost use Rattle.runner.specs.Output.{IsPartDone, IsStarved, told};
+ghost use Rattle.runner.specs.Ruled.{is_ruled, is_ruled_line};
 ghost use Rattle.runner.specs.Sound.{is_sound_command, is_sound_line};
 ghost use Rattle.runner.specs.Starts.{AreStartReplies, starts, starts_line};
 ghost use Rattle.runner.specs.Steps.{reworded, told_as, step, answer_of};
@@ -27,9 +29,8 @@ use devices::{
     settle_device, start_read, start_write, status_text, tell, tick, write_device,
 };
 use layers::{Answer, Message};
-use plain::ReqId;
+use plain::{Replied, ReqId};
 use reply::Reply;
-use resting::Replied;
 use sector::{Buf, Refusal};
 use std::alloc::Global;
 use words::{Name, Text};
@@ -108,12 +109,13 @@ fn obey(
     ended: &mut Vec<Replied>,
 ) -> Result<Reply, Refusal>
     requires { is_lawful command ≡ true }
-    ensures done { is_sound (table_of held.old) ≡ true → starts command ≡ false → Does result (table_of held.new) (IsPartDone command (table_of held.old)) (step command (table_of held.old)) }
+    ensures done { is_ruled command (table_of held.old) ≡ true → Does result (table_of held.new) (IsPartDone command (table_of held.old)) (step command (table_of held.old)) }
     ensures asks { IsFirst (first_refusal command (table_of held.old)) (told (reworded Some result)) }
     ensures number { starts command ≡ true → AreStartReplies (told (reworded Some result)) }
     ensures alone { starts command ≡ true → ended.new.items ≡ ended.old.items }
-    ensures still { IfSome (first_refusal command (table_of held.old)) (λ _. ended.new.items ≡ ended.old.items) }
-    ensures told { is_sound (table_of held.old) ≡ true → ended.new.items ≡ ended.old.items }
+    ensures still { IfSome (first_refusal command (table_of held.old)) (λ _. (table_of held.new ≡ table_of held.old) × (ended.new.items ≡ ended.old.items)) }
+    ensures told { is_ruled command (table_of held.old) ≡ true → ended.new.items ≡ ended.old.items }
+    ensures left { IsLeft command result (table_of held.old) (table_of held.new) ended.old.items ended.new.items }
     ensures sound { is_sound (table_of held.old) ≡ true → is_sound_command command ≡ true → is_sound (table_of held.new) ≡ true }
     ensures named { AreNamed (table_of held.old) → AreNamed (table_of held.new) }
 {
@@ -144,12 +146,13 @@ pub fn answer(
     line: &[u8],
     ended: &mut Vec<Replied>,
 ) -> Result<Option<Reply>, Refusal>
-    ensures done { is_sound (table_of held.old) ≡ true → starts_line line.now ≡ false → Does result (table_of held.new) (IsStarved line.now (table_of held.old)) (answer_of line.now (table_of held.old)) }
+    ensures done { is_ruled_line line.now (table_of held.old) ≡ true → Does result (table_of held.new) (IsStarved line.now (table_of held.old)) (answer_of line.now (table_of held.old)) }
     ensures asks { IsFirst (line_first line.now (table_of held.old)) (told result) }
     ensures number { starts_line line.now ≡ true → AreStartReplies (told result) }
     ensures alone { starts_line line.now ≡ true → ended.new.items ≡ ended.old.items }
-    ensures still { IfSome (line_first line.now (table_of held.old)) (λ _. ended.new.items ≡ ended.old.items) }
-    ensures told { is_sound (table_of held.old) ≡ true → ended.new.items ≡ ended.old.items }
+    ensures still { IfSome (line_first line.now (table_of held.old)) (λ _. (table_of held.new ≡ table_of held.old) × (ended.new.items ≡ ended.old.items)) }
+    ensures told { is_ruled_line line.now (table_of held.old) ≡ true → ended.new.items ≡ ended.old.items }
+    ensures left { IsLineLeft line.now result (table_of held.old) (table_of held.new) ended.old.items ended.new.items }
     ensures sound { is_sound (table_of held.old) ≡ true → is_sound_line line.now ≡ true → is_sound (table_of held.new) ≡ true }
     ensures named { AreNamed (table_of held.old) → AreNamed (table_of held.new) }
 {

@@ -1,23 +1,11 @@
-//! The command program run on whole texts of command lines, with the answers that are wanted for them.
+//! The command program where a file of commands can't show it: readers and writers that fail, memory that is refused, and
+//! the counts of a summary.
 //!
-//! It stands on `runner` alone and has tests only: texts worked out by hand from the kernel's format and the admin-guide
-//! pages on snapshots, dm-flakey and dm-dust, texts about requests in flight, status lines and raw bytes that were recorded
-//! from the Linux kernel, readers and writers that fail, memory that is refused, and the exit statuses.
+//! It stands on `runner` alone and has tests only. Whole texts of commands with the answers that are wanted for them are
+//! the files of `rows`.
 #![tactic(auto)]
 
 #[cfg(test)]
 mod failing;
 #[cfg(test)]
-mod faults;
-#[cfg(test)]
-mod flights;
-#[cfg(test)]
 mod refused;
-#[cfg(test)]
-mod stacked;
-#[cfg(test)]
-mod tables;
-#[cfg(test)]
-mod texts;
-#[cfg(test)]
-mod vectors;

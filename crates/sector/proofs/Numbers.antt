@@ -1,6 +1,5 @@
 -- Numbers of the same bytes.
-use Rattle.std.proofs.Common.{◌≡◌, ℕ, zero, suc, ◌+◌, ◌*◌, ◌<◌, ◌≤◌, List, get_or, arith, refl, ap, ◌∙◌}
-use Rattle.std.proofs.Common.{length}
+use Rattle.std.proofs.Common.{◌≡◌, ℕ, zero, suc, ◌+◌, ◌*◌, ◌<◌, ◌≤◌, List, get_or, arith, refl, ap, ◌∙◌, length}
 use Rattle.std.specs.Int.{bytes_low_first}
 use Rattle.sector.specs.Number.{number_at, number_bytes}
 

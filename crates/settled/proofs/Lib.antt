@@ -1,3 +1,8 @@
+pub mod Each
+pub mod Keeps
+pub mod Saves
+pub mod LiveSaves
+pub mod SavedBytes
 pub mod Parts
 pub mod PairParts
 pub mod Commits
@@ -6,8 +11,12 @@ pub mod Saved
 pub mod Cases
 pub mod Laws
 pub mod Writes
-pub mod Runs
-pub mod Shown
+pub mod PictureSectors
 pub mod Made
 pub mod Trimmed
 pub mod Loadable
+pub mod Faultless
+pub mod Chunks
+pub mod FaultlessAttaching
+pub mod Opened
+pub mod Named

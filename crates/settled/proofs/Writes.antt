@@ -1,14 +1,11 @@
--- A write of a piece of the origin leaves the picture of a snapshot that has its chunk's copy; and where pieces lie.
-use Rattle.std.proofs.Common.{◌≡◌, ◌≢◌, ◌⊎◌, inl, inr, ℕ, ◌+◌, ◌*◌, ◌-◌, ◌/◌, ◌<◌, ◌≤◌, List, [], ◌∷◌, length, arith, refl, ap, ◌∙◌, get_or}
+-- A write of a piece of the origin leaves the picture of a snapshot that has its chunk's copy.
+use Rattle.std.proofs.Common.{◌≡◌, ◌≢◌, ◌⊎◌, inl, inr, ℕ, ◌+◌, ◌*◌, ◌-◌, ◌<◌, ◌≤◌, List, length, arith, refl, get_or}
 use Rattle.std.specs.Prelude.{None}
 use Rattle.sector.specs.Bytes.{with_sectors}
 use Rattle.sector.proofs.Sectors.{length-with_sectors, byte_outside}
 use Rattle.model.specs.Pairs.{pairs_of}
 use Rattle.model.specs.Picture.{place_of, picture}
 use Rattle.model.proofs.Pictures.{picture-origin, same_picture}
-use Rattle.std.proofs.Math.Nat.{mul-div-le}
-use Rattle.chunk.proofs.Chunks.{chunk_ends}
-use Rattle.chunk.specs.Pieces.{Span, Join}
 use Rattle.settled.proofs.Laws.{option_cases}
 
 -- the disk's bytes outside what is written
@@ -22,15 +19,3 @@ picture-saved chunk c first count disk store bytes pos copy low high len fits = 
   | inr (n, some) ↦ same_picture chunk disk store (with_sectors disk first bytes) store (pairs_of chunk store) (length-with_sectors disk first bytes fits) refl
       (λ i lt. picture-origin chunk c n first count disk (with_sectors disk first bytes) store (pairs_of chunk store) pos some low high (disk_rest disk first count bytes len fits) i)
 ]
-
--- where the sectors of a piece lie
-pub piece_low : (chunk first : ℕ) → chunk * (first / chunk) ≤ first
-piece_low chunk first = mul-div-le first chunk
-
-pub piece_high : (chunk first count : ℕ) → 0 < chunk → 0 < count → (first + count - 1) / chunk ≡ first / chunk → first + count ≤ chunk * (first / chunk) + chunk
-piece_high chunk first count pos some one = let h = chunk_ends chunk (first + count - 1) pos in let e : chunk * ((first + count - 1) / chunk + 1) ≡ chunk * (first / chunk) + chunk = ap (λ x. chunk * (x + 1)) one ∙ (grind arith) in omega arith
-
--- a run of pieces ends behind where it begins
-pub join_le : (a b : ℕ) (pieces : List Span) → Join a b pieces → a ≤ b
-join_le a b [] join = omega arith
-join_le a b (piece ∷ pieces) join = let h = join_le (a + piece.count) b pieces join.1 in omega arith

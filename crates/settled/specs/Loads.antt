@@ -1,3 +1,4 @@
+-- To be believed: `run`'s output, a volume's steps or its attach are said in these words.
 -- What attaching makes of a store: the format of dm-snap-persistent.c. The order of the refusals, that area 0 comes before
 -- the header, that a tail is cleared, and that the pairs are tested at all, are this project's rules.
 use Rattle.std.specs.Prelude.{◌==◌, ℕ, ◌+◌, ◌-◌, ◌*◌, ◌/◌, ◌%◌, Bool, true, ◌&&◌, ◌||◌, not, nat_lt, nat_le, List, [], ◌∷◌, length, replicate, Result, Ok, Err, if◌then◌else◌}
@@ -14,7 +15,7 @@ use Rattle.cow_header.specs.declared.found.Found.{Found}
 use Rattle.cow_header.specs.declared.found.Found.TheVariants.{Fresh, Header}
 use Rattle.plain.specs.Plain.{Live}
 use Rattle.settled.specs.Saves.{zeroed}
-use Rattle.settled.specs.Settled.{Snap}
+use Rattle.settled.specs.Faultless.{Snap}
 
 -- a fresh store: area 0 is zeroed, and then the header is written
 unfoldable pub made : ℕ → List ℕ → List ℕ

@@ -1,3 +1,4 @@
+-- To be believed: `run`'s output, a volume's steps or its attach are said in these words.
 -- What saving one chunk of the origin leaves on a store: functions of whole lists of bytes, with no events, no holds and
 -- no copies in flight. The format is that of dm-snap-persistent.c; that a spoiled store is marked is this project's rule.
 use Rattle.std.specs.Prelude.{◌==◌, ℕ, ◌+◌, ◌*◌, ◌/◌, ◌%◌, Bool, true, false, List, [], ◌∷◌, ◌++◌, length, max, nat_lt, is_some, replicate, if◌then◌else◌}

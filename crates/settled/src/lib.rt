@@ -1,10 +1,14 @@
-//! One volume, command by command: an origin disk and up to eight snapshots of it, over devices that never fail.
+//! One volume, command by command: what each command does to the raw bytes of every device, and to the layers above them, as
+//! one function with no events, no holds and no copies in flight, whatever fails.
 //!
-//! What each command does is one function over plain arrays and the disks' raw bytes side by side (`specs/Saves`, `Loads`,
-//! `Settled`, `Attaching`), with no events, no holds and no copies in flight; the settled machine of `settling`, whose
-//! devices may fail, is this one where none does. A live snapshot's array is computed from the raw bytes of its store and of
-//! the origin disk alone: saving a chunk and loading a store leave it (`proofs/Laws`, `Trimmed`, `Made`), and so does a write
-//! of the origin over a chunk that was saved (`proofs/Writes`). A store may be loaded exactly where its pairs are well
-//! formed and each full area has its successor (`proofs/Loadable`). It stands on `model`, `plain` and `cow_header`, and has
-//! no code that runs.
+//! `specs/Saves` and `Loads` say what saving a chunk and loading a store do to a store's raw bytes, and `Order` what holds of
+//! them between two commands. Over them stand the big steps of devices that may fail: `Saving`, `Pieces`, `Requests`,
+//! `Commands`, `Attaching`, `Moments`, and a merge in big steps (`Merges`, `MergeShown`; its laws are in `merge_laws`).
+//! `Faultless` and `FaultlessAttaching` are the same over plain arrays and disks that never fail, and where no device has a
+//! layer the two are one (`proofs/Faultless`, `FaultlessAttaching`).
+//!
+//! A live snapshot's array is computed from the raw bytes of its store and of the origin disk alone: saving a chunk and
+//! loading a store leave it (`proofs/Laws`, `Trimmed`, `Made`), and so does a write of the origin over a chunk that was saved
+//! (`proofs/Writes`). A store may be loaded exactly where its pairs are well formed and each full area has its successor
+//! (`proofs/Loadable`). It stands on `model`, `plain`, `pending`, `device` and `cow_header`, and has no code that runs.
 #![tactic(auto)]

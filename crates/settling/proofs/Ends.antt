@@ -15,15 +15,15 @@ use Rattle.pending.specs.Copies.{count_of}
 use Rattle.pending.specs.declared.copies.Stage.TheVariants.{Waiting, Read, Written}
 use Rattle.pending.specs.Due.{least}
 use Rattle.settled.specs.Saves.{copied, paired, zeroed}
-use Rattle.settling.specs.Devices.{Device, sectors_of, answers, met, written_by}
-use Rattle.settling.specs.Snaps.{Snap}
-use Rattle.settling.specs.Saving.{lacks_area, spoilt, write_pair, commit, copy}
-use Rattle.settling.specs.Held.{Held, Going, Moving, with_store, spoiled}
-use Rattle.settling.specs.Due.{copy_at, is_reading, least_in}
-use Rattle.settling.specs.Again.{again, placed, refused}
-use Rattle.settling.proofs.Lists.{Each, each_weaker}
+use Rattle.settled.specs.Devices.{Device, sectors_of, answers, met, written_by}
+use Rattle.settled.specs.Snaps.{Snap}
+use Rattle.settled.specs.Saving.{lacks_area, spoilt, write_pair, commit, copy}
+use Rattle.event_machine.specs.Held.{Held, Going, Moving, with_store, spoiled}
+use Rattle.event_machine.specs.Due.{copy_at, is_reading, least_in}
+use Rattle.event_machine.specs.Again.{again, placed, refused}
+use Rattle.settled.proofs.Each.{Each, each_weaker}
 use Rattle.settling.proofs.Goes.{Goes, goes_on}
-use Rattle.settling.proofs.Around.{at, IsIdle, IsLater}
+use Rattle.event_machine.proofs.Around.{at, IsIdle, IsLater}
 use Rattle.settling.proofs.Stages.{holding, copying, marks_here, reads_done, reads_failed, writes_done, writes_failed, zeros_lacking, zeros_done, zeros_failed, area_done, area_failed, publishes}
 
 -- the requests in flight once a snapshot's copy came to its end

@@ -1,10 +1,10 @@
 -- Events by what is due: one after the other.
 use Rattle.std.proofs.Common.{◌≡◌, ℕ, zero, suc, ◌+◌, Some, None, refl, ap, ◌∙◌, arith}
 use Rattle.plain.specs.declared.event.Event.{Event}
-use Rattle.settling.specs.Held.{Moving}
-use Rattle.settling.specs.Due.{due}
-use Rattle.settling.specs.Stepping.{for_some, stepped}
-use Rattle.settling.specs.Settles.{settle}
+use Rattle.event_machine.specs.Held.{Moving}
+use Rattle.event_machine.specs.Due.{due}
+use Rattle.event_machine.specs.Stepping.{for_some, stepped}
+use Rattle.event_machine.specs.Settles.{settle}
 
 -- a volume goes on to another by so many events that are due first
 abbrev pub Goes : Moving → Moving → Type 0

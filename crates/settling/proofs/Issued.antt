@@ -5,16 +5,17 @@ use Rattle.std.proofs.lemmas.Bool.{cond-true}
 use Rattle.plain.specs.declared.event.Event.TheVariants.{Issue}
 use Rattle.plain.specs.declared.request.Reply.{Reply}
 use Rattle.pending.specs.Due.{is_routed}
-use Rattle.settling.specs.Devices.{Device}
-use Rattle.settling.specs.Pieces.{Answered}
-use Rattle.settling.specs.Held.{Held, Going, Moving}
-use Rattle.settling.specs.Due.{due}
-use Rattle.settling.specs.Stepping.{for_some, answer, issue}
-use Rattle.settling.specs.Rest.{IsResting}
-use Rattle.settling.specs.Settles.{settle, SettlesTo}
-use Rattle.settling.proofs.Lists.{same_number, Each, each_weaker, all_from}
+use Rattle.settled.specs.Devices.{Device}
+use Rattle.settled.specs.Pieces.{Answered}
+use Rattle.event_machine.specs.Held.{Held, Going, Moving}
+use Rattle.event_machine.specs.Due.{due}
+use Rattle.event_machine.specs.Stepping.{for_some, answer, issue}
+use Rattle.event_machine.specs.Rest.{IsResting}
+use Rattle.event_machine.specs.Settles.{settle, SettlesTo}
+use Rattle.event_machine.proofs.Lists.{same_number}
+use Rattle.settled.proofs.Each.{Each, each_weaker, all_from}
 use Rattle.settling.proofs.Goes.{Goes, goes_step, settled_there}
-use Rattle.settling.proofs.Around.{at, IsIdle, due_request}
+use Rattle.event_machine.proofs.Around.{at, IsIdle, due_request}
 use Rattle.settling.proofs.Primed.{resting_idle}
 
 abbrev pub mine_of : Going → Going → Bool

@@ -1,10 +1,10 @@
 -- A volume at rest is at rest when time has passed, or a message has changed layers.
 use Rattle.std.proofs.Common.{ℕ, List, [], ◌∷◌, map}
 use Rattle.device.specs.Layers.{Layer}
-use Rattle.settling.specs.Held.{Held, Moving, with_store}
-use Rattle.settling.specs.Moments.{relayered}
-use Rattle.settling.specs.Rest.{IsResting, IsAtRest}
-use Rattle.settling.proofs.Lists.{Each, each_from, all_from}
+use Rattle.event_machine.specs.Held.{Held, Moving, with_store}
+use Rattle.settled.specs.Moments.{relayered}
+use Rattle.event_machine.specs.Rest.{IsResting, IsAtRest}
+use Rattle.settled.proofs.Each.{Each, each_from, all_from}
 
 rests_relayered : (sectors : ℕ) (f : List Layer → List Layer) (h : Held) → IsResting sectors h → IsResting sectors (with_store h (relayered f h.snap.store))
 rests_relayered sectors f h rest = record {

@@ -23,25 +23,26 @@ use Rattle.pending.specs.declared.flights.Route.{Route}
 use Rattle.pending.specs.declared.flights.Route.TheVariants.{Held as Waits, Origin}
 use Rattle.settled.specs.Saves.{copied, next_of}
 use Rattle.settled.proofs.Saved.{chunk_front}
-use Rattle.settled.proofs.Writes.{piece_low}
-use Rattle.settling.specs.Devices.{Device, sectors_of, met, written_by}
-use Rattle.settling.specs.Snaps.{Snap, Volume}
-use Rattle.settling.specs.Saving.{Saving, spoilt, next_place, is_full, has_chunk, save}
-use Rattle.settling.specs.Pieces.{save_all}
-use Rattle.settling.specs.Held.{Copying, Held, Going, Moving, spoiled, is_untried}
-use Rattle.settling.specs.Due.{copy_at, least_in}
-use Rattle.settling.specs.Again.{again, is_saved, is_clear}
-use Rattle.settling.specs.Stepping.{for_some, issue, write_reply}
-use Rattle.settling.specs.Submitting.{needs_none, is_filled, with_copy, started_all}
-use Rattle.settling.specs.Rest.{IsKept, IsResting}
-use Rattle.settling.proofs.Lists.{same_number, Each, each_weaker, each_more}
+use Rattle.chunk.proofs.PiecePlaces.{piece_low}
+use Rattle.settled.specs.Devices.{Device, sectors_of, met, written_by}
+use Rattle.settled.specs.Snaps.{Snap, Volume}
+use Rattle.settled.specs.Saving.{Saving, spoilt, next_place, is_full, has_chunk, save}
+use Rattle.settled.specs.Pieces.{save_all}
+use Rattle.event_machine.specs.Held.{Copying, Held, Going, Moving, spoiled, is_untried}
+use Rattle.event_machine.specs.Due.{copy_at, least_in}
+use Rattle.event_machine.specs.Again.{again, is_saved, is_clear}
+use Rattle.event_machine.specs.Stepping.{for_some, issue, write_reply}
+use Rattle.event_machine.specs.Submitting.{needs_none, is_filled, with_copy, started_all}
+use Rattle.event_machine.specs.Rest.{IsKept, IsResting}
+use Rattle.event_machine.proofs.Lists.{same_number}
+use Rattle.settled.proofs.Each.{Each, each_weaker, each_more}
 use Rattle.settling.proofs.Goes.{Goes, goes_none, goes_on, goes_step}
-use Rattle.settling.proofs.Around.{at, IsIdle, due_request}
+use Rattle.event_machine.proofs.Around.{at, IsIdle, due_request}
 use Rattle.settling.proofs.Stages.{holding, copying, marks_here}
 use Rattle.settling.proofs.Ends.{Ends, IsUnread, requests_after, ends_read}
-use Rattle.settling.proofs.Saves.{saves_nothing, saves_full, saves_copy, chunk_read}
+use Rattle.settled.proofs.Saves.{saves_nothing, saves_full, saves_copy, chunk_read}
 use Rattle.settling.proofs.Resting.{rests_live, saved_chunk, saved_snap}
-use Rattle.settling.proofs.Clears.{and_last, unclear_unsaved, unclear_untried, clear_all}
+use Rattle.event_machine.proofs.Clears.{and_last, unclear_unsaved, unclear_untried, clear_all}
 use Rattle.settling.proofs.Primed.{tried_of, primed, primed_none, primed_full, primed_copy, needs_resting, resting_idle, primed_later, primed_above, least_low}
 
 goes_between : (u u' v v' : Moving) → u ≡ u' → v' ≡ v → Goes u' v' → Goes u v

@@ -16,9 +16,9 @@ use Rattle.settled.specs.Order.{IsInOrder}
 use Rattle.settled.proofs.Parts.{part_only}
 use Rattle.settled.proofs.Commits.{tail_kept}
 use Rattle.settled.proofs.Laws.{chunk_fits}
-use Rattle.settling.specs.Devices.{answers, written_by}
-use Rattle.settling.specs.Held.{Held, with_store}
-use Rattle.settling.specs.Rest.{IsKept, IsResting}
+use Rattle.settled.specs.Devices.{answers, written_by}
+use Rattle.event_machine.specs.Held.{Held, with_store}
+use Rattle.event_machine.specs.Rest.{IsKept, IsResting}
 
 -- a change of one copy's place
 order_place : (chunk origin size n : ℕ) (old new : List ℕ) → IsInOrder chunk origin size old → is_area_place chunk n ≡ false → ChangesOnly chunk n old new → IsInOrder chunk origin size new × (pairs_of chunk new ≡ pairs_of chunk old)

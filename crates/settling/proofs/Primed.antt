@@ -6,14 +6,14 @@ use Rattle.std.specs.List.{list_any}
 use Rattle.std.proofs.lemmas.Bool.{cases_Bool, cond-true, cond-false}
 use Rattle.pending.specs.declared.copies.Stage.TheVariants.{Waiting}
 use Rattle.pending.specs.Due.{least}
-use Rattle.settling.specs.Saving.{spoilt}
+use Rattle.settled.specs.Saving.{spoilt}
 use Rattle.model.specs.Picture.{place_of}
-use Rattle.settling.specs.Held.{Copying, Held}
-use Rattle.settling.specs.Due.{copy_at, least_in}
-use Rattle.settling.specs.Rest.{IsResting}
-use Rattle.settling.specs.Submitting.{needs_none, is_filled, with_copy, started_all, refused_by}
-use Rattle.settling.proofs.Lists.{Each}
-use Rattle.settling.proofs.Around.{IsIdle, IsLater, idle_later}
+use Rattle.event_machine.specs.Held.{Copying, Held}
+use Rattle.event_machine.specs.Due.{copy_at, least_in}
+use Rattle.event_machine.specs.Rest.{IsResting}
+use Rattle.event_machine.specs.Submitting.{needs_none, is_filled, with_copy, started_all, refused_by}
+use Rattle.settled.proofs.Each.{Each}
+use Rattle.event_machine.proofs.Around.{IsIdle, IsLater, idle_later}
 
 -- a spoiled snapshot whose mark is tried
 abbrev pub tried_of : Held → Held

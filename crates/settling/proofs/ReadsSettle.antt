@@ -17,19 +17,20 @@ use Rattle.pending.specs.Routes.{read_route_of}
 use Rattle.pending.specs.declared.flights.Route.{Route}
 use Rattle.pending.specs.declared.flights.Route.TheVariants.{Origin, Store}
 use Rattle.settled.proofs.Laws.{option_cases}
-use Rattle.settling.specs.Devices.{Device, met, read_reply}
-use Rattle.settling.specs.Pieces.{read_origin, read_snap, read_place, in_snap}
-use Rattle.settling.specs.Held.{Held, Going, Moving, with_store}
-use Rattle.settling.specs.Stepping.{for_some, answer, on_store}
-use Rattle.settling.specs.Submitting.{submitted, declined, read_snap as submit_read}
-use Rattle.settling.specs.Rest.{IsResting, IsAtRest}
-use Rattle.settling.specs.Settles.{SettlesTo}
-use Rattle.settling.proofs.Lists.{Each, each_weaker, each_from, here_that}
+use Rattle.settled.specs.Devices.{Device, met, read_reply}
+use Rattle.settled.specs.Pieces.{read_origin, read_snap, read_place, in_snap}
+use Rattle.event_machine.specs.Held.{Held, Going, Moving, with_store}
+use Rattle.event_machine.specs.Stepping.{for_some, answer, on_store}
+use Rattle.event_machine.specs.Submitting.{submitted, declined, read_snap as submit_read}
+use Rattle.event_machine.specs.Rest.{IsResting, IsAtRest}
+use Rattle.event_machine.specs.Settles.{SettlesTo}
+use Rattle.settled.proofs.Each.{Each, each_weaker, each_from}
+use Rattle.event_machine.proofs.Lists.{here_that}
 use Rattle.settling.proofs.Goes.{Goes, goes_none}
-use Rattle.settling.proofs.Around.{at, IsIdle}
+use Rattle.event_machine.proofs.Around.{at, IsIdle}
 use Rattle.settling.proofs.Stages.{put_here}
 use Rattle.settling.proofs.Primed.{resting_idle}
-use Rattle.settling.proofs.Found.{split_at, none_that, served_nowhere}
+use Rattle.event_machine.proofs.Found.{split_at, none_that, served_nowhere}
 use Rattle.settling.proofs.Issued.{mine_of, issued, answered_here, settles_there}
 use Rattle.settling.proofs.Served.{snap_of, each_here, served_settles}
 

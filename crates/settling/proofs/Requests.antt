@@ -9,14 +9,15 @@ use Rattle.plain.specs.declared.request.Dev.{Dev}
 use Rattle.plain.specs.declared.request.Dev.TheVariants.{Origin, Snap}
 use Rattle.plain.specs.declared.request.Op.{Op}
 use Rattle.plain.specs.declared.request.Op.TheVariants.{Read, Write}
-use Rattle.settling.specs.Pieces.{Answered}
-use Rattle.settling.specs.Held.{Moving}
-use Rattle.settling.specs.Due.{due}
-use Rattle.settling.specs.Stepping.{for_some, stepped}
-use Rattle.settling.specs.Submitting.{submitted}
-use Rattle.settling.specs.Rest.{IsAtRest}
-use Rattle.settling.specs.Settles.{settle, SettlesTo}
-use Rattle.settling.specs.Requests.{volume_of, answered_by, answer_of, FitsRange, IsInChunk, IsFit}
+use Rattle.settled.specs.Pieces.{Answered}
+use Rattle.event_machine.specs.Held.{Moving}
+use Rattle.event_machine.specs.Due.{due}
+use Rattle.event_machine.specs.Stepping.{for_some, stepped}
+use Rattle.event_machine.specs.Submitting.{submitted}
+use Rattle.event_machine.specs.Rest.{IsAtRest}
+use Rattle.event_machine.specs.Settles.{settle, SettlesTo}
+use Rattle.event_machine.specs.Requests.{volume_of, IsInChunk, IsFit}
+use Rattle.settled.specs.Requests.{answered_by, answer_of, FitsRange}
 use Rattle.settling.proofs.WritesSettle.{origin_write_settles}
 use Rattle.settling.proofs.ReadsSettle.{origin_read_settles, snap_read_settles}
 use Rattle.settling.proofs.SnapWritesSettle.{snap_write_settles}

@@ -8,18 +8,19 @@ use Rattle.plain.specs.declared.request.Op.{Op}
 use Rattle.plain.specs.declared.request.Op.TheVariants.{Read, Write}
 use Rattle.plain.specs.declared.request.Reply.{Reply}
 use Rattle.plain.specs.declared.request.Reply.TheVariants.{Data, Written, Refused}
-use Rattle.settled.proofs.Writes.{join_le, piece_high}
-use Rattle.settling.specs.Snaps.{Snap, Volume}
-use Rattle.settling.specs.Pieces.{Answered}
-use Rattle.settling.specs.Commands.{go_on, bytes_in, write_piece, write_pieces, read_piece, read_pieces, piece_of, written, read}
-use Rattle.settling.specs.Held.{Held, Moving}
-use Rattle.settling.specs.Rest.{IsAtRest}
-use Rattle.settling.specs.Settles.{SettlesTo}
-use Rattle.settling.specs.Requests.{volume_of, answered_by, answer_of, FitsRange, IsInChunk, IsFit}
+use Rattle.chunk.proofs.PiecePlaces.{join_le, piece_high}
+use Rattle.settled.specs.Snaps.{Snap, Volume}
+use Rattle.settled.specs.Pieces.{Answered}
+use Rattle.settled.specs.Commands.{go_on, bytes_in, write_piece, write_pieces, read_piece, read_pieces, piece_of, written, read}
+use Rattle.event_machine.specs.Held.{Held, Moving}
+use Rattle.event_machine.specs.Rest.{IsAtRest}
+use Rattle.event_machine.specs.Settles.{SettlesTo}
+use Rattle.event_machine.specs.Requests.{volume_of, IsInChunk, IsFit}
+use Rattle.settled.specs.Requests.{answered_by, answer_of, FitsRange}
 use Rattle.settling.specs.Running.{IsDone, GoesOn, IsWritten, IsRead}
-use Rattle.settling.proofs.Lists.{Each, all_from, each_from}
+use Rattle.settled.proofs.Each.{Each, all_from, each_from}
 use Rattle.settling.proofs.Requests.{request_settles, settles_one}
-use Rattle.settling.proofs.Chunks.{HasChunks, answer_keeps}
+use Rattle.settled.proofs.Chunks.{HasChunks, answer_keeps}
 
 -- the sectors of these pieces
 abbrev counts_of : List Span → ℕ

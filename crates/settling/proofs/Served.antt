@@ -2,16 +2,16 @@
 use Rattle.std.proofs.Common.{◌≡◌, ℕ, ◌*◌, true, false, List, [], ◌∷◌, ◌++◌, length, map, Some, refl, ap, ◌∙◌, sym}
 use Rattle.std.specs.Prelude.{◌==◌}
 use Rattle.plain.specs.declared.request.Reply.{Reply}
-use Rattle.settling.specs.Devices.{Device}
-use Rattle.settling.specs.Snaps.{Snap}
-use Rattle.settling.specs.Pieces.{Answered, Served, in_snap}
-use Rattle.settling.specs.Held.{Held, Moving}
-use Rattle.settling.specs.Rest.{IsResting}
-use Rattle.settling.specs.Settles.{SettlesTo}
-use Rattle.settling.proofs.Lists.{Each}
+use Rattle.settled.specs.Devices.{Device}
+use Rattle.settled.specs.Snaps.{Snap}
+use Rattle.settled.specs.Pieces.{Answered, Served, in_snap}
+use Rattle.event_machine.specs.Held.{Held, Moving}
+use Rattle.event_machine.specs.Rest.{IsResting}
+use Rattle.event_machine.specs.Settles.{SettlesTo}
+use Rattle.settled.proofs.Each.{Each}
 use Rattle.settling.proofs.Goes.{Goes}
-use Rattle.settling.proofs.Around.{at}
-use Rattle.settling.proofs.Found.{served_here}
+use Rattle.event_machine.proofs.Around.{at}
+use Rattle.event_machine.proofs.Found.{served_here}
 use Rattle.settling.proofs.Issued.{settles_there}
 
 abbrev pub snap_of : Held → Snap

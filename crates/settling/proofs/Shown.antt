@@ -1,7 +1,7 @@
 -- A write of the origin leaves what each snapshot shows, where that stays live, whatever fails.
-use Rattle.std.proofs.Common.{◌≡◌, inl, inr, ℕ, ◌+◌, ◌*◌, ◌/◌, ◌<◌, ◌≤◌, Bool, true, false, List, [], ◌∷◌, length, map, arith, refl, ap, ◌∙◌, sym, subst}
+use Rattle.std.proofs.Common.{◌≡◌, ℕ, ◌+◌, ◌*◌, ◌/◌, ◌<◌, ◌≤◌, Bool, true, false, List, [], ◌∷◌, length, map, arith, refl, ap, ◌∙◌, sym, subst}
 use Rattle.std.specs.Prelude.{if◌then◌else◌}
-use Rattle.std.proofs.lemmas.Bool.{cases_Bool, cond-true, true≢false}
+use Rattle.std.proofs.lemmas.Bool.{cond-true}
 use Rattle.sector.specs.Bytes.{with_sectors}
 use Rattle.device.specs.declared.operation.Operation.TheVariants.{Writes}
 use Rattle.chunk.specs.Pieces.{Span}
@@ -10,36 +10,20 @@ use Rattle.plain.specs.Plain.{Live}
 use Rattle.settled.specs.Saves.{Saving as Stored, saved}
 use Rattle.settled.proofs.Saved.{AfterSaving, IsSavedTo}
 use Rattle.settled.proofs.Laws.{saving_law}
-use Rattle.settled.proofs.Writes.{picture-saved, piece_low}
-use Rattle.settling.specs.Devices.{Device, answers, written_by}
-use Rattle.settling.specs.Snaps.{Snap, Volume, shown}
-use Rattle.settling.specs.Saving.{Saving, is_full, has_chunk, save}
-use Rattle.settling.specs.Pieces.{save_all, write_origin}
-use Rattle.settling.specs.Shown.{ShowTheSame}
-use Rattle.settling.specs.Held.{Held, Moving}
-use Rattle.settling.specs.Rest.{IsResting, IsAtRest}
-use Rattle.settling.specs.Requests.{volume_of}
-use Rattle.settling.proofs.Lists.{Each, each_from}
-use Rattle.settling.proofs.Saves.{saves_nothing, saves_full, saves_copy, stored_of, save_live}
-use Rattle.settling.proofs.Chunks.{save_chunk}
-use Rattle.settling.proofs.WritesSettle.{save_bytes, save_all_bytes}
-
--- a snapshot that is live after a chunk was saved was live before, and has it as `settled` saves it
-pub live_saved : (c : ℕ) (origin : Device) (s : Snap) → (save c origin s).snap.live ≡ true → (s.live ≡ true) × (stored_of (save c origin s).snap ≡ saved s.chunk origin.bytes s.store.bytes c)
-unfolding saved
-live_saved c origin s live = elim (cases_Bool s.live) [
-  | inr out ↦ (let is = saves_nothing c origin s (rw out refl) in absurd (true≢false (sym live ∙ ap (λ (x : Saving). x.snap.live) is ∙ out)))
-  | inl on ↦ elim (cases_Bool (has_chunk c s)) [
-    | inl some ↦ (let is = saves_nothing c origin s (rw (on, some) refl) in
-        let mk : Bool → Stored = λ (b : Bool). record { store = s.store.bytes; live = b } in
-        (on, ap (λ (x : Saving). stored_of x.snap) is ∙ ap mk on ∙ sym (cond-true _ _ _ some)))
-    | inr lacks ↦ elim (cases_Bool (is_full s)) [
-      | inl full ↦ (let is = saves_full c origin s (rw (on, lacks) refl) full in absurd (true≢false (sym live ∙ ap (λ (x : Saving). x.snap.live) is)))
-      | inr room ↦ (let is = saves_copy c origin s (rw (on, lacks) refl) room in
-          (on, ap (λ (x : Saving). stored_of x.snap) is ∙ save_live c origin s on lacks room (sym (ap (λ (x : Saving). x.snap.live) is) ∙ live)))
-    ]
-  ]
-]
+use Rattle.settled.proofs.Writes.{picture-saved}
+use Rattle.chunk.proofs.PiecePlaces.{piece_low}
+use Rattle.settled.specs.Devices.{Device, answers, written_by}
+use Rattle.settled.specs.Snaps.{Snap, Volume, shown}
+use Rattle.settled.specs.Saving.{save}
+use Rattle.settled.specs.Pieces.{save_all, write_origin}
+use Rattle.settled.specs.Shown.{ShowTheSame}
+use Rattle.event_machine.specs.Held.{Held, Moving}
+use Rattle.event_machine.specs.Rest.{IsResting, IsAtRest}
+use Rattle.event_machine.specs.Requests.{volume_of}
+use Rattle.settled.proofs.Each.{Each, each_from}
+use Rattle.settled.proofs.Chunks.{save_chunk}
+use Rattle.settled.proofs.SavedBytes.{save_bytes, save_all_bytes}
+use Rattle.settled.proofs.LiveSaves.{live_saved}
 
 module _ (sectors : ℕ) (piece : Span) (bytes : List ℕ) (some : 0 < piece.count) (inside : piece.first + piece.count ≤ sectors) (len : length bytes ≡ 512 * piece.count) where
   -- one snapshot, over an origin disk that was written or not

@@ -25,30 +25,31 @@ use Rattle.pending.specs.declared.flights.Kind.TheVariants.{SnapWrite}
 use Rattle.pending.specs.declared.flights.Route.{Route}
 use Rattle.pending.specs.declared.flights.Route.TheVariants.{Held as Waits, Store, Refused}
 use Rattle.settled.proofs.Laws.{option_cases}
-use Rattle.settled.proofs.Writes.{piece_low}
+use Rattle.chunk.proofs.PiecePlaces.{piece_low}
 use Rattle.volume_laws.specs.Again.{published_place}
-use Rattle.settling.specs.Devices.{Device, met, written_by}
-use Rattle.settling.specs.Snaps.{Snap}
-use Rattle.settling.specs.Saving.{Saving, spoilt, next_place, is_full, has_chunk, save}
-use Rattle.settling.specs.Pieces.{Served, write_snap, write_saved, write_place, in_snap}
-use Rattle.settling.specs.Held.{Held, Going, Moving, with_store, spoiled}
-use Rattle.settling.specs.Due.{copy_at, least_in}
-use Rattle.settling.specs.Again.{again}
-use Rattle.settling.specs.Stepping.{for_some, answer, on_store, write_reply}
-use Rattle.settling.specs.Submitting.{submitted, accepted, declined, needs_none, is_filled, with_copy, write_placed, write_snap as submit_write}
-use Rattle.settling.specs.Rest.{IsKept, IsResting, IsAtRest}
-use Rattle.settling.specs.Settles.{SettlesTo}
-use Rattle.settling.proofs.Lists.{Each, each_weaker, each_from, here_that, none_least}
+use Rattle.settled.specs.Devices.{Device, met, written_by}
+use Rattle.settled.specs.Snaps.{Snap}
+use Rattle.settled.specs.Saving.{Saving, spoilt, next_place, is_full, has_chunk, save}
+use Rattle.settled.specs.Pieces.{Served, write_snap, write_saved, write_place, in_snap}
+use Rattle.event_machine.specs.Held.{Held, Going, Moving, with_store, spoiled}
+use Rattle.event_machine.specs.Due.{copy_at, least_in}
+use Rattle.event_machine.specs.Again.{again}
+use Rattle.event_machine.specs.Stepping.{for_some, answer, on_store, write_reply}
+use Rattle.event_machine.specs.Submitting.{submitted, accepted, declined, needs_none, is_filled, with_copy, write_placed, write_snap as submit_write}
+use Rattle.event_machine.specs.Rest.{IsKept, IsResting, IsAtRest}
+use Rattle.event_machine.specs.Settles.{SettlesTo}
+use Rattle.settled.proofs.Each.{Each, each_weaker, each_from}
+use Rattle.event_machine.proofs.Lists.{here_that, none_least}
 use Rattle.settling.proofs.Goes.{Goes, goes_none, goes_on}
-use Rattle.settling.proofs.Around.{at, IsIdle, IsLater, idle_later}
+use Rattle.event_machine.proofs.Around.{at, IsIdle, IsLater, idle_later}
 use Rattle.settling.proofs.Stages.{put_here, marks_here}
 use Rattle.settling.proofs.Ends.{Ends, IsUnread, requests_after, ends_read}
-use Rattle.settling.proofs.Saves.{saves_nothing, saves_full, saves_copy, chunk_read}
+use Rattle.settled.proofs.Saves.{saves_nothing, saves_full, saves_copy, chunk_read}
 use Rattle.settling.proofs.Resting.{rests_live, saved_snap, saved_chunk, saved_number}
-use Rattle.settling.proofs.Clears.{and_last}
+use Rattle.event_machine.proofs.Clears.{and_last}
 use Rattle.settling.proofs.Primed.{tried_of, resting_idle}
 use Rattle.settling.proofs.OriginWrites.{needs_same, next_same, copy_bytes, as_holding}
-use Rattle.settling.proofs.Found.{split_at, none_that, served_nowhere}
+use Rattle.event_machine.proofs.Found.{split_at, none_that, served_nowhere}
 use Rattle.settling.proofs.Issued.{mine_of, issued, answered_here, settles_there}
 use Rattle.settling.proofs.Served.{snap_of, each_first, each_here, each_last, each_joined, served_settles}
 use Rattle.settling.proofs.ReadsSettle.{goes_to}

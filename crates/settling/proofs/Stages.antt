@@ -17,16 +17,17 @@ use Rattle.pending.specs.declared.copies.Stage.TheVariants.{Waiting, Read, Writt
 use Rattle.pending.specs.declared.copies.Mark.{Mark}
 use Rattle.pending.specs.Due.{least, is_stage}
 use Rattle.settled.specs.Saves.{marked, paired, zeroed}
-use Rattle.settling.specs.Devices.{Device, sectors_of, answers, met, written_by}
-use Rattle.settling.specs.Snaps.{Snap}
-use Rattle.settling.specs.Saving.{lacks_area}
-use Rattle.settling.specs.Held.{Copying, Held, Going, Moving, with_store, spoiled}
-use Rattle.settling.specs.Due.{can_commit, can_zero, copy_at, is_reading, is_publishable, least_in, due}
-use Rattle.settling.specs.Again.{again, placed, refused, rerouted}
-use Rattle.settling.specs.Stepping.{for_some, first_that, with_first, put, spoil, store_write, read_copy, write_copy, zero_next, commit_first, publish, mark_invalid, is_copy, on_copy, on_snap}
-use Rattle.settling.proofs.Lists.{same_number, Each, each_weaker, here_that, here_with}
+use Rattle.settled.specs.Devices.{Device, sectors_of, answers, met, written_by}
+use Rattle.settled.specs.Snaps.{Snap}
+use Rattle.settled.specs.Saving.{lacks_area}
+use Rattle.event_machine.specs.Held.{Copying, Held, Going, Moving, with_store, spoiled}
+use Rattle.event_machine.specs.Due.{can_commit, can_zero, copy_at, is_reading, is_publishable, least_in, due}
+use Rattle.event_machine.specs.Again.{again, placed, refused, rerouted}
+use Rattle.event_machine.specs.Stepping.{for_some, first_that, with_first, put, spoil, store_write, read_copy, write_copy, zero_next, commit_first, publish, mark_invalid, is_copy, on_copy, on_snap}
+use Rattle.event_machine.proofs.Lists.{same_number, here_that, here_with}
+use Rattle.settled.proofs.Each.{Each, each_weaker}
 use Rattle.settling.proofs.Goes.{Goes, goes_step}
-use Rattle.settling.proofs.Around.{at, IsIdle, IsLater, due_invalid, due_publish, due_area, due_zeros, due_write, due_read}
+use Rattle.event_machine.proofs.Around.{at, IsIdle, IsLater, due_invalid, due_publish, due_area, due_zeros, due_write, due_read}
 
 -- a live snapshot with these copies and marks
 abbrev pub holding : Snap → List Pair → ℕ → Bool → List Copying → List Mark → Held

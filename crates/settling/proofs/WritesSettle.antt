@@ -1,6 +1,5 @@
 -- A write of the origin, submitted to a volume at rest, settles to the big step.
-use Rattle.std.proofs.Common.{◌≡◌, ℕ, ◌+◌, ◌*◌, ◌/◌, ◌<◌, ◌≤◌, false, List, [], ◌∷◌, ◌++◌, length, map, arith, refl, ap, ◌∙◌, sym, inl, inr}
-use Rattle.std.specs.Prelude.{◌||◌, not}
+use Rattle.std.proofs.Common.{◌≡◌, ℕ, ◌+◌, ◌*◌, ◌<◌, ◌≤◌, false, List, [], ◌∷◌, ◌++◌, length, map, arith, ap, ◌∙◌, sym, inl, inr}
 use Rattle.std.proofs.lemmas.Bool.{cases_Bool, cond-true, cond-false}
 use Rattle.sector.specs.Bytes.{with_sectors}
 use Rattle.sector.specs.declared.range.Range.{Range}
@@ -11,36 +10,21 @@ use Rattle.plain.specs.declared.request.Request.{Request}
 use Rattle.plain.specs.declared.request.Dev.TheVariants.{Origin as ToOrigin}
 use Rattle.plain.specs.declared.request.Op.TheVariants.{Write}
 use Rattle.plain.specs.declared.request.Reply.{Reply}
-use Rattle.settling.specs.Devices.{Device, answers, written_by}
-use Rattle.settling.specs.Snaps.{Snap, Volume}
-use Rattle.settling.specs.Saving.{Saving, is_full, has_chunk, save}
-use Rattle.settling.specs.Pieces.{Answered, save_all, write_origin}
-use Rattle.settling.specs.Held.{Held, Going, Moving}
-use Rattle.settling.specs.Stepping.{write_reply}
-use Rattle.settling.specs.Submitting.{started_all, started_by, refused_by, submitted}
-use Rattle.settling.specs.Rest.{IsResting, IsAtRest}
-use Rattle.settling.specs.Settles.{SettlesTo}
-use Rattle.settling.proofs.Lists.{Each, each_weaker, each_from}
+use Rattle.settled.specs.Devices.{Device, answers, written_by}
+use Rattle.settled.specs.Snaps.{Snap, Volume}
+use Rattle.settled.specs.Pieces.{Answered, save_all, write_origin}
+use Rattle.event_machine.specs.Held.{Held, Going, Moving}
+use Rattle.event_machine.specs.Stepping.{write_reply}
+use Rattle.event_machine.specs.Submitting.{started_all, started_by, refused_by, submitted}
+use Rattle.event_machine.specs.Rest.{IsResting, IsAtRest}
+use Rattle.event_machine.specs.Settles.{SettlesTo}
+use Rattle.settled.proofs.Each.{Each, each_weaker, each_from}
 use Rattle.settling.proofs.Goes.{goes_on}
-use Rattle.settling.proofs.Around.{at, IsIdle}
+use Rattle.event_machine.proofs.Around.{at, IsIdle}
 use Rattle.settling.proofs.Issued.{settles_there}
-use Rattle.settling.proofs.Saves.{saves_nothing, saves_full, saves_copy}
 use Rattle.settling.proofs.Primed.{resting_idle, refused_none}
 use Rattle.settling.proofs.OriginWrites.{snap_of, going, route_for, writing, tries_all, Finals, copies_all, issues}
-
--- a copy's read changes no byte of the origin
-pub save_bytes : (c : ℕ) (origin : Device) (s : Snap) → (save c origin s).origin.bytes ≡ origin.bytes
-save_bytes c origin s = elim (cases_Bool (not s.live || has_chunk c s)) [
-  | inl none ↦ ap (λ (x : Saving). x.origin.bytes) (saves_nothing c origin s none)
-  | inr some ↦ elim (cases_Bool (is_full s)) [
-    | inl full ↦ ap (λ (x : Saving). x.origin.bytes) (saves_full c origin s some full)
-    | inr room ↦ ap (λ (x : Saving). x.origin.bytes) (saves_copy c origin s some room)
-  ]
-]
-
-pub save_all_bytes : (first : ℕ) (origin : Device) (snaps : List Snap) → (save_all first origin snaps).origin.bytes ≡ origin.bytes
-save_all_bytes first origin [] = refl
-save_all_bytes first origin (s ∷ snaps) = save_all_bytes first (save (first / s.chunk) origin s).origin snaps ∙ save_bytes (first / s.chunk) origin s
+use Rattle.settled.proofs.SavedBytes.{save_all_bytes}
 
 -- a write of a device keeps its size
 pub written_length : (device : Device) (first count : ℕ) (bytes : List ℕ) → length bytes ≡ 512 * count → 512 * (first + count) ≤ length device.bytes → length (written_by device (Writes first count) (with_sectors device.bytes first bytes)).bytes ≡ length device.bytes

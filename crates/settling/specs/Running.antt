@@ -8,11 +8,11 @@ use Rattle.plain.specs.declared.request.Op.{Op}
 use Rattle.plain.specs.declared.request.Op.TheVariants.{Read, Write}
 use Rattle.plain.specs.declared.request.Reply.{Reply}
 use Rattle.plain.specs.declared.request.Reply.TheVariants.{Data, Written, Refused}
-use Rattle.settling.specs.Commands.{bytes_in}
-use Rattle.settling.specs.Held.{Moving}
-use Rattle.settling.specs.Due.{due}
-use Rattle.settling.specs.Submitting.{submitted}
-use Rattle.settling.specs.Settles.{settle}
+use Rattle.settled.specs.Commands.{bytes_in}
+use Rattle.event_machine.specs.Held.{Moving}
+use Rattle.event_machine.specs.Due.{due}
+use Rattle.event_machine.specs.Submitting.{submitted}
+use Rattle.event_machine.specs.Settles.{settle}
 
 -- a request for this piece was submitted under a number, and events were done until none was due
 pub record IsDone (number : ℕ) (dev : Dev) (op : Op) (piece : Span) (old new : Moving) (reply : Reply) : Type 0 where

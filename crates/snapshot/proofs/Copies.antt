@@ -40,6 +40,7 @@ copy_set live untried stale s begun copies marks k p q h lt is same len = record
   tried = h.tried;
   sound = h.sound;
   failed = h.failed;
+  valid = h.valid;
   agree = h.agree ∙ sym (map-set_same pair_of copies k q p (same ∙ ap pair_of is));
   buffers = All-set (IsBuffered s.chunk s.origin) copies k q
       (record { room = len ∙ buffered s.chunk s.origin copies k p h.buffers lt is ∙ ap (λ (x : Pair). 512 * count_of s.chunk s.origin x.old) (sym same) }) h.buffers;
@@ -55,16 +56,17 @@ pub record IsLike (s t : State) : Type 0 where
   pub size : t.size ≡ s.size
   pub left : t.left ≡ s.left
   pub copying : t.copying ≡ s.copying
+  pub valid : t.valid ≡ s.valid
 
 pub like_same : (s t : State) → t ≡ s → IsLike s t
-like_same s t is = record { chunk = ap (λ x. x.chunk) is; origin = ap (λ x. x.origin) is; size = ap (λ x. x.size) is; left = ap (λ x. x.left) is; copying = ap (λ x. x.copying) is }
+like_same s t is = record { chunk = ap (λ x. x.chunk) is; origin = ap (λ x. x.origin) is; size = ap (λ x. x.size) is; left = ap (λ x. x.left) is; copying = ap (λ x. x.copying) is; valid = ap (λ x. x.valid) is }
 
 pub like_zeroed : (s t : State) → t ≡ record s { zeroed = true } → IsLike s t
-like_zeroed s t is = record { chunk = ap (λ x. x.chunk) is; origin = ap (λ x. x.origin) is; size = ap (λ x. x.size) is; left = ap (λ x. x.left) is; copying = ap (λ x. x.copying) is }
+like_zeroed s t is = record { chunk = ap (λ x. x.chunk) is; origin = ap (λ x. x.origin) is; size = ap (λ x. x.size) is; left = ap (λ x. x.left) is; copying = ap (λ x. x.copying) is; valid = ap (λ x. x.valid) is }
 
 like_committed : (s : State) (count : ℕ) (b : Bool) → s.filled + count == 32 * s.chunk ≡ b → IsLike s (after_commit s count)
-like_committed s count true is = subst (IsLike s) (sym (cond-true _ _ _ is)) (record { chunk = refl; origin = refl; size = refl; left = refl; copying = refl })
-like_committed s count false is = subst (IsLike s) (sym (cond-false _ _ _ is)) (record { chunk = refl; origin = refl; size = refl; left = refl; copying = refl })
+like_committed s count true is = subst (IsLike s) (sym (cond-true _ _ _ is)) (record { chunk = refl; origin = refl; size = refl; left = refl; copying = refl; valid = refl })
+like_committed s count false is = subst (IsLike s) (sym (cond-false _ _ _ is)) (record { chunk = refl; origin = refl; size = refl; left = refl; copying = refl; valid = refl })
 
 pub like_commit : (s t : State) (count : ℕ) → t ≡ after_commit s count → IsLike s t
 like_commit s t count is = subst (IsLike s) (sym is) (like_committed s count (s.filled + count == 32 * s.chunk) refl)
@@ -112,11 +114,12 @@ ahead_commit live s t n count is fits h =
 pub state_kept : (live untried stale : Bool) (s t : State) (begun begun' : List Pair) (copies : List ChunkCopy) (marks : List Mark) → IsSnapshot live untried stale s begun copies marks → IsLike s t → begun' ≡ begun → IsAhead live t (length copies) → IsSnapshot live untried stale t begun' copies marks
 state_kept live untried stale s t begun begun' copies marks h like is ahead = record {
   allowed = rw like.chunk h.allowed;
-  ready = λ alive. like.left ∙ h.ready alive;
+  ready = like.left ∙ h.ready;
   copying = λ alive. like.copying ∙ h.copying alive;
   tried = h.tried;
   sound = h.sound;
   failed = h.failed;
+  valid = like.valid ∙ h.valid;
   agree = is ∙ h.agree;
   buffers = rw (like.chunk, like.origin) h.buffers;
   idle = h.idle;
@@ -133,11 +136,12 @@ state_same live untried stale s t begun begun' copies marks h same is =
 pub copies_drop : (live untried stale : Bool) (s t : State) (begun begun' : List Pair) (copies : List ChunkCopy) (marks marks' : List Mark) (n : ℕ) → live ≡ true → IsSnapshot live untried stale s begun copies marks → IsLike s t → begun' ≡ drop n begun → IsAhead live t (length copies - n) → IsSnapshot live untried stale t begun' (drop n copies) marks'
 copies_drop live untried stale s t begun begun' copies marks marks' n alive h like is ahead = record {
   allowed = rw like.chunk h.allowed;
-  ready = λ alive. like.left ∙ h.ready alive;
+  ready = like.left ∙ h.ready;
   copying = λ alive. like.copying ∙ h.copying alive;
   tried = h.tried;
   sound = h.sound;
   failed = h.failed;
+  valid = like.valid ∙ h.valid;
   agree = is ∙ ap (drop n) h.agree ∙ drop-map pair_of n copies;
   buffers = rw (like.chunk, like.origin) (All-drop (IsBuffered s.chunk s.origin) n copies h.buffers);
   idle = λ dead. absurd (true≢false (sym alive ∙ dead));
@@ -155,6 +159,7 @@ copies_push live untried stale s begun begun' copies marks p alive h is room = r
   tried = h.tried;
   sound = h.sound;
   failed = h.failed;
+  valid = h.valid;
   agree = is ∙ ap (λ x. x ++ p.pair ∷ []) h.agree ∙ sym (map_push pair_of copies p);
   buffers = All-push (IsBuffered s.chunk s.origin) copies p h.buffers (record { room = room });
   idle = λ dead. absurd (true≢false (sym alive ∙ dead));

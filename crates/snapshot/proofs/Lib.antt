@@ -1,4 +1,5 @@
 pub mod Copies
+pub mod Steps
 pub mod Stores
 pub mod Events
 pub mod Openings

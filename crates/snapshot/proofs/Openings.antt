@@ -1,21 +1,16 @@
 -- What an opened store is, and what its snapshot shows.
-use Rattle.std.proofs.Common.{◌≡◌, ◌≢◌, ◌⊎◌, inl, inr, ℕ, ◌+◌, ◌*◌, ◌/◌, ◌%◌, ◌<◌, ◌≤◌, List, [], length, get_or, refl, sym, ◌∙◌, ap, subst, arith, true, false, Option, Some, None, Result, Ok, Err}
-use Rattle.std.specs.Prelude.{AllPairs, map}
+use Rattle.std.proofs.Common.{◌≡◌, ◌≢◌, inl, inr, ℕ, ◌+◌, ◌*◌, ◌/◌, ◌%◌, ◌<◌, List, [], get_or, refl, sym, ◌∙◌, ap, subst, arith, true, false, Option, Some, None}
+use Rattle.std.specs.Prelude.{map}
 use Rattle.std.specs.List.{All}
 use Rattle.std.proofs.lemmas.Bool.{true≢false}
 use Rattle.std.proofs.lemmas.Nat.{mod_below}
-use Rattle.sector.specs.Bytes.{sector_at}
 use Rattle.sector.proofs.Sectors.{byte_read}
 use Rattle.sector.specs.declared.pair.Pair.{Pair}
-use Rattle.sector.specs.declared.refusal.Refusal.{Refusal}
-use Rattle.sector.specs.declared.refusal.Refusal.TheVariants.{ChunkMismatch}
-use Rattle.model.specs.Places.{area_place, chunk_at, is_area_place}
+use Rattle.model.specs.Places.{area_place, is_area_place}
 use Rattle.model.specs.Pairs.{pairs_of, IsInside, AreWellFormed}
 use Rattle.model.specs.Picture.{place_of, picture, picture_at, byte_of}
 use Rattle.model.proofs.AreaPlaces.{place_is}
 use Rattle.model.proofs.Pictures.{same_picture}
-use Rattle.cow_header.specs.HeaderText.{found_in}
-use Rattle.cow_header.specs.declared.found.Found.{Found}
 use Rattle.cow_header.specs.declared.found.Found.TheVariants.{Fresh, Header}
 use Rattle.store.specs.declared.state.Left.TheVariants.{Nothing}
 use Rattle.store.specs.declared.state.State.{State}
@@ -27,10 +22,10 @@ use Rattle.snapshot.specs.Opened.{IsOpened}
 use Rattle.store.specs.declared.opening.Loaded.{Loaded}
 use Rattle.store.specs.declared.opening.Loaded.TheVariants.{Fresh as LoadedFresh, Written}
 use Rattle.store.specs.Opened.{MatchLoaded}
-use Rattle.store.specs.Opening.{IsOpenedFresh, IsOpenedWritten, chunk_found}
+use Rattle.store.specs.Opening.{IsOpenedFresh, IsOpenedWritten}
 use Rattle.volume_laws.proofs.Pairs.{place_of-All}
 use Rattle.volume_laws.proofs.Attaching.{picture_none}
-use Rattle.snapshot.specs.Opening.{IsWanted, IsMismatched, IsOpenRefused, IsOpenedAs, ChangesFront, prepared, shown_array, shown_as}
+use Rattle.snapshot.specs.Opening.{IsWanted, IsMismatched, IsOpenedAs, ChangesFront, prepared, shown_array, shown_as}
 
 fresh_ne_header : (chunk : ℕ) → Fresh ≢ Header chunk
 fresh_ne_header chunk e = cc

@@ -13,7 +13,7 @@ use Rattle.store.specs.Stored.{IsFront, IsStored, AreGiven, new_of}
 use Rattle.store.proofs.Given.{given_formed}
 use Rattle.settled.specs.Saves.{next_of}
 use Rattle.settled.specs.Order.{AreEmptyFrom, IsInOrder}
-use Rattle.settling.proofs.Resting.{next_place_is}
+use Rattle.settled.proofs.Nexts.{next_place_is}
 use Rattle.snapshot.specs.Held.{IsAhead}
 
 -- nothing is zeroed ahead where there is no copy

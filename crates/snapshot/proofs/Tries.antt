@@ -1,14 +1,14 @@
--- A store that is opened over a device with layers: what its load read and wrote is what `settling` does.
-use Rattle.std.proofs.Common.{◌≡◌, ◌≢◌, ◌⊎◌, inl, inr, ℕ, zero, suc, ◌+◌, ◌*◌, ◌-◌, ◌/◌, ◌%◌, ◌<◌, ◌≤◌, Bool, true, false, List, [], ◌∷◌, length, get_or, drop, arith, refl, ap, ◌∙◌, sym, subst, length-take, length-drop}
-use Rattle.std.specs.Prelude.{◌==◌, ◌&&◌, nat_lt, not, replicate, Option, Some, None, Result, Ok, Err, if◌then◌else◌}
+-- A store that is opened over a device with layers: what its load read and wrote is what `settled` does.
+use Rattle.std.proofs.Common.{◌≡◌, ◌≢◌, inl, inr, ℕ, zero, suc, ◌+◌, ◌*◌, ◌-◌, ◌/◌, ◌%◌, ◌<◌, ◌≤◌, Bool, true, false, List, [], ◌∷◌, length, get_or, drop, arith, refl, ap, ◌∙◌, sym, subst}
+use Rattle.std.specs.Prelude.{◌==◌, ◌&&◌, nat_lt, not, Option, Some, None, Result, Ok, Err}
 use Rattle.std.specs.List.{All, list_all}
-use Rattle.std.proofs.lemmas.Bool.{cases_Bool, cases_lt, cond-true, cond-false, lt-ltb, le-ltb, eq-eqb, ne_eqb, ltb-true, ltb-false}
+use Rattle.std.proofs.lemmas.Bool.{cases_Bool, cases_lt, cond-true, cond-false, lt-ltb, le-ltb, eq-eqb, ne_eqb}
 use Rattle.std.proofs.lemmas.List.{get_or-drop}
 use Rattle.std.proofs.lemmas.List.Folds.{list_all_at}
-use Rattle.sector.specs.Bytes.{with_part, sector_at}
+use Rattle.sector.specs.Bytes.{sector_at}
 use Rattle.sector.specs.declared.pair.Pair.{Pair}
 use Rattle.sector.specs.declared.refusal.Refusal.{Refusal}
-use Rattle.sector.specs.declared.refusal.Refusal.TheVariants.{NoMemory, Io, Damaged, ChunkMismatch, StoreTooSmall}
+use Rattle.sector.specs.declared.refusal.Refusal.TheVariants.{NoMemory, Damaged, ChunkMismatch}
 use Rattle.device.specs.declared.operation.Operation.{Operation}
 use Rattle.device.specs.declared.operation.Operation.TheVariants.{Reads, Writes}
 use Rattle.device.specs.Layers.{Layer, fate, is_answered, layers_after}
@@ -16,22 +16,19 @@ use Rattle.model.specs.Places.{chunk_at, area_place}
 use Rattle.model.specs.Pairs.{pairs_of, AreWellFormed}
 use Rattle.model.proofs.AreaPlaces.{area_of, number_in}
 use Rattle.metadata_area.specs.Cleared.{HasTail, HasNoTail}
-use Rattle.cow_header.specs.HeaderText.{header_bytes, found_in}
+use Rattle.cow_header.specs.HeaderText.{found_in}
 use Rattle.cow_header.specs.declared.found.Found.{Found}
 use Rattle.cow_header.specs.declared.found.Found.TheVariants.{Fresh, Header}
-use Rattle.store.specs.declared.state.Left.TheVariants.{FirstArea, HeaderChunk, Tail, Nothing}
 use Rattle.store.specs.declared.state.State.{State}
-use Rattle.store.specs.Loading.{with_left}
-use Rattle.store.specs.Opening.{IsOpenedFresh, IsOpenedWritten, IsRefused}
-use Rattle.store.specs.Reading.{Reading, ended, all_read, read_areas as areas_read, read_pairs, read_found, reading, IsEnded}
-use Rattle.settled.specs.Saves.{zeroed}
+use Rattle.store.specs.Opening.{IsOpenedWritten, IsRefused}
+use Rattle.store.specs.Reading.{Reading, ended, all_read, read_areas as areas_read, read_found, reading, IsEnded}
 use Rattle.settled.specs.Loads.{trimmed, is_loadable, is_too_small}
 use Rattle.settled.proofs.Loadable.{formed-loadable, loadable-formed}
 use Rattle.settled.proofs.Trimmed.{cleared}
-use Rattle.settling.specs.Devices.{Device, sectors_of, answers, met, written_by}
-use Rattle.settling.specs.Snaps.{Snap}
-use Rattle.settling.specs.Attaching.{Tried, refuse, read_on, write_on, done, read_areas, last_area, has_tail, is_wanted, make, clear, load, load_as, open_store}
-use Rattle.settling.proofs.Attaching.{size_of}
+use Rattle.settled.specs.Devices.{Device}
+use Rattle.settled.specs.Snaps.{Snap}
+use Rattle.settled.specs.Attaching.{Tried, refuse, write_on, done, read_areas, last_area, has_tail, is_wanted, make, clear, load_as, open_store}
+use Rattle.settled.proofs.FaultlessAttaching.{size_of}
 use Rattle.snapshot.specs.Opening.{IsWanted, IsOpenedAs}
 use Rattle.snapshot.specs.Attaching.{AreSized, prepared_by}
 

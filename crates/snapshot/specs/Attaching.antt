@@ -1,4 +1,4 @@
--- Opening a snapshot over a device that may fail, as `settling` has it. This project's own.
+-- Opening a snapshot over a device that may fail, as `settled` has it. This project's own.
 use Rattle.std.specs.Prelude.{◌≡◌, ◌≢◌, ℕ, ◌*◌, List, [], Option, Some, None}
 use Rattle.std.specs.List.{All}
 use Rattle.device.specs.declared.operation.Operation.TheVariants.{Writes}
@@ -8,9 +8,9 @@ use Rattle.store.specs.declared.state.Left.{Left}
 use Rattle.store.specs.declared.state.Left.TheVariants.{FirstArea, HeaderChunk, Tail, Nothing}
 use Rattle.store.specs.declared.state.State.{State}
 use Rattle.store.specs.Loading.{with_left}
-use Rattle.settling.specs.Devices.{Device}
-use Rattle.settling.specs.Snaps.{Snap}
-use Rattle.settling.specs.Attaching.{Tried, write_on, done}
+use Rattle.settled.specs.Devices.{Device}
+use Rattle.settled.specs.Snaps.{Snap}
+use Rattle.settled.specs.Attaching.{Tried, write_on, done}
 
 abbrev pub device_of : {B : Type 0} → (B → List ℕ) → (B → List Layer) → B → Device
 device_of contents layers device = record { bytes = contents device; layers = layers device }

@@ -1,5 +1,5 @@
 -- What a snapshot keeps true of itself. This project's own.
-use Rattle.std.specs.Prelude.{◌≡◌, ℕ, ◌+◌, ◌*◌, ◌<◌, ◌≤◌, Bool, true, false, List, [], length, map}
+use Rattle.std.specs.Prelude.{◌≡◌, ℕ, ◌+◌, ◌*◌, ◌<◌, ◌≤◌, ◌||◌, Bool, true, false, List, [], length, map}
 use Rattle.std.specs.List.{All}
 use Rattle.sector.specs.declared.pair.Pair.{Pair}
 use Rattle.chunk.specs.Sizes.{is_chunk}
@@ -19,22 +19,23 @@ abbrev pub IsAhead : Bool → State → ℕ → Type 0
 IsAhead live s copies = live ≡ true → s.zeroed ≡ true → (0 < copies) × (s.filled + 1 ≡ 32 * s.chunk)
 
 -- Its flags, its store's state, the pairs that the store began, its copies and its marks. A live one's store takes copies;
--- a spoiled one has none, and a mark fails only where it was tried.
+-- a spoiled one has none, and a mark fails only where it was tried. The store is marked invalid once the mark was written.
 pub record IsSnapshot (live untried stale : Bool) (s : State) (begun : List Pair) (copies : List ChunkCopy) (marks : List Mark) : Type 0 where
   pub allowed : is_chunk s.chunk ≡ true
-  pub ready : live ≡ true → s.left ≡ Nothing
+  pub ready : s.left ≡ Nothing
   pub copying : live ≡ true → s.copying ≡ true
   pub tried : live ≡ true → untried ≡ false
   pub sound : live ≡ true → stale ≡ false
   pub failed : stale ≡ true → untried ≡ false
+  pub valid : s.valid ≡ (live || (untried || stale))
   pub agree : begun ≡ map pair_of copies
   pub buffers : All (IsBuffered s.chunk s.origin) copies
   pub idle : live ≡ false → copies ≡ []
   pub unmarked : live ≡ false → marks ≡ []
   pub ahead : IsAhead live s (length copies)
 
--- Its room: the store has reserved as many pairs, and no list grows where a copy starts or is committed.
+-- Its room: the store has reserved just as many pairs, and no list grows where a copy starts or is committed.
 pub record HasRoom (room reserved copies marks copies_capacity marks_capacity : ℕ) : Type 0 where
-  pub for_pairs : room ≤ reserved
+  pub for_pairs : room ≡ reserved
   pub for_copies : copies + room ≤ copies_capacity
   pub for_marks : marks + copies + room ≤ marks_capacity

@@ -1,7 +1,6 @@
 -- A snapshot as it is opened over a store, and a store that was refused. This project's own.
-use Rattle.std.specs.Prelude.{◌≡◌, ◌⊎◌, ℕ, ◌*◌, true, false, List, [], map, Ok}
+use Rattle.std.specs.Prelude.{◌≡◌, ◌⊎◌, ℕ, true, false, List, [], map, Ok}
 use Rattle.sector.specs.Bytes.{sector_at}
-use Rattle.sector.specs.declared.pair.Pair.{Pair}
 use Rattle.sector.specs.declared.refusal.Refusal.{Refusal}
 use Rattle.sector.specs.declared.refusal.Refusal.TheVariants.{Io}
 use Rattle.device.specs.Layers.{Layer, is_loud}
@@ -9,9 +8,8 @@ use Rattle.model.specs.NextPlace.{IsNextPlace}
 use Rattle.model.specs.Places.{area_place, ChangesOnly}
 use Rattle.cow_header.specs.HeaderText.{found_in}
 use Rattle.cow_header.specs.declared.found.Found.TheVariants.{Fresh}
-use Rattle.store.specs.declared.state.Left.TheVariants.{FirstArea, Nothing}
+use Rattle.store.specs.declared.state.Left.TheVariants.{Nothing}
 use Rattle.store.specs.declared.state.State.{State}
-use Rattle.store.specs.Loading.{with_left}
 use Rattle.store.specs.Stored.{new_of}
 use Rattle.snapshot.specs.Kept.{Kept}
 use Rattle.snapshot.specs.Opening.{IsOpenedAs, prepared}

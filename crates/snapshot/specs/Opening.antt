@@ -1,11 +1,12 @@
+-- To be believed: `run`'s output, a volume's steps or its attach are said in these words.
 -- What opening a store for a snapshot answers, and what it leaves on the store. The order of the refusals, and that all
 -- snapshots of an origin have one chunk size, are this project's rules; the bytes are those of dm-snap-persistent.c.
-use Rattle.std.specs.Prelude.{◌≡◌, ◌≢◌, ◌⊎◌, ℕ, ◌+◌, ◌*◌, ◌<◌, ◌≤◌, List, [], length, Bool, true, false, Option, Result, Ok, Err, IfSome}
+use Rattle.std.specs.Prelude.{◌≡◌, ◌≢◌, ◌⊎◌, ℕ, ◌*◌, ◌≤◌, List, length, Option, Result, Ok, Err, IfSome}
 use Rattle.sector.specs.Bytes.{sector_at}
 use Rattle.sector.specs.declared.pair.Pair.{Pair}
 use Rattle.sector.specs.declared.refusal.Refusal.{Refusal}
 use Rattle.sector.specs.declared.refusal.Refusal.TheVariants.{ChunkMismatch}
-use Rattle.model.specs.Places.{chunk_at, area_place, ChangesOnly}
+use Rattle.model.specs.Places.{chunk_at, area_place}
 use Rattle.model.specs.Pairs.{pairs_of, AreWellFormed}
 use Rattle.model.specs.Picture.{picture}
 use Rattle.cow_header.specs.HeaderText.{found_in}

@@ -11,6 +11,7 @@ ghost use Rattle.store.specs.Operations.{IsOneOperation};
 ghost use Rattle.store.specs.Slots.{pairs_bytes, slot_start};
 ghost use Rattle.store.specs.Stored.{after_commit};
 ghost use Rattle.volume_laws.specs.Steps.{ZeroesArea, Commits, Unmarks, mark_of};
+ghost use Rattle.snapshot.specs.InStep.{IsInStep};
 ghost use Rattle.snapshot.specs.Kept.{books_of, needs_area};
 
 use crate::Snapshot;
@@ -36,6 +37,7 @@ impl<B: Block> Snapshot<B> {
         ensures fields { OnOk result (self.new ≡ record self.old { device = self.new.device; state = record self.old.state { zeroed = true } }) }
         ensures zeroes { OnOk result (ZeroesArea (self.old.state.current + 1) (books_of B.contents B.layers self.old) (books_of B.contents B.layers self.new)) }
         ensures kept { OnErr result (self.new ≡ record self.old { device = self.new.device }) }
+        ensures in_step { IsInStep B.contents B.layers B.size self.new }
     {
         match self.store.zero_next() {
             Ok(()) => Ok(()),
@@ -63,6 +65,7 @@ impl<B: Block> Snapshot<B> {
         ensures fields { OnOk result (self.new ≡ record self.old { device = self.new.device; state = after_commit self.old.state count; pairs = self.old.pairs ++ take count self.old.begun; begun = drop count self.old.begun; copies = drop count self.old.copies; marks = self.old.marks ++ map mark_of (take count self.old.copies) }) }
         ensures commits { OnOk result (Commits count self.old.state.current (books_of B.contents B.layers self.old) (books_of B.contents B.layers self.new)) }
         ensures kept { OnErr result (self.new ≡ record self.old { device = self.new.device }) }
+        ensures in_step { IsInStep B.contents B.layers B.size self.new }
     {
         match self.store.write_area(count) {
             Ok(()) => {

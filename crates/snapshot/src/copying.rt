@@ -8,6 +8,7 @@ ghost use Rattle.pending.specs.Copies.{count_of};
 ghost use Rattle.pending.specs.declared.copies.ChunkCopy.{ChunkCopy};
 ghost use Rattle.pending.specs.declared.copies.Stage.TheVariants.{Read};
 ghost use Rattle.store.specs.Operations.{IsOneOperation};
+ghost use Rattle.snapshot.specs.InStep.{IsInStep};
 ghost use Rattle.snapshot.specs.Calls.{GoesTo, ReadsAt, StaysAt, WritesAt};
 
 use crate::Snapshot;
@@ -54,6 +55,7 @@ impl<B: Block> Snapshot<B> {
 
         ensures wrote { OnOk result ((p : ChunkCopy) × (q : ChunkCopy) × WritesAt B.contents B.layers index p q self.old self.new) }
         ensures kept { OnErr result (self.new ≡ record self.old { device = self.new.device }) }
+        ensures in_step { IsInStep B.contents B.layers B.size self.new }
     {
         let copy = &self.copies[index];
         let count = sectors_of(

@@ -3,6 +3,7 @@ ghost use Rattle.std.specs.Prelude.{◌≡◌, ◌⊎◌, IfOk, IfErr, OnErr};
 ghost use Rattle.sector.specs.declared.refusal.Refusal.TheVariants.{NoMemory};
 ghost use Rattle.layers.specs.Messages.{told, Answered, Refused, NeedsRoom};
 ghost use Rattle.layers.specs.Ticks.{layers_ticked};
+ghost use Rattle.snapshot.specs.InStep.{IsInStep};
 ghost use Rattle.store.specs.Layering.{IsRelayered};
 
 use crate::Snapshot;
@@ -15,6 +16,7 @@ impl<B: Layered> Snapshot<B> {
         ensures layers { B.layers self.new.device ≡ layers_ticked seconds (B.layers self.old.device) }
         ensures rest { IsRelayered B.contents B.durable B.size B.fault_count B.done_count self.old.device self.new.device }
         ensures same { self.new ≡ record self.old { device = self.new.device } }
+        ensures in_step { IsInStep B.contents B.layers B.size self.new }
     {
         self.store.tick(seconds)
     }
@@ -28,6 +30,7 @@ impl<B: Layered> Snapshot<B> {
         ensures unchanged { OnErr result (B.layers self.new.device ≡ B.layers self.old.device) }
         ensures rest { IsRelayered B.contents B.durable B.size B.fault_count B.done_count self.old.device self.new.device }
         ensures same { self.new ≡ record self.old { device = self.new.device } }
+        ensures in_step { IsInStep B.contents B.layers B.size self.new }
     {
         match self.store.message(depth, message) {
             Ok(answer) => Ok(answer),

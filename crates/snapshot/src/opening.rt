@@ -11,12 +11,13 @@ ghost use Rattle.store.specs.Loading.{with_left};
 ghost use Rattle.store.specs.Opening.{faults_after};
 ghost use Rattle.model.specs.Picture.{picture};
 ghost use Rattle.volume_laws.specs.Steps.{IsNewSnap};
+ghost use Rattle.snapshot.specs.InStep.{IsInStep};
 ghost use Rattle.snapshot.specs.Kept.{books_of};
 ghost use Rattle.snapshot.specs.Opening.{IsWanted, IsOpenRefused, IsOpenedAs, prepared, shown_array, ChangesFront};
 ghost use Rattle.snapshot.specs.Opened.{IsOpened, IsBack};
 ghost use Rattle.store.specs.Reading.{AreRead};
-ghost use Rattle.settling.specs.Snaps.{Snap};
-ghost use Rattle.settling.specs.Attaching.{open_store, refuse, done};
+ghost use Rattle.settled.specs.Snaps.{Snap};
+ghost use Rattle.settled.specs.Attaching.{open_store, refuse, done};
 ghost use Rattle.snapshot.specs.Attaching.{device_of, AreSized, prepared_by};
 
 use crate::Snapshot;
@@ -122,6 +123,7 @@ pub fn open_snapshot<B: Block>(
     ensures wanted { IfOk result (λ s. IsWanted wanted s.state.chunk) }
     ensures counted { IfOk result (λ s. length s.pairs ≡ s.state.current * (32 * s.state.chunk) + s.state.filled) }
     ensures unfilled { IfOk result (λ s. s.state.filled < 32 * s.state.chunk) }
+    ensures in_step { IfOk result (λ s. IsInStep B.contents B.layers B.size s) }
     ensures new { IfOk result (λ s. (origin : List ℕ) → length origin ≡ 512 * sectors → IsNewSnap origin (books_of B.contents B.layers s)) }
     ensures shown { IfOk result (λ s. is_loud (B.layers store.device) ≡ true → (origin : List ℕ) → picture s.state.chunk origin (B.contents s.device) ≡ shown_array origin (B.contents store.device)) }
     ensures exact { IfOk result (λ s. is_loud (B.layers store.device) ≡ true → (snaps : List Snap) → AreSized wanted snaps → open_store snaps sectors chunk (device_of B.contents B.layers store.device) ≡ done s.state.chunk (device_of B.contents B.layers s.device)) }

@@ -6,6 +6,7 @@ ghost use Rattle.device.specs.Layers.{is_loud};
 ghost use Rattle.model.specs.Picture.{place_of as place_in};
 ghost use Rattle.store.specs.Operations.{IsOneOperation};
 ghost use Rattle.volume_laws.specs.Steps.{WritesPlace};
+ghost use Rattle.snapshot.specs.InStep.{IsInStep};
 ghost use Rattle.snapshot.specs.Kept.{books_of};
 
 use crate::Snapshot;
@@ -28,6 +29,7 @@ impl<B: Block> Snapshot<B> {
         ensures durable { B.durable self.new.device ≡ B.durable self.old.device }
         ensures size { B.size self.new.device ≡ B.size self.old.device }
         ensures fields { self.new ≡ record self.old { device = self.new.device } }
+        ensures in_step { IsInStep B.contents B.layers B.size self.new }
     {
         match self.store.write_chunk(place, first, count, bytes) {
             Ok(()) => Ok(()),
@@ -57,6 +59,7 @@ impl<B: Block> Snapshot<B> {
         ensures durable { B.durable self.new.device ≡ B.durable self.old.device }
         ensures size { B.size self.new.device ≡ B.size self.old.device }
         ensures fields { self.new ≡ record self.old { device = self.new.device } }
+        ensures in_step { IsInStep B.contents B.layers B.size self.new }
     {
         match self.store.read_chunk(place, first, count, out) {
             Ok(()) => Ok(()),

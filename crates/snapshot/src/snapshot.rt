@@ -6,6 +6,7 @@ ghost use Rattle.model.specs.Places.{area_place};
 ghost use Rattle.model.specs.Picture.{place_of as place_in};
 ghost use Rattle.volume_laws.specs.Published.{is_published as is_published_in};
 ghost use Rattle.device.specs.Layers.{is_loud};
+ghost use Rattle.snapshot.specs.InStep.{IsInStep};
 ghost use Rattle.snapshot.specs.Kept.{needs_area};
 ghost use Rattle.snapshot.specs.Rest.{IsStill};
 
@@ -128,6 +129,13 @@ impl<B: Block> Snapshot<B> {
         ensures metadata { result.metadata ≡ (self.now.state.current + 2) * self.now.state.chunk }
     {
         self.store.usage()
+    }
+
+    /// A look at its store, which does nothing: store and snapshot are in step, after every call.
+    pub fn look_at_store(&self)
+        ensures in_step { IsInStep B.contents B.layers B.size self.now }
+    {
+        let _ = &self.store;
     }
 
     /// Whether the pair that is committed next fills the current area, so that the next area has to be zeroed first, and

@@ -7,6 +7,7 @@ ghost use Rattle.model.specs.Places.{ChangesOnly};
 ghost use Rattle.cow_header.specs.HeaderText.{header_bytes};
 ghost use Rattle.store.specs.Operations.{IsOneOperation};
 ghost use Rattle.volume_laws.specs.Steps.{SpoilsSnap, TriesMark};
+ghost use Rattle.snapshot.specs.InStep.{IsInStep};
 ghost use Rattle.snapshot.specs.Kept.{books_of};
 
 use crate::Snapshot;
@@ -19,6 +20,7 @@ impl<B: Block> Snapshot<B> {
         requires live { self.old.live ≡ true }
         ensures fields { self.new ≡ record self.old { live = false; untried = true; state = record self.old.state { copying = false }; begun = []; copies = []; marks = [] } }
         ensures spoils { SpoilsSnap (books_of B.contents B.layers self.old) (books_of B.contents B.layers self.new) }
+        ensures in_step { IsInStep B.contents B.layers B.size self.new }
     {
         self.live = false;
         self.untried = true;
@@ -40,8 +42,9 @@ impl<B: Block> Snapshot<B> {
         ensures durable { B.durable self.new.device ≡ B.durable self.old.device }
         ensures size { B.size self.new.device ≡ B.size self.old.device }
 
-        ensures fields { self.new ≡ record self.old { device = self.new.device; untried = false; stale = not (is_ok result) } }
+        ensures fields { self.new ≡ record self.old { device = self.new.device; untried = false; stale = not (is_ok result); state = record self.old.state { valid = not (is_ok result) } } }
         ensures tries { TriesMark (books_of B.contents B.layers self.old) (books_of B.contents B.layers self.new) }
+        ensures in_step { IsInStep B.contents B.layers B.size self.new }
     {
         self.untried = false;
         match self.store.write_invalid() {

@@ -1,5 +1,5 @@
 // A snapshot begins over its store, and ends; room is made for a copy, and a copy is started.
-ghost use Rattle.std.specs.Prelude.{◌≡◌, ◌==◌, ℕ, ◌+◌, ◌-◌, ◌*◌, ◌<◌, ◌≤◌, List, [], ◌∷◌, ◌++◌, length, max, OnOk, OnErr, IfErr, MatchBool, None, true, false};
+ghost use Rattle.std.specs.Prelude.{◌≡◌, ◌==◌, ℕ, ◌+◌, ◌-◌, ◌*◌, ◌<◌, ◌≤◌, List, [], ◌∷◌, ◌++◌, length, max, OnOk, OnErr, IfErr, IsOk, MatchBool, None, true, false};
 ghost use Rattle.std.specs.List.{list_any};
 ghost use Rattle.sector.specs.declared.refusal.Refusal.TheVariants.{NoMemory};
 ghost use Rattle.chunk.specs.Sizes.{is_chunk};
@@ -7,8 +7,9 @@ ghost use Rattle.model.specs.NextPlace.{IsFull};
 ghost use Rattle.model.specs.Picture.{place_of as place_in};
 ghost use Rattle.pending.specs.Copies.{count_of};
 ghost use Rattle.store.specs.declared.state.Left.TheVariants.{Nothing};
-ghost use Rattle.store.specs.Held.{committed, pending as pending_of};
+ghost use Rattle.store.specs.Held.{committed, pending as pending_of, reserved};
 ghost use Rattle.volume_laws.specs.Steps.{IsNewSnap};
+ghost use Rattle.snapshot.specs.InStep.{IsInStep};
 ghost use Rattle.snapshot.specs.Kept.{books_of};
 ghost use Rattle.snapshot.specs.Calls.{StartsAt, started};
 
@@ -28,10 +29,13 @@ impl<B: Block> Snapshot<B> {
         requires copying { store.state.copying ≡ true }
         requires unzeroed { store.state.zeroed ≡ false }
         requires idle { length (pending_of store.exceptions) ≡ 0 }
+        requires valid { store.state.valid ≡ true }
+        requires unreserved { reserved store.exceptions ≡ 0 }
         ensures fields { result ≡ record { number = number; live = true; untried = false; stale = false; device = store.device; state = store.state; next = store.places.next; pairs = committed store.exceptions; begun = []; copies = []; marks = []; room = 0 } }
         ensures new { (origin : List ℕ) → length origin ≡ 512 * store.state.origin → IsNewSnap origin (books_of B.contents B.layers result) }
         ensures counted { length result.pairs ≡ result.state.current * (32 * result.state.chunk) + result.state.filled }
         ensures unfilled { result.state.filled < 32 * result.state.chunk }
+        ensures in_step { IsInStep B.contents B.layers B.size result }
     {
         Snapshot {
             number,
@@ -66,6 +70,7 @@ impl<B: Block> Snapshot<B> {
     pub fn reserve(&mut self) -> Result<(), Refusal>
         ensures ok { OnOk result (self.new ≡ record self.old { room = max self.old.room 1 }) }
         ensures err { OnErr result (self.new ≡ self.old) }
+        ensures ready { 0 < self.old.room → IsOk result }
         ensures refusal { IfErr result (λ e. e ≡ NoMemory) }
     {
         if 0 < self.room {
@@ -101,6 +106,7 @@ impl<B: Block> Snapshot<B> {
         requires buffer { length buffer.items ≡ 512 * count_of self.old.state.chunk self.old.state.origin chunk }
         ensures place { MatchBool result (self.old.state.chunk * (self.old.next + 1) ≤ self.old.state.size) (IsFull self.old.state.chunk self.old.state.size self.old.next) }
         ensures started { MatchBool result (StartsAt B.contents B.layers (started number chunk self.old.next buffer) self.old self.new) (self.new ≡ self.old) }
+        ensures in_step { IsInStep B.contents B.layers B.size self.new }
     {
         let Some(begun) = self.store.start(chunk) else {
             return false;

@@ -1,3 +1,4 @@
+-- To be believed: `run`'s output, a volume's steps or its attach are said in these words.
 -- Status lines: `0 <sectors> <target> <state>`, as the kernel's admin-guide page on snapshots has them. That they end
 -- without a line end is this project's own.
 use Rattle.std.specs.Prelude.{ℕ, List, ◌++◌, codes, decimal}

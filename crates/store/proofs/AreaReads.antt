@@ -1,8 +1,7 @@
 -- The areas of a store are read one after the other.
-use Rattle.std.proofs.Common.{◌≡◌, inl, inr, ℕ, zero, suc, ◌+◌, ◌*◌, ◌-◌, ◌/◌, ◌<◌, ◌≤◌, Bool, true, false, List, [], ◌∷◌, length, arith, refl, ap, ◌∙◌, sym, subst}
-use Rattle.std.specs.Prelude.{nat_lt, ◌==◌, Option, Some, None, Result, Ok, Err, if◌then◌else◌}
+use Rattle.std.proofs.Common.{◌≡◌, inl, inr, ℕ, zero, suc, ◌+◌, ◌*◌, ◌-◌, ◌/◌, ◌<◌, ◌≤◌, true, false, List, [], ◌∷◌, length, arith, refl, ap, ◌∙◌, sym, subst}
+use Rattle.std.specs.Prelude.{nat_lt, Option, Some, None}
 use Rattle.std.proofs.lemmas.Bool.{cases_Bool, cond-true, cond-false, lt-ltb, le-ltb}
-use Rattle.sector.specs.Bytes.{sector_at}
 use Rattle.sector.specs.declared.refusal.Refusal.{Refusal}
 use Rattle.sector.specs.declared.refusal.Refusal.TheVariants.{Io, Damaged}
 use Rattle.sector.specs.declared.pair.Pair.{Pair}
@@ -12,11 +11,8 @@ use Rattle.device.specs.Layers.{Layer, fate, is_answered, layers_after}
 use Rattle.model.specs.Places.{area_place}
 use Rattle.model.specs.Pairs.{pairs_of}
 use Rattle.model.proofs.AreaPlaces.{area_of}
-use Rattle.cow_header.specs.HeaderText.{found_in}
-use Rattle.cow_header.specs.declared.found.Found.{Found}
-use Rattle.cow_header.specs.declared.found.Found.TheVariants.{Fresh, Header}
 use Rattle.store.specs.Loaded.{IsPrefix, IsRead}
-use Rattle.store.specs.Reading.{Reading, ended, all_read, read_on, read_areas, read_pairs, read_found, reading, layers_read, AreRead}
+use Rattle.store.specs.Reading.{Reading, ended, all_read, read_on, read_areas, read_pairs, AreRead}
 use Rattle.store.proofs.Loads.{prefix_low}
 
 none_refused : (refusal : Refusal) (old mid : List Layer) → ended refusal old ≡ all_read mid → ⊥

@@ -14,6 +14,7 @@ use Rattle.store.specs.Loading.{is_begun, is_settled}
 use Rattle.store.specs.Stored.{IsFront, IsStored}
 use Rattle.store.specs.declared.state.Left.TheVariants.{Tail, Nothing}
 use Rattle.store.specs.declared.state.State.{State}
+use Rattle.store.proofs.Heads.{area_past, head_kept}
 use Rattle.store.proofs.Areas.{empty_zeros, chunk-written, chunk_only}
 
 -- the memory's pairs are the list's
@@ -30,6 +31,7 @@ pub front_more : (count : ℕ) (ps qs : List Pair) (s : State) (area x : List �
 front_more count ps qs s area x is put n below ready = record {
   some = is.some;
   allowed = is.allowed;
+  size = is.size;
   whole = put.len ∙ is.whole;
   place = is.place;
   count = let c = is.count in omega (arith, length-append ps qs);
@@ -40,6 +42,7 @@ front_more count ps qs s area x is put n below ready = record {
   none = λ e. absurd (true≢false (sym (ap is_begun ready) ∙ e));
   blank = λ e. absurd (true≢false (sym (ap is_begun ready) ∙ e));
   room = is.room;
+  early = is.early;
 }
 
 -- the pairs of the bytes after a commit
@@ -64,6 +67,7 @@ stored_more count ps qs s area x old new is stored put n below ready valid whole
     let long : length x ≡ 512 * s.chunk = put.len ∙ is.whole in
     let only = chunk_only s.size s.chunk (area_place s.chunk s.current) old new x whole long is.place written in
     record {
+      head = head_kept s.chunk (area_place s.chunk s.current) old new is.some (area_past s.chunk s.current) only ∙ stored.head;
       listed = λ _. pairs-more ps qs s area x old new is stored put ready (omega arith) (λ full. absurd (omega arith)) valid whole written;
       holds = λ i d lt. holds_more ps qs s area x is.count stored.holds put i d (omega arith);
       here = λ _. chunk-written s.size s.chunk (area_place s.chunk s.current) old new x whole long is.place written;
@@ -76,6 +80,7 @@ pub front_full : (count : ℕ) (ps qs : List Pair) (s : State) (area zeros : Lis
 front_full count ps qs s area zeros is n full zeroed nil ready = record {
   some = is.some;
   allowed = is.allowed;
+  size = is.size;
   whole = ap length nil ∙ length-replicate (512 * s.chunk) zero;
   place = is.room zeroed;
   count = (let c = is.count in let h : s.current * (32 * s.chunk) + 32 * s.chunk ≡ (s.current + 1) * (32 * s.chunk) = grind arith in omega (arith, length-append ps qs));
@@ -86,6 +91,7 @@ front_full count ps qs s area zeros is n full zeroed nil ready = record {
   none = λ e. absurd (true≢false (sym (ap is_begun ready) ∙ e));
   blank = λ e. absurd (true≢false (sym (ap is_begun ready) ∙ e));
   room = λ z. absurd (false≢true z);
+  early = is.early;
 }
 
 -- the bytes after a commit that fills the area
@@ -94,6 +100,7 @@ stored_full count ps qs s area x zeros old new is stored put n full zeroed nil r
     let long : length x ≡ 512 * s.chunk = put.len ∙ is.whole in
     let only = chunk_only s.size s.chunk (area_place s.chunk s.current) old new x whole long is.place written in
     record {
+      head = head_kept s.chunk (area_place s.chunk s.current) old new is.some (area_past s.chunk s.current) only ∙ stored.head;
       listed = λ _. pairs-more ps qs s area x old new is stored put ready (omega arith) (λ _. zeroed) valid whole written;
       holds = λ i d lt. absurd (omega arith);
       here = λ _. only.rest _ (places_apart s.chunk (s.current + 1) s.current (omega arith)) ∙ stored.next zeroed ∙ sym nil;

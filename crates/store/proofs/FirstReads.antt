@@ -1,6 +1,6 @@
 -- The first sector of a store is read, and then what follows by what it says.
-use Rattle.std.proofs.Common.{◌≡◌, ◌≢◌, inl, inr, ℕ, ◌+◌, ◌*◌, ◌/◌, ◌<◌, ◌≤◌, true, false, List, [], ◌∷◌, length, refl, ap, ◌∙◌, sym, subst, arith}
-use Rattle.std.specs.Prelude.{◌==◌, nat_lt, Result, Ok, Err, if◌then◌else◌}
+use Rattle.std.proofs.Common.{◌≡◌, inl, inr, ℕ, ◌+◌, ◌*◌, ◌/◌, ◌<◌, ◌≤◌, true, false, List, [], ◌∷◌, length, ap, ◌∙◌, sym, subst}
+use Rattle.std.specs.Prelude.{◌==◌, nat_lt, Result, Ok, Err}
 use Rattle.std.proofs.lemmas.Bool.{cases_Bool, cond-true, cond-false, lt-ltb, le-ltb, eq-eqb, ne_eqb}
 use Rattle.sector.specs.Bytes.{sector_at}
 use Rattle.sector.specs.declared.refusal.Refusal.{Refusal}

@@ -1,6 +1,6 @@
 -- The longest run at the end of a list of pairs.
-use Rattle.std.proofs.Common.{◌≡◌, ◌≢◌, ◌⊎◌, inl, inr, ℕ, zero, suc, ◌+◌, ◌-◌, ◌*◌, ◌<◌, ◌≤◌, List, [], ◌∷◌, ◌++◌, length, drop, get_or, arith, ap, ◌∙◌, sym, refl, subst, length-drop, drop-cons, add-one}
-use Rattle.std.proofs.lemmas.List.{get_or-drop, get_or_past}
+use Rattle.std.proofs.Common.{◌≡◌, inl, inr, ℕ, zero, suc, ◌+◌, ◌-◌, ◌<◌, List, [], ◌∷◌, ◌++◌, length, drop, get_or, arith, ap, ◌∙◌, sym, refl, length-drop, drop-cons}
+use Rattle.std.proofs.lemmas.List.{get_or-drop}
 use Rattle.std.proofs.lemmas.Bool.{cases_lt}
 use Rattle.sector.specs.declared.pair.Pair.{Pair}
 use Rattle.store.specs.Grouping.{shifted, run_at, Follows, EndsWithRun, IsGroup}

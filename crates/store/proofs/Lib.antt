@@ -5,9 +5,11 @@ pub mod Distinct
 pub mod FirstReads
 pub mod Given
 pub mod Groups
+pub mod Heads
 pub mod Judged
 pub mod Loads
 pub mod Merges
+pub mod Messages
 pub mod Opened
 pub mod Parts
 pub mod Pending

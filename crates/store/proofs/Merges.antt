@@ -14,6 +14,7 @@ use Rattle.store.specs.Loading.{is_begun, is_settled}
 use Rattle.store.specs.Stored.{IsFront, IsStored, AreGiven}
 use Rattle.store.specs.declared.state.Left.TheVariants.{Tail, Nothing}
 use Rattle.store.specs.declared.state.State.{State}
+use Rattle.store.proofs.Heads.{area_past, head_kept}
 use Rattle.store.proofs.Areas.{slot_listed, chunk-written, chunk_only}
 use Rattle.store.proofs.Given.{given_dropped}
 use Rattle.store.proofs.Loads.{areas_rise}
@@ -31,6 +32,7 @@ pub front_less : (count : ℕ) (ps : List Pair) (s : State) (area x : List ℕ) 
 front_less count ps s area x is cut some le ready = let c = is.count in let fits = is.fits in record {
   some = is.some;
   allowed = is.allowed;
+  size = is.size;
   whole = cut.len ∙ is.whole;
   place = is.place;
   count = length-take-le (length ps - count) ps (omega arith) ∙ omega arith;
@@ -44,6 +46,7 @@ front_less count ps s area x is cut some le ready = let c = is.count in let fits
   none = λ e. absurd (true≢false (sym (ap is_begun ready) ∙ e));
   blank = λ e. absurd (true≢false (sym (ap is_begun ready) ∙ e));
   room = is.room;
+  early = is.early;
 }
 
 -- the bytes with fewer pairs
@@ -55,6 +58,7 @@ stored_less count ps s area x old new is stored cut some le ready whole written 
     let here = chunk-written s.size s.chunk (area_place s.chunk s.current) old new x whole long is.place written in
     let was = stored.here (ap is_settled ready) in
     record {
+      head = head_kept s.chunk (area_place s.chunk s.current) old new is.some (area_past s.chunk s.current) only ∙ stored.head;
       listed = λ _. pairs-cleared s.chunk s.current s.filled (s.filled - count) old new ps is.some (stored.listed (ap is_begun ready)) is.count (omega arith) (omega arith) only
           (λ k lt. ap (λ b. pair_in b k) here ∙ cut.others k (inl lt) ∙ sym (ap (λ b. pair_in b k) was))
           (ap (λ b. (pair_in b (s.filled - count)).new) here ∙ ap (λ p. p.new) (cut.cleared (s.filled - count) (omega arith) (omega arith)))
@@ -103,6 +107,7 @@ front_read ps s area x is empty before ready whole =
     record {
       some = is.some;
       allowed = is.allowed;
+      size = is.size;
       whole = whole;
       place = omega arith;
       count = omega arith;
@@ -113,6 +118,7 @@ front_read ps s area x is empty before ready whole =
       none = λ e. absurd (true≢false (sym (ap is_begun ready) ∙ e));
       blank = λ e. absurd (true≢false (sym (ap is_begun ready) ∙ e));
       room = λ z. absurd (false≢true z);
+      early = is.early;
     }
 
 pub stored_read : (ps : List Pair) (s : State) (area x old : List ℕ) → IsFront ps s area → IsStored old ps s area → s.filled ≡ 0 → 0 < s.current → s.left ≡ Nothing → x ≡ chunk_at s.chunk old (area_place s.chunk (s.current - 1)) → IsStored old ps (record s { current = s.current - 1; filled = 32 * s.chunk; zeroed = false; copying = false }) x
@@ -121,6 +127,7 @@ stored_read ps s area x old is stored empty before ready read =
     let up : s.current ≡ (s.current - 1) + 1 = omega arith in
     let e : s.current * (32 * s.chunk) ≡ (s.current - 1) * (32 * s.chunk) + 32 * s.chunk = ap (λ n. n * (32 * s.chunk)) up ∙ grind arith in
     record {
+      head = stored.head;
       listed = λ _. stored.listed (ap is_begun ready);
       holds = λ k d lt. ap (λ b. pair_in b k) read ∙ slot_listed s.chunk (s.current - 1) (32 * s.chunk) old ps k d is.some (stored.listed (ap is_begun ready)) (omega arith) lt (omega arith);
       here = λ _. sym read;

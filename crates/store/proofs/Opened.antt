@@ -1,5 +1,5 @@
 -- The memory of a written store after a load.
-use Rattle.std.proofs.Common.{◌≡◌, inl, inr, ℕ, ◌+◌, ◌*◌, ◌-◌, ◌/◌, ◌<◌, ◌≤◌, List, length, get_or, map, arith, ap, ◌∙◌, sym, subst, false}
+use Rattle.std.proofs.Common.{◌≡◌, inl, inr, ℕ, ◌+◌, ◌*◌, ◌-◌, ◌/◌, ◌<◌, ◌≤◌, List, length, get_or, map, arith, ap, ◌∙◌, sym, subst, true, false}
 use Rattle.std.specs.Prelude.{AllPairs}
 use Rattle.std.specs.List.{All}
 use Rattle.std.proofs.lemmas.Bool.{cases_eq, false≢true, true≢false}
@@ -10,6 +10,10 @@ use Rattle.model.specs.Pairs.{pairs_of, IsApart, IsInside, AreWellFormed}
 use Rattle.model.proofs.AreaPlaces.{area_of}
 use Rattle.model.proofs.Slots.{slot-at, IsListed-of}
 use Rattle.metadata_area.specs.Cleared.{zero_from}
+use Rattle.sector.specs.Bytes.{sector_at}
+use Rattle.chunk.specs.Sizes.{is_chunk}
+use Rattle.cow_header.specs.HeaderText.{found_in}
+use Rattle.store.specs.Headed.{head_of}
 use Rattle.store.specs.Loaded.{IsRead, IsCleared}
 use Rattle.store.specs.Stored.{IsFront, IsStored, new_of}
 use Rattle.std.proofs.lemmas.List.{get_or-map, length-map}
@@ -23,10 +27,11 @@ pub empty_next : (chunk size current filled : ℕ) (b area : List ℕ) (ps : Lis
 empty_next chunk size current filled b area ps pos read count below =
     ap (λ a. (pair_in a filled).new) read.here ∙ ap (λ p. p.new) (sym (slot-at chunk b current filled below)) ∙ ap (λ k. (slot chunk b k).new) (sym count) ∙ (IsListed-of chunk b ps pos read.all).ends
 
-pub front_loaded : (s : State) (b area area' : List ℕ) (ps : List Pair) → 0 < s.chunk → s.chunk ≤ 1024 → IsRead s.chunk s.size b s.current ps area → length ps ≡ s.current * (32 * s.chunk) + s.filled → s.filled < 32 * s.chunk → IsCleared s.chunk s.filled area s.left area' → length area' ≡ 512 * s.chunk → s.zeroed ≡ false → IsFront ps s area'
-front_loaded s b area area' ps pos small read count below clear whole unzeroed = record {
+pub front_loaded : (s : State) (b area area' : List ℕ) (ps : List Pair) → 0 < s.chunk → s.chunk ≤ 1024 → is_chunk s.chunk ≡ true → s.valid ≡ true → IsRead s.chunk s.size b s.current ps area → length ps ≡ s.current * (32 * s.chunk) + s.filled → s.filled < 32 * s.chunk → IsCleared s.chunk s.filled area s.left area' → length area' ≡ 512 * s.chunk → s.zeroed ≡ false → IsFront ps s area'
+front_loaded s b area area' ps pos small size valid read count below clear whole unzeroed = record {
   some = pos;
   allowed = small;
+  size = size;
   whole = whole;
   place = read.inside;
   count = count;
@@ -40,10 +45,12 @@ front_loaded s b area area' ps pos small read count below clear whole unzeroed =
   none = λ e. absurd (true≢false (sym clear.begun ∙ e));
   blank = λ e. absurd (true≢false (sym clear.begun ∙ e));
   room = λ z. absurd (false≢true (sym unzeroed ∙ z));
+  early = λ e. absurd (true≢false (sym valid ∙ e));
 }
 
-pub stored_loaded : (s : State) (b area area' : List ℕ) (ps : List Pair) → 0 < s.chunk → IsRead s.chunk s.size b s.current ps area → length ps ≡ s.current * (32 * s.chunk) + s.filled → s.filled < 32 * s.chunk → IsCleared s.chunk s.filled area s.left area' → s.zeroed ≡ false → IsStored b ps s area'
-stored_loaded s b area area' ps pos read count below clear unzeroed = record {
+pub stored_loaded : (s : State) (b area area' : List ℕ) (ps : List Pair) → 0 < s.chunk → found_in (sector_at b 0) ≡ head_of s.left s.valid s.chunk → IsRead s.chunk s.size b s.current ps area → length ps ≡ s.current * (32 * s.chunk) + s.filled → s.filled < 32 * s.chunk → IsCleared s.chunk s.filled area s.left area' → s.zeroed ≡ false → IsStored b ps s area'
+stored_loaded s b area area' ps pos says read count below clear unzeroed = record {
+  head = says;
   listed = λ _. read.all;
   holds = λ i d lt. clear.slots i (omega arith) ∙ ap (λ a. pair_in a i) read.here ∙ slot_listed s.chunk s.current s.filled b ps i d pos read.all count lt (omega arith);
   here = λ e. sym read.here ∙ sym (clear.same e);

@@ -3,7 +3,7 @@ use Rattle.std.proofs.Common.{◌≡◌, ◌≢◌, inl, inr, ℕ, zero, ◌+◌
 use Rattle.std.proofs.lemmas.Bool.{cases_Bool, cases_eq, true≢false, ne_eqb}
 use Rattle.std.proofs.lemmas.List.{length-replicate, nil_from_length}
 use Rattle.std.proofs.lemmas.Nat.{mul-le, mod-mul-add}
-use Rattle.sector.specs.Bytes.{with_sectors}
+use Rattle.sector.specs.Bytes.{sector_at, with_sectors}
 use Rattle.sector.specs.declared.pair.Pair.{Pair}
 use Rattle.model.specs.Slots.{pair_in}
 use Rattle.model.specs.Places.{chunk_at, area_place, is_area_place, slot, ChangesOnly}
@@ -11,17 +11,20 @@ use Rattle.model.specs.Pairs.{pairs_of}
 use Rattle.model.proofs.AreaPlaces.{places_apart, place_is}
 use Rattle.model.proofs.Slots.{pairs-committed, pairs-outside, pairs-later, pairs-are, slot-at}
 use Rattle.metadata_area.specs.Cleared.{zero_from}
-use Rattle.store.specs.Loading.{is_begun, is_settled, with_left}
+use Rattle.cow_header.specs.HeaderText.{found_in}
+use Rattle.store.specs.Headed.{head_of, marked_as}
+use Rattle.store.specs.Loading.{is_begun, is_settled, after_write, with_left}
 use Rattle.store.specs.Stored.{IsFront, IsStored}
 use Rattle.store.specs.declared.state.Left.{Left}
 use Rattle.store.specs.declared.state.Left.TheVariants.{FirstArea, HeaderChunk, Tail, Nothing}
 use Rattle.store.specs.declared.state.State.{State}
 use Rattle.store.proofs.Parts.{tail-through}
+use Rattle.store.proofs.Heads.{area_past, head_after, head_kept, valid_before}
 use Rattle.store.proofs.Areas.{no_chunks, slot_listed, chunk-written, chunk_only}
 
 -- the next area is zeroed
 pub front_zeroed : (ps : List Pair) (s : State) (area : List ℕ) → IsFront ps s area → s.chunk * (area_place s.chunk (s.current + 1) + 1) ≤ s.size → IsFront ps (record s { zeroed = true }) area
-front_zeroed ps s area is room = record { some = is.some; allowed = is.allowed; whole = is.whole; place = is.place; count = is.count; fits = is.fits; empty = is.empty; part = is.part; next = is.next; none = is.none; blank = is.blank; room = λ z. room }
+front_zeroed ps s area is room = record { some = is.some; allowed = is.allowed; size = is.size; whole = is.whole; place = is.place; count = is.count; fits = is.fits; empty = is.empty; part = is.part; next = is.next; none = is.none; blank = is.blank; room = λ z. room; early = is.early }
 
 pub stored_zeroed : (ps : List Pair) (s : State) (area old new zeros : List ℕ) → IsFront ps s area → IsStored old ps s area → s.left ≡ Nothing → s.filled < 32 * s.chunk → s.chunk * (area_place s.chunk (s.current + 1) + 1) ≤ s.size → length old ≡ 512 * s.size → zeros ≡ replicate (512 * s.chunk) 0 → new ≡ with_sectors old (s.chunk * area_place s.chunk (s.current + 1)) zeros → IsStored new ps (record s { zeroed = true }) area
 stored_zeroed ps s area old new zeros is stored ready part room whole nil written =
@@ -29,6 +32,7 @@ stored_zeroed ps s area old new zeros is stored ready part room whole nil writte
     let only = chunk_only s.size s.chunk (area_place s.chunk (s.current + 1)) old new zeros whole long room written in
     let listed = stored.listed (ap is_begun ready) in
     record {
+      head = head_kept s.chunk (area_place s.chunk (s.current + 1)) old new is.some (area_past s.chunk (s.current + 1)) only ∙ stored.head;
       listed = λ _. pairs-later s.chunk s.current (s.current + 1) s.filled old new is.some only (ap length listed ∙ is.count) part (omega arith) ∙ listed;
       holds = stored.holds;
       here = λ e. only.rest _ (places_apart s.chunk s.current (s.current + 1) (omega arith)) ∙ stored.here e;
@@ -36,12 +40,13 @@ stored_zeroed ps s area old new zeros is stored ready part room whole nil writte
       next = λ z. chunk-written s.size s.chunk (area_place s.chunk (s.current + 1)) old new zeros whole long room written ∙ nil;
     }
 
--- a write to a chunk that is no area's
-pub stored_outside : (n : ℕ) (ps : List Pair) (s : State) (area old new : List ℕ) → IsFront ps s area → IsStored old ps s area → is_area_place s.chunk n ≡ false → ChangesOnly s.chunk n old new → IsStored new ps s area
-stored_outside n ps s area old new is stored free only =
+-- a write to a chunk that is neither the header nor an area's
+pub stored_outside : (n : ℕ) (ps : List Pair) (s : State) (area old new : List ℕ) → IsFront ps s area → IsStored old ps s area → n ≢ 0 → is_area_place s.chunk n ≡ false → ChangesOnly s.chunk n old new → IsStored new ps s area
+stored_outside n ps s area old new is stored other free only =
     let apart : (a : ℕ) → area_place s.chunk a ≢ n = λ a e. true≢false (sym (place_is s.chunk a is.some) ∙ ap (is_area_place s.chunk) e ∙ free) in
     let same : chunk_at s.chunk new (area_place s.chunk s.current) ≡ chunk_at s.chunk old (area_place s.chunk s.current) = only.rest _ (apart s.current) in
     record {
+      head = head_kept s.chunk n old new is.some other only ∙ stored.head;
       listed = λ b. pairs-outside s.chunk n old new is.some free only ∙ stored.listed b;
       holds = stored.holds;
       here = λ e. same ∙ stored.here e;
@@ -57,10 +62,11 @@ header_free chunk =
     ne_eqb _ _ (omega arith)
 
 -- only what is left of the load's writes changes
-pub front_after : (ps : List Pair) (s : State) (area : List ℕ) (left : Left) → IsFront ps s area → is_begun left ≡ true → is_settled left ≡ true → IsFront ps (record s { left = left }) area
-front_after ps s area left is begun settled = record {
+pub front_after : (ps : List Pair) (s : State) (area : List ℕ) (left : Left) → IsFront ps s area → is_begun left ≡ true → is_settled left ≡ true → (s.valid ≡ false → left ≡ Nothing) → IsFront ps (record s { left = left }) area
+front_after ps s area left is begun settled early = record {
   some = is.some;
   allowed = is.allowed;
+  size = is.size;
   whole = is.whole;
   place = is.place;
   count = is.count;
@@ -71,16 +77,41 @@ front_after ps s area left is begun settled = record {
   none = λ e. absurd (true≢false (sym begun ∙ e));
   blank = λ e. absurd (true≢false (sym begun ∙ e));
   room = is.room;
+  early = early;
 }
 
-pub stored_after : (ps : List Pair) (s : State) (area bytes : List ℕ) → IsStored bytes ps s area → s.left ≡ HeaderChunk → IsStored bytes ps (record s { left = Nothing }) area
-stored_after ps s area bytes stored ready = record {
-  listed = λ _. stored.listed (ap is_begun ready);
-  holds = stored.holds;
-  here = λ _. stored.here (ap is_settled ready);
-  tail = λ e. (let e' : Nothing ≡ Tail = e in absurd (cc));
-  next = stored.next;
-}
+-- the header is written, by which the store is ready
+pub stored_valid : (ps : List Pair) (s : State) (area old new : List ℕ) → IsFront ps s area → IsStored old ps s area → s.left ≡ HeaderChunk → ChangesOnly s.chunk 0 old new → found_in (sector_at new 0) ≡ marked_as true s.chunk → IsStored new ps (record s { left = Nothing }) area
+stored_valid ps s area old new is stored begun only says =
+    let free = header_free s.chunk in
+    let other : s.left ≢ Nothing = λ e. (let no : HeaderChunk ≡ Nothing = sym begun ∙ e in absurd (cc)) in
+    let past : (a : ℕ) → area_place s.chunk a ≢ 0 = area_past s.chunk in
+    record {
+      head = says ∙ sym (ap (λ valid. marked_as valid s.chunk) (valid_before s.left s.valid is.early other));
+      listed = λ _. pairs-outside s.chunk 0 old new is.some free only ∙ stored.listed (ap is_begun begun);
+      holds = stored.holds;
+      here = λ _. only.rest _ (past s.current) ∙ stored.here (ap is_settled begun);
+      tail = λ e. (let no : Nothing ≡ Tail = e in absurd (cc));
+      next = λ z. only.rest _ (past (s.current + 1)) ∙ stored.next z;
+    }
+
+-- a store that is ready is marked invalid
+pub front_invalid : (ps : List Pair) (s : State) (area : List ℕ) → IsFront ps s area → s.left ≡ Nothing → IsFront ps (record s { valid = false }) area
+front_invalid ps s area is ready = record { some = is.some; allowed = is.allowed; size = is.size; whole = is.whole; place = is.place; count = is.count; fits = is.fits; empty = is.empty; part = is.part; next = is.next; none = is.none; blank = is.blank; room = is.room; early = λ _. ready }
+
+pub stored_invalid : (ps : List Pair) (s : State) (area old new : List ℕ) → IsFront ps s area → IsStored old ps s area → s.left ≡ Nothing → ChangesOnly s.chunk 0 old new → found_in (sector_at new 0) ≡ marked_as false s.chunk → IsStored new ps (record s { valid = false }) area
+stored_invalid ps s area old new is stored ready only says =
+    let free = header_free s.chunk in
+    let past : (a : ℕ) → area_place s.chunk a ≢ 0 = area_past s.chunk in
+    let same : chunk_at s.chunk new (area_place s.chunk s.current) ≡ chunk_at s.chunk old (area_place s.chunk s.current) = only.rest _ (past s.current) in
+    record {
+      head = says ∙ sym (ap (λ left. head_of left false s.chunk) ready);
+      listed = λ b. pairs-outside s.chunk 0 old new is.some free only ∙ stored.listed b;
+      holds = stored.holds;
+      here = λ e. same ∙ stored.here e;
+      tail = λ e. ap (λ a. zero_from a (s.filled + 1)) same ∙ stored.tail e;
+      next = λ z. only.rest _ (past (s.current + 1)) ∙ stored.next z;
+    }
 
 -- the first slot of area 0 is empty
 pairs-none : (chunk : ℕ) (b : List ℕ) → 0 < chunk → (pair_in (chunk_at chunk b (area_place chunk 0)) 0).new ≡ 0 → pairs_of chunk b ≡ []
@@ -101,12 +132,13 @@ pub first_area : (ps : List Pair) (s : State) (area : List ℕ) → IsFront ps s
 first_area ps s area is none = no_area s.current (32 * s.chunk) s.filled (let p = is.some in omega arith) (sym none ∙ is.count)
 
 -- the area of a load is written as it is in memory
-pub stored_clean : (ps : List Pair) (s : State) (area old new : List ℕ) (left : Left) → IsFront ps s area → IsStored old ps s area → is_settled s.left ≡ false → left ≢ Tail → length old ≡ 512 * s.size → new ≡ with_sectors old (s.chunk * area_place s.chunk s.current) area → IsStored new ps (record s { left = left }) area
-stored_clean ps s area old new left is stored unsettled other whole written =
+pub stored_clean : (ps : List Pair) (s : State) (area old new : List ℕ) (left : Left) → IsFront ps s area → IsStored old ps s area → is_settled s.left ≡ false → left ≡ after_write s.left → left ≢ Tail → length old ≡ 512 * s.size → new ≡ with_sectors old (s.chunk * area_place s.chunk s.current) area → IsStored new ps (record s { left = left }) area
+stored_clean ps s area old new left is stored unsettled then other whole written =
     let part = is.part unsettled in
     let only = chunk_only s.size s.chunk (area_place s.chunk s.current) old new area whole is.whole is.place written in
     let here = chunk-written s.size s.chunk (area_place s.chunk s.current) old new area whole is.whole is.place written in
     record {
+      head = head_kept s.chunk (area_place s.chunk s.current) old new is.some (area_past s.chunk s.current) only ∙ stored.head ∙ sym (ap (λ x. head_of x s.valid s.chunk) then ∙ head_after s.left s.valid s.chunk unsettled);
       listed = λ _. elim (cases_Bool (is_begun s.left)) [
         | inr fresh ↦ (
             let none : ps ≡ [] = nil_from_length ps (is.none fresh) in

@@ -1,4 +1,5 @@
 pub mod Grouping
+pub mod Headed
 pub mod Held
 pub mod Loaded
 pub mod Loading

@@ -7,14 +7,19 @@ use Rattle.model.specs.Places.{chunk_at, area_place}
 use Rattle.model.specs.Pairs.{pairs_of, IsApart, IsInside}
 use Rattle.model.specs.NextPlace.{IsNextPlace}
 use Rattle.metadata_area.specs.Cleared.{zero_from}
+use Rattle.sector.specs.Bytes.{sector_at}
+use Rattle.chunk.specs.Sizes.{is_chunk}
+use Rattle.cow_header.specs.HeaderText.{found_in}
+use Rattle.store.specs.Headed.{head_of}
 use Rattle.store.specs.Loading.{is_begun, is_settled}
-use Rattle.store.specs.declared.state.Left.TheVariants.{Tail}
+use Rattle.store.specs.declared.state.Left.TheVariants.{Tail, Nothing}
 use Rattle.store.specs.declared.state.State.{State}
 
 -- The memory by itself: the committed pairs fill the areas below the current one and its first slots.
 pub record IsFront (pairs : List Pair) (s : State) (area : List ℕ) : Type 0 where
   pub some : 0 < s.chunk
   pub allowed : s.chunk ≤ 1024
+  pub size : is_chunk s.chunk ≡ true
   pub whole : length area ≡ 512 * s.chunk
   -- the current area lies in the store
   pub place : s.chunk * (area_place s.chunk s.current + 1) ≤ s.size
@@ -29,9 +34,12 @@ pub record IsFront (pairs : List Pair) (s : State) (area : List ℕ) : Type 0 wh
   pub none : is_begun s.left ≡ false → length pairs ≡ 0
   pub blank : is_begun s.left ≡ false → area ≡ replicate (512 * s.chunk) 0
   pub room : s.zeroed ≡ true → s.chunk * (area_place s.chunk (s.current + 1) + 1) ≤ s.size
+  -- it is marked invalid only once no write of its load is left
+  pub early : s.valid ≡ false → s.left ≡ Nothing
 
--- The memory's area and pairs are those of the store's bytes.
+-- The memory's area and pairs are those of the store's bytes, and the first sector says what the memory says.
 pub record IsStored (bytes : List ℕ) (pairs : List Pair) (s : State) (area : List ℕ) : Type 0 where
+  pub head : found_in (sector_at bytes 0) ≡ head_of s.left s.valid s.chunk
   pub listed : is_begun s.left ≡ true → pairs_of s.chunk bytes ≡ pairs
   pub holds : (i : ℕ) (d : Pair) → i < s.filled → pair_in area i ≡ slice_index_or pairs (s.current * (32 * s.chunk) + i) d
   pub here : is_settled s.left ≡ true → chunk_at s.chunk bytes (area_place s.chunk s.current) ≡ area

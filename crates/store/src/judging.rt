@@ -26,6 +26,7 @@ pub fn are_formed(
     requires small { size ≤ 16_777_216 }
     ensures formed { IfOk result (λ formed. MatchBool formed (All (IsInside chunk origin size) pairs.now × AllPairs IsApart pairs.now) (All (IsInside chunk origin size) pairs.now → AllPairs IsApart pairs.now → ⊥)) }
     ensures refusal { IfErr result (λ e. e ≡ NoMemory) }
+    ensures starved { IfErr result (λ _. All (IsInside chunk origin size) pairs.now) }
 {
     if !are_inside(chunk, origin, size, pairs) {
         return Ok(false);

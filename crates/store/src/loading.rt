@@ -76,8 +76,8 @@ pub fn hold_pairs(exceptions: &mut Arena, pairs: &[Pair]) -> Result<(), Refusal>
     ensures reserved { OnOk result (reserved exceptions.new ≡ reserved exceptions.old) }
     ensures refusal { IfErr result (λ e. e ≡ NoMemory) }
 {
-    exceptions.reserve(pairs.len())?;
     for pair in pairs {
+        exceptions.reserve(1)?;
         let id = exceptions.begin(pair.old, pair.new);
         exceptions.finish(id);
     }

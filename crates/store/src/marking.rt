@@ -5,10 +5,11 @@ ghost use Rattle.device.specs.declared.operation.Operation.TheVariants.{Writes};
 ghost use Rattle.device.specs.Layers.{is_loud};
 ghost use Rattle.model.specs.Places.{ChangesOnly};
 ghost use Rattle.cow_header.specs.HeaderText.{header_bytes};
+ghost use Rattle.store.specs.declared.state.Left.TheVariants.{HeaderChunk, Nothing};
 ghost use Rattle.store.specs.Operations.{IsOneOperation};
 
-use crate::Store;
 use crate::chunks::write_whole;
+use crate::{Left, Store};
 use cow_header::encode;
 use device::{Block, Io};
 use metadata_area::Area;
@@ -17,6 +18,8 @@ impl<B: Block> Store<B> {
     /// Writes the header with the mark that the store is invalid, the rest of its chunk zero. No load accepts the store
     /// afterwards.
     pub fn write_invalid(&mut self) -> Result<(), Io>
+        requires ready { self.old.state.left ≡ Nothing }
+
         ensures operation { IsOneOperation (Writes 0 self.old.state.chunk) (is_ok result) (B.layers self.old.device) (B.layers self.new.device) (B.fault_count self.old.device) (B.fault_count self.new.device) (B.done_count self.old.device) (B.done_count self.new.device) }
         ensures written { OnOk result (IsTrue (is_loud (B.layers self.old.device)) → B.contents self.new.device ≡ with_sectors (B.contents self.old.device) 0 (header_bytes (512 * self.old.state.chunk) false self.old.state.chunk)) }
         ensures same { OnErr result (B.contents self.new.device ≡ B.contents self.old.device) }
@@ -26,16 +29,25 @@ impl<B: Block> Store<B> {
 
         ensures exceptions { self.new.exceptions ≡ self.old.exceptions }
         ensures places { self.new.places ≡ self.old.places }
-        ensures state { self.new.state ≡ self.old.state }
+        ensures state { OnOk result (self.new.state ≡ record self.old.state { valid = false }) }
+        ensures kept { OnErr result (self.new.state ≡ self.old.state) }
     {
-        self.write_header(false)
+        match write_header(&mut self.device, &mut self.spare, false) {
+            Ok(()) => {
+                self.state.valid = false;
+                Ok(())
+            }
+            Err(io) => Err(io),
+        }
     }
 
-    /// Writes the header, with one of the two marks, the rest of its chunk zero.
-    pub(crate) fn write_header(&mut self, valid: bool) -> Result<(), Io>
+    /// Writes the header of a fresh store whose area 0 is zeroed, after which no write of its load is left.
+    pub(crate) fn write_valid(&mut self) -> Result<(), Io>
+        requires begun { self.old.state.left ≡ HeaderChunk }
+
         ensures operation { IsOneOperation (Writes 0 self.old.state.chunk) (is_ok result) (B.layers self.old.device) (B.layers self.new.device) (B.fault_count self.old.device) (B.fault_count self.new.device) (B.done_count self.old.device) (B.done_count self.new.device) }
         ensures loud { is_loud (B.layers self.new.device) ≡ is_loud (B.layers self.old.device) }
-        ensures written { OnOk result (IsTrue (is_loud (B.layers self.old.device)) → B.contents self.new.device ≡ with_sectors (B.contents self.old.device) 0 (header_bytes (512 * self.old.state.chunk) valid self.old.state.chunk)) }
+        ensures written { OnOk result (IsTrue (is_loud (B.layers self.old.device)) → B.contents self.new.device ≡ with_sectors (B.contents self.old.device) 0 (header_bytes (512 * self.old.state.chunk) true self.old.state.chunk)) }
         ensures same { OnErr result (B.contents self.new.device ≡ B.contents self.old.device) }
         ensures only { ChangesOnly self.old.state.chunk 0 (B.contents self.old.device) (B.contents self.new.device) }
         ensures durable { B.durable self.new.device ≡ B.durable self.old.device }
@@ -43,13 +55,36 @@ impl<B: Block> Store<B> {
 
         ensures exceptions { self.new.exceptions ≡ self.old.exceptions }
         ensures places { self.new.places ≡ self.old.places }
-        ensures state { self.new.state ≡ self.old.state }
+        ensures state { OnOk result (self.new.state ≡ record self.old.state { left = Nothing }) }
+        ensures kept { OnErr result (self.new.state ≡ self.old.state) }
     {
-        put_header(&mut self.spare, valid);
-        match write_whole(&mut self.device, self.state.chunk, 0, self.spare.encode()) {
-            Ok(()) => Ok(()),
+        match write_header(&mut self.device, &mut self.spare, true) {
+            Ok(()) => {
+                self.state.left = Left::Nothing;
+                Ok(())
+            }
             Err(io) => Err(io),
         }
+    }
+}
+
+/// Writes a header over the first chunk of a device, with one of the two marks, the rest of its chunk zero. The text is put
+/// together in an area that is room for a chunk.
+fn write_header<B: Block>(device: &mut B, room: &mut Area, valid: bool) -> Result<(), Io>
+    requires inside { room.old.chunk ≤ B.size device.old }
+    ensures chunk { room.new.chunk ≡ room.old.chunk }
+    ensures operation { IsOneOperation (Writes 0 room.old.chunk) (is_ok result) (B.layers device.old) (B.layers device.new) (B.fault_count device.old) (B.fault_count device.new) (B.done_count device.old) (B.done_count device.new) }
+    ensures loud { is_loud (B.layers device.new) ≡ is_loud (B.layers device.old) }
+    ensures written { OnOk result (IsTrue (is_loud (B.layers device.old)) → B.contents device.new ≡ with_sectors (B.contents device.old) 0 (header_bytes (512 * room.old.chunk) valid room.old.chunk)) }
+    ensures same { OnErr result (B.contents device.new ≡ B.contents device.old) }
+    ensures only { ChangesOnly room.old.chunk 0 (B.contents device.old) (B.contents device.new) }
+    ensures durable { B.durable device.new ≡ B.durable device.old }
+    ensures size { B.size device.new ≡ B.size device.old }
+{
+    put_header(room, valid);
+    match write_whole(device, room.chunk, 0, room.encode()) {
+        Ok(()) => Ok(()),
+        Err(io) => Err(io),
     }
 }
 

@@ -1,8 +1,7 @@
 // A store is opened: its first sector says whether it is fresh, and a written one gives its pairs. Nothing is written.
-ghost use Rattle.std.specs.Prelude.{◌≡◌, ◌⊎◌, ℕ, ◌+◌, ◌*◌, ◌<◌, ◌≤◌, List, [], length, is_ok, OnOk, OnErr, IfOk, IfErr, MatchResult, IsTrue, Ok, Err, true, false};
+ghost use Rattle.std.specs.Prelude.{◌≡◌, ◌⊎◌, ℕ, ◌+◌, ◌*◌, ◌<◌, ◌≤◌, List, [], length, is_ok, OnOk, OnErr, IfOk, IfErr, MatchResult, IsTrue, Ok, Err, true, false, AllPairs};
 ghost use Rattle.sector.specs.Bytes.{sector_at};
 ghost use Rattle.sector.specs.declared.refusal.Refusal.TheVariants.{NoMemory, Io as IoRefusal, StoreTooSmall, Damaged};
-ghost use Rattle.std.specs.Prelude.{AllPairs};
 ghost use Rattle.std.specs.List.{All};
 ghost use Rattle.chunk.specs.Sizes.{is_chunk};
 ghost use Rattle.device.specs.Layers.{layers_after, is_loud};
@@ -11,7 +10,7 @@ ghost use Rattle.model.specs.Places.{chunk_at, area_place};
 ghost use Rattle.model.specs.Pairs.{pairs_of, IsApart, IsInside, AreWellFormed};
 ghost use Rattle.metadata_area.specs.Cleared.{HasTail, HasNoTail};
 ghost use Rattle.cow_header.specs.HeaderText.{found_in};
-ghost use Rattle.cow_header.specs.declared.found.Found.TheVariants.{Fresh as FoundFresh};
+ghost use Rattle.cow_header.specs.declared.found.Found.TheVariants.{Fresh as FoundFresh, Header as FoundHeader};
 ghost use Rattle.store.specs.Held.{committed, pending, reserved};
 ghost use Rattle.store.specs.Loaded.{IsCleared};
 ghost use Rattle.store.specs.Opening.{IsRefused, IsOpenedFresh, IsOpenedWritten, IsFirstRefusal, faults_after};
@@ -32,6 +31,7 @@ use std::alloc::Global;
 /// What the first sector of a store says. A device without sectors is `StoreTooSmall`, and is not read.
 fn read_header<B: Block>(device: &mut B) -> Result<Found, Refusal>
     ensures found { IfOk result (λ found. (0 < B.size device.old) × (found_in (sector_at (B.contents device.old) 0) ≡ Ok found)) }
+    ensures allowed { IfOk result (λ found. (chunk : ℕ) → found ≡ FoundHeader chunk → is_chunk chunk ≡ true) }
     ensures refused { IfErr result (IsFirstRefusal (B.size device.old) (B.contents device.old)) }
     ensures contents { B.contents device.new ≡ B.contents device.old }
     ensures durable { B.durable device.new ≡ B.durable device.old }
@@ -130,11 +130,13 @@ fn open_fresh<B: Block>(
     chunk: u32,
     origin: u64,
 ) -> Result<Store<B>, (Refusal, B)>
+    requires size { is_chunk chunk ≡ true }
     requires some { 0 < chunk }
     requires allowed { chunk ≤ 1024 }
     requires large { 2 * chunk ≤ B.size device }
+    requires found { found_in (sector_at (B.contents device) 0) ≡ Ok FoundFresh }
     ensures device { IfOk result (λ store. store.device ≡ device) }
-    ensures state { IfOk result (λ store. store.state ≡ record { chunk = chunk; origin = origin; size = B.size device; current = 0; filled = 0; zeroed = false; left = Left.FirstArea; copying = true }) }
+    ensures state { IfOk result (λ store. store.state ≡ record { chunk = chunk; origin = origin; size = B.size device; current = 0; filled = 0; zeroed = false; left = Left.FirstArea; copying = true; valid = true }) }
     ensures committed { IfOk result (λ store. committed store.exceptions ≡ []) }
     ensures pending { IfOk result (λ store. pending store.exceptions ≡ []) }
     ensures reserved { IfOk result (λ store. reserved store.exceptions ≡ 0) }
@@ -157,6 +159,7 @@ fn open_fresh<B: Block>(
         zeroed: false,
         left: Left::FirstArea,
         copying: true,
+        valid: true,
     };
     Ok(Store {
         device,
@@ -175,9 +178,11 @@ fn open_written<B: Block>(
     chunk: u32,
     origin: u64,
 ) -> Result<Store<B>, (Refusal, B)>
+    requires size { is_chunk chunk ≡ true }
     requires some { 0 < chunk }
     requires allowed { chunk ≤ 1024 }
     requires large { 2 * chunk ≤ B.size device }
+    requires found { found_in (sector_at (B.contents device) 0) ≡ Ok (FoundHeader chunk) }
     ensures chunk { IfOk result (λ store. store.state.chunk ≡ chunk) }
     ensures pairs { IfOk result (λ store. pairs_of chunk (B.contents device) ≡ committed store.exceptions) }
     ensures formed { IfOk result (λ store. AreWellFormed chunk origin (B.size device) (committed store.exceptions)) }
@@ -185,6 +190,7 @@ fn open_written<B: Block>(
     ensures part { IfOk result (λ store. store.state.filled < 32 * chunk) }
     ensures tail { IfOk result (λ store. (store.state.left ≡ Left.Tail) × HasTail (chunk_at chunk (B.contents device) (area_place chunk store.state.current)) store.state.filled ⊎ (store.state.left ≡ Left.Nothing) × HasNoTail (chunk_at chunk (B.contents device) (area_place chunk store.state.current)) store.state.filled) }
     ensures rest { IfOk result (λ store. (store.state.origin ≡ origin) × (store.state.size ≡ B.size device) × (store.state.zeroed ≡ false) × (store.state.copying ≡ true)) }
+    ensures valid { IfOk result (λ store. store.state.valid ≡ true) }
     ensures pending { IfOk result (λ store. length (pending store.exceptions) ≡ 0) }
     ensures reserved { IfOk result (λ store. reserved store.exceptions ≡ 0) }
     ensures refused { IfErr result (λ refused. (refused.0 ≡ IoRefusal) ⊎ (refused.0 ≡ NoMemory) ⊎ ((refused.0 ≡ Damaged) × (AreWellFormed chunk origin (B.size device) (pairs_of chunk (B.contents device)) → ⊥))) }
@@ -222,6 +228,7 @@ fn open_written<B: Block>(
         zeroed: false,
         left,
         copying: true,
+        valid: true,
     };
     let places = Alloc::after_load(chunk, size, greatest_new(pairs.as_slice()));
     Ok(Store {
@@ -250,6 +257,7 @@ fn hold_formed(
     ensures committed { IfOk result (λ exceptions. committed exceptions ≡ pairs.now) }
     ensures pending { IfOk result (λ exceptions. length (pending exceptions) ≡ 0) }
     ensures reserved { IfOk result (λ exceptions. reserved exceptions ≡ 0) }
+    ensures starved { IfErr result (λ e. e ≡ NoMemory → All (IsInside chunk origin size) pairs.now) }
     ensures refused { IfErr result (λ e. (e ≡ NoMemory) ⊎ ((e ≡ Damaged) × (All (IsInside chunk origin size) pairs.now → AllPairs IsApart pairs.now → ⊥))) }
 {
     match are_formed(alloc, chunk, origin, size, pairs) {

@@ -43,8 +43,7 @@ impl<B: Block> Store<B> {
                 Ok(true)
             }
             Left::HeaderChunk => {
-                self.write_header(true)?;
-                self.state.left = Left::Nothing;
+                self.write_valid()?;
                 Ok(false)
             }
             Left::Tail => {
@@ -60,6 +59,7 @@ impl<B: Block> Store<B> {
         requires unsettled { is_settled self.old.state.left ≡ false }
         requires begun { is_begun left ≡ true }
         requires settled { is_settled left ≡ true }
+        requires next { left ≡ after_write self.old.state.left }
 
         ensures operation { IsOneOperation (Writes (self.old.state.chunk * area_place self.old.state.chunk self.old.state.current) self.old.state.chunk) (is_ok result) (B.layers self.old.device) (B.layers self.new.device) (B.fault_count self.old.device) (B.fault_count self.new.device) (B.done_count self.old.device) (B.done_count self.new.device) }
         ensures written { OnOk result (IsTrue (is_loud (B.layers self.old.device)) → B.contents self.new.device ≡ with_left self.old.state.left self.old.state (B.contents self.old.device)) }

@@ -32,4 +32,6 @@ pub struct State {
     pub left: Left,
     /// Whether copies may start. None starts after a spoil, nor after a merge's commit.
     pub copying: bool,
+    /// Whether its header was not marked invalid.
+    pub valid: bool,
 }

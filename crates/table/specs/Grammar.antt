@@ -1,3 +1,4 @@
+-- To be believed: `run`'s output, a volume's steps or its attach are said in these words.
 -- The grammar of table lines. The targets and their words are those of the kernel's admin-guide pages on snapshots,
 -- dm-flakey and dm-dust; the forms of numbers and names are the project's own.
 use Rattle.std.specs.Prelude.{ℕ, ◌^◌, ◌+◌, Bool, true, false, ◌&&◌, List, [], ◌∷◌, length, count_by, nat_lt, nat_le, ◌==◌, if◌then◌else◌, Result, Ok, Err, codes}

@@ -1,3 +1,4 @@
+-- To be believed: `run`'s output, a volume's steps or its attach are said in these words.
 -- The canonical text of a table line, as dmsetup prints it: single spaces, numbers without zeros in front. That a
 -- count of no features is left out, and the order of the features, are the project's own.
 use Rattle.std.specs.Prelude.{◌≡◌, ℕ, ◌+◌, ◌<◌, ◌≤◌, Bool, List, [], ◌∷◌, ◌++◌, length, take, if◌then◌else◌, Result, Ok, Err, codes, decimal, vec_len, vec_capacity}

@@ -15,7 +15,7 @@ use Rattle.pending.specs.declared.flights.Kind.TheVariants.{SnapRead, SnapWrite}
 use Rattle.pending.specs.Kinds.{kind_of, kind_at}
 use Rattle.volume_laws.specs.Published.{IsPiece}
 use Rattle.volume.specs.Volumed.{Volumed, piece_of}
-use Rattle.volume.specs.Whole.{count_in}
+use Rattle.snapshots.specs.Numbers.{count_in}
 use Rattle.volume.specs.Submitting.{first_of_two, range_refusal, limit_refusal, dev_refusal, submit_refusal, is_piece_of, are_too_many, starting}
 
 both_none : (a b : Option Refusal) → first_of_two a b ≡ None → (a ≡ None) × (b ≡ None)

@@ -10,7 +10,8 @@ use Rattle.device.specs.Layers.{Layer, is_loud}
 use Rattle.plain.specs.declared.event.Event.TheVariants.{Publish, WriteInvalid}
 use Rattle.plain.specs.declared.event.Outcome.{Outcome}
 use Rattle.plain.specs.declared.event.Outcome.TheVariants.{Done}
-use Rattle.pending.specs.Due.{number_of_copy, number_of_mark, number_of_flight, is_publishable}
+use Rattle.pending.specs.Due.{number_of_copy, number_of_mark, is_publishable}
+use Rattle.pending.specs.Kinds.{in_flight}
 use Rattle.pending.specs.Routes.{is_reading}
 use Rattle.pending.specs.declared.copies.Mark.{Mark}
 use Rattle.pending.specs.declared.flights.Flight.{Flight}
@@ -29,23 +30,24 @@ use Rattle.volume_laws.proofs.Left.{unmark_left, tried_left}
 use Rattle.volume_laws.proofs.Lists.{map-remove}
 use Rattle.snapshot.specs.Kept.{Kept, books_of as snap_books, due_of_kept}
 use Rattle.volume.specs.Volumed.{Volumed, books_of}
-use Rattle.volume.specs.Whole.{IsWhole, IsCounted, numbers_in}
-use Rattle.volume.specs.Finding.{is_trying, is_mark_of}
+use Rattle.snapshots.specs.Numbers.{numbers_in}
+use Rattle.volume.specs.Whole.{IsWhole, IsCounted}
+use Rattle.snapshots.specs.Finding.{is_trying, is_mark_of}
 use Rattle.volume.specs.Causes.{HasCause}
 use Rattle.volume.proofs.Changing.{SameDisk, same_disk, StaysAttached, changed, books_within, books_is, changes}
 use Rattle.volume.proofs.Counting.{counts_same, counts_store, store_within, lives_same}
 use Rattle.volume.proofs.CopyEvents.{both_left, both_right}
-use Rattle.volume.proofs.Good.{IsGood, Spoiling, silent_good}
+use Rattle.volume.proofs.Good.{IsGood, Spoiling, Staying, silent_good}
 use Rattle.volume.proofs.MovedCounts.{counted_marks}
 
--- requests keep their numbers
-again_numbers : (clear : ℕ → Bool) (rs : List Flight) → map number_of_flight (map (again_of None clear) rs) ≡ map number_of_flight rs
-again_numbers clear [] = refl
-again_numbers clear (r ∷ rs) = ap (λ ns. r.number ∷ ns) (again_numbers clear rs)
+-- the same requests are in flight
+again_flown : (clear : ℕ → Bool) (rs : List Flight) → map in_flight (map (again_of None clear) rs) ≡ map in_flight rs
+again_flown clear [] = refl
+again_flown clear (r ∷ rs) = ap (λ xs. in_flight r ∷ xs) (again_flown clear rs)
 
-placed_numbers : (s : SnapBooks) (rs : List Flight) → map number_of_flight (map (placed_of s) rs) ≡ map number_of_flight rs
-placed_numbers s [] = refl
-placed_numbers s (r ∷ rs) = ap (λ ns. r.number ∷ ns) (placed_numbers s rs)
+placed_flown : (s : SnapBooks) (rs : List Flight) → map in_flight (map (placed_of s) rs) ≡ map in_flight rs
+placed_flown s [] = refl
+placed_flown s (r ∷ rs) = ap (λ xs. in_flight r ∷ xs) (placed_flown s rs)
 
 remove_front : (xs ys : List ℕ) (k : ℕ) → k < length xs → remove (xs ++ ys) k ≡ remove xs k ++ ys
 remove_front [] ys k lt = absurd (omega (arith, lt))
@@ -99,7 +101,7 @@ module _ {B : Type 0} (contents : B → List ℕ) (layers : B → List Layer) (s
   same_loud fs gs l = record { origin = l.origin; snaps = l.snaps; merge = l.merge }
 
   -- a spoiled snapshot's mark was tried
-  module _ (outcome : Outcome) (told : Spoiling (WriteInvalid number) outcome) (found : is_trying number s ≡ true) (f : (s'.number ≡ s.number) × (s'.live ≡ s.live) × (s'.untried ≡ false) × (s'.state ≡ s.state) × (s'.copies ≡ s.copies) × (s'.marks ≡ s.marks))
+  module _ (outcome : Outcome) (told : Spoiling (WriteInvalid number) outcome) (still : Staying (WriteInvalid number) outcome) (found : is_trying number s ≡ true) (f : (s'.number ≡ s.number) × (s'.live ≡ s.live) × (s'.untried ≡ false) × ((s'.state.chunk ≡ s.state.chunk) × (s'.state.origin ≡ s.state.origin)) × (s'.copies ≡ s.copies) × (s'.marks ≡ s.marks))
       (t : TriesMark (snap_books contents layers s) (snap_books contents layers s')) (loud : is_loud (layers s'.device) ≡ is_loud (layers s.device)) (sized : size s'.device ≡ size s.device) (counted : done s'.device ≡ next_count (done s.device)) (counts : IsCounted s → IsCounted s') where
     pub tried_good : HasCause faults (WriteInvalid number) outcome v (changed v v.origin k s' (again v.flights)) → IsGood contents layers size faults done (WriteInvalid number) outcome v (changed v v.origin k s' (again v.flights))
     tried_good cause =
@@ -110,12 +112,12 @@ module _ {B : Type 0} (contents : B → List ℕ) (layers : B → List Layer) (s
         let two : IsSilent ub wb = reroute ub wb one.holds (reroutes v.flights) in
         let stays : StaysAttached s s' = record {
           number = f.0;
-          chunk_is = ap (λ x. x.chunk) f.3;
-          origin = ap (λ x. x.origin) f.3;
+          chunk_is = f.3.0;
+          origin = f.3.1;
           numbers = inl (ap (λ ms. map number_of_mark ms ++ map number_of_copy s'.copies) f.5 ∙ ap (λ cs. map number_of_mark s.marks ++ map number_of_copy cs) f.4);
           counted = counts;
         } in
-        silent_good contents layers size faults done v h (WriteInvalid number) outcome told v.origin k s s' within is disk loud sized (again v.flights) (again_numbers clear v.flights) stays
+        silent_good contents layers size faults done v h (WriteInvalid number) outcome told still v.origin k s s' within is disk loud sized (again v.flights) (again_flown clear v.flights) stays
         (silent_then vb ub wb one two (loud_one k (snap_books contents layers s) (snap_books contents layers s') vb ub e_is loud))
         (waits_tried k (snap_books contents layers s) (snap_books contents layers s') vb ub wb h.waits e_is t (reroutes v.flights))
         (tried_left (due_of_kept contents layers s) (due_of_kept contents layers s') (both_right (nat_eq s.number number) s.untried found) f.2 (f.1 ∙ t.was) f.4 f.5)
@@ -166,7 +168,7 @@ module _ {B : Type 0} (contents : B → List ℕ) (layers : B → List Layer) (s
           ));
           counted = λ counts. subst IsCounted (sym f) (counted_marks s counts (remove s.marks j));
         } in
-        silent_good contents layers size faults done v h (Publish number) Done (λ p q x. x) v.origin k s s' within is disk loud (ap size device) (again placed) (again_numbers clear placed ∙ placed_numbers b v.flights) stays
+        silent_good contents layers size faults done v h (Publish number) Done (λ p q x. x) (λ xs ys e. e) v.origin k s s' within is disk loud (ap size device) (again placed) (again_flown clear placed ∙ placed_flown b v.flights) stays
         (silent_then vb ub wb one (silent_then ub xb wb two three (same_loud v.flights placed)) (loud_one k a b vb ub e_is loud))
         (waits_published k j m a b vb ub xb wb h.waits e_is r places (reroutes placed))
         (unmark_left j m (due_of_kept contents layers s) (due_of_kept contents layers s') r (ap (λ (x : Kept B). x.state.zeroed) f))

@@ -8,8 +8,8 @@ use Rattle.std.proofs.lemmas.List.Elements.{All-cons}
 use Rattle.device.specs.Layers.{Layer, is_loud}
 use Rattle.plain.specs.declared.request.Reply.{Reply}
 use Rattle.settled.specs.Order.{IsInOrder}
-use Rattle.settling.specs.Rest.{IsResting, IsAtRest}
-use Rattle.settling.specs.Seen.{copying_of, going_of}
+use Rattle.event_machine.specs.Rest.{IsResting, IsAtRest}
+use Rattle.event_machine.specs.Seen.{copying_of, going_of}
 use Rattle.snapshot.specs.Kept.{Kept}
 use Rattle.volume.specs.Volumed.{Volumed, is_loud_in_all, piece_of}
 use Rattle.volume.specs.Whole.{IsAttached, IsWhole}

@@ -1,4 +1,4 @@
--- A volume that takes a snapshot does what the machine of `settling` does.
+-- A volume that takes a snapshot does what the machine of `settled` does.
 use Rattle.std.proofs.Common.{◌≡◌, inl, inr, ℕ, suc, ◌+◌, ◌*◌, ◌<◌, ◌≤◌, Bool, true, false, List, [], ◌∷◌, ◌++◌, length, map, refl, sym, ap, ◌∙◌, subst, arith}
 use Rattle.std.specs.Prelude.{◌==◌, ◌&&◌, ◌||◌, not, nat_lt, nat_le, Option, Some, None}
 use Rattle.std.specs.List.{All, list_all}
@@ -11,15 +11,15 @@ use Rattle.chunk.specs.Sizes.{is_chunk}
 use Rattle.device.specs.Layers.{Layer, is_loud}
 use Rattle.model.specs.NextPlace.{IsNextPlace}
 use Rattle.plain.specs.declared.request.Reply.{Reply}
-use Rattle.settling.specs.Devices.{Device, sectors_of}
-use Rattle.settling.specs.Snaps.{Snap, Volume}
-use Rattle.settling.specs.Held.{Held}
-use Rattle.settling.specs.Rest.{IsResting, IsAtRest}
-use Rattle.settling.specs.Seen.{copying_of}
-use Rattle.settling.specs.Attaching.{Tried, Store, Attached, refuse, done, open_store, attached, with_tried, refused_attach}
-use Rattle.settling.proofs.Attaching.{size_of}
-use Rattle.settling.proofs.Opened.{IsSound, open_sound}
-use Rattle.settling.proofs.Resting.{next_place_is}
+use Rattle.settled.specs.Devices.{Device, sectors_of}
+use Rattle.settled.specs.Snaps.{Snap, Volume}
+use Rattle.event_machine.specs.Held.{Held}
+use Rattle.event_machine.specs.Rest.{IsResting, IsAtRest}
+use Rattle.event_machine.specs.Seen.{copying_of}
+use Rattle.settled.specs.Attaching.{Tried, Store, Attached, refuse, done, open_store, attached, with_tried, refused_attach}
+use Rattle.settled.proofs.FaultlessAttaching.{size_of}
+use Rattle.settled.proofs.Opened.{IsSound, open_sound}
+use Rattle.settled.proofs.Nexts.{next_place_is}
 use Rattle.volume_laws.specs.Steps.{IsNewSnap}
 use Rattle.snapshot.specs.declared.opening.StoreDev.{StoreDev}
 use Rattle.snapshot.specs.Kept.{Kept, books_of as snap_books}

@@ -3,6 +3,7 @@ use Rattle.std.proofs.Common.{◌≡◌, ◌≢◌, inl, inr, ℕ, ◌+◌, ◌<
 use Rattle.std.specs.Prelude.{Some, None}
 use Rattle.std.specs.List.{All}
 use Rattle.std.proofs.lemmas.Bool.Decides.{leb_tells}
+use Rattle.std.proofs.lemmas.List.{get_or-map, length-map}
 use Rattle.sector.specs.declared.refusal.Refusal.TheVariants.{TooMany}
 use Rattle.std.proofs.lemmas.List.Elements.{All-nil, All-cons, All-push, All-weaker}
 use Rattle.std.proofs.lemmas.List.Quantifiers.{all_pairs_push}
@@ -18,10 +19,18 @@ use Rattle.volume_laws.proofs.Waiting.{waits_none}
 use Rattle.snapshot.specs.Kept.{Kept, books_of as snap_books}
 use Rattle.snapshot.specs.Opening.{IsWanted}
 use Rattle.volume.specs.Volumed.{Volumed, books_of, piece_of, plain_of}
-use Rattle.volume.specs.Whole.{AreNumbers, number_of_snap, numbers_in, count_in, SharesNone, IsAttached, IsWhole, IsCounted}
+use Rattle.snapshots.specs.Numbers.{number_of_snap, numbers_in, count_in}
+use Rattle.volume.specs.Whole.{AreNumbers, SharesNone, IsAttached, IsWhole, IsCounted}
 use Rattle.volume.specs.Taking.{wanted_of, taking_refusal}
 use Rattle.volume.proofs.Shown.{shown}
 use Rattle.volume.proofs.Sums.{sum_cons}
+
+-- the next number is no other snapshot's
+pub attach_fresh : {B : Type 0} (contents : B → List ℕ) (layers : B → List Layer) (size : B → ℕ) (v : Volumed B) → IsWhole contents layers size v → (number : ℕ) → number ≡ v.attached + 1 → All (λ s. s.number ≢ number) v.snaps
+attach_fresh contents layers size v h number next k d lt same =
+    let at : get_or (map number_of_snap v.snaps) k 0 ≡ (get_or v.snaps k d).number = get_or-map number_of_snap v.snaps k d 0 lt in
+    let below : get_or (map number_of_snap v.snaps) k 0 ≤ v.attached = h.numbers.given k 0 (omega (arith, lt, length-map v.snaps number_of_snap)) in
+    omega (arith, at, below, next, same)
 
 -- a volume that takes one more is quiet, and has less than eight
 pub taking_none : (stale quiet : Bool) (count attached chunk : ℕ) → taking_refusal stale quiet count attached chunk ≡ None → (quiet ≡ true) × (count < 8)

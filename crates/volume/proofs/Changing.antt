@@ -18,7 +18,8 @@ use Rattle.volume_laws.specs.Waits.{Waits}
 use Rattle.volume_laws.proofs.Left.{one_left}
 use Rattle.snapshot.specs.Kept.{Kept, books_of as snap_books, due_of_kept}
 use Rattle.volume.specs.Volumed.{Volumed, books_of, piece_of, is_loud_in_all, left_in_all}
-use Rattle.volume.specs.Whole.{AreNumbers, number_of_snap, numbers_in, count_in, SharesNone, IsAttached, IsWhole, IsCounted}
+use Rattle.snapshots.specs.Numbers.{number_of_snap, numbers_in, count_in}
+use Rattle.volume.specs.Whole.{AreNumbers, SharesNone, IsAttached, IsWhole, IsCounted}
 use Rattle.volume.proofs.Lists.{all_pairs_set, list_all_set, IsFewer, fewer_all, fewer_pairs, fewer_length}
 
 -- an origin disk that holds the same

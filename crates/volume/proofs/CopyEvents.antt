@@ -24,11 +24,12 @@ use Rattle.volume_laws.proofs.Left.{copy_read_left, copy_write_left}
 use Rattle.snapshot.specs.Kept.{Kept, books_of as snap_books, due_of_kept}
 use Rattle.snapshot.specs.Calls.{ReadsAt, WritesAt}
 use Rattle.volume.specs.Volumed.{Volumed, books_of}
-use Rattle.volume.specs.Whole.{IsWhole, IsCounted, numbers_in}
-use Rattle.volume.specs.Finding.{is_copy_of}
+use Rattle.snapshots.specs.Numbers.{numbers_in}
+use Rattle.volume.specs.Whole.{IsWhole, IsCounted}
+use Rattle.snapshots.specs.Finding.{is_copy_of}
 use Rattle.volume.proofs.Changing.{SameDisk, StaysAttached, changed, books_within, books_is, changes}
 use Rattle.volume.proofs.Counting.{counts_same, counts_origin, counts_store, store_within, lives_same, lives_spoiled, lived}
-use Rattle.volume.proofs.Finds.{position_within, position_any}
+use Rattle.snapshots.proofs.Finds.{position_within, position_any}
 use Rattle.volume.proofs.Good.{IsGood, SpoiltTo, silent_good, spoilt_good}
 use Rattle.volume.proofs.MovedCounts.{counted_copies}
 
@@ -109,7 +110,7 @@ module _ {B : Type 0} (contents : B → List ℕ) (layers : B → List Layer) (s
           numbers = inl (same_numbers s s' j p q r.copy.was e.copy.number r.marks r.copy.copies);
           counted = λ counts. subst IsCounted (sym f) (counted_copies s counts s.device j q);
         } in
-        silent_good contents layers size faults done v h (CopyRead number) Done (λ a b x. x) o' k s s' within is same (ap (λ d. is_loud (layers d)) device) (ap size device) v.flights refl stays
+        silent_good contents layers size faults done v h (CopyRead number) Done (λ a b x. x) (λ xs ys e. e) o' k s s' within is same (ap (λ d. is_loud (layers d)) device) (ap size device) v.flights refl stays
         (copy_read_event k (sb s) (sb s') (books_of contents layers size v) (books_of contents layers size w) h.holds e_is j p q r)
         (waits_changed k (sb s) (sb s') (books_of contents layers size v) (books_of contents layers size w) h.waits e_is (copy_read_keeps (contents v.origin) j p q (sb s) (sb s') r))
         (copy_read_left (contents v.origin) j p q (due_of_kept contents layers s) (due_of_kept contents layers s') r (copy_stage Waiting number s.copies j found p r.copy.was) (ap (λ (x : Kept B). x.state.zeroed) f))
@@ -130,7 +131,7 @@ module _ {B : Type 0} (contents : B → List ℕ) (layers : B → List Layer) (s
           numbers = inl (same_numbers s s' j p q r.copy.was e.copy.number r.marks r.copy.copies);
           counted = λ counts. subst IsCounted (sym f) (counted_copies s counts s'.device j q);
         } in
-        silent_good contents layers size faults done v h (CopyWrite number) Done (λ a b x. x) o' k s s' within is same loud sized v.flights refl stays
+        silent_good contents layers size faults done v h (CopyWrite number) Done (λ a b x. x) (λ xs ys e. e) o' k s s' within is same loud sized v.flights refl stays
         (copy_write_event k (sb s) (sb s') (books_of contents layers size v) (books_of contents layers size w) h.holds e_is j p q r)
         (waits_changed k (sb s) (sb s') (books_of contents layers size v) (books_of contents layers size w) h.waits e_is (copy_write_keeps j p q (sb s) (sb s') r))
         (copy_write_left j p q (due_of_kept contents layers s) (due_of_kept contents layers s') r (ap (λ (x : Kept B). x.state.zeroed) f))
@@ -143,7 +144,7 @@ module _ {B : Type 0} (contents : B → List ℕ) (layers : B → List Layer) (s
   read_fault found t device faulty counted =
       let flights = map (refused_of (s.number ∷ [])) v.flights in
       let live = copy_lives (position_within (is_copy_of Waiting number) s.copies j found) in
-      spoilt_good contents layers size faults done v h (CopyRead number) Fault (λ a b x. x) o' k s s' within is same (ap (λ d. is_loud (layers d)) device) (ap size device) live (copy_some Waiting number s.copies j found) t
+      spoilt_good contents layers size faults done v h (CopyRead number) Fault (λ a b x. x) (λ xs ys e. e) o' k s s' within is same (ap (λ d. is_loud (layers d)) device) (ap size device) live (copy_some Waiting number s.copies j found) t
       (record {
         place = k;
         snap = s;
@@ -160,7 +161,7 @@ module _ {B : Type 0} (contents : B → List ℕ) (layers : B → List Layer) (s
   write_fault found t loud sized faulty counted faulty' counted' =
       let flights = map (refused_of (s.number ∷ [])) v.flights in
       let live = copy_lives (position_within (is_copy_of Read number) s.copies j found) in
-      spoilt_good contents layers size faults done v h (CopyWrite number) Fault (λ a b x. x) o' k s s' within is same loud sized live (copy_some Read number s.copies j found) t
+      spoilt_good contents layers size faults done v h (CopyWrite number) Fault (λ a b x. x) (λ xs ys e. e) o' k s s' within is same loud sized live (copy_some Read number s.copies j found) t
       (record {
         place = k;
         snap = s;

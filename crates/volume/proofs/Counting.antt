@@ -6,7 +6,7 @@ use Rattle.sector.specs.Bytes.{next_count}
 use Rattle.pending.specs.declared.flights.Flight.{Flight}
 use Rattle.snapshot.specs.Kept.{Kept}
 use Rattle.volume.specs.Volumed.{Volumed}
-use Rattle.volume.specs.Whole.{number_of_snap}
+use Rattle.snapshots.specs.Numbers.{number_of_snap}
 use Rattle.volume.specs.Stepping.{KeepsAll}
 use Rattle.volume.specs.Causes.{counts_of, counted, lives_of}
 use Rattle.volume.proofs.Changing.{changed}

@@ -1,5 +1,5 @@
 -- A request is issued at the origin disk.
-use Rattle.std.proofs.Common.{◌≡◌, ◌≢◌, ◌⊎◌, inl, inr, ℕ, ◌<◌, true, List, ◌∷◌, Some, None, length, get_or, map, refl, sym, ◌∙◌, ap, subst, arith, nat_eq}
+use Rattle.std.proofs.Common.{◌≡◌, ◌≢◌, ◌⊎◌, inl, inr, ℕ, ◌*◌, ◌<◌, true, List, ◌∷◌, Some, None, length, get_or, map, refl, sym, ◌∙◌, ap, subst, arith, nat_eq}
 use Rattle.std.specs.Prelude.{◌&&◌}
 use Rattle.std.specs.List.{list_all, remove, position}
 use Rattle.std.proofs.lemmas.Bool.{cases_Bool, eqb-true}
@@ -32,10 +32,11 @@ use Rattle.snapshot.specs.Kept.{Kept}
 use Rattle.volume.specs.Volumed.{Volumed, books_of}
 use Rattle.volume.specs.Whole.{IsWhole}
 use Rattle.volume.specs.Causes.{HasReplied, IsFaultless, FailsAlone, GoesTo, IsOneAtMost}
-use Rattle.volume.proofs.Finds.{position_within}
+use Rattle.snapshots.proofs.Finds.{position_within}
+use Rattle.volume.specs.Flying.{Fits}
 use Rattle.volume.proofs.Changing.{snaps_fit}
 use Rattle.volume.proofs.Good.{IsGood}
-use Rattle.volume.proofs.IssueEvents.{reply_good}
+use Rattle.volume.proofs.IssueEvents.{reply_good, taken_out, fits_read, fits_write}
 
 -- what a request is, by its device
 pub read_kinds : (dev : Dev) (op : Op) → op ≡ Read → (kind_at dev op ≡ OriginRead) ⊎ ((n : ℕ) × (kind_at dev op ≡ SnapRead n))
@@ -76,10 +77,10 @@ module _ {B : Type 0} (contents : B → List ℕ) (layers : B → List Layer) (s
   mine : r.number ≡ number
   mine = (let p = position-Some (λ (f : Flight). nat_eq f.number number) v.flights place r found in eqb-true r.number number (ap (λ (f : Flight). nat_eq f.number number) was ∙ p.1))
 
-  good : (reply : Reply) → IsReply number reply vb wb → HasReplied faults number reply v issued → IsOneAtMost done v issued → IsGood contents layers size faults done (Issue number) (Replied number reply) v issued
-  good reply answered cause one = reply_good contents layers size faults done v issued h number place reply in_list refl refl refl refl (snaps_fit contents layers size v (size o') h same_size) refl
+  good : (reply : Reply) → IsReply number reply vb wb → HasReplied faults number reply v issued → IsOneAtMost done v issued → Fits r.request.op r.request.range reply → IsGood contents layers size faults done (Issue number) (Replied number reply) v issued
+  good reply answered cause one fits = reply_good contents layers size faults done v issued h number place reply in_list refl refl refl refl (snaps_fit contents layers size v (size o') h same_size) refl
       (ap (λ b. b && list_all (λ (s : Kept B). is_loud (layers s.device)) v.snaps) same_loud)
-      (record { attached = refl; numbers = refl; chunks = refl; sizes = ap (λ n. n ∷ map (λ (s : Kept B). size s.device) v.snaps) same_size }) answered waits cause one
+      (record { attached = refl; numbers = refl; chunks = refl; sizes = ap (λ n. n ∷ map (λ (s : Kept B). size s.device) v.snaps) same_size }) answered waits cause one (taken_out number place reply r vb wb out fits)
 
   faultless : faults o' ≡ faults v.origin → IsFaultless faults v issued
   faultless same = record { counts = ap (λ n. n ∷ map (λ (s : Kept B). faults s.device) v.snaps) same; lives = refl }
@@ -99,8 +100,8 @@ module _ {B : Type 0} (contents : B → List ℕ) (layers : B → List Layer) (s
 
   -- a read
   module _ (op : r.request.op ≡ Read) (same : contents o' ≡ contents v.origin) (counted : done o' ≡ next_count (done v.origin)) where
-    pub disk_read : (bytes : List ℕ) → bytes ≡ sectors_at (contents v.origin) r.request.range.first r.request.range.count → faults o' ≡ faults v.origin → IsGood contents layers size faults done (Issue number) (Replied number (Data bytes)) v issued
-    disk_read bytes read faulty = good (Data bytes) reply (faultless faulty) (one_done counted)
+    pub disk_read : (bytes : List ℕ) → length bytes ≡ 512 * r.request.range.count → bytes ≡ sectors_at (contents v.origin) r.request.range.first r.request.range.count → faults o' ≡ faults v.origin → IsGood contents layers size faults done (Issue number) (Replied number (Data bytes)) v issued
+    disk_read bytes len read faulty = good (Data bytes) reply (faultless faulty) (one_done counted) (fits_read r.request.op r.request.range bytes op len)
       where
         reply : IsReply number (Data bytes) vb wb
         reply = elim (read_kinds r.request.dev r.request.op op) [
@@ -110,7 +111,7 @@ module _ {B : Type 0} (contents : B → List ℕ) (layers : B → List Layer) (s
         ]
 
     pub disk_read_io : faults o' ≡ next_count (faults v.origin) → IsGood contents layers size faults done (Issue number) (Replied number (IsRefused Io)) v issued
-    disk_read_io faulty = good (IsRefused Io) reply (failed faulty) (one_done counted)
+    disk_read_io faulty = good (IsRefused Io) reply (failed faulty) (one_done counted) tt
       where
         reply : IsReply number (IsRefused Io) vb wb
         reply = elim (read_kinds r.request.dev r.request.op op) [
@@ -138,7 +139,7 @@ module _ {B : Type 0} (contents : B → List ℕ) (layers : B → List Layer) (s
         → IsGood contents layers size faults done (Issue number) (Replied number IsWritten) v issued
     disk_write disk written faulty = good IsWritten
         (write_disk_event number place r bytes vb wb h.holds (record { out = out; op = op; snaps = refl; disk = disk; written = written }) refl (is_origin bytes op) route)
-        (faultless faulty) (one_done counted)
+        (faultless faulty) (one_done counted) (fits_write r.request.op r.request.range bytes op)
 
     pub disk_write_io : contents o' ≡ contents v.origin → faults o' ≡ next_count (faults v.origin) → IsGood contents layers size faults done (Issue number) (Replied number (IsRefused Io)) v issued
-    disk_write_io same faulty = good (IsRefused Io) (io_write_event number place r vb wb h.holds (only same) (is_origin bytes op)) (failed faulty) (one_done counted)
+    disk_write_io same faulty = good (IsRefused Io) (io_write_event number place r vb wb h.holds (only same) (is_origin bytes op)) (failed faulty) (one_done counted) tt

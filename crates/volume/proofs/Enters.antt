@@ -15,7 +15,7 @@ use Rattle.volume_laws.specs.Published.{IsPiece}
 use Rattle.volume_laws.specs.Steps.{Accepts}
 use Rattle.volume_laws.specs.Whole.{plain_of as plain_books}
 use Rattle.volume_laws.proofs.Routed.{ArePieces}
-use Rattle.submit_laws.specs.Accepting.{IsTakenIn}
+use Rattle.volume_laws.specs.Accepting.{IsTakenIn}
 use Rattle.snapshot.specs.Kept.{Kept, books_of as snap_books}
 use Rattle.volume.specs.Volumed.{Volumed, books_of, piece_of, plain_of, is_loud_in_all}
 use Rattle.volume.specs.Whole.{AreNumbers, IsAttached, IsWhole}

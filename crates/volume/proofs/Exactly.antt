@@ -31,7 +31,7 @@ use Rattle.snapshot.specs.Kept.{Kept, books_of as snap_books, needs_area}
 use Rattle.snapshot.specs.Calls.{ReadsAt, StaysAt, WritesAt}
 use Rattle.volume.specs.Volumed.{Volumed, is_loud_in_all}
 use Rattle.volume.specs.Whole.{IsWhole, IsCounted}
-use Rattle.volume.specs.Finding.{is_copy_of, is_mark_of, is_trying, is_committing, is_zeroing}
+use Rattle.snapshots.specs.Finding.{is_copy_of, is_mark_of, is_trying, is_committing, is_zeroing}
 use Rattle.volume.specs.Exact.{IsExact}
 use Rattle.volume.proofs.MovedLists.{IsFirst, first_position}
 use Rattle.volume.proofs.MovedDue.{front_lives}
@@ -205,14 +205,14 @@ module _ {B : Type 0} (contents : B → List ℕ) (layers : B → List Layer) (s
         trying_first = snap_first contents layers size v h n k s within is (is_trying n) (λ x e. eqb-true x.number n (and_left (x.number == n) x.untried e)) found
 
         pub tried_exact : (s' : Kept B) (flights : List Flight) → IsOneOperation (Writes 0 s.state.chunk) true (layers s.device) (layers s'.device) faults faults' done done'
-            → (is_loud (layers s.device) ≡ true → contents s'.device ≡ with_sectors (contents s.device) 0 (header_bytes (512 * s.state.chunk) false s.state.chunk)) → s' ≡ record s { device = s'.device; untried = false; stale = false }
+            → (is_loud (layers s.device) ≡ true → contents s'.device ≡ with_sectors (contents s.device) 0 (header_bytes (512 * s.state.chunk) false s.state.chunk)) → s' ≡ record s { device = s'.device; untried = false; stale = false; state = record s.state { valid = false } }
             → flights ≡ map (again_of None (is_clear_in (map (snap_books contents layers) (set v.snaps k s')))) v.flights → IsExact contents layers (WriteInvalid n) Done v (changed v v.origin k s' flights)
         tried_exact s' flights one written fields routed = record {
           step = λ loud replied. write_invalid_is contents layers replied v n k s trying_first true s' flights faults faults' done done' s'.device one (written (loud_store loud)) fields routed;
         }
 
         pub tried_fault_exact : (s' : Kept B) (flights : List Flight) → IsOneOperation (Writes 0 s.state.chunk) false (layers s.device) (layers s'.device) faults faults' done done'
-            → contents s'.device ≡ contents s.device → s' ≡ record s { device = s'.device; untried = false; stale = true }
+            → contents s'.device ≡ contents s.device → s' ≡ record s { device = s'.device; untried = false; stale = true; state = record s.state { valid = true } }
             → flights ≡ map (again_of None (is_clear_in (map (snap_books contents layers) (set v.snaps k s')))) v.flights → IsExact contents layers (WriteInvalid n) Fault v (changed v v.origin k s' flights)
         tried_fault_exact s' flights one same fields routed = record {
           step = λ loud replied. write_invalid_is contents layers replied v n k s trying_first false s' flights faults faults' done done' s'.device one same fields routed;

@@ -1,6 +1,6 @@
 -- An origin write is accepted, once the copies of its chunk are started.
+use Rattle.std.specs.Prelude.{if◌then◌else◌, ◌&&◌, sum_by, count_by}
 use Rattle.std.proofs.Common.{◌≡◌, inl, inr, ℕ, ◌+◌, ◌*◌, ◌/◌, ◌%◌, ◌<◌, ◌≤◌, Bool, true, false, List, [], ◌∷◌, ◌++◌, None, length, get_or, map, take, drop, refl, sym, ◌∙◌, ap, subst, arith}
-use Rattle.std.specs.Prelude.{◌&&◌, sum_by, count_by}
 use Rattle.std.specs.List.{All, list_all}
 use Rattle.std.proofs.lemmas.Bool.{cases_Bool, MatchBool-at_true, MatchBool-at_false}
 use Rattle.std.proofs.lemmas.List.{length-map, get_or-map}
@@ -13,17 +13,23 @@ use Rattle.plain.specs.Legal.{IsSubmitted}
 use Rattle.pending.specs.Kinds.{kind_of, room_of, in_flight}
 use Rattle.pending.specs.Routes.{write_route_of}
 use Rattle.pending.specs.declared.flights.Flight.{Flight}
+use Rattle.pending.specs.declared.flights.Kind.{Kind}
 use Rattle.pending.specs.declared.flights.Kind.TheVariants.{OriginWrite}
 use Rattle.volume_laws.specs.Books.{SnapBooks, Books}
 use Rattle.volume_laws.specs.Published.{chunk_of, is_clear}
 use Rattle.volume_laws.specs.Waits.{IsSaving}
 use Rattle.volume_laws.specs.Whole.{plain_of as plain_books}
-use Rattle.submit_laws.specs.Accepting.{IsTakenIn}
-use Rattle.submit_laws.proofs.Preparing.{prepared_none, saving_none}
+use Rattle.volume_laws.specs.Accepting.{IsTakenIn}
+use Rattle.volume_laws.proofs.Preparing.{prepared_none, saving_none}
 use Rattle.snapshot.specs.Kept.{Kept, books_of as snap_books}
 use Rattle.volume.specs.Volumed.{Volumed, books_of, piece_of, plain_of, is_loud_in_all}
-use Rattle.volume.specs.Whole.{IsWhole, count_in}
-use Rattle.volume.specs.Submitting.{unroomed, starts, overflows, IsSavedIn, AreSavedIn, IsAsked, IsAcceptedAs, entered_of}
+use Rattle.snapshots.specs.Numbers.{count_in}
+use Rattle.volume.specs.Whole.{IsWhole}
+use Rattle.snapshots.specs.Starting.{unroomed, starts, overflows, overflowing, IsSavedIn, AreSavedIn}
+use Rattle.snapshots.proofs.Overflowing.{overflowing_roomed, saved_lives}
+use Rattle.snapshots.proofs.Roomed.{roomed}
+use Rattle.volume.specs.Submitting.{IsAsked, IsAcceptedAs, entered_of, lives_after, spoiled_by}
+use Rattle.volume.proofs.Accepts.{entered_flown}
 use Rattle.volume.proofs.ByKind.{origin_write_enters}
 use Rattle.volume.proofs.Enters.{fresh_plain, whole_entered, plain_entered}
 use Rattle.volume.proofs.Roomed.{roomed_piece, roomed_sum, books_roomed, whole_roomed, starts_roomed}
@@ -104,18 +110,20 @@ module _ {B : Type 0} (contents : B → List ℕ) (layers : B → List Layer) (s
   roomy_whole : IsWhole contents layers size roomy
   roomy_whole = whole_roomed contents layers size v before e h
 
-  done : AreDone contents layers size (f.request.range.first / piece_of v.snaps) (length {A = Kept B} [] + length before) roomy saved
+  abbrev which : List ℕ
+  which = overflowing (f.request.range.first / piece_of v.snaps) before
+
+  done : AreDone contents layers size (f.request.range.first / piece_of v.snaps) (length {A = Kept B} [] + length before) which roomy saved
   done =
       let c = f.request.range.first / piece_of v.snaps in
       let sums = roomed_sum count_in before v.snaps e (λ s. refl) in
       let counts = starts_roomed contents layers size v before e c in
-      let start : AreDone contents layers size c (length {A = Kept B} []) roomy roomy = record {
-        which = [];
+      let start : AreDone contents layers size c (length {A = Kept B} []) [] roomy roomy = record {
         whole = roomy_whole;
         prepared = prepared_none (books_of contents layers size roomy) roomy_whole.holds roomy_whole.waits;
         saving = saving_none c (books_of contents layers size roomy).snaps;
       } in
-      done_all contents layers size c roomy before after [] roomy m gs refl at (omega (arith, few, sums, counts)) start
+      done_all contents layers size c roomy before after [] roomy [] m gs refl at (omega (arith, few, sums, counts)) start
 
   piece_same : piece_of after ≡ piece_of v.snaps
   piece_same = saved_piece contents layers (f.request.range.first / piece_of v.snaps) before after v.copies m v.flights gs at ∙ roomed_piece before v.snaps e
@@ -132,14 +140,14 @@ module _ {B : Type 0} (contents : B → List ℕ) (layers : B → List Layer) (s
       let same : f.request.range.first / piece_of v.snaps ≡ f.request.range.first / (get_or after k d).state.chunk = ap (λ n. f.request.range.first / n) (sym piece_same ∙ sym (done.whole.snaps k d lt).chunk_is) in
       subst (λ (n : ℕ). IsSaving n (snap_books contents layers (get_or after k d))) same here))
 
-  taken : IsTakenIn done.which f.number f.request (books_of contents layers size roomy) (books_of contents layers size written)
-  taken = origin_write_enters contents layers size roomy saved done.which done.prepared done.whole f number (subst (λ (n : ℕ). IsAsked (size v.origin) n f.request) (sym piece_same) asked) room kind
+  taken : IsTakenIn which f.number f.request (books_of contents layers size roomy) (books_of contents layers size written)
+  taken = origin_write_enters contents layers size roomy saved which done.prepared done.whole f number (subst (λ (n : ℕ). IsAsked (size v.origin) n f.request) (sym piece_same) asked) room kind
       route saving_all
 
   pub written_whole : IsWhole contents layers size written
   written_whole =
       let len : length gs ≡ length v.flights = sym (length-map gs in_flight) ∙ ap length done.prepared.requests ∙ length-map v.flights in_flight in
-      whole_entered contents layers size saved f done.whole number done.which roomy (omega (arith, space, len)) taken
+      whole_entered contents layers size saved f done.whole number which roomy (omega (arith, space, len)) taken
 
   sized : All (IsSized contents f.request.range.first (f.request.range.first / piece_of v.snaps)) before
   sized = subst (λ (n : ℕ). All (IsSized contents f.request.range.first (f.request.range.first / n)) before) (roomed_piece before v.snaps e) (sized_all contents layers size roomy roomy_whole f.request.range.first)
@@ -151,11 +159,18 @@ module _ {B : Type 0} (contents : B → List ℕ) (layers : B → List Layer) (s
     given = sym number;
     fresh = fresh_plain contents layers size v f h number;
     loud = ap (λ b. is_loud (layers v.origin) && b) (saved_loud contents layers (f.request.range.first / piece_of v.snaps) before after v.copies m v.flights gs at) ∙ loud_roomed contents layers size v before e;
-    legal = λ loud. (
-      done.which,
-      subst (λ (p : Plain). IsSubmitted done.which p f.number f.request (plain_of contents layers written)) (plain_roomed contents layers size v before e)
-          (plain_entered contents layers size roomy written done.which f.number f.request taken (loud_roomed contents layers size v before e ∙ loud)),
-    );
+    legal = λ loud.
+        (let c = f.request.range.first / piece_of v.snaps in
+        subst (λ (ns : List ℕ). IsSubmitted ns (plain_of contents layers v) f.number f.request (plain_of contents layers written))
+        (overflowing_roomed c before v.snaps e ∙ sym (ap (λ (q : Kind). spoiled_by q c v.snaps) kind))
+        (subst (λ (p : Plain). IsSubmitted which p f.number f.request (plain_of contents layers written)) (plain_roomed contents layers size v before e)
+        (plain_entered contents layers size roomy written which f.number f.request taken (loud_roomed contents layers size v before e ∙ loud))));
+    lives =
+        (let c = f.request.range.first / piece_of v.snaps in
+        saved_lives contents layers c before after v.copies m v.flights gs at
+        ∙ roomed (λ (s : Kept B). if overflows c s then false else s.live) before v.snaps e (λ s. refl)
+        ∙ sym (ap (λ (q : Kind). lives_after q c v.snaps) kind));
+    flown = entered_flown v.flights gs f done.prepared.requests;
     exact = λ replied. origin_write_is contents layers replied f.number f.request f refl refl v written (f.request.range.first / piece_of v.snaps) m before after gs kind e sized at route refl;
     kept = keeps_saved contents layers v written (f.request.range.first / piece_of v.snaps) v.copies m before v.flights gs refl refl e at;
   }

@@ -2,11 +2,12 @@
 use Rattle.std.proofs.Common.{◌≡◌, inr, ℕ, ◌<◌, true, false, List, [], ◌∷◌, ◌++◌, length, get_or, map, refl, sym, ◌∙◌, ap, arith}
 use Rattle.std.proofs.lemmas.List.{length-map}
 use Rattle.device.specs.Layers.{Layer, is_loud}
-use Rattle.plain.specs.Plain.{Plain, spoiled}
+use Rattle.plain.specs.Plain.{InFlight, Plain, spoiled}
 use Rattle.plain.specs.Legal.{IsLegalStep, Spoils}
 use Rattle.plain.specs.declared.event.Event.{Event}
 use Rattle.plain.specs.declared.event.Outcome.{Outcome}
 use Rattle.pending.specs.Due.{number_of_flight, number_of_copy, number_of_mark}
+use Rattle.pending.specs.Kinds.{in_flight}
 use Rattle.pending.specs.Routes.{refused_of}
 use Rattle.pending.specs.declared.copies.Mark.{Mark}
 use Rattle.pending.specs.declared.flights.Flight.{Flight}
@@ -15,13 +16,16 @@ use Rattle.volume_laws.specs.Steps.{SpoilsSnap}
 use Rattle.volume_laws.specs.Waits.{Waits}
 use Rattle.volume_laws.specs.Whole.{IsLoud, plain_of as plain_books}
 use Rattle.volume_laws.specs.Outcomes.{IsSilent}
+use Rattle.volume_laws.proofs.Refusing.{refused_in_flight}
 use Rattle.volume_laws.proofs.Spoiling.{spoil_event}
 use Rattle.volume_laws.proofs.WaitingAgain.{waits_spoiled}
 use Rattle.volume_laws.proofs.Left.{spoil_left}
 use Rattle.snapshot.specs.Kept.{Kept, books_of as snap_books, due_of_kept}
 use Rattle.volume.specs.Volumed.{Volumed, books_of, plain_of, is_loud_in_all}
-use Rattle.volume.specs.Whole.{IsWhole, IsCounted, numbers_in}
+use Rattle.snapshots.specs.Numbers.{numbers_in}
+use Rattle.volume.specs.Whole.{IsWhole, IsCounted}
 use Rattle.volume.specs.Causes.{HasCause, IsOneAtMost}
+use Rattle.volume.specs.Flying.{IsFlown}
 use Rattle.volume.specs.Stepping.{IsStepped, KeepsAll}
 use Rattle.volume.proofs.Counting.{kept_changed}
 use Rattle.volume.proofs.Shown.{shown, loud_books}
@@ -34,6 +38,18 @@ pub record IsGood {B : Type 0} (contents : B → List ℕ) (layers : B → List 
 -- an event that spoils, or is silent, is legal by any outcome that no reply is
 abbrev pub Spoiling : Event → Outcome → Type 0
 Spoiling event outcome = (p q : Plain) → (which : List ℕ) × Spoils which p q → IsLegalStep p event outcome q
+
+-- an event that leaves the requests in flight, by any outcome that no reply is
+abbrev pub Staying : Event → Outcome → Type 0
+Staying event outcome = (xs ys : List InFlight) → ys ≡ xs → IsFlown event outcome xs ys
+
+-- requests that are seen as the same have the same numbers
+numbers_seen : (rs : List Flight) → map (λ (x : InFlight). x.number) (map in_flight rs) ≡ map number_of_flight rs
+numbers_seen [] = refl
+numbers_seen (r ∷ rs) = ap (λ ns. r.number ∷ ns) (numbers_seen rs)
+
+same_numbers : (rs qs : List Flight) → map in_flight qs ≡ map in_flight rs → map number_of_flight qs ≡ map number_of_flight rs
+same_numbers rs qs same = sym (numbers_seen qs) ∙ ap (map (λ (x : InFlight). x.number)) same ∙ numbers_seen rs
 
 -- what became of a spoiled snapshot
 pub record SpoiltTo {B : Type 0} (s s' : Kept B) : Type 0 where
@@ -55,23 +71,25 @@ module _ {B : Type 0} (contents : B → List ℕ) (layers : B → List Layer) (s
       → (xs : List ℕ) × Spoils xs (plain_of contents layers v) (plain_of contents layers w)
   legal_by which step loud = (which, shown contents layers size w ∙ step (loud_books contents layers size v loud) ∙ ap (spoiled which) (sym (shown contents layers size v)))
 
-module _ {B : Type 0} (contents : B → List ℕ) (layers : B → List Layer) (size faults done : B → ℕ) (v : Volumed B) (h : IsWhole contents layers size v) (event : Event) (outcome : Outcome) (told : Spoiling event outcome)
+module _ {B : Type 0} (contents : B → List ℕ) (layers : B → List Layer) (size faults done : B → ℕ) (v : Volumed B) (h : IsWhole contents layers size v) (event : Event) (outcome : Outcome) (told : Spoiling event outcome) (still : Staying event outcome)
     (o' : B) (k : ℕ) (s s' : Kept B) (within : k < length v.snaps) (is : s ≡ get_or v.snaps k s) (same : SameDisk contents layers size v.origin o') (loud : is_loud (layers s'.device) ≡ is_loud (layers s.device)) (sized : size s'.device ≡ size s.device) where
   kept : (flights : List Flight) → s'.number ≡ s.number → s'.state.chunk ≡ s.state.chunk → KeepsAll size v (changed v o' k s' flights)
   kept flights number chunk = kept_changed size v o' k s s' flights within is same.sectors sized number chunk
 
   -- nothing is seen of it
-  pub silent_good : (flights : List Flight) → map number_of_flight flights ≡ map number_of_flight v.flights → StaysAttached s s'
+  pub silent_good : (flights : List Flight) → map in_flight flights ≡ map in_flight v.flights → StaysAttached s s'
       → IsSilent (books_of contents layers size v) (books_of contents layers size (changed v o' k s' flights)) → Waits (books_of contents layers size (changed v o' k s' flights))
       → left_in (due_of_kept contents layers s') < left_in (due_of_kept contents layers s)
       → HasCause faults event outcome v (changed v o' k s' flights) → IsOneAtMost done v (changed v o' k s' flights) → IsGood contents layers size faults done event outcome v (changed v o' k s' flights)
-  silent_good flights numbers stays silent waits less cause one =
+  silent_good flights same_flights stays silent waits less cause one =
+      let numbers = same_numbers v.flights flights same_flights in
       let w = changed v o' k s' flights in
       let count : length flights ≡ length v.flights = omega (arith, ap length numbers, length-map flights number_of_flight, length-map v.flights number_of_flight) in
       record {
         whole = whole_changed contents layers size v o' k s s' within is flights h same stays numbers silent.holds waits;
         stepped = record {
           legal = λ l. told (plain_of contents layers v) (plain_of contents layers w) (legal_by contents layers size v w [] silent.step l);
+          flown = still (map in_flight v.flights) (map in_flight w.flights) same_flights;
           lower = lower_changed contents layers size v o' k s s' within is flights count less;
           loud = loud_changed contents layers size v o' k s s' within is flights same loud;
           cause = cause;
@@ -101,6 +119,7 @@ module _ {B : Type 0} (contents : B → List ℕ) (layers : B → List Layer) (s
             (waits_spoiled k (sb s) (sb s') (books_of contents layers size v) (books_of contents layers size w) h.waits e t.untried);
         stepped = record {
           legal = λ l. told (plain_of contents layers v) (plain_of contents layers w) (legal_by contents layers size v w (s.number ∷ []) spoil.step l);
+          flown = still (map in_flight v.flights) (map in_flight w.flights) (refused_in_flight (s.number ∷ []) v.flights);
           lower = lower_changed contents layers size v o' k s s' within is flights count (spoil_left (due_of_kept contents layers s) (due_of_kept contents layers s') spoils some);
           loud = loud_changed contents layers size v o' k s s' within is flights same loud;
           cause = cause;

@@ -1,5 +1,5 @@
 -- A request is answered and taken out: what a step promises of it.
-use Rattle.std.proofs.Common.{◌≡◌, ℕ, ◌<◌, ◌≤◌, List, length, get_or, map, refl, sym, ap, subst, arith}
+use Rattle.std.proofs.Common.{◌≡◌, ℕ, ◌*◌, ◌<◌, ◌≤◌, List, length, get_or, map, refl, sym, ap, subst, arith}
 use Rattle.std.specs.Prelude.{sum_by}
 use Rattle.std.specs.List.{All, remove}
 use Rattle.std.proofs.lemmas.List.{length-map}
@@ -9,7 +9,16 @@ use Rattle.device.specs.Layers.{Layer}
 use Rattle.plain.specs.Legal.{IsAnswered}
 use Rattle.plain.specs.declared.event.Event.TheVariants.{Issue}
 use Rattle.plain.specs.declared.event.Outcome.TheVariants.{Reply as Replied}
+use Rattle.sector.specs.declared.range.Range.{Range}
+use Rattle.plain.specs.declared.request.Op.{Op}
+use Rattle.plain.specs.declared.request.Op.TheVariants.{Read, Write}
 use Rattle.plain.specs.declared.request.Reply.{Reply}
+use Rattle.plain.specs.declared.request.Reply.TheVariants.{Data, Written as IsWritten}
+use Rattle.pending.specs.Kinds.{in_flight}
+use Rattle.volume_laws.specs.Books.{Books}
+use Rattle.volume_laws.specs.Steps.{TakesOut}
+use Rattle.volume_laws.proofs.Requests.{asked, gone}
+use Rattle.volume.specs.Flying.{Fits, IsTakenOut}
 use Rattle.pending.specs.Due.{number_of_flight}
 use Rattle.pending.specs.declared.flights.Flight.{Flight}
 use Rattle.volume_laws.specs.Due.{left_in}
@@ -18,7 +27,8 @@ use Rattle.volume_laws.specs.Waits.{Waits}
 use Rattle.volume_laws.specs.Outcomes.{IsReply}
 use Rattle.volume_laws.proofs.Lists.{All-remove, map-remove}
 use Rattle.volume.specs.Volumed.{Volumed, books_of, plain_of, dues_of, piece_of, is_loud_in_all}
-use Rattle.volume.specs.Whole.{AreNumbers, IsAttached, IsWhole, number_of_snap}
+use Rattle.snapshots.specs.Numbers.{number_of_snap}
+use Rattle.volume.specs.Whole.{AreNumbers, IsAttached, IsWhole}
 use Rattle.volume.specs.Causes.{HasReplied, IsOneAtMost}
 use Rattle.volume.specs.Stepping.{KeepsAll}
 use Rattle.volume.proofs.Shown.{shown, loud_books}
@@ -36,8 +46,8 @@ module _ {B : Type 0} (contents : B → List ℕ) (layers : B → List Layer) (s
     (flights : w.flights ≡ remove v.flights place) (requests : w.requests ≡ v.requests) (copies : w.copies ≡ v.copies) (attached : w.attached ≡ v.attached) (fit : SnapsFit v.copies v.attached (size w.origin) w.snaps)
     (lefts : sum_by left_in (dues_of contents layers w) ≡ sum_by left_in (dues_of contents layers v)) (loud : is_loud_in_all layers w ≡ is_loud_in_all layers v) (kept : KeepsAll size v w) where
   pub reply_good : IsReply number reply (books_of contents layers size v) (books_of contents layers size w) → Waits (books_of contents layers size w) → HasReplied faults number reply v w → IsOneAtMost done v w
-      → IsGood contents layers size faults done (Issue number) (Replied number reply) v w
-  reply_good answered waits cause one = record {
+      → IsTakenOut number reply (map in_flight v.flights) (map in_flight w.flights) → IsGood contents layers size faults done (Issue number) (Replied number reply) v w
+  reply_good answered waits cause one taken = record {
     whole = record {
       holds = answered.holds;
       waits = waits;
@@ -52,6 +62,7 @@ module _ {B : Type 0} (contents : B → List ℕ) (layers : B → List Layer) (s
     };
     stepped = record {
       legal = λ l. (refl, subst (λ p. IsAnswered p number reply (plain_of contents layers w)) (sym (shown contents layers size v)) (subst (IsAnswered _ number reply) (sym (shown contents layers size w)) (answered.step (loud_books contents layers size v l))));
+      flown = (refl, taken);
       lower = omega (arith, lefts, ap length flights, length-remove v.flights place in_list);
       loud = loud;
       cause = cause;
@@ -61,6 +72,17 @@ module _ {B : Type 0} (contents : B → List ℕ) (layers : B → List Layer) (s
       copies = copies;
     };
   }
+
+-- the request that was taken out is the one that was asked
+pub taken_out : (number place : ℕ) (reply : Reply) (r : Flight) (vb wb : Books) → TakesOut number place r vb wb → Fits r.request.op r.request.range reply → IsTakenOut number reply (map in_flight vb.requests) (map in_flight wb.requests)
+taken_out number place reply r vb wb out fits = record { request = r.request; asked = asked number place r vb wb out; gone = gone number place r vb wb out; fits = fits }
+
+-- a reply to a read, and to a write
+pub fits_read : (op : Op) (range : Range) (bytes : List ℕ) → op ≡ Read → length bytes ≡ 512 * range.count → Fits op range (Data bytes)
+fits_read op range bytes is len = subst (λ (o : Op). Fits o range (Data bytes)) (sym is) len
+
+pub fits_write : (op : Op) (range : Range) (bytes : List ℕ) → op ≡ Write bytes → Fits op range IsWritten
+fits_write op range bytes is = subst (λ (o : Op). Fits o range IsWritten) (sym is) tt
 
 -- what is so of the request
 pub request_at : {B : Type 0} (contents : B → List ℕ) (layers : B → List Layer) (size : B → ℕ) (v : Volumed B) → IsWhole contents layers size v → (place : ℕ) (r : Flight) → place < length v.flights → r ≡ get_or v.flights place r → RequestHolds (size v.origin) r

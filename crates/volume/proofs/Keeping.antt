@@ -11,10 +11,11 @@ use Rattle.pending.specs.declared.flights.Flight.{Flight}
 use Rattle.snapshot.specs.Kept.{Kept}
 use Rattle.snapshot.specs.Calls.{StartsAt, started}
 use Rattle.volume.specs.Volumed.{Volumed}
-use Rattle.volume.specs.Whole.{number_of_snap}
+use Rattle.snapshots.specs.Numbers.{number_of_snap}
 use Rattle.volume.specs.Stepping.{KeepsAll, KeepsDevices}
-use Rattle.volume.specs.Submitting.{unroomed, starts, overflows, spoilt_of, entered_of, IsSavedIn, AreSavedIn, SameButRoom, IsFoundFull, IsRefusedAs}
-use Rattle.volume.proofs.Roomed.{roomed}
+use Rattle.snapshots.specs.Starting.{unroomed, starts, overflows, spoilt_of, IsSavedIn, AreSavedIn}
+use Rattle.volume.specs.Submitting.{entered_of, SameButRoom, IsFoundFull, IsRefusedAs}
+use Rattle.snapshots.proofs.Roomed.{roomed}
 
 -- what each device has of a kind
 sizes_of : {B : Type 0} (size : B → ℕ) (xs ys : List (Kept B)) → map (λ (s : Kept B). s.device) xs ≡ map (λ (s : Kept B). s.device) ys → map (λ (s : Kept B). size s.device) xs ≡ map (λ (s : Kept B). size s.device) ys

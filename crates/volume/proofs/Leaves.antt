@@ -1,15 +1,13 @@
 -- A snapshot leaves a quiet volume.
-use Rattle.std.proofs.Common.{◌≡◌, ℕ, zero, suc, ◌<◌, ◌≤◌, List, [], ◌∷◌, length, get_or, map, refl, sym, ap, subst, arith, nat_eq, Bool, true, false, Some}
-use Rattle.std.specs.Prelude.{sum_by}
-use Rattle.std.specs.List.{All, remove}
-use Rattle.std.specs.Prelude.{◌&&◌}
-use Rattle.std.specs.List.{list_all}
+use Rattle.std.proofs.Common.{◌≡◌, ℕ, zero, suc, ◌<◌, ◌≤◌, List, [], ◌∷◌, length, get_or, map, refl, sym, ◌∙◌, ap, subst, arith, nat_eq, Bool, true, false, Some}
+use Rattle.std.specs.Prelude.{sum_by, ◌&&◌}
+use Rattle.std.specs.List.{All, remove, list_all}
 use Rattle.std.proofs.lemmas.Bool.{eqb-true}
 use Rattle.std.proofs.lemmas.List.{length-map, nil_from_length}
 use Rattle.std.proofs.lemmas.List.Edits.{length-remove}
 use Rattle.std.proofs.lemmas.List.Elements.{All-nil}
 use Rattle.std.proofs.lemmas.List.Quantifiers.{all_pairs_remove}
-use Rattle.device.specs.Layers.{Layer}
+use Rattle.device.specs.Layers.{Layer, is_loud}
 use Rattle.plain.specs.Legal.{IsDetached}
 use Rattle.volume_laws.specs.Steps.{Detaches}
 use Rattle.volume_laws.specs.Whole.{plain_of as plain_books}
@@ -17,10 +15,13 @@ use Rattle.volume_laws.proofs.Attaching.{detach_event}
 use Rattle.volume_laws.proofs.Lists.{All-remove, map-remove}
 use Rattle.volume_laws.proofs.Waiting.{waits_none}
 use Rattle.snapshot.specs.Kept.{Kept, books_of as snap_books}
-use Rattle.volume.specs.Volumed.{Volumed, books_of, piece_of, plain_of}
-use Rattle.volume.specs.Whole.{AreNumbers, number_of_snap, count_in, SharesNone, IsAttached, IsWhole, IsCounted}
+use Rattle.snapshot.specs.declared.opening.StoreDev.{StoreDev}
+use Rattle.volume.specs.Volumed.{Volumed, books_of, is_loud_in_all, piece_of, plain_of}
+use Rattle.snapshots.specs.Numbers.{number_of_snap, count_in}
+use Rattle.volume.specs.Whole.{AreNumbers, SharesNone, IsAttached, IsWhole, IsCounted}
 use Rattle.volume.proofs.Changing.{books_within, books_is}
-use Rattle.volume.specs.Leaving.{is_done_of, is_quiet_of, place_of_snap}
+use Rattle.snapshots.specs.Finding.{place_of_snap}
+use Rattle.volume.specs.Leaving.{IsWithout, is_done_of, is_quiet_of}
 use Rattle.std.proofs.lemmas.List.Quantifiers.{position-Some}
 use Rattle.volume.proofs.Shown.{shown}
 use Rattle.volume.proofs.Sums.{sum_cons}
@@ -85,6 +86,31 @@ module _ {B : Type 0} (contents : B → List ℕ) (layers : B → List Layer) (s
   plain_left_as number snaps same mine h =
       subst (λ (n : ℕ). IsDetached (plain_of contents layers v) n (plain_of contents layers (record v { snaps = snaps }))) mine
       (subst (λ (x : List (Kept B)). IsDetached (plain_of contents layers v) s.number (plain_of contents layers (record v { snaps = x }))) (sym same) (plain_left h))
+
+grouped : (a b c : Bool) → (a && (b && c)) ≡ ((a && b) && c)
+grouped true b c = refl
+grouped false b c = refl
+
+-- a test of all is one of the others and of the one that leaves
+all_removed : {X : Type 0} (p : X → Bool) (xs : List X) (k : ℕ) (d : X) → k < length xs → list_all p xs ≡ (list_all p (remove xs k) && p (get_or xs k d))
+all_removed p [] k d lt = absurd (omega (arith, lt))
+all_removed p (x ∷ xs) zero d lt = swapped (p x) (list_all p xs)
+  where
+    swapped : (a b : Bool) → (a && b) ≡ (b && a)
+    swapped true true = refl
+    swapped true false = refl
+    swapped false true = refl
+    swapped false false = refl
+all_removed p (x ∷ xs) (suc k) d lt = ap (λ b. p x && b) (all_removed p xs k d (omega (arith, lt))) ∙ grouped (p x) (list_all p (remove xs k)) (p (get_or xs k d))
+
+-- the devices that stay and the one that is given back drop no writes just where none did
+pub without_loud : {B : Type 0} (layers : B → List Layer) (number : ℕ) (v w : Volumed B) (store : StoreDev B) (d : Kept B) → IsWithout number v w store → is_loud_in_all layers v ≡ (is_loud_in_all layers w && is_loud (layers store.device))
+without_loud {B = B} layers number v w store d h =
+    let within : h.place < length v.snaps = (position-Some (λ (s : Kept B). nat_eq s.number number) v.snaps h.place d h.found).0 in
+    ap (λ b. is_loud (layers v.origin) && b) (all_removed (λ (s : Kept B). is_loud (layers s.device)) v.snaps h.place d within)
+    ∙ grouped (is_loud (layers v.origin)) (list_all (λ (s : Kept B). is_loud (layers s.device)) (remove v.snaps h.place)) (is_loud (layers (get_or v.snaps h.place d).device))
+    ∙ ap (λ (d : B). is_loud_in_all layers (record v { snaps = remove v.snaps h.place }) && is_loud (layers d)) (sym (h.device d))
+    ∙ ap (λ (x : Volumed B). is_loud_in_all layers x && is_loud (layers store.device)) (sym h.becomes)
 
 -- the snapshot with a number is found
 pub found_place : {B : Type 0} (number : ℕ) (snaps : List (Kept B)) (k : ℕ) (d : Kept B) → Some k ≡ place_of_snap number snaps → (k < length snaps) × ((get_or snaps k d).number ≡ number)

@@ -1,10 +1,9 @@
-pub mod Firsts
 pub mod Shown
 pub mod Lists
+pub mod Looked
 pub mod Changing
 pub mod Counting
 pub mod Empty
-pub mod Finds
 pub mod Good
 pub mod CopyEvents
 pub mod DueEvents
@@ -39,7 +38,6 @@ pub mod Enters
 pub mod ByKind
 pub mod Roomed
 pub mod Admits
-pub mod Loops
 pub mod Keeping
 pub mod Finishes
 pub mod MovedSubmits
@@ -56,3 +54,4 @@ pub mod Told
 pub mod Ran
 pub mod Peeked
 pub mod AtRest
+pub mod Unwritten

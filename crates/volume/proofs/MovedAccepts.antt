@@ -17,15 +17,16 @@ use Rattle.pending.specs.declared.flights.Kind.TheVariants.{OriginRead, OriginWr
 use Rattle.pending.specs.declared.flights.Route.{Route}
 use Rattle.pending.specs.declared.flights.Route.TheVariants.{Held as Waits, Origin, Store}
 use Rattle.volume_laws.specs.Again.{published_place}
-use Rattle.settling.specs.Held.{Held, Going, Moving}
-use Rattle.settling.specs.Again.{is_clear}
-use Rattle.settling.specs.Seen.{going_of}
-use Rattle.settling.specs.Stepping.{for_some, put, spoil}
-use Rattle.settling.specs.Submitting.{accepted, declined, started_all, started_by, refused_by, is_filled, needs_none, with_copy, read_snap, write_placed, write_snap, submitted, submitted_as}
+use Rattle.event_machine.specs.Held.{Held, Going, Moving}
+use Rattle.event_machine.specs.Again.{is_clear}
+use Rattle.event_machine.specs.Seen.{going_of}
+use Rattle.event_machine.specs.Stepping.{for_some, put, spoil}
+use Rattle.event_machine.specs.Submitting.{accepted, declined, started_all, started_by, refused_by, is_filled, needs_none, with_copy, read_snap, write_placed, write_snap, submitted, submitted_as}
 use Rattle.volume_laws.specs.Published.{is_clear as is_clear_in}
 use Rattle.snapshot.specs.Kept.{Kept, books_of as snap_books}
 use Rattle.volume.specs.Volumed.{Volumed}
-use Rattle.volume.specs.Submitting.{unroomed, lacks, is_full_of, spoilt_of, AreSavedIn, entered_of}
+use Rattle.snapshots.specs.Starting.{unroomed, lacks, is_full_of, spoilt_of, AreSavedIn}
+use Rattle.volume.specs.Submitting.{entered_of}
 use Rattle.volume.specs.Moved.{held_of, moving_of}
 use Rattle.volume.proofs.MovedLists.{IsFirst, first_is, with_is, if_true, if_false}
 use Rattle.volume.proofs.MovedMarks.{clear_seen}

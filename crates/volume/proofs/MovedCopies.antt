@@ -16,14 +16,14 @@ use Rattle.pending.specs.declared.copies.Stage.{Stage}
 use Rattle.pending.specs.declared.copies.Stage.TheVariants.{Waiting, Read, Written}
 use Rattle.pending.specs.declared.copies.ChunkCopy.{ChunkCopy}
 use Rattle.store.specs.Operations.{IsOneOperation}
-use Rattle.settling.specs.Devices.{answers, met}
-use Rattle.settling.specs.Held.{Copying, Held, Moving, with_store}
-use Rattle.settling.specs.Stepping.{for_some, first_that, with_first, put, spoil, store_write, is_copy, on_copy, read_copy, write_copy, stepped}
-use Rattle.settling.specs.Seen.{copying_of}
+use Rattle.settled.specs.Devices.{answers, met}
+use Rattle.event_machine.specs.Held.{Copying, Held, Moving, with_store}
+use Rattle.event_machine.specs.Stepping.{for_some, first_that, with_first, put, spoil, store_write, is_copy, on_copy, read_copy, write_copy, stepped}
+use Rattle.event_machine.specs.Seen.{copying_of}
 use Rattle.snapshot.specs.Kept.{Kept}
 use Rattle.snapshot.specs.Calls.{GoesTo}
 use Rattle.volume.specs.Volumed.{Volumed}
-use Rattle.volume.specs.Finding.{is_copy_of, has_copy_at}
+use Rattle.snapshots.specs.Finding.{is_copy_of, has_copy_at}
 use Rattle.volume.specs.Moved.{device_of, held_of, moving_of}
 use Rattle.volume.proofs.MovedLists.{IsFirst, first_by_test, first_is, with_is, any_seen, if_true, if_false}
 use Rattle.volume.proofs.MovedSnaps.{changed, spoilt, met_is, put_is, spoil_is, write_is, fail_is}

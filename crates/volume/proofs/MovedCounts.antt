@@ -56,8 +56,8 @@ module _ {B : Type 0} (s : Kept B) (c : IsCounted s) where
   pub counted_marks : (ms : List Mark) → IsCounted (record s { marks = ms })
   counted_marks ms = counted_same s (record s { marks = ms }) c refl refl refl (λ e. e)
 
-  pub counted_tried : (d : B) (stale : Bool) → IsCounted (record s { device = d; untried = false; stale = stale })
-  counted_tried d stale = counted_same s (record s { device = d; untried = false; stale = stale }) c refl refl refl (λ e. e)
+  pub counted_tried : (d : B) (stale valid : Bool) → IsCounted (record s { device = d; untried = false; stale = stale; state = record s.state { valid = valid } })
+  counted_tried d stale valid = record { some = c.some; count = c.count; fits = c.fits; idle = c.idle }
 
   pub counted_spoilt : IsCounted (spoilt s)
   counted_spoilt = record { some = c.some; count = c.count; fits = λ e. absurd (false≢true e); idle = λ e. refl }

@@ -16,9 +16,9 @@ use Rattle.pending.specs.declared.copies.Stage.TheVariants.{Waiting, Read}
 use Rattle.pending.specs.declared.copies.Mark.{Mark}
 use Rattle.pending.specs.declared.flights.Flight.{Flight}
 use Rattle.volume_laws.specs.Due.{DueSnap, least_of, copy_of, publishable_of, is_untried as is_untried_due, can_commit as can_commit_due, can_zero as can_zero_due, snap_number}
-use Rattle.settling.specs.Held.{Held, number_of, is_untried}
-use Rattle.settling.specs.Due.{needs_area, is_front_written, can_commit, can_zero, is_at, copy_at, number_of_copying, is_reading, is_publishable, publishable_in, is_issuable, number_of_going, least_in, chosen, due}
-use Rattle.settling.specs.Seen.{copying_of, going_of}
+use Rattle.event_machine.specs.Held.{Held, number_of, is_untried}
+use Rattle.event_machine.specs.Due.{needs_area, is_front_written, can_commit, can_zero, is_at, copy_at, number_of_copying, is_reading, is_publishable, publishable_in, is_issuable, number_of_going, least_in, chosen, due}
+use Rattle.event_machine.specs.Seen.{copying_of, going_of}
 use Rattle.snapshot.specs.Kept.{Kept, due_of_kept, needs_area as needs_area_of}
 use Rattle.volume.specs.Volumed.{Volumed, next_of}
 use Rattle.volume.specs.Whole.{IsCounted}

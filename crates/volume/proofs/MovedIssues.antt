@@ -19,11 +19,11 @@ use Rattle.pending.specs.declared.flights.Flight.{Flight}
 use Rattle.pending.specs.declared.flights.Route.{Route}
 use Rattle.pending.specs.declared.flights.Route.TheVariants.{Origin, Store, Refused}
 use Rattle.store.specs.Operations.{IsOneOperation}
-use Rattle.settling.specs.Devices.{Device, answers, met, written_by, read_reply}
-use Rattle.settling.specs.Held.{Held, Going, Moving, with_store}
-use Rattle.settling.specs.Due.{is_issuable}
-use Rattle.settling.specs.Seen.{going_of}
-use Rattle.settling.specs.Stepping.{for_some, with_first, without_first, put, answer, write_reply, on_disk, on_store, on_place, issue, stepped}
+use Rattle.settled.specs.Devices.{Device, answers, met, written_by, read_reply}
+use Rattle.event_machine.specs.Held.{Held, Going, Moving, with_store}
+use Rattle.event_machine.specs.Due.{is_issuable}
+use Rattle.event_machine.specs.Seen.{going_of}
+use Rattle.event_machine.specs.Stepping.{for_some, with_first, without_first, put, answer, write_reply, on_disk, on_store, on_place, issue, stepped}
 use Rattle.snapshot.specs.Kept.{Kept}
 use Rattle.volume.specs.Volumed.{Volumed}
 use Rattle.volume.specs.Moved.{device_of, held_of, moving_of}

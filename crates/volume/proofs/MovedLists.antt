@@ -3,7 +3,7 @@ use Rattle.std.proofs.Common.{◌≡◌, ℕ, zero, suc, ◌<◌, Bool, true, fa
 use Rattle.std.specs.Prelude.{◌||◌, if◌then◌else◌}
 use Rattle.std.specs.List.{All, list_any, remove, position}
 use Rattle.std.proofs.lemmas.List.Quantifiers.{position-Some}
-use Rattle.settling.specs.Stepping.{first_that, with_first, without_first}
+use Rattle.event_machine.specs.Stepping.{first_that, with_first, without_first}
 
 -- the first that passes is this one, at this place
 pub record IsFirst {X : Type 0} (test : X → Bool) (k : ℕ) (x : X) (xs : List X) : Type 0 where

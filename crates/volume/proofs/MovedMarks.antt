@@ -18,15 +18,15 @@ use Rattle.volume_laws.specs.Again.{again_of, placed_of}
 use Rattle.volume_laws.specs.Books.{SnapBooks}
 use Rattle.volume_laws.specs.Published.{is_clear as is_clear_in, is_saved as is_saved_in}
 use Rattle.settled.specs.Saves.{marked}
-use Rattle.settling.specs.Devices.{Device, answers, written_by}
-use Rattle.settling.specs.Held.{Held, Going, Moving, is_untried}
-use Rattle.settling.specs.Due.{is_publishable}
-use Rattle.settling.specs.Again.{is_saved, is_clear, again, placed, rerouted}
-use Rattle.settling.specs.Stepping.{with_first, without_first, publish, mark_invalid, stepped}
-use Rattle.settling.specs.Seen.{going_of}
+use Rattle.settled.specs.Devices.{Device, answers, written_by}
+use Rattle.event_machine.specs.Held.{Held, Going, Moving, is_untried}
+use Rattle.event_machine.specs.Due.{is_publishable}
+use Rattle.event_machine.specs.Again.{is_saved, is_clear, again, placed, rerouted}
+use Rattle.event_machine.specs.Stepping.{with_first, without_first, publish, mark_invalid, stepped}
+use Rattle.event_machine.specs.Seen.{going_of}
 use Rattle.snapshot.specs.Kept.{Kept, books_of as snap_books}
 use Rattle.volume.specs.Volumed.{Volumed}
-use Rattle.volume.specs.Finding.{is_trying, is_mark_of, has_mark_at}
+use Rattle.snapshots.specs.Finding.{is_trying, is_mark_of, has_mark_at}
 use Rattle.volume.specs.Moved.{device_of, held_of, moving_of}
 use Rattle.volume.proofs.MovedLists.{IsFirst, first_by_test, with_is, without_is}
 use Rattle.volume.proofs.MovedDue.{publishable_same}
@@ -77,7 +77,7 @@ module _ {B : Type 0} (contents : B → List ℕ) (layers : B → List Layer) wh
     pub write_invalid_is : IsFirst (is_trying n) k s v.snaps → (ok : Bool) (s' : Kept B) (flights : List Flight) (faults faults' done done' : ℕ) (d : B)
         → IsOneOperation (Writes 0 s.state.chunk) ok (layers s.device) (layers d) faults faults' done done'
         → contents d ≡ (if ok then with_sectors (contents s.device) 0 (header_bytes (512 * s.state.chunk) false s.state.chunk) else contents s.device)
-        → s' ≡ record s { device = d; untried = false; stale = not ok }
+        → s' ≡ record s { device = d; untried = false; stale = not ok; state = record s.state { valid = not ok } }
         → flights ≡ map (again_of None (is_clear_in (map (snap_books contents layers) (set v.snaps k s')))) v.flights
         → stepped (WriteInvalid n) (moving_of contents layers replied v) ≡ moving_of contents layers replied (changed v v.origin k s' flights)
     write_invalid_is found ok s' flights faults faults' done done' d one new is routed =

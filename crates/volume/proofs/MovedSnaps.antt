@@ -7,11 +7,11 @@ use Rattle.plain.specs.declared.request.Reply.{Reply}
 use Rattle.pending.specs.Routes.{refused_of}
 use Rattle.pending.specs.declared.flights.Flight.{Flight}
 use Rattle.store.specs.Operations.{IsOneOperation}
-use Rattle.settling.specs.Devices.{Device, answers, met, written_by}
-use Rattle.settling.specs.Held.{Held, Going, Moving, spoiled, with_store}
-use Rattle.settling.specs.Again.{refused}
-use Rattle.settling.specs.Stepping.{for_some, with_first, put, spoil, store_write, on_snap}
-use Rattle.settling.specs.Seen.{going_of}
+use Rattle.settled.specs.Devices.{Device, answers, met, written_by}
+use Rattle.event_machine.specs.Held.{Held, Going, Moving, spoiled, with_store}
+use Rattle.event_machine.specs.Again.{refused}
+use Rattle.event_machine.specs.Stepping.{for_some, with_first, put, spoil, store_write, on_snap}
+use Rattle.event_machine.specs.Seen.{going_of}
 use Rattle.snapshot.specs.Kept.{Kept}
 use Rattle.volume.specs.Volumed.{Volumed}
 use Rattle.volume.specs.Moved.{device_of, held_of, moving_of}

@@ -26,14 +26,14 @@ use Rattle.store.specs.Stored.{after_commit}
 use Rattle.store.specs.declared.state.State.{State}
 use Rattle.volume_laws.specs.Steps.{mark_of}
 use Rattle.settled.specs.Saves.{paired, zeroed}
-use Rattle.settling.specs.Saving.{lacks_area}
-use Rattle.settling.specs.Held.{Copying, Held, Moving, with_store}
-use Rattle.settling.specs.Due.{can_commit, can_zero}
-use Rattle.settling.specs.Stepping.{spoil, store_write, zero_next, commit_first, stepped}
-use Rattle.settling.specs.Seen.{copying_of}
+use Rattle.settled.specs.Saving.{lacks_area}
+use Rattle.event_machine.specs.Held.{Copying, Held, Moving, with_store}
+use Rattle.event_machine.specs.Due.{can_commit, can_zero}
+use Rattle.event_machine.specs.Stepping.{spoil, store_write, zero_next, commit_first, stepped}
+use Rattle.event_machine.specs.Seen.{copying_of}
 use Rattle.snapshot.specs.Kept.{Kept}
 use Rattle.volume.specs.Volumed.{Volumed}
-use Rattle.volume.specs.Finding.{is_committing, is_zeroing}
+use Rattle.snapshots.specs.Finding.{is_committing, is_zeroing}
 use Rattle.volume.specs.Whole.{IsCounted}
 use Rattle.volume.specs.Moved.{device_of, held_of, moving_of}
 use Rattle.volume.proofs.MovedLists.{IsFirst, first_by_all, if_true, if_false}

@@ -13,13 +13,13 @@ use Rattle.model.specs.NextPlace.{stepped as stepped_place}
 use Rattle.pending.specs.Routes.{refused_of}
 use Rattle.pending.specs.declared.copies.ChunkCopy.{ChunkCopy}
 use Rattle.pending.specs.declared.flights.Flight.{Flight}
-use Rattle.settling.specs.Held.{Copying, Held, Going, spoiled}
-use Rattle.settling.specs.Again.{refused}
-use Rattle.settling.specs.Seen.{copying_of, going_of}
-use Rattle.settling.specs.Submitting.{is_filled, with_copy, needs_none, started_all, started_by, refused_by}
+use Rattle.event_machine.specs.Held.{Copying, Held, Going, spoiled}
+use Rattle.event_machine.specs.Again.{refused}
+use Rattle.event_machine.specs.Seen.{copying_of, going_of}
+use Rattle.event_machine.specs.Submitting.{is_filled, with_copy, needs_none, started_all, started_by, refused_by}
 use Rattle.snapshot.specs.Kept.{Kept}
 use Rattle.snapshot.specs.Calls.{StartsAt, started}
-use Rattle.volume.specs.Submitting.{lacks, is_full_of, overflows, spoilt_of, IsSavedIn, AreSavedIn}
+use Rattle.snapshots.specs.Starting.{lacks, is_full_of, overflows, spoilt_of, IsSavedIn, AreSavedIn}
 use Rattle.volume.specs.Moved.{held_of}
 use Rattle.volume.proofs.MovedLists.{any_seen, if_true, if_false}
 use Rattle.volume.proofs.MovedSnaps.{refused_seen}

@@ -14,8 +14,8 @@ use Rattle.pending.specs.Routes.{read_route_of}
 use Rattle.volume_laws.specs.Published.{IsPublished, is_published}
 use Rattle.volume_laws.specs.Waits.{IsCopying}
 use Rattle.volume_laws.proofs.Clear.{published_true}
-use Rattle.submit_laws.specs.Accepting.{IsPrepared, IsTakenIn}
-use Rattle.submit_laws.proofs.Preparing.{prepared_none}
+use Rattle.volume_laws.specs.Accepting.{IsPrepared, IsTakenIn}
+use Rattle.volume_laws.proofs.Preparing.{prepared_none}
 use Rattle.std.proofs.lemmas.List.{get_or-map, get_or_default}
 use Rattle.sector.specs.declared.refusal.Refusal.TheVariants.{NoSuchDevice, Invalid}
 use Rattle.plain.specs.declared.request.Dev.{Dev}
@@ -28,11 +28,12 @@ use Rattle.pending.specs.declared.flights.Kind.TheVariants.{SnapRead, SnapWrite}
 use Rattle.snapshot.specs.Kept.{Kept, books_of as snap_books}
 use Rattle.volume.specs.Volumed.{Volumed, books_of, piece_of}
 use Rattle.volume.specs.Whole.{IsWhole}
-use Rattle.volume.specs.Leaving.{place_of_snap}
-use Rattle.volume.specs.Submitting.{lacks, IsAsked, entered_of, refusal_at, dev_refusal}
+use Rattle.snapshots.specs.Finding.{place_of_snap}
+use Rattle.snapshots.specs.Starting.{lacks}
+use Rattle.volume.specs.Submitting.{IsAsked, entered_of, refusal_at, dev_refusal}
 use Rattle.volume.proofs.ByKind.{snap_read_enters, snap_write_held_enters, snap_write_placed_enters}
 use Rattle.volume.proofs.Savings.{not_lacking}
-use Rattle.volume.proofs.Finds.{position_none}
+use Rattle.snapshots.proofs.Finds.{position_none}
 use Rattle.volume.proofs.Leaves.{found_place}
 
 dev_at_read : (dev : Dev) (op : Op) (n : ℕ) → kind_at dev op ≡ SnapRead n → dev ≡ Snap n

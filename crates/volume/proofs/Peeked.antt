@@ -2,24 +2,23 @@
 use Rattle.std.proofs.Common.{◌≡◌, ℕ, zero, suc, ◌+◌, ◌*◌, ◌%◌, ◌<◌, ◌≤◌, Bool, true, false, List, [], ◌∷◌, Some, None, length, get_or, map, refl, sym, ◌∙◌, ap, subst, arith}
 use Rattle.std.specs.Prelude.{◌==◌, if◌then◌else◌}
 use Rattle.std.proofs.lemmas.List.{get_or-map, length-map}
-use Rattle.device.specs.Layers.{Layer}
+use Rattle.device.specs.Layers.{Layer, is_loud}
 use Rattle.model.specs.Pairs.{pairs_of, IsInside}
 use Rattle.model.specs.Picture.{picture, place_of}
 use Rattle.plain.specs.declared.request.Dev.{Dev}
 use Rattle.plain.specs.declared.request.Dev.TheVariants.{Snap}
 use Rattle.plain.specs.Plain.{Entry, Live, Invalid, saved_under}
-use Rattle.settled.proofs.Shown.{all_front, place_inside}
+use Rattle.settled.proofs.PictureSectors.{all_front, place_inside}
 use Rattle.snapshot.specs.Kept.{Kept, books_of as snap_books}
-use Rattle.volume_laws.specs.Books.{SnapBooks}
 use Rattle.volume_laws.specs.Held.{LiveHolds, SnapHolds}
 use Rattle.volume_laws.specs.Shape.{shown_entry}
-use Rattle.volume.specs.Volumed.{Volumed, is_loud_in_all, snap_shape}
+use Rattle.volume.specs.Peeking.{is_loud_at, is_loud_under}
+use Rattle.volume.specs.Volumed.{Volumed, snap_shape}
 use Rattle.volume.specs.Whole.{IsWhole}
-use Rattle.volume.specs.Leaving.{place_of_snap}
+use Rattle.snapshots.specs.Finding.{place_of_snap}
 use Rattle.volume.specs.Submitting.{dev_refusal, refusal_at}
 use Rattle.volume.proofs.MovedLists.{IsFirst}
 use Rattle.volume.proofs.Named.{found_within}
-use Rattle.volume.proofs.Shown.{loud_books}
 use Rattle.volume.proofs.Told.{later_first}
 
 -- sectors of a chunk's place lie inside a device that has the whole chunk
@@ -47,11 +46,15 @@ module _ {B : Type 0} (contents : B → List ℕ) (layers : B → List Layer) (s
       omega (arith, low, wholes s.device, live_holds.text.whole)
 
   -- its pairs are those of its store's bytes
-  pub pairs_stored : is_loud_in_all layers v ≡ true → pairs_of s.state.chunk (contents s.device) ≡ s.pairs
-  pairs_stored loud =
-      let all = (loud_books contents layers size v loud).snaps in
-      let mine : (get_or (map (snap_books contents layers) v.snaps) k (snap_books contents layers s)).loud ≡ true = all k (snap_books contents layers s) (omega (arith, within, length-map v.snaps (snap_books contents layers))) in
-      live_holds.stored (ap (λ (b : SnapBooks). b.loud) (sym (get_or-map (snap_books contents layers) v.snaps k s (snap_books contents layers s) within ∙ ap (snap_books contents layers) (sym is))) ∙ mine)
+  pub pairs_stored : is_loud (layers s.device) ≡ true → pairs_of s.state.chunk (contents s.device) ≡ s.pairs
+  pairs_stored loud = live_holds.stored loud
+
+-- no layer drops writes of the store of the snapshot that was found
+pub snap_loud : {B : Type 0} (layers : B → List Layer) (snaps : List (Kept B)) (dev : Dev) (number k : ℕ) (s : Kept B) → dev ≡ Snap number → Some k ≡ place_of_snap number snaps → s ≡ get_or snaps k s → is_loud_under layers dev snaps ≡ true → is_loud (layers s.device) ≡ true
+snap_loud layers snaps dev number k s is found at loud =
+    let within = found_within number snaps k found in
+    sym (get_or-map (λ (x : Kept _). is_loud (layers x.device)) snaps k s true within ∙ ap (λ (x : Kept _). is_loud (layers x.device)) (sym at))
+    ∙ ap (is_loud_at layers snaps) found ∙ ap (λ (d : Dev). is_loud_under layers d snaps) (sym is) ∙ loud
 
 -- what the snapshot with a number shows
 abbrev pub entries_in : {B : Type 0} → (B → List ℕ) → List ℕ → List (Kept B) → List Entry

@@ -34,7 +34,7 @@ module _ {B : Type 0} (m : Measures B) (layers : B → List Layer) where
   submit_loud request (Err refusal) v w e = refused_loud m.contents layers m.size v w request refusal e
 
   submit_legal : (request : Request) (result : Result ℕ Refusal) (v w : Volumed B) → is_loud_in_all layers v ≡ true → IsSubmitReturned m layers request result v w → MaySubmit request (plain v) (plain w)
-  submit_legal request (Ok number) v w loud e = (let (which, is) = e.0.legal loud in inl (number, which, is))
+  submit_legal request (Ok number) v w loud e = inl (number, _, e.0.legal loud)
   submit_legal request (Err refusal) v w loud e = inr (refusal, refused_declined m.contents layers m.size v w request refusal e loud)
 
   step_loud : (event : Event) (result : Result Outcome NotDue) (v w : Volumed B) → IsStepReturned m layers event result v w → is_loud_in_all layers w ≡ is_loud_in_all layers v

@@ -5,14 +5,14 @@ use Rattle.device.specs.Layers.{Layer}
 use Rattle.plain.specs.declared.event.Event.{Event}
 use Rattle.plain.specs.declared.event.Outcome.{Outcome}
 use Rattle.plain.specs.declared.request.Reply.{Reply}
-use Rattle.settling.specs.Snaps.{Snap}
-use Rattle.settling.specs.Held.{Held, Moving}
-use Rattle.settling.specs.Due.{due}
-use Rattle.settling.specs.Pieces.{Answered}
-use Rattle.settling.specs.Seen.{replied_by}
-use Rattle.settling.specs.Stepping.{for_some, stepped}
-use Rattle.settling.specs.Rest.{IsAtRest}
-use Rattle.settling.specs.Settles.{settle, SettlesTo}
+use Rattle.settled.specs.Snaps.{Snap}
+use Rattle.event_machine.specs.Held.{Held, Moving}
+use Rattle.event_machine.specs.Due.{due}
+use Rattle.settled.specs.Pieces.{Answered}
+use Rattle.event_machine.specs.Seen.{replied_by}
+use Rattle.event_machine.specs.Stepping.{for_some, stepped}
+use Rattle.event_machine.specs.Rest.{IsAtRest}
+use Rattle.event_machine.specs.Settles.{settle, SettlesTo}
 use Rattle.snapshot.specs.Kept.{Kept}
 use Rattle.volume.specs.Volumed.{Volumed, next_of, is_loud_in_all}
 use Rattle.volume.specs.Whole.{IsCounted}

@@ -18,15 +18,16 @@ use Rattle.pending.specs.Kinds.{kind_of, kind_at}
 use Rattle.pending.specs.Routes.{refused_of}
 use Rattle.pending.specs.declared.flights.Flight.{Flight}
 use Rattle.pending.specs.declared.flights.Kind.TheVariants.{SnapRead, SnapWrite}
-use Rattle.settling.specs.Held.{Held, Moving}
-use Rattle.settling.specs.Submitting.{submitted}
+use Rattle.event_machine.specs.Held.{Held, Moving}
+use Rattle.event_machine.specs.Submitting.{submitted}
 use Rattle.volume_laws.specs.Again.{published_place}
 use Rattle.snapshot.specs.Kept.{Kept}
 use Rattle.volume.specs.Volumed.{Volumed, piece_of}
 use Rattle.volume.specs.Whole.{IsWhole}
-use Rattle.volume.specs.Leaving.{place_of_snap}
+use Rattle.snapshots.specs.Finding.{place_of_snap}
 use Rattle.volume.specs.Moved.{moving_of}
-use Rattle.volume.specs.Submitting.{lacks, is_full_of, spoilt_of, first_of_two, refusal_at, dev_refusal, submit_refusal, is_piece_of, are_too_many, starting, SameButRoom, IsFoundFull, IsRefusedAs}
+use Rattle.snapshots.specs.Starting.{lacks, is_full_of, spoilt_of}
+use Rattle.volume.specs.Submitting.{first_of_two, refusal_at, dev_refusal, submit_refusal, is_piece_of, are_too_many, starting, SameButRoom, IsFoundFull, IsRefusedAs}
 use Rattle.volume.proofs.Accepts.{same_roomed}
 use Rattle.volume.proofs.Leaves.{found_place}
 use Rattle.volume.proofs.MovedAccepts.{snap_dead_is, snap_write_full_is, unroomed_seen}

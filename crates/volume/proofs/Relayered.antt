@@ -1,6 +1,6 @@
 -- Where layers alone change, and a device drops writes as before, a volume stays whole.
 use Rattle.std.proofs.Common.{◌≡◌, ◌≢◌, inl, inr, ℕ, suc, ◌+◌, ◌<◌, ◌≤◌, Bool, List, [], ◌∷◌, length, get_or, set, map, refl, sym, ◌∙◌, ap, subst, arith}
-use Rattle.std.specs.Prelude.{sum_by}
+use Rattle.std.specs.Prelude.{sum_by, Option}
 use Rattle.std.specs.List.{sum}
 use Rattle.std.proofs.lemmas.List.Sums.{sum-map}
 use Rattle.std.proofs.lemmas.List.{get_or-set_same, get_or-set_other, length-set, get_or_default}
@@ -8,9 +8,8 @@ use Rattle.std.proofs.lemmas.Bool.{cases_eq}
 use Rattle.device.specs.Layers.{Layer, is_loud}
 use Rattle.layers.specs.Ticks.{layers_ticked}
 use Rattle.layers.specs.Loudness.{loud_ticked}
-use Rattle.settling.specs.Held.{Held, Moving}
+use Rattle.event_machine.specs.Held.{Held, Moving}
 use Rattle.plain.specs.declared.request.Reply.{Reply}
-use Rattle.std.specs.Prelude.{Option}
 use Rattle.volume_laws.specs.Books.{Books, SnapBooks}
 use Rattle.volume_laws.specs.Due.{DueSnap}
 use Rattle.volume_laws.specs.Whole.{Holds}
@@ -18,7 +17,8 @@ use Rattle.pending.specs.Due.{number_of_flight}
 use Rattle.volume_laws.specs.Waits.{Waits}
 use Rattle.snapshot.specs.Kept.{Kept, books_of as snap_books, due_of_kept}
 use Rattle.volume.specs.Volumed.{Volumed, books_of, dues_of, piece_of}
-use Rattle.volume.specs.Whole.{IsWhole, IsAttached, IsCounted, SharesNone, AreNumbers, number_of_snap, count_in}
+use Rattle.snapshots.specs.Numbers.{number_of_snap, count_in}
+use Rattle.volume.specs.Whole.{IsWhole, IsAttached, IsCounted, SharesNone, AreNumbers}
 use Rattle.volume.specs.Moved.{moving_of, held_of}
 use Rattle.volume.specs.Layering.{Measures, IsLater, IsSnapLater, IsTicked, held_relayered, moving_relayered}
 

@@ -1,24 +1,17 @@
 -- Room for copies is made, and nothing else changes.
 use Rattle.std.proofs.Common.{◌≡◌, ℕ, ◌+◌, ◌<◌, List, [], ◌∷◌, length, get_or, map, refl, sym, ◌∙◌, ap, subst, arith, if◌then◌else◌}
 use Rattle.std.specs.Prelude.{sum_by, count_by}
-use Rattle.std.proofs.lemmas.List.{length-map, get_or-map}
 use Rattle.device.specs.Layers.{Layer}
 use Rattle.volume_laws.specs.Books.{SnapBooks, Books}
 use Rattle.volume_laws.specs.Whole.{Holds}
 use Rattle.volume_laws.specs.Waits.{Waits}
 use Rattle.snapshot.specs.Kept.{Kept, books_of as snap_books}
+use Rattle.snapshots.proofs.Roomed.{roomed, roomed_length, roomed_at}
 use Rattle.volume.specs.Volumed.{Volumed, books_of, piece_of}
-use Rattle.volume.specs.Whole.{AreNumbers, number_of_snap, count_in, SharesNone, IsAttached, IsWhole, IsCounted}
-use Rattle.volume.specs.Submitting.{unroomed, starts}
+use Rattle.snapshots.specs.Numbers.{number_of_snap, count_in}
+use Rattle.volume.specs.Whole.{AreNumbers, SharesNone, IsAttached, IsWhole, IsCounted}
+use Rattle.snapshots.specs.Starting.{unroomed, starts}
 use Rattle.volume.proofs.Sums.{sum_cons}
-
-unseen : {B X : Type 0} (f : Kept B → X) (xs : List (Kept B)) → ((s : Kept B) → f (unroomed s) ≡ f s) → map f (map unroomed xs) ≡ map f xs
-unseen f [] same = refl
-unseen f (x ∷ xs) same = ap (λ y. y ∷ map f (map unroomed xs)) (same x) ∙ ap (λ ys. f x ∷ ys) (unseen f xs same)
-
--- what doesn't look at the room is as it was
-pub roomed : {B X : Type 0} (f : Kept B → X) (xs ys : List (Kept B)) → map unroomed xs ≡ map unroomed ys → ((s : Kept B) → f (unroomed s) ≡ f s) → map f xs ≡ map f ys
-roomed f xs ys e same = sym (unseen f xs same) ∙ ap (map f) e ∙ unseen f ys same
 
 unseen_sum : {B : Type 0} (f : Kept B → ℕ) (xs : List (Kept B)) → ((s : Kept B) → f (unroomed s) ≡ f s) → sum_by f (map unroomed xs) ≡ sum_by f xs
 unseen_sum f [] same = refl
@@ -27,21 +20,12 @@ unseen_sum f (x ∷ xs) same = sum_cons f (unroomed x) (map unroomed xs) ∙ ap 
 pub roomed_sum : {B : Type 0} (f : Kept B → ℕ) (xs ys : List (Kept B)) → map unroomed xs ≡ map unroomed ys → ((s : Kept B) → f (unroomed s) ≡ f s) → sum_by f xs ≡ sum_by f ys
 roomed_sum f xs ys e same = sym (unseen_sum f xs same) ∙ ap (sum_by f) e ∙ unseen_sum f ys same
 
-pub roomed_length : {B : Type 0} (xs ys : List (Kept B)) → map unroomed xs ≡ map unroomed ys → length xs ≡ length ys
-roomed_length xs ys e = sym (length-map xs unroomed) ∙ ap length e ∙ length-map ys unroomed
-
 pub roomed_piece : {B : Type 0} (xs ys : List (Kept B)) → map unroomed xs ≡ map unroomed ys → piece_of xs ≡ piece_of ys
 roomed_piece xs ys e = sym (unseen_piece xs) ∙ ap piece_of e ∙ unseen_piece ys
   where
     unseen_piece : {B : Type 0} (xs : List (Kept B)) → piece_of (map unroomed xs) ≡ piece_of xs
     unseen_piece [] = refl
     unseen_piece (x ∷ xs) = refl
-
--- one of them
-pub roomed_at : {B : Type 0} (xs ys : List (Kept B)) (k : ℕ) (d : Kept B) → map unroomed xs ≡ map unroomed ys → k < length xs → unroomed (get_or ys k d) ≡ unroomed (get_or xs k d)
-roomed_at xs ys k d e lt =
-    let len = roomed_length xs ys e in
-    sym (get_or-map unroomed ys k d (unroomed d) (omega (arith, lt, len))) ∙ ap (λ zs. get_or zs k (unroomed d)) (sym e) ∙ get_or-map unroomed xs k d (unroomed d) lt
 
 module _ {B : Type 0} (contents : B → List ℕ) (layers : B → List Layer) (size : B → ℕ) (v : Volumed B) (snaps : List (Kept B)) (e : map unroomed snaps ≡ map unroomed v.snaps) where
   pub books_roomed : map (snap_books contents layers) snaps ≡ map (snap_books contents layers) v.snaps

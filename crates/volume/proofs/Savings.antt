@@ -4,7 +4,7 @@ use Rattle.std.specs.Prelude.{◌&&◌, not, Any, sum_by, count_by, None, Some, 
 use Rattle.std.specs.List.{list_any}
 use Rattle.std.specs.Option.{is_some}
 use Rattle.std.proofs.lemmas.Bool.{cases_Bool, false≢true, true≢false, eqb-true, MatchBool-at_true, MatchBool-at_false}
-use Rattle.std.proofs.lemmas.List.{map-set, length-map, set-get_or, append_assoc, get_or-append-add}
+use Rattle.std.proofs.lemmas.List.{map-set, length-map, set-get_or, append_assoc, get_or-append-add, append-nil}
 use Rattle.std.proofs.lemmas.List.Sums.{sum_by-set}
 use Rattle.std.proofs.lemmas.List.Folds.{Any-from_list_any}
 use Rattle.device.specs.Layers.{Layer}
@@ -14,13 +14,15 @@ use Rattle.pending.specs.Routes.{refused_of}
 use Rattle.pending.specs.declared.flights.Flight.{Flight}
 use Rattle.volume_laws.specs.Books.{SnapBooks}
 use Rattle.volume_laws.specs.Steps.{SpoilsSnap}
-use Rattle.submit_laws.specs.Accepting.{IsPrepared, AreSaving}
-use Rattle.submit_laws.proofs.Preparing.{prepared_start, prepared_spoil, saving_here, saving_set, saving_started}
+use Rattle.volume_laws.specs.Accepting.{IsPrepared, AreSaving}
+use Rattle.volume_laws.proofs.Preparing.{prepared_start, prepared_spoil, saving_here, saving_set, saving_started}
 use Rattle.snapshot.specs.Kept.{Kept, books_of as snap_books}
 use Rattle.snapshot.specs.Calls.{StartsAt, started}
 use Rattle.volume.specs.Volumed.{Volumed, books_of}
-use Rattle.volume.specs.Whole.{IsWhole, numbers_in, count_in}
-use Rattle.volume.specs.Submitting.{lacks, is_full_of, starts, overflows, spoilt_of, IsSavedIn, AreSavedIn}
+use Rattle.snapshots.specs.Numbers.{numbers_in, count_in}
+use Rattle.volume.specs.Whole.{IsWhole}
+use Rattle.snapshots.specs.Starting.{lacks, is_full_of, starts, overflows, overflowing, spoilt_of, IsSavedIn, AreSavedIn}
+use Rattle.snapshots.proofs.Overflowing.{overflowing_full, overflowing_fine, starts_fine}
 use Rattle.volume.proofs.Changing.{same_disk, changed, changes, spoils_one, whole_changed, books_within, books_is}
 use Rattle.volume.proofs.Sums.{count_cons}
 use Rattle.volume.proofs.Begins.{begun, whole_begun, numbers_pushed}
@@ -53,9 +55,8 @@ pub refused_numbers : (which : List ℕ) (fs : List Flight) → map number_of_fl
 refused_numbers which [] = refl
 refused_numbers which (f ∷ fs) = ap (λ ns. f.number ∷ ns) (refused_numbers which fs)
 
--- what was done from volume v0 on, in its first snapshots
-pub record AreDone {B : Type 0} (contents : B → List ℕ) (layers : B → List Layer) (size : B → ℕ) (c i : ℕ) (v0 v : Volumed B) : Type 0 where
-  pub which : List ℕ
+-- what was done from volume v0 on, in its first snapshots, of which these were spoiled
+pub record AreDone {B : Type 0} (contents : B → List ℕ) (layers : B → List Layer) (size : B → ℕ) (c i : ℕ) (which : List ℕ) (v0 v : Volumed B) : Type 0 where
   pub whole : IsWhole contents layers size v
   pub prepared : IsPrepared which (books_of contents layers size v0) (books_of contents layers size v)
   pub saving : AreSaving c i (books_of contents layers size v).snaps
@@ -64,18 +65,17 @@ module _ {B : Type 0} (contents : B → List ℕ) (layers : B → List Layer) (s
   abbrev sb : Kept B → SnapBooks
   sb = snap_books contents layers
 
-  module _ (v : Volumed B) (k : ℕ) (s t : Kept B) (within : k < length v.snaps) (is : s ≡ get_or v.snaps k s) (h : AreDone contents layers size c k v0 v) where
+  module _ (v : Volumed B) (k : ℕ) (s t : Kept B) (within : k < length v.snaps) (is : s ≡ get_or v.snaps k s) (which : List ℕ) (h : AreDone contents layers size c k which v0 v) where
     saved_now : (s' : Kept B) (w : Volumed B) → w.snaps ≡ set v.snaps k s' → AreSaving c (k + 1) (set (map (snap_books contents layers) v.snaps) k (snap_books contents layers s')) → AreSaving c (k + 1) (map (snap_books contents layers) w.snaps)
     saved_now s' w e a = subst (AreSaving c (k + 1)) (sym (ap (map (snap_books contents layers)) e ∙ map-set (snap_books contents layers) v.snaps k s')) a
 
-    done_started : (buffer : _) → starts c s ≡ true → StartsAt contents layers (started (v.copies + 1) c s.next buffer) s t → sum_by count_in v.snaps < 256 → AreDone contents layers size c (k + 1) v0 (begun contents layers size v k s t within is)
+    done_started : (buffer : _) → starts c s ≡ true → StartsAt contents layers (started (v.copies + 1) c s.next buffer) s t → sum_by count_in v.snaps < 256 → AreDone contents layers size c (k + 1) which v0 (begun contents layers size v k s t within is)
     done_started buffer starting at room =
         let p = started (v.copies + 1) c s.next buffer in
         let live : s.live ≡ true = and_first s.live (not (is_some (place_of s.pairs c))) (and_first (s.live && not (is_some (place_of s.pairs c))) (not (list_any (λ q. nat_eq q.pair.old c) s.copies)) (and_first (lacks c s) (not (is_full_of s)) starting)) in
         let change = changes contents layers size v v.origin k s t within is (same_disk contents layers size v.origin) in
-        let prepared = prepared_start h.which k p (snap_books contents layers s) (snap_books contents layers t) (books_of contents layers size v0) (books_of contents layers size v) (books_of contents layers size (begun contents layers size v k s t within is)) h.prepared change at.event live in
+        let prepared = prepared_start which k p (snap_books contents layers s) (snap_books contents layers t) (books_of contents layers size v0) (books_of contents layers size v) (books_of contents layers size (begun contents layers size v k s t within is)) h.prepared change at.event live in
         record {
-          which = h.which;
           whole = whole_begun contents layers size v k s t within is h.whole (ap (λ (x : Kept B). x.number) at.fields) (ap (λ (x : Kept B). x.state.chunk) at.fields) (ap (λ (x : Kept B). x.state.origin) at.fields)
               (numbers_pushed s t p (ap (λ (x : Kept B). x.marks) at.fields) (ap (λ (x : Kept B). x.copies) at.fields)) (λ counts. counted_begun contents layers s t p live at counts) room prepared.holds prepared.waits;
           prepared = prepared;
@@ -83,49 +83,58 @@ module _ {B : Type 0} (contents : B → List ℕ) (layers : B → List Layer) (s
               (saving_set c k (snap_books contents layers s) (snap_books contents layers t) (map (snap_books contents layers) v.snaps) h.saving (books_within contents layers size v v.origin k s t within is) (λ _. saving_started c p (snap_books contents layers s) (snap_books contents layers t) at.event refl));
         }
 
-    done_spoilt : overflows c s ≡ true → AreDone contents layers size c (k + 1) v0 (changed v v.origin k (spoilt_of s) (map (refused_of (s.number ∷ [])) v.flights))
+    done_spoilt : overflows c s ≡ true → AreDone contents layers size c (k + 1) (which ++ s.number ∷ []) v0 (changed v v.origin k (spoilt_of s) (map (refused_of (s.number ∷ [])) v.flights))
     done_spoilt over =
         let x : Kept B = spoilt_of s in
         let spoils : SpoilsSnap (snap_books contents layers s) (snap_books contents layers x) = record { number = refl; live = refl; copies = refl; marks = refl } in
         let same = same_disk contents layers size v.origin in
         let spoil = spoils_one contents layers size v v.origin k s x within is same spoils in
         let w : Volumed B = changed v v.origin k x (map (refused_of (s.number ∷ [])) v.flights) in
-        let prepared = prepared_spoil h.which k (snap_books contents layers s) (snap_books contents layers x) (books_of contents layers size v0) (books_of contents layers size v) (books_of contents layers size w) h.prepared spoil refl refl in
+        let prepared = prepared_spoil which k (snap_books contents layers s) (snap_books contents layers x) (books_of contents layers size v0) (books_of contents layers size v) (books_of contents layers size w) h.prepared spoil refl refl in
         record {
-          which = h.which ++ s.number ∷ [];
           whole = whole_changed contents layers size v v.origin k s x within is (map (refused_of (s.number ∷ [])) v.flights) h.whole same (record { number = refl; chunk_is = refl; origin = refl; numbers = inr (inr refl); counted = λ counts. counted_spoilt s counts })
               (refused_numbers (s.number ∷ []) v.flights) prepared.holds prepared.waits;
           prepared = prepared;
           saving = saved_now x w refl (saving_set c k (snap_books contents layers s) (snap_books contents layers x) (map (snap_books contents layers) v.snaps) h.saving (books_within contents layers size v v.origin k s x within is) (λ live. absurd (false≢true live)));
         }
 
-    done_kept : lacks c s ≡ false → AreDone contents layers size c (k + 1) v0 v
+    done_kept : lacks c s ≡ false → AreDone contents layers size c (k + 1) which v0 v
     done_kept has = record {
-      which = h.which;
       whole = h.whole;
       prepared = h.prepared;
       saving = saving_here c k (snap_books contents layers s) (map (snap_books contents layers) v.snaps) h.saving (omega (arith, within, length-map v.snaps (snap_books contents layers)))
           (books_is contents layers size v v.origin k s s within is) (λ live. not_lacking c s has live);
     }
 
-    done_one : (n : ℕ) (hs : List Flight) → IsSavedIn contents layers c s t v.copies n v.flights hs → (starts c s ≡ true → sum_by count_in v.snaps < 256) → AreDone contents layers size c (k + 1) v0 (record v { snaps = set v.snaps k t; copies = n; flights = hs })
+    -- which are spoiled, with this one
+    none_more : overflows c s ≡ false → which ++ overflowing c (s ∷ []) ≡ which
+    none_more fine = ap (λ ns. which ++ ns) (overflowing_fine c s [] fine) ∙ append-nil which
+
+    one_more : overflows c s ≡ true → which ++ overflowing c (s ∷ []) ≡ which ++ s.number ∷ []
+    one_more full = ap (λ ns. which ++ ns) (overflowing_full c s [] full)
+
+    done_one : (n : ℕ) (hs : List Flight) → IsSavedIn contents layers c s t v.copies n v.flights hs → (starts c s ≡ true → sum_by count_in v.snaps < 256)
+        → AreDone contents layers size c (k + 1) (which ++ overflowing c (s ∷ [])) v0 (record v { snaps = set v.snaps k t; copies = n; flights = hs })
     done_one n hs e room = elim (cases_Bool (starts c s)) [
       | inl begins ↦
           (let (buffer, at, m, g) = MatchBool-at_true _ _ begins e in
-          subst (λ (x : ℕ). AreDone contents layers size c (k + 1) v0 (record v { snaps = set v.snaps k t; copies = x; flights = hs })) (sym m)
-          (subst (λ (x : List Flight). AreDone contents layers size c (k + 1) v0 (record v { snaps = set v.snaps k t; copies = v.copies + 1; flights = x })) (sym g) (done_started buffer begins at (room begins))))
+          subst (λ (ns : List ℕ). AreDone contents layers size c (k + 1) ns v0 (record v { snaps = set v.snaps k t; copies = n; flights = hs })) (sym (none_more (starts_fine c s begins)))
+          (subst (λ (x : ℕ). AreDone contents layers size c (k + 1) which v0 (record v { snaps = set v.snaps k t; copies = x; flights = hs })) (sym m)
+          (subst (λ (x : List Flight). AreDone contents layers size c (k + 1) which v0 (record v { snaps = set v.snaps k t; copies = v.copies + 1; flights = x })) (sym g) (done_started buffer begins at (room begins)))))
       | inr unsaid ↦ elim (cases_Bool (overflows c s)) [
         | inl over ↦
             (let (same, m, g) = MatchBool-at_true _ _ over (MatchBool-at_false _ _ unsaid e) in
-            subst (λ (x : Kept B). AreDone contents layers size c (k + 1) v0 (record v { snaps = set v.snaps k x; copies = n; flights = hs })) (sym same)
-            (subst (λ (x : ℕ). AreDone contents layers size c (k + 1) v0 (record v { snaps = set v.snaps k (spoilt_of s); copies = x; flights = hs })) (sym m)
-            (subst (λ (x : List Flight). AreDone contents layers size c (k + 1) v0 (record v { snaps = set v.snaps k (spoilt_of s); copies = v.copies; flights = x })) (sym g) (done_spoilt over))))
+            subst (λ (ns : List ℕ). AreDone contents layers size c (k + 1) ns v0 (record v { snaps = set v.snaps k t; copies = n; flights = hs })) (sym (one_more over))
+            (subst (λ (x : Kept B). AreDone contents layers size c (k + 1) (which ++ s.number ∷ []) v0 (record v { snaps = set v.snaps k x; copies = n; flights = hs })) (sym same)
+            (subst (λ (x : ℕ). AreDone contents layers size c (k + 1) (which ++ s.number ∷ []) v0 (record v { snaps = set v.snaps k (spoilt_of s); copies = x; flights = hs })) (sym m)
+            (subst (λ (x : List Flight). AreDone contents layers size c (k + 1) (which ++ s.number ∷ []) v0 (record v { snaps = set v.snaps k (spoilt_of s); copies = v.copies; flights = x })) (sym g) (done_spoilt over)))))
         | inr fine ↦
             (let (same, m, g) = MatchBool-at_false _ _ fine (MatchBool-at_false _ _ unsaid e) in
             let unset : set v.snaps k t ≡ v.snaps = ap (set v.snaps k) (same ∙ is) ∙ set-get_or v.snaps k s in
-            subst (λ (x : List (Kept B)). AreDone contents layers size c (k + 1) v0 (record v { snaps = x; copies = n; flights = hs })) (sym unset)
-            (subst (λ (x : ℕ). AreDone contents layers size c (k + 1) v0 (record v { snaps = v.snaps; copies = x; flights = hs })) (sym m)
-            (subst (λ (x : List Flight). AreDone contents layers size c (k + 1) v0 (record v { snaps = v.snaps; copies = v.copies; flights = x })) (sym g) (done_kept (neither (lacks c s) (is_full_of s) unsaid fine)))))
+            subst (λ (ns : List ℕ). AreDone contents layers size c (k + 1) ns v0 (record v { snaps = set v.snaps k t; copies = n; flights = hs })) (sym (none_more fine))
+            (subst (λ (x : List (Kept B)). AreDone contents layers size c (k + 1) which v0 (record v { snaps = x; copies = n; flights = hs })) (sym unset)
+            (subst (λ (x : ℕ). AreDone contents layers size c (k + 1) which v0 (record v { snaps = v.snaps; copies = x; flights = hs })) (sym m)
+            (subst (λ (x : List Flight). AreDone contents layers size c (k + 1) which v0 (record v { snaps = v.snaps; copies = v.copies; flights = x })) (sym g) (done_kept (neither (lacks c s) (is_full_of s) unsaid fine))))))
       ]
     ]
 
@@ -147,22 +156,29 @@ module _ {B : Type 0} (contents : B → List ℕ) (layers : B → List Layer) (s
   set_after [] s t ss = refl
   set_after (x ∷ pre) s t ss = ap (λ xs. x ∷ xs) (set_after pre s t ss)
 
+  overflowing_cons : (s : Kept B) (ss : List (Kept B)) (which : List ℕ) → (which ++ overflowing c (s ∷ [])) ++ overflowing c ss ≡ which ++ overflowing c (s ∷ ss)
+  overflowing_cons s ss which = append_assoc which (overflowing c (s ∷ [])) (overflowing c ss) ∙ ap (λ ns. which ++ ns) (elim (cases_Bool (overflows c s)) [
+    | inl full ↦ ap (λ ns. ns ++ overflowing c ss) (overflowing_full c s [] full) ∙ sym (overflowing_full c s ss full)
+    | inr fine ↦ ap (λ ns. ns ++ overflowing c ss) (overflowing_fine c s [] fine) ∙ sym (overflowing_fine c s ss fine)
+  ])
+
   -- all that are left
-  pub done_all : (ss ts pre : List (Kept B)) (v : Volumed B) (m : ℕ) (gs : List Flight) → v.snaps ≡ pre ++ ss → AreSavedIn contents layers c ss ts v.copies m v.flights gs → sum_by count_in v.snaps + count_by (starts c) ss ≤ 256
-      → AreDone contents layers size c (length pre) v0 v → AreDone contents layers size c (length pre + length ss) v0 (record v { snaps = pre ++ ts; copies = m; flights = gs })
-  done_all [] [] pre v m gs at (m_is, g_is) few h =
-      subst (λ (x : List (Kept B)). AreDone contents layers size c (length pre + 0) v0 (record v { snaps = x; copies = m; flights = gs })) at
-      (subst (λ (x : ℕ). AreDone contents layers size c (length pre + 0) v0 (record v { snaps = v.snaps; copies = x; flights = gs })) (sym m_is)
-      (subst (λ (x : List Flight). AreDone contents layers size c (length pre + 0) v0 (record v { snaps = v.snaps; copies = v.copies; flights = x })) (sym g_is)
-      (let none : length pre ≡ length pre + 0 = omega arith in subst (λ (i : ℕ). AreDone contents layers size c i v0 v) none h)))
-  done_all [] (t ∷ ts) pre v m gs at e few h = absurd e
-  done_all (s ∷ ss) [] pre v m gs at e few h = absurd e
-  done_all (s ∷ ss) (t ∷ ts) pre v m gs at (n, hs, one, rest) few h =
+  pub done_all : (ss ts pre : List (Kept B)) (v : Volumed B) (which : List ℕ) (m : ℕ) (gs : List Flight) → v.snaps ≡ pre ++ ss → AreSavedIn contents layers c ss ts v.copies m v.flights gs → sum_by count_in v.snaps + count_by (starts c) ss ≤ 256
+      → AreDone contents layers size c (length pre) which v0 v → AreDone contents layers size c (length pre + length ss) (which ++ overflowing c ss) v0 (record v { snaps = pre ++ ts; copies = m; flights = gs })
+  done_all [] [] pre v which m gs at (m_is, g_is) few h =
+      let end : AreDone contents layers size c (length pre + 0) which v0 v = (let none : length pre ≡ length pre + 0 = omega arith in subst (λ (i : ℕ). AreDone contents layers size c i which v0 v) none h) in
+      subst (λ (x : List (Kept B)). AreDone contents layers size c (length pre + 0) (which ++ []) v0 (record v { snaps = x; copies = m; flights = gs })) at
+      (subst (λ (x : ℕ). AreDone contents layers size c (length pre + 0) (which ++ []) v0 (record v { snaps = v.snaps; copies = x; flights = gs })) (sym m_is)
+      (subst (λ (x : List Flight). AreDone contents layers size c (length pre + 0) (which ++ []) v0 (record v { snaps = v.snaps; copies = v.copies; flights = x })) (sym g_is)
+      (subst (λ (ns : List ℕ). AreDone contents layers size c (length pre + 0) ns v0 v) (sym (append-nil which)) end)))
+  done_all [] (t ∷ ts) pre v which m gs at e few h = absurd e
+  done_all (s ∷ ss) [] pre v which m gs at e few h = absurd e
+  done_all (s ∷ ss) (t ∷ ts) pre v which m gs at (n, hs, one, rest) few h =
       let within : length pre < length v.snaps = omega (arith, ap length at, length-append pre (s ∷ ss)) in
       let front : length pre ≡ length pre + 0 = omega arith in
       let is : s ≡ get_or v.snaps (length pre) s = sym (ap (λ xs. get_or xs (length pre) s) at ∙ ap (λ i. get_or (pre ++ s ∷ ss) i s) front ∙ get_or-append-add pre (s ∷ ss) 0 s) in
       let room : starts c s ≡ true → sum_by count_in v.snaps < 256 = λ begins. (let here : ◌≡◌ {A = ℕ} (if starts c s then 1 else 0) 1 = rw begins refl in let total = count_cons (starts c) s ss in omega (arith, few, here, total)) in
-      let done = done_one v (length pre) s t within is h n hs one room in
+      let done = done_one v (length pre) s t within is which h n hs one room in
       let now : set v.snaps (length pre) t ≡ (pre ++ t ∷ []) ++ ss = ap (λ xs. set xs (length pre) t) at ∙ set_after pre s t ss in
       let sums = sum_by-set count_in v.snaps (length pre) t s within in
       let was : count_in (get_or v.snaps (length pre) s) ≡ count_in s = ap count_in (sym is) in
@@ -170,7 +186,9 @@ module _ {B : Type 0} (contents : B → List ℕ) (layers : B → List Layer) (s
       let few' : sum_by count_in (set v.snaps (length pre) t) + count_by (starts c) ss ≤ 256 = omega (arith, few, sums, was, after, count_cons (starts c) s ss) in
       let len : length (pre ++ t ∷ []) ≡ length pre + 1 = length-append pre (t ∷ []) in
       let u : Volumed B = record v { snaps = set v.snaps (length pre) t; copies = n; flights = hs } in
-      let more = done_all ss ts (pre ++ t ∷ []) u m gs now rest few' (subst (λ (i : ℕ). AreDone contents layers size c i v0 u) (sym len) done) in
+      let both : List ℕ = which ++ overflowing c (s ∷ []) in
+      let more = done_all ss ts (pre ++ t ∷ []) u both m gs now rest few' (subst (λ (i : ℕ). AreDone contents layers size c i both v0 u) (sym len) done) in
       let count : length (pre ++ t ∷ []) + length ss ≡ length pre + length (s ∷ ss) = omega (arith, len) in
-      subst (λ (x : List (Kept B)). AreDone contents layers size c (length pre + length (s ∷ ss)) v0 (record v { snaps = x; copies = m; flights = gs })) (append_assoc pre (t ∷ []) ts)
-      (subst (λ (i : ℕ). AreDone contents layers size c i v0 (record v { snaps = (pre ++ t ∷ []) ++ ts; copies = m; flights = gs })) count more)
+      subst (λ (ns : List ℕ). AreDone contents layers size c (length pre + length (s ∷ ss)) ns v0 (record v { snaps = pre ++ t ∷ ts; copies = m; flights = gs })) (overflowing_cons s ss which)
+      (subst (λ (x : List (Kept B)). AreDone contents layers size c (length pre + length (s ∷ ss)) (both ++ overflowing c ss) v0 (record v { snaps = x; copies = m; flights = gs })) (append_assoc pre (t ∷ []) ts)
+      (subst (λ (i : ℕ). AreDone contents layers size c i (both ++ overflowing c ss) v0 (record v { snaps = (pre ++ t ∷ []) ++ ts; copies = m; flights = gs })) count more))

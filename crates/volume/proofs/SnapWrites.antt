@@ -13,25 +13,30 @@ use Rattle.pending.specs.Kinds.{kind_of, room_of}
 use Rattle.pending.specs.Routes.{refused_of}
 use Rattle.pending.specs.declared.copies.ChunkCopy.{ChunkCopy}
 use Rattle.pending.specs.declared.flights.Flight.{Flight}
+use Rattle.pending.specs.declared.flights.Kind.{Kind}
 use Rattle.pending.specs.declared.flights.Kind.TheVariants.{SnapWrite}
 use Rattle.pending.specs.declared.flights.Route.TheVariants.{Held}
 use Rattle.volume_laws.specs.Steps.{SpoilsSnap}
 use Rattle.volume_laws.specs.Waits.{IsCopying}
 use Rattle.volume_laws.specs.Whole.{plain_of as plain_books}
-use Rattle.submit_laws.specs.Accepting.{IsPrepared, IsTakenIn}
-use Rattle.submit_laws.proofs.Preparing.{prepared_none, prepared_start, prepared_spoil}
+use Rattle.volume_laws.specs.Accepting.{IsPrepared, IsTakenIn}
+use Rattle.volume_laws.proofs.Preparing.{prepared_none, prepared_start, prepared_spoil}
 use Rattle.snapshot.specs.Kept.{Kept, books_of as snap_books}
 use Rattle.snapshot.specs.Calls.{StartsAt, started}
 use Rattle.volume.specs.Volumed.{Volumed, books_of, piece_of, plain_of}
-use Rattle.volume.specs.Whole.{IsWhole, count_in}
+use Rattle.snapshots.specs.Numbers.{count_in}
+use Rattle.volume.specs.Whole.{IsWhole}
 use Rattle.plain.specs.declared.request.Reply.{Reply}
-use Rattle.settling.specs.Held.{Held as Seen, Moving}
-use Rattle.settling.specs.Submitting.{submitted}
+use Rattle.event_machine.specs.Held.{Held as Seen, Moving}
+use Rattle.event_machine.specs.Submitting.{submitted}
 use Rattle.volume_laws.specs.Again.{published_place}
 use Rattle.volume.specs.Exact.{IsSubmittedAs}
-use Rattle.volume.specs.Leaving.{place_of_snap}
+use Rattle.snapshots.specs.Finding.{place_of_snap}
 use Rattle.volume.specs.Moved.{moving_of}
-use Rattle.volume.specs.Submitting.{lacks, is_full_of, starts, overflows, spoilt_of, unroomed, IsSavedIn, IsAsked, IsAcceptedAs, IsFoundFull, entered_of}
+use Rattle.snapshots.specs.Starting.{lacks, is_full_of, starts, overflows, spoilt_of, unroomed, IsSavedIn}
+use Rattle.snapshots.proofs.Roomed.{roomed}
+use Rattle.volume.specs.Submitting.{IsAsked, IsAcceptedAs, IsFoundFull, entered_of, lives_after, spoiled_by}
+use Rattle.volume.proofs.Accepts.{entered_flown}
 use Rattle.volume.proofs.Begins.{whole_begun, numbers_pushed}
 use Rattle.volume.proofs.ByKind.{snap_write_held_enters}
 use Rattle.volume.proofs.Changing.{same_disk, changes, piece_set, spoils_one, whole_changed, loud_changed}
@@ -172,11 +177,17 @@ module _ {B : Type 0} (contents : B → List ℕ) (layers : B → List Layer) (s
       fresh = fresh_plain contents layers size v f h number;
       loud = loud_changed contents layers size roomy v.origin k s1 t within_roomy is_roomy v.flights (same_disk contents layers size v.origin) (ap (λ (x : Kept B). is_loud (layers x.device)) at.fields)
           ∙ loud_roomed contents layers size v (set v.snaps k s1) one_roomed;
-      legal = λ loud. (
-        [],
-        subst (λ (p : Plain). IsSubmitted [] p f.number f.request (plain_of contents layers (entered_of f copying))) (plain_roomed contents layers size v (set v.snaps k s1) one_roomed)
-            (plain_entered contents layers size roomy (entered_of f copying) [] f.number f.request taken (loud_roomed contents layers size v (set v.snaps k s1) one_roomed ∙ loud)),
-      );
+      legal = λ loud.
+          (let c = f.request.range.first / piece_of v.snaps in
+          subst (λ (ns : List ℕ). IsSubmitted ns (plain_of contents layers v) f.number f.request (plain_of contents layers (entered_of f copying))) (sym (ap (λ (q : Kind). spoiled_by q c v.snaps) kind))
+          (subst (λ (p : Plain). IsSubmitted [] p f.number f.request (plain_of contents layers (entered_of f copying))) (plain_roomed contents layers size v (set v.snaps k s1) one_roomed)
+          (plain_entered contents layers size roomy (entered_of f copying) [] f.number f.request taken (loud_roomed contents layers size v (set v.snaps k s1) one_roomed ∙ loud))));
+      lives =
+          (let c = f.request.range.first / piece_of v.snaps in
+          map-set_same (λ (x : Kept B). x.live) (set v.snaps k s1) k t s1 (ap (λ (x : Kept B). x.live) at.fields ∙ ap (λ (x : Kept B). x.live) is_roomy)
+          ∙ roomed (λ (x : Kept B). x.live) (set v.snaps k s1) v.snaps one_roomed (λ x. refl)
+          ∙ sym (ap (λ (q : Kind). lives_after q c v.snaps) kind));
+      flown = entered_flown v.flights v.flights f refl;
       exact = held_submitted;
       kept = keeps_begun contents layers v (entered_of f copying) k (set v.snaps k s1) s1 t copy refl refl refl one_roomed is_roomy at;
     }

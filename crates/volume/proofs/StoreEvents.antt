@@ -25,8 +25,9 @@ use Rattle.volume_laws.proofs.Waiting.{waits_changed}
 use Rattle.volume_laws.proofs.Left.{zero_left, commit_left}
 use Rattle.snapshot.specs.Kept.{Kept, books_of as snap_books, due_of_kept, needs_area}
 use Rattle.volume.specs.Volumed.{Volumed, books_of}
-use Rattle.volume.specs.Whole.{IsWhole, IsCounted, numbers_in}
-use Rattle.volume.specs.Finding.{is_committing, is_zeroing}
+use Rattle.snapshots.specs.Numbers.{numbers_in}
+use Rattle.volume.specs.Whole.{IsWhole, IsCounted}
+use Rattle.snapshots.specs.Finding.{is_committing, is_zeroing}
 use Rattle.volume.proofs.Changing.{SameDisk, same_disk, StaysAttached, changed, books_within, books_is, changes}
 use Rattle.volume.proofs.Counting.{counts_same, counts_store, store_within, lives_same, lives_spoiled, lived}
 use Rattle.volume.proofs.CopyEvents.{stage_by, both_left, both_right}
@@ -135,7 +136,7 @@ module _ {B : Type 0} (contents : B → List ℕ) (layers : B → List Layer) (s
         numbers = inl (ap (λ (x : Kept B). numbers_in x) f);
         counted = λ counts. subst IsCounted (sym f) (counted_zeroed s counts d);
       } in
-      silent_good contents layers size faults done v h (ZeroNext number) Done (λ a b x. x) v.origin k s s' within is disk (ap (λ x. is_loud (layers x)) device ∙ loud) (ap size device ∙ sized) v.flights refl stays
+      silent_good contents layers size faults done v h (ZeroNext number) Done (λ a b x. x) (λ xs ys e. e) v.origin k s s' within is disk (ap (λ x. is_loud (layers x)) device ∙ loud) (ap size device ∙ sized) v.flights refl stays
       (zero_event k (sb s) (sb s') (books_of contents layers size v) (books_of contents layers size w) h.holds e_is (s.state.current + 1) live r)
       (waits_changed k (sb s) (sb s') (books_of contents layers size v) (books_of contents layers size w) h.waits e_is (zero_keeps (s.state.current + 1) (sb s) (sb s') r))
       (zero_left (s.state.current + 1) (due_of_kept contents layers s) (due_of_kept contents layers s') r live (zeroing_needs number s found) (ap (λ (x : Kept B). x.state.zeroed) f))
@@ -148,7 +149,7 @@ module _ {B : Type 0} (contents : B → List ℕ) (layers : B → List Layer) (s
   zero_fault found t loud sized faulty counted =
       let flights = map (refused_of (s.number ∷ [])) v.flights in
       let live = front_live (zeroing_front number s found) in
-      spoilt_good contents layers size faults done v h (ZeroNext number) Fault (λ a b x. x) v.origin k s s' within is disk loud sized live (first_some s.copies (zeroing_front number s found)) t
+      spoilt_good contents layers size faults done v h (ZeroNext number) Fault (λ a b x. x) (λ xs ys e. e) v.origin k s s' within is disk loud sized live (first_some s.copies (zeroing_front number s found)) t
       (record {
         place = k;
         snap = s;
@@ -164,7 +165,7 @@ module _ {B : Type 0} (contents : B → List ℕ) (layers : B → List Layer) (s
   zero_lacks found t device lacks =
       let flights = map (refused_of (s.number ∷ [])) v.flights in
       let live = front_live (zeroing_front number s found) in
-      spoilt_good contents layers size faults done v h (ZeroNext number) Done (λ a b x. x) v.origin k s s' within is disk (ap (λ x. is_loud (layers x)) device) (ap size device) live (first_some s.copies (zeroing_front number s found)) t
+      spoilt_good contents layers size faults done v h (ZeroNext number) Done (λ a b x. x) (λ xs ys e. e) v.origin k s s' within is disk (ap (λ x. is_loud (layers x)) device) (ap size device) live (first_some s.copies (zeroing_front number s found)) t
       (inr (record {
         place = k;
         snap = s;
@@ -193,7 +194,7 @@ module _ {B : Type 0} (contents : B → List ℕ) (layers : B → List Layer) (s
         numbers = inl (ap (λ (x : Kept B). numbers_in x) f ∙ commit_numbers s.marks s.copies);
         counted = λ counts. subst IsCounted (sym f) (counted_first s counts live d (committing_front number s found) (holds_live live).agree);
       } in
-      silent_good contents layers size faults done v h (WriteArea number) Done (λ a b x. x) v.origin k s s' within is disk (ap (λ x. is_loud (layers x)) device ∙ loud) (ap size device ∙ sized) v.flights refl stays
+      silent_good contents layers size faults done v h (WriteArea number) Done (λ a b x. x) (λ xs ys e. e) v.origin k s s' within is disk (ap (λ x. is_loud (layers x)) device ∙ loud) (ap size device ∙ sized) v.flights refl stays
       (commit_event k (sb s) (sb s') (books_of contents layers size v) (books_of contents layers size w) h.holds e_is 1 s.state.current live r)
       (waits_changed k (sb s) (sb s') (books_of contents layers size v) (books_of contents layers size w) h.waits e_is (commit_keeps (contents v.origin) v.flights 1 s.state.current (sb s) (sb s') (holds_live live) r))
       (commit_left 1 s.state.current (due_of_kept contents layers s) (due_of_kept contents layers s') r (omega arith))
@@ -206,7 +207,7 @@ module _ {B : Type 0} (contents : B → List ℕ) (layers : B → List Layer) (s
   commit_fault found t loud sized faulty counted =
       let flights = map (refused_of (s.number ∷ [])) v.flights in
       let live = front_live (committing_front number s found) in
-      spoilt_good contents layers size faults done v h (WriteArea number) Fault (λ a b x. x) v.origin k s s' within is disk loud sized live (first_some s.copies (committing_front number s found)) t
+      spoilt_good contents layers size faults done v h (WriteArea number) Fault (λ a b x. x) (λ xs ys e. e) v.origin k s s' within is disk loud sized live (first_some s.copies (committing_front number s found)) t
       (record {
         place = k;
         snap = s;

@@ -38,15 +38,17 @@ use Rattle.volume_laws.proofs.WholeOne.{snap_holds}
 use Rattle.volume_laws.proofs.Issuing.{io_snap_read_event, io_snap_write_event, snap_place_event, refused_read_event, refused_write_event}
 use Rattle.volume_laws.proofs.IssuingWrites.{snap_write_event}
 use Rattle.snapshot.specs.Kept.{Kept, books_of as snap_books, due_of_kept}
+use Rattle.volume.specs.Flying.{Fits}
 use Rattle.volume.specs.Volumed.{Volumed, books_of, dues_of}
-use Rattle.volume.specs.Whole.{IsWhole, IsCounted, numbers_in}
+use Rattle.snapshots.specs.Numbers.{numbers_in}
+use Rattle.volume.specs.Whole.{IsWhole, IsCounted}
 use Rattle.volume.specs.Causes.{HasReplied, IsFaultless, FailsAlone, GoesTo}
 use Rattle.std.proofs.lemmas.List.Folds.{list_any-from_Any}
-use Rattle.volume.proofs.Finds.{position_within, any_of}
+use Rattle.snapshots.proofs.Finds.{position_within, any_of}
 use Rattle.volume.proofs.Changing.{same_disk, StaysAttached, changed, books_within, books_is, changes, snaps_changed, snaps_fit, loud_changed}
 use Rattle.volume.proofs.Counting.{counts_same, counts_store, store_within, lives_same, kept_changed}
 use Rattle.volume.proofs.Good.{IsGood}
-use Rattle.volume.proofs.IssueEvents.{reply_good}
+use Rattle.volume.proofs.IssueEvents.{reply_good, taken_out, fits_read, fits_write}
 use Rattle.volume.proofs.DiskIssues.{read_kinds, write_kinds}
 use Rattle.volume.proofs.MovedCounts.{counted_device}
 
@@ -108,7 +110,7 @@ module _ {B : Type 0} (contents : B → List ℕ) (layers : B → List Layer) (s
   -- it is answered Invalid
   pub refused_good : r.route ≡ Refused → IsGood contents layers size faults done (Issue number) (Replied number (IsRefused IsInvalid)) v (record v { flights = remove v.flights place })
   refused_good route = reply_good contents layers size faults done v w h number place (IsRefused IsInvalid) in_list refl refl refl refl (snaps_fit contents layers size v (size v.origin) h refl) refl refl (record { attached = refl; numbers = refl; chunks = refl; sizes = refl }) (by r.request.op refl)
-      (waits_out place vb wb h.waits in_list refl refl refl) (record { counts = refl; lives = refl }) (inl refl)
+      (waits_out place vb wb h.waits in_list refl refl refl) (record { counts = refl; lives = refl }) (inl refl) (taken_out number place (IsRefused IsInvalid) r vb wb only.out tt)
     where
       w : Volumed B
       w = record v { flights = remove v.flights place }
@@ -203,12 +205,12 @@ module _ {B : Type 0} (contents : B → List ℕ) (layers : B → List Layer) (s
           let now : sum_by left_in (map due (set v.snaps k s')) ≡ sum_by left_in (set (map due v.snaps) k (due s')) = ap (sum_by left_in) (map-set due v.snaps k s') in
           omega (arith, e, at_k, same, now)
 
-      good : (reply : Reply) → IsReply number reply vb wb → HasReplied faults number reply v issued → IsGood contents layers size faults done (Issue number) (Replied number reply) v issued
-      good reply answered cause = reply_good contents layers size faults done v issued h number place reply in_list refl refl refl refl
+      good : (reply : Reply) → IsReply number reply vb wb → HasReplied faults number reply v issued → Fits r.request.op r.request.range reply → IsGood contents layers size faults done (Issue number) (Replied number reply) v issued
+      good reply answered cause fits = reply_good contents layers size faults done v issued h number place reply in_list refl refl refl refl
           (snaps_changed contents layers size v v.origin k s s' within is h (same_disk contents layers size v.origin) stays) lefts
           (loud_changed contents layers size v v.origin k s s' within is (remove v.flights place) (same_disk contents layers size v.origin) loud_now)
           (kept_changed size v v.origin k s s' (remove v.flights place) within is refl (ap size device ∙ sized) stays.number stays.chunk_is) answered waits cause
-          (inr (suc k, store_within v v.origin k s s' (remove v.flights place) within is done, counts_store v v.origin k s s' (remove v.flights place) within is done refl (ap done device ∙ more)))
+          (inr (suc k, store_within v v.origin k s s' (remove v.flights place) within is done, counts_store v v.origin k s s' (remove v.flights place) within is done refl (ap done device ∙ more))) (taken_out number place reply r vb wb out fits)
 
       faultless : faults d ≡ faults s.device → IsFaultless faults v issued
       faultless same = record {
@@ -231,24 +233,24 @@ module _ {B : Type 0} (contents : B → List ℕ) (layers : B → List Layer) (s
           same_now = ap (snap_books contents layers) f
               ∙ same_books (snap_books contents layers (record s { device = d })) (snap_books contents layers s) refl refl refl loud refl refl refl same refl refl refl refl
 
-      pub store_read : r.request.op ≡ Read → (bytes : List ℕ) → contents d ≡ contents s.device → bytes ≡ sectors_at (contents s.device) (s.state.chunk * at + r.request.range.first % s.state.chunk) r.request.range.count → faults d ≡ faults s.device
+      pub store_read : r.request.op ≡ Read → (bytes : List ℕ) → length bytes ≡ 512 * r.request.range.count → contents d ≡ contents s.device → bytes ≡ sectors_at (contents s.device) (s.state.chunk * at + r.request.range.first % s.state.chunk) r.request.range.count → faults d ≡ faults s.device
           → IsGood contents layers size faults done (Issue number) (Replied number (Data bytes)) v issued
-      store_read op bytes same read faulty = good (Data bytes)
-          (snap_place_event number place r vb wb h.holds (only same) k (snap_books contents layers s) sb_in sb_is bytes at (snap_reads r.request.dev r.request.op s.number dev op) route read) (faultless faulty)
+      store_read op bytes len same read faulty = good (Data bytes)
+          (snap_place_event number place r vb wb h.holds (only same) k (snap_books contents layers s) sb_in sb_is bytes at (snap_reads r.request.dev r.request.op s.number dev op) route read) (faultless faulty) (fits_read r.request.op r.request.range bytes op len)
 
       pub store_read_io : r.request.op ≡ Read → contents d ≡ contents s.device → faults d ≡ next_count (faults s.device) → IsGood contents layers size faults done (Issue number) (Replied number (IsRefused Io)) v issued
       store_read_io op same faulty = (let kind = snap_reads r.request.dev r.request.op s.number dev op in good (IsRefused Io)
-          (io_snap_read_event number place r vb wb h.holds (only same) k (snap_books contents layers s) sb_in sb_is kind (λ e. store_ne_refused at (sym route ∙ e))) (failed (inl kind) faulty))
+          (io_snap_read_event number place r vb wb h.holds (only same) k (snap_books contents layers s) sb_in sb_is kind (λ e. store_ne_refused at (sym route ∙ e))) (failed (inl kind) faulty) tt)
 
       pub store_write : (bytes : List ℕ) → r.request.op ≡ Write bytes → WritesPlace (r.request.range.first / s.state.chunk) at (r.request.range.first % s.state.chunk) bytes (snap_books contents layers s) (snap_books contents layers s') → faults d ≡ faults s.device
           → IsGood contents layers size faults done (Issue number) (Replied number IsWritten) v issued
       store_write bytes op wrote faulty = good IsWritten
           (snap_write_event number place r bytes k at (snap_books contents layers s) (snap_books contents layers s') vb wb h.holds
-          (record { out = out; op = op; origin = refl; within = sb_in; was = sb_is; snaps = map-set (snap_books contents layers) v.snaps k s'; store = wrote }) (snap_writes r.request.dev r.request.op s.number bytes dev op) route) (faultless faulty)
+          (record { out = out; op = op; origin = refl; within = sb_in; was = sb_is; snaps = map-set (snap_books contents layers) v.snaps k s'; store = wrote }) (snap_writes r.request.dev r.request.op s.number bytes dev op) route) (faultless faulty) (fits_write r.request.op r.request.range bytes op)
 
       pub store_write_io : (bytes : List ℕ) → r.request.op ≡ Write bytes → contents d ≡ contents s.device → faults d ≡ next_count (faults s.device) → IsGood contents layers size faults done (Issue number) (Replied number (IsRefused Io)) v issued
       store_write_io bytes op same faulty = (let kind = snap_writes r.request.dev r.request.op s.number bytes dev op in good (IsRefused Io)
-          (io_snap_write_event number place r vb wb h.holds (only same) k (snap_books contents layers s) sb_in sb_is kind (λ e. store_ne_refused at (sym route ∙ e))) (failed (inr kind) faulty))
+          (io_snap_write_event number place r vb wb h.holds (only same) k (snap_books contents layers s) sb_in sb_is kind (λ e. store_ne_refused at (sym route ∙ e))) (failed (inr kind) faulty) tt)
 
 -- the snapshot of a number is found
 pub held_any : {B : Type 0} (contents : B → List ℕ) (layers : B → List Layer) (n : ℕ) (snaps : List (Kept B)) → Any (λ (s : SnapBooks). s.number ≡ n) (map (snap_books contents layers) snaps) → list_any (λ (s : Kept B). nat_eq s.number n) snaps ≡ true

@@ -19,7 +19,8 @@ use Rattle.volume_laws.specs.Published.{is_published}
 use Rattle.snapshot.specs.Kept.{Kept}
 use Rattle.volume.specs.Volumed.{Volumed, piece_of}
 use Rattle.volume.specs.Whole.{IsWhole}
-use Rattle.volume.specs.Submitting.{lacks, IsEntered}
+use Rattle.snapshots.specs.Starting.{lacks}
+use Rattle.volume.specs.Submitting.{IsEntered}
 use Rattle.volume.specs.Exact.{IsSubmittedAs}
 use Rattle.volume.proofs.Exactly.{holds_live}
 use Rattle.volume.proofs.MovedAccepts.{origin_read_is, snap_read_is, snap_write_placed_is, snap_write_waits_is}

@@ -15,24 +15,24 @@ use Rattle.plain.specs.declared.request.Dev.TheVariants.{Origin, Snap}
 use Rattle.plain.specs.declared.request.Reply.{Reply}
 use Rattle.sector.specs.declared.refusal.Refusal.{Refusal}
 use Rattle.sector.specs.declared.refusal.Refusal.TheVariants.{NoMemory, NoSuchDevice}
-use Rattle.settling.specs.Held.{Held, Moving}
-use Rattle.settling.specs.Moments.{snap_relayered}
-use Rattle.settling.specs.Requests.{volume_of}
-use Rattle.settling.specs.Rest.{IsResting, IsAtRest}
-use Rattle.settling.specs.Snaps.{Snap as SettledSnap, Volume}
-use Rattle.settling.proofs.Lists.{Each, each_from, all_from}
+use Rattle.event_machine.specs.Held.{Held, Moving}
+use Rattle.settled.specs.Moments.{snap_relayered}
+use Rattle.event_machine.specs.Requests.{volume_of}
+use Rattle.event_machine.specs.Rest.{IsResting, IsAtRest}
+use Rattle.settled.specs.Snaps.{Snap as SettledSnap, Volume}
+use Rattle.settled.proofs.Each.{Each, each_from, all_from}
 use Rattle.volume_laws.specs.Whole.{plain_of as plain_books}
 use Rattle.store.specs.Layering.{IsRelayered}
 use Rattle.snapshot.specs.Kept.{Kept}
 use Rattle.volume.specs.Volumed.{Volumed, books_of, plain_of, is_loud_in_all}
 use Rattle.volume.specs.Attached.{volume_in}
-use Rattle.volume.specs.Leaving.{place_of_snap}
+use Rattle.snapshots.specs.Finding.{place_of_snap}
 use Rattle.volume.specs.Whole.{IsWhole}
 use Rattle.volume.specs.Moved.{moving_of, held_of}
 use Rattle.volume.specs.Layering.{Measures, held_relayered}
 use Rattle.volume.specs.Telling.{layers_left, layers_told, store_layers, told_under, volume_told, helds_relayered, dev_relayered, volume_relayered, IsRelayeredBy, IsOriginRelayered, IsSnapRelayered, IsRelayeredAt, IsTold, IsNotTold}
 use Rattle.volume.proofs.Accepts.{if_ok, if_err}
-use Rattle.volume.proofs.Finds.{position_none}
+use Rattle.snapshots.proofs.Finds.{position_none}
 use Rattle.volume.proofs.Keeping.{of_both}
 use Rattle.volume.proofs.MovedLists.{IsFirst, first_position}
 use Rattle.volume.proofs.Relayered.{IsAlike, IsSnapAlike, IsVolumeAlike, books_of_alike, whole_alike}

@@ -1,12 +1,13 @@
--- What an attach makes of a volume: all that the machine of `settling` says of the reads and writes of the store, and that a
+-- What an attach makes of a volume: all that the machine of `settled` says of the reads and writes of the store, and that a
 -- volume at rest stays at rest. This project's own.
-use Rattle.std.specs.Prelude.{◌≡◌, ℕ, List, [], ◌∷◌, ◌++◌, Option, None, true, false}
+use Rattle.std.specs.Prelude.{◌≡◌, ◌≢◌, ℕ, List, [], ◌∷◌, ◌++◌, Option, None, true, false}
+use Rattle.std.specs.List.{All}
 use Rattle.device.specs.Layers.{Layer, is_loud}
 use Rattle.plain.specs.declared.request.Reply.{Reply}
-use Rattle.settling.specs.Snaps.{Volume}
-use Rattle.settling.specs.Requests.{volume_of}
-use Rattle.settling.specs.Rest.{IsAtRest}
-use Rattle.settling.specs.Attaching.{Store, attached}
+use Rattle.settled.specs.Snaps.{Volume}
+use Rattle.event_machine.specs.Requests.{volume_of}
+use Rattle.event_machine.specs.Rest.{IsAtRest}
+use Rattle.settled.specs.Attaching.{Store, attached}
 use Rattle.snapshot.specs.declared.opening.StoreDev.{StoreDev}
 use Rattle.snapshot.specs.Kept.{Kept}
 use Rattle.volume.specs.Volumed.{Volumed}
@@ -20,11 +21,12 @@ store_of contents layers store = record { device = device_of contents layers sto
 abbrev pub volume_in : {B : Type 0} → (B → List ℕ) → (B → List Layer) → Volumed B → Volume
 volume_in contents layers v = volume_of (moving_of contents layers None v)
 
--- the volume has one snapshot more, under this number, over the store's device, with nothing left to do
+-- the volume has one snapshot more, under this number, which no other has, over the store's device, with nothing left to do
 pub record IsGained {B : Type 0} (layers : B → List Layer) (size : B → ℕ) (number : ℕ) (store : StoreDev B) (old new : Volumed B) : Type 0 where
   pub snap : Kept B
   pub becomes : new ≡ record old { snaps = old.snaps ++ snap ∷ []; attached = number }
   pub number_is : snap.number ≡ number
+  pub fresh : All (λ s. s.number ≢ number) old.snaps
   pub live : snap.live ≡ true
   pub stale : snap.stale ≡ false
   pub untried : snap.untried ≡ false

@@ -6,9 +6,9 @@ use Rattle.plain.specs.declared.event.Event.{Event}
 use Rattle.plain.specs.declared.event.Outcome.{Outcome}
 use Rattle.plain.specs.declared.request.Reply.{Reply}
 use Rattle.plain.specs.declared.request.Request.{Request}
-use Rattle.settling.specs.Seen.{replied_by}
-use Rattle.settling.specs.Stepping.{stepped}
-use Rattle.settling.specs.Submitting.{submitted}
+use Rattle.event_machine.specs.Seen.{replied_by}
+use Rattle.event_machine.specs.Stepping.{stepped}
+use Rattle.event_machine.specs.Submitting.{submitted}
 use Rattle.volume.specs.Volumed.{Volumed, is_loud_in_all}
 use Rattle.volume.specs.Moved.{moving_of}
 

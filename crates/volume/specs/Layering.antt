@@ -3,8 +3,8 @@
 use Rattle.std.specs.Prelude.{◌≡◌, ℕ, ◌<◌, List, length, map, slice_index_or}
 use Rattle.device.specs.Layers.{Layer}
 use Rattle.layers.specs.Ticks.{layers_ticked}
-use Rattle.settling.specs.Held.{Held, Moving}
-use Rattle.settling.specs.Moments.{relayered, store_relayered}
+use Rattle.event_machine.specs.Held.{Held, Moving}
+use Rattle.settled.specs.Moments.{relayered, store_relayered}
 use Rattle.store.specs.Layering.{IsRelayered}
 use Rattle.snapshot.specs.Kept.{Kept}
 use Rattle.volume.specs.Volumed.{Volumed}

@@ -1,7 +1,8 @@
+-- To be believed: `run`'s output, a volume's steps or its attach are said in these words.
 -- When a volume is closed, a snapshot leaves it, and what callers may ask of one. That a volume has to be quiet is this
 -- project's own rule; the numbers are those of the kernel's status lines.
 use Rattle.std.specs.Prelude.{◌≡◌, ◌==◌, ◌&&◌, not, ℕ, ◌+◌, ◌*◌, ◌≤◌, Bool, true, List, length, Option, Some, None, if◌then◌else◌, slice_index_or}
-use Rattle.std.specs.List.{list_all, position, remove}
+use Rattle.std.specs.List.{list_all, remove}
 use Rattle.device.specs.Layers.{Layer, is_loud}
 use Rattle.sector.specs.declared.refusal.Refusal.{Refusal}
 use Rattle.sector.specs.declared.refusal.Refusal.TheVariants.{NoSuchDevice, Busy, NotQuiet}
@@ -9,11 +10,8 @@ use Rattle.chunk_alloc.specs.declared.usage.Usage.{Usage}
 use Rattle.snapshot.specs.declared.opening.StoreDev.{StoreDev}
 use Rattle.snapshot.specs.Kept.{Kept}
 use Rattle.snapshot.specs.Rest.{IsStill}
+use Rattle.snapshots.specs.Finding.{place_of_snap}
 use Rattle.volume.specs.Volumed.{Volumed}
-
--- the place of the snapshot with a number
-abbrev pub place_of_snap : {B : Type 0} → ℕ → List (Kept B) → Option ℕ
-place_of_snap number snaps = position (λ s. s.number == number) snaps
 
 -- no copy of a snapshot is pending, and its mark is not wanted or was tried
 abbrev pub is_done_of : {B : Type 0} → Kept B → Bool

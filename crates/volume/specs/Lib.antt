@@ -1,7 +1,7 @@
 pub mod Volumed
 pub mod Whole
-pub mod Finding
 pub mod Causes
+pub mod Flying
 pub mod Stepping
 pub mod Moved
 pub mod Exact
@@ -10,6 +10,7 @@ pub mod Leaving
 pub mod Taking
 pub mod Attached
 pub mod Submitting
+pub mod Peeking
 pub mod Layering
 pub mod Telling
 pub mod Running

@@ -3,13 +3,13 @@
 use Rattle.std.specs.Prelude.{ℕ, List, Option, map}
 use Rattle.device.specs.Layers.{Layer}
 use Rattle.plain.specs.declared.request.Reply.{Reply}
-use Rattle.settling.specs.Devices.{Device}
-use Rattle.settling.specs.Held.{Held, Moving}
-use Rattle.settling.specs.Seen.{Seen, held_of as held_seen, going_of}
+use Rattle.settled.specs.Devices.{Device}
+use Rattle.event_machine.specs.Held.{Held, Moving}
+use Rattle.event_machine.specs.Seen.{Seen, held_of as held_seen, going_of}
 use Rattle.snapshot.specs.Kept.{Kept, due_of_kept}
 use Rattle.volume.specs.Volumed.{Volumed}
 
--- a snapshot as `settling` sees it
+-- a snapshot as `settled` sees it
 abbrev pub seen_of : {B : Type 0} → (B → List ℕ) → (B → List Layer) → Kept B → Seen
 seen_of contents layers s = record { due = due_of_kept contents layers s; layers = layers s.device; stale = s.stale; next = s.next }
 

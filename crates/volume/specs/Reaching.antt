@@ -3,10 +3,10 @@
 use Rattle.std.specs.Prelude.{◌≡◌, ℕ, ◌+◌, true, List, Option, Some, map}
 use Rattle.device.specs.Layers.{Layer}
 use Rattle.plain.specs.declared.request.Reply.{Reply}
-use Rattle.settling.specs.Held.{Moving}
-use Rattle.settling.specs.Pieces.{Answered}
-use Rattle.settling.specs.Rest.{IsAtRest}
-use Rattle.settling.specs.Settles.{settle}
+use Rattle.event_machine.specs.Held.{Moving}
+use Rattle.settled.specs.Pieces.{Answered}
+use Rattle.event_machine.specs.Rest.{IsAtRest}
+use Rattle.event_machine.specs.Settles.{settle}
 use Rattle.volume.specs.Volumed.{Volumed, is_loud_in_all}
 use Rattle.volume.specs.Moved.{device_of, held_of, moving_of}
 

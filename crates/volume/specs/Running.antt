@@ -1,11 +1,14 @@
+-- To be believed: `run`'s output, a volume's steps or its attach are said in these words.
 -- Calls of a volume, one after another: what each does and answers, and what callers see of a whole list. This project's own.
-use Rattle.std.specs.Prelude.{◌≡◌, ℕ, ◌*◌, List, [], ◌∷◌, length, None, Result, MatchResult, is_ok}
+use Rattle.std.specs.Prelude.{◌≡◌, ℕ, ◌*◌, Bool, true, false, List, [], ◌∷◌, length, Some, None, Result, MatchResult, is_ok}
+use Rattle.std.specs.List.{list_any}
 use Rattle.sector.specs.declared.refusal.Refusal.{Refusal}
 use Rattle.device.specs.Layers.{Layer}
 use Rattle.layers.specs.declared.message.Answer.{Answer}
 use Rattle.layers.specs.declared.message.Message.{Message}
-use Rattle.plain.specs.Plain.{Plain}
+use Rattle.plain.specs.Plain.{Plain, Live, saved_under}
 use Rattle.plain.specs.Runs.{MayStep, MaySubmit}
+use Rattle.plain.specs.Unwritten.{writes, is_written, StillShows}
 use Rattle.plain.specs.declared.event.Event.{Event}
 use Rattle.plain.specs.declared.event.NotDue.{NotDue}
 use Rattle.plain.specs.declared.event.Outcome.{Outcome}
@@ -68,3 +71,15 @@ MayCall (Submit request) old new = MaySubmit request old new
 MayCall (Step event) old new = MayStep event old new
 MayCall (Tick seconds) old new = new ≡ old
 MayCall (Tell dev depth message) old new = new ≡ old
+
+-- whether a call asks for a write of that snapshot
+abbrev pub writes_by : ℕ → Call → Bool
+writes_by number (Submit request) = writes number request.dev request.op
+writes_by number (Step event) = false
+writes_by number (Tick seconds) = false
+writes_by number (Tell dev depth message) = false
+
+-- A live snapshot that none of the calls and no request in flight writes shows the array that it showed, or is lost.
+abbrev pub KeepsUnwritten : List Call → Plain → Plain → Type 0
+KeepsUnwritten calls old new = (number : ℕ) → (array : List ℕ) → saved_under number old.saved ≡ Some (Live array)
+    → is_written number old.requests ≡ false → list_any (writes_by number) calls ≡ false → StillShows number array new

@@ -4,8 +4,10 @@ use Rattle.device.specs.Layers.{Layer}
 use Rattle.plain.specs.declared.event.Event.{Event}
 use Rattle.plain.specs.declared.event.Outcome.{Outcome}
 use Rattle.plain.specs.Legal.{IsLegalStep}
+use Rattle.pending.specs.Kinds.{in_flight}
 use Rattle.volume.specs.Volumed.{Volumed, plain_of, left_in_all, is_loud_in_all}
-use Rattle.volume.specs.Whole.{number_of_snap}
+use Rattle.snapshots.specs.Numbers.{number_of_snap}
+use Rattle.volume.specs.Flying.{IsFlown}
 use Rattle.volume.specs.Causes.{HasCause, IsOneAtMost, counts_of}
 
 -- What no event and no request changes: how many snapshots were attached, which of them there are, the sectors of their
@@ -25,13 +27,15 @@ pub record KeepsDevices {B : Type 0} (old new : Volumed B) : Type 0 where
   pub numbers : map number_of_snap new.snaps ≡ map number_of_snap old.snaps
   pub chunks : map (λ s. s.state.chunk) new.snaps ≡ map (λ s. s.state.chunk) old.snaps
 
--- Where no device drops writes, the plain machine takes the step that the outcome tells. A whole number falls; the cause is
--- counted; at most one operation is done, and no number is given.
+-- Where no device drops writes, the plain machine takes the step that the outcome tells. Whatever the devices do, a whole
+-- number falls, the cause is counted, a request leaves only where it is answered, at most one operation is done, and no
+-- number is given.
 pub record IsStepped {B : Type 0} (contents : B → List ℕ) (layers : B → List Layer) (size faults done : B → ℕ) (event : Event) (outcome : Outcome) (old new : Volumed B) : Type 0 where
   pub legal : is_loud_in_all layers old ≡ true → IsLegalStep (plain_of contents layers old) event outcome (plain_of contents layers new)
   pub lower : left_in_all contents layers new < left_in_all contents layers old
   pub loud : is_loud_in_all layers new ≡ is_loud_in_all layers old
   pub cause : HasCause faults event outcome old new
+  pub flown : IsFlown event outcome (map in_flight old.flights) (map in_flight new.flights)
   pub one : IsOneAtMost done old new
   pub kept : KeepsAll size old new
   pub requests : new.requests ≡ old.requests

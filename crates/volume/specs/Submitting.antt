@@ -1,87 +1,32 @@
--- When a request is accepted, and which copies it starts. The limits, the order of the refusals, and that a write never
--- waits for a copy that is under way twice, are this project's own; that a full store makes its snapshot invalid is the
--- kernel's rule, of its admin-guide page on snapshots.
-use Rattle.std.specs.Prelude.{◌≡◌, ◌≢◌, ◌⊎◌, ◌==◌, ◌&&◌, ◌||◌, not, nat_lt, nat_le, ℕ, ◌+◌, ◌*◌, ◌/◌, ◌%◌, ◌<◌, ◌≤◌, Bool, true, false, List, [], ◌∷◌, ◌++◌, length, map, filter, sum_by, count_by, MatchBool, Option, Some, None, if◌then◌else◌, slice_index_or, slice_set}
-use Rattle.std.specs.List.{All, list_any}
-use Rattle.std.specs.Option.{is_some}
-use Rattle.std.specs.Global.{Vec}
+-- When a request is accepted, what it then leaves, and which snapshots it spoils. The limits and the order of the refusals
+-- are this project's own; that a full store makes its snapshot invalid is the kernel's rule, of its admin-guide page on
+-- snapshots.
+use Rattle.std.specs.Prelude.{◌≡◌, ◌≢◌, ◌⊎◌, ◌==◌, ◌&&◌, ◌||◌, nat_lt, nat_le, ℕ, ◌+◌, ◌*◌, ◌/◌, ◌%◌, ◌<◌, ◌≤◌, Bool, true, false, List, [], ◌∷◌, ◌++◌, length, map, sum_by, count_by, Option, Some, None, if◌then◌else◌, slice_index_or, slice_set}
+use Rattle.std.specs.List.{All}
 use Rattle.sector.specs.declared.range.Range.{Range}
 use Rattle.sector.specs.declared.refusal.Refusal.{Refusal}
 use Rattle.sector.specs.declared.refusal.Refusal.TheVariants.{NoSuchDevice, OutOfRange, Invalid, TooMany, NoMemory}
 use Rattle.device.specs.Layers.{Layer}
-use Rattle.model.specs.Picture.{place_of}
 use Rattle.plain.specs.declared.request.Dev.{Dev}
 use Rattle.plain.specs.declared.request.Dev.TheVariants.{Origin, Snap}
 use Rattle.plain.specs.declared.request.Op.TheVariants.{Write}
 use Rattle.plain.specs.declared.request.Request.{Request}
-use Rattle.pending.specs.Copies.{count_of}
-use Rattle.pending.specs.Kinds.{kind_of}
+use Rattle.pending.specs.Kinds.{in_flight, kind_of}
 use Rattle.pending.specs.Routes.{refused_of}
 use Rattle.pending.specs.declared.flights.Flight.{Flight}
 use Rattle.pending.specs.declared.flights.Kind.{Kind}
 use Rattle.pending.specs.declared.flights.Kind.TheVariants.{OriginRead, OriginWrite, SnapRead, SnapWrite}
 use Rattle.snapshot.specs.Kept.{Kept}
-use Rattle.snapshot.specs.Calls.{StartsAt, started}
-use Rattle.volume.specs.Leaving.{place_of_snap}
 use Rattle.pending.specs.declared.flights.Route.{Route}
 use Rattle.plain.specs.Legal.{IsSubmitted, Spoils}
 use Rattle.volume_laws.specs.Published.{IsPiece}
+use Rattle.snapshots.specs.Finding.{place_of_snap}
+use Rattle.snapshots.specs.Numbers.{count_in}
+use Rattle.snapshots.specs.Starting.{starts, overflows, overflowing, spoilt_of, unroomed}
 use Rattle.volume.specs.Volumed.{Volumed, piece_of, plain_of, is_loud_in_all}
-use Rattle.volume.specs.Whole.{count_in, number_of_snap}
+use Rattle.volume.specs.Causes.{lives_of}
 use Rattle.volume.specs.Exact.{IsSubmittedAs}
 use Rattle.volume.specs.Stepping.{KeepsDevices}
-
--- a live snapshot has neither a chunk nor a copy of it under way
-abbrev pub lacks : {B : Type 0} → ℕ → Kept B → Bool
-lacks c s = s.live && not (is_some (place_of s.pairs c)) && not (list_any (λ p. p.pair.old == c) s.copies)
-
--- its store has no place for one more copy
-abbrev pub is_full_of : {B : Type 0} → Kept B → Bool
-is_full_of s = nat_lt s.state.size (s.state.chunk * (s.next + 1))
-
--- it lacks a copy of the chunk, and its store has a place for it
-abbrev pub starts : {B : Type 0} → ℕ → Kept B → Bool
-starts c s = lacks c s && not (is_full_of s)
-
--- it lacks one, and its store has no place for it
-abbrev pub overflows : {B : Type 0} → ℕ → Kept B → Bool
-overflows c s = lacks c s && is_full_of s
-
--- a snapshot that was spoiled
-abbrev pub spoilt_of : {B : Type 0} → Kept B → Kept B
-spoilt_of s = record s { live = false; untried = true; state = record s.state { copying = false }; begun = []; copies = []; marks = [] }
-
--- a snapshot, but for the room that it has for copies
-abbrev pub unroomed : {B : Type 0} → Kept B → Kept B
-unroomed s = record s { room = 0 }
-
--- room for the copy of a chunk, where a snapshot lacks it
-pub record HasRoomFor {B : Type 0} (c : ℕ) (s : Kept B) (room : Vec ℕ) : Type 0 where
-  pub pairs : lacks c s ≡ true → 0 < s.room
-  pub bytes : lacks c s ≡ true → length room.items ≡ 512 * count_of s.state.chunk s.state.origin c
-
--- and for those of all snapshots
-pub record HaveRooms {B : Type 0} (c : ℕ) (snaps : List (Kept B)) (rooms : List (Vec ℕ)) : Type 0 where
-  pub len : length rooms ≡ length snaps
-  pub each : (k : ℕ) (d : Kept B) (e : Vec ℕ) → k < length snaps → HasRoomFor c (slice_index_or snaps k d) (slice_index_or rooms k e)
-
--- What a write of chunk c does to a snapshot s that it waits for, and to the requests in flight. n and m: how many numbers
--- of copies were given.
-abbrev pub IsSavedIn : {B : Type 0} → (B → List ℕ) → (B → List Layer) → ℕ → Kept B → Kept B → ℕ → ℕ → List Flight → List Flight → Type 0
-IsSavedIn contents layers c s t n m fs gs =
-    MatchBool (starts c s) ((buffer : Vec ℕ) × StartsAt contents layers (started (n + 1) c s.next buffer) s t × (m ≡ n + 1) × (gs ≡ fs))
-    (MatchBool (overflows c s) ((t ≡ spoilt_of s) × (m ≡ n) × (gs ≡ map (refused_of (s.number ∷ [])) fs)) ((t ≡ s) × (m ≡ n) × (gs ≡ fs)))
-
--- and to all snapshots, in their order
-abbrev pub AreSavedIn : {B : Type 0} → (B → List ℕ) → (B → List Layer) → ℕ → List (Kept B) → List (Kept B) → ℕ → ℕ → List Flight → List Flight → Type 0
-AreSavedIn contents layers c [] [] n m fs gs = (m ≡ n) × (gs ≡ fs)
-AreSavedIn contents layers c [] (t ∷ ts) n m fs gs = ⊥
-AreSavedIn contents layers c (s ∷ ss) [] n m fs gs = ⊥
-AreSavedIn contents layers c (s ∷ ss) (t ∷ ts) n m fs gs = (k : ℕ) × (hs : List Flight) × IsSavedIn contents layers c s t n k fs hs × AreSavedIn contents layers c ss ts k m hs gs
-
--- the numbers of the snapshots that are found full
-abbrev pub overflowing : {B : Type 0} → ℕ → List (Kept B) → List ℕ
-overflowing c snaps = map number_of_snap (filter (overflows c) snaps)
 
 -- a refusal, or else the next
 abbrev pub first_of_two : Option Refusal → Option Refusal → Option Refusal
@@ -147,14 +92,33 @@ pub record IsAsked (sectors chunk : ℕ) (request : Request) : Type 0 where
   pub piece : IsPiece chunk request.range
   pub bytes : (bytes : List ℕ) → request.op ≡ Write bytes → length bytes ≡ 512 * request.range.count
 
--- a request was accepted, under the next number; snapshots whose stores were found full were spoiled
+-- The numbers of the snapshots that an accepted request of chunk c spoils: a write of the origin spoils those live ones that
+-- lack the chunk and whose stores have no place for its copy, and no other request spoils any. (A write of a snapshot whose
+-- own store is found full is refused, and spoils that one: IsFoundFull.)
+abbrev pub spoiled_by : {B : Type 0} → Kind → ℕ → List (Kept B) → List ℕ
+spoiled_by OriginRead c snaps = []
+spoiled_by OriginWrite c snaps = overflowing c snaps
+spoiled_by (SnapRead number) c snaps = []
+spoiled_by (SnapWrite number) c snaps = []
+
+-- which snapshots are live afterwards, in their order: those that were, but for the spoiled ones
+abbrev pub lives_after : {B : Type 0} → Kind → ℕ → List (Kept B) → List Bool
+lives_after OriginRead c snaps = map (λ s. s.live) snaps
+lives_after OriginWrite c snaps = map (λ s. if overflows c s then false else s.live) snaps
+lives_after (SnapRead number) c snaps = map (λ s. s.live) snaps
+lives_after (SnapWrite number) c snaps = map (λ s. s.live) snaps
+
+-- a request was accepted, under the next number; just the snapshots that it finds full were spoiled
 pub record IsAcceptedAs {B : Type 0} (contents : B → List ℕ) (layers : B → List Layer) (request : Request) (number : ℕ) (old new : Volumed B) : Type 0 where
   pub next : number ≡ old.requests + 1
   pub origin : new.origin ≡ old.origin
   pub given : new.requests ≡ number
   pub fresh : All (λ r. r.number ≢ number) (plain_of contents layers old).requests
   pub loud : is_loud_in_all layers new ≡ is_loud_in_all layers old
-  pub legal : is_loud_in_all layers old ≡ true → (which : List ℕ) × IsSubmitted which (plain_of contents layers old) number request (plain_of contents layers new)
+  pub legal : is_loud_in_all layers old ≡ true
+      → IsSubmitted (spoiled_by (kind_of request) (request.range.first / piece_of old.snaps) old.snaps) (plain_of contents layers old) number request (plain_of contents layers new)
+  pub lives : lives_of new ≡ lives_after (kind_of request) (request.range.first / piece_of old.snaps) old.snaps
+  pub flown : map in_flight new.flights ≡ map in_flight old.flights ++ record { number = number; request = request } ∷ []
   pub exact : IsSubmittedAs contents layers request number old new
   pub kept : KeepsDevices old new
 

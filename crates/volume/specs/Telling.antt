@@ -9,14 +9,14 @@ use Rattle.layers.specs.declared.message.Message.{Message}
 use Rattle.layers.specs.Messages.{Told, Answered, Refused, NeedsRoom, answer_of, told}
 use Rattle.plain.specs.declared.request.Dev.{Dev}
 use Rattle.plain.specs.declared.request.Dev.TheVariants.{Origin, Snap}
-use Rattle.settling.specs.Held.{Held, Moving}
-use Rattle.settling.specs.Moments.{relayered, origin_relayered, snap_relayered}
-use Rattle.settling.specs.Snaps.{Snap as SettledSnap, Volume}
+use Rattle.event_machine.specs.Held.{Held, Moving}
+use Rattle.settled.specs.Moments.{relayered, origin_relayered, snap_relayered}
+use Rattle.settled.specs.Snaps.{Snap as SettledSnap, Volume}
 use Rattle.store.specs.Layering.{IsRelayered}
 use Rattle.snapshot.specs.Kept.{Kept}
 use Rattle.volume.specs.Volumed.{Volumed}
 use Rattle.volume.specs.Attached.{volume_in}
-use Rattle.volume.specs.Leaving.{place_of_snap}
+use Rattle.snapshots.specs.Finding.{place_of_snap}
 use Rattle.volume.specs.Layering.{Measures, held_relayered}
 
 -- the layers that a message leaves: where it is refused, those that there were

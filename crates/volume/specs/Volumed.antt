@@ -1,3 +1,4 @@
+-- To be believed: `run`'s output, a volume's steps or its attach are said in these words.
 -- What callers see of a volume, what that is as plain records, and what is due of it. This project's own.
 use Rattle.std.specs.Prelude.{◌&&◌, ℕ, Bool, List, [], ◌∷◌, Option, None, map}
 use Rattle.std.specs.List.{list_all}

@@ -1,27 +1,18 @@
 -- What a volume keeps true.
-use Rattle.std.specs.Prelude.{◌≡◌, ◌≢◌, ℕ, ◌+◌, ◌*◌, ◌<◌, ◌≤◌, true, false, List, [], ◌++◌, length, map, AllPairs, sum_by}
+use Rattle.std.specs.Prelude.{◌≡◌, ◌≢◌, ℕ, ◌+◌, ◌*◌, ◌<◌, ◌≤◌, true, false, List, [], length, map, AllPairs, sum_by}
 use Rattle.std.specs.List.{All}
 use Rattle.device.specs.Layers.{Layer}
-use Rattle.pending.specs.Due.{number_of_copy, number_of_mark, number_of_flight}
+use Rattle.pending.specs.Due.{number_of_flight}
 use Rattle.volume_laws.specs.Whole.{Holds}
 use Rattle.volume_laws.specs.Waits.{Waits}
 use Rattle.snapshot.specs.Kept.{Kept}
+use Rattle.snapshots.specs.Numbers.{number_of_snap, numbers_in, count_in}
 use Rattle.volume.specs.Volumed.{Volumed, books_of, piece_of}
 
 -- numbers that were given one after another, the last of them `most`
 pub record AreNumbers (most : ℕ) (numbers : List ℕ) : Type 0 where
   pub given : All (λ n. n ≤ most) numbers
   pub ascending : AllPairs (λ m n. m < n) numbers
-
-abbrev pub number_of_snap : {B : Type 0} → Kept B → ℕ
-number_of_snap s = s.number
-
--- the numbers of a snapshot's copies, those that are committed first
-abbrev pub numbers_in : {B : Type 0} → Kept B → List ℕ
-numbers_in s = map number_of_mark s.marks ++ map number_of_copy s.copies
-
-abbrev pub count_in : {B : Type 0} → Kept B → ℕ
-count_in s = length (numbers_in s)
 
 -- no copy of one snapshot has the number of a copy of the other
 abbrev pub SharesNone : {B : Type 0} → Kept B → Kept B → Type 0

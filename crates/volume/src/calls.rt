@@ -1,7 +1,16 @@
-// Calls of a volume as values, and what comes of them.
-use layers::{Answer, Message};
+// Calls of a volume as values, what comes of them, and lists of calls that are done one after another.
+ghost use Rattle.std.specs.Prelude.{◌≡◌, IfErr, IfOk, OnOk, true};
+ghost use Rattle.std.specs.List.{All};
+ghost use Rattle.sector.specs.declared.refusal.Refusal.TheVariants.{NoMemory};
+ghost use Rattle.plain.specs.Runs.{IsRun};
+ghost use Rattle.volume.specs.Volumed.{is_loud_in_all, plain_of};
+ghost use Rattle.volume.specs.Running.{AreReturned, IsFitCall, IsReturned, KeepsUnwritten, MayCall};
+
+use crate::Volume;
+use layers::{Answer, Layered, Message};
 use plain::{Dev, Event, NotDue, Outcome, ReqId, Request};
 use sector::Refusal;
+use std::alloc::Global;
 
 /// One call of a volume.
 #[derive(Debug, Drop)]
@@ -27,4 +36,46 @@ pub enum Returned {
     Ticked,
     /// The answer of a layer, or why the message is refused.
     Told(Result<Answer, Refusal>),
+}
+
+impl<B: Layered> Volume<B> {
+    /// Does one call.
+    fn call(&mut self, alloc: Global, call: Call) -> Returned
+        requires fits { IsFitCall call }
+        ensures { IsReturned (record { contents = B.contents; durable = B.durable; size = B.size; faults = B.fault_count; done = B.done_count }) B.layers call result self.old self.new }
+    {
+        match call {
+            Call::Submit(request) => Returned::Submitted(self.submit(alloc, request)),
+            Call::Step(event) => Returned::Stepped(self.step(event)),
+            Call::Tick(seconds) => {
+                self.tick(seconds);
+                Returned::Ticked
+            }
+            Call::Message(dev, depth, message) => {
+                Returned::Told(self.message(dev, depth, &message))
+            }
+        }
+    }
+
+    /// Does calls one after another, and tells what each answered. Where no device drops writes, callers see a run of the
+    /// plain machine: each call is a step of it, or changes nothing; and a live snapshot that nobody writes shows the
+    /// array that it showed, or is lost. The room for the answers is taken first: where it is refused (`NoMemory`), no call
+    /// is done.
+    pub fn run(&mut self, alloc: Global, calls: Vec<Call>) -> Result<Vec<Returned>, Refusal>
+        requires fits { All IsFitCall calls.items }
+        ensures ok { IfOk result (λ returned. AreReturned (record { contents = B.contents; durable = B.durable; size = B.size; faults = B.fault_count; done = B.done_count }) B.layers calls.items returned.items self.old self.new) }
+        ensures legal { OnOk result (is_loud_in_all B.layers self.old ≡ true → IsRun MayCall calls.items (plain_of B.contents B.layers self.old) (plain_of B.contents B.layers self.new)) }
+        ensures keeps { OnOk result (is_loud_in_all B.layers self.old ≡ true → KeepsUnwritten calls.items (plain_of B.contents B.layers self.old) (plain_of B.contents B.layers self.new)) }
+        ensures loud { is_loud_in_all B.layers self.new ≡ is_loud_in_all B.layers self.old }
+        ensures err { IfErr result (λ refusal. (refusal ≡ NoMemory) × (self.new ≡ self.old)) }
+    {
+        let Ok(mut returned) = Vec::with_capacity(alloc, calls.len()) else {
+            return Err(Refusal::NoMemory);
+        };
+        for call in calls {
+            let answer = self.call(alloc, call);
+            returned.push_reserved(answer);
+        }
+        Ok(returned)
+    }
 }

@@ -2,36 +2,35 @@
 //! one operation of one device, and which either changes nothing that is seen, or spoils the one snapshot whose device
 //! failed, or answers the one request that it names.
 //!
-//! It stands on `snapshot` (the snapshots, each with its store), on `pending` (copies, marks and requests in flight), on
-//! `volume_laws` and `submit_laws` (the laws of every event and of every request), and on `settling` (the event machine).
-//! Words of its contracts are those of `plain` (the machine that all layers above see), `sector`, `device`, `chunk`, `model`,
-//! `cow_header`, `store`, `chunk_alloc` and `settled`.
+//! It stands on `snapshots` (the list of its snapshots: what is due of them, and which copies a write needs), on `snapshot`
+//! (each of them, with its store), on `pending` (copies, marks and requests in flight), on `volume_laws`
+//! (the laws of every event and of every request), and on `event_machine`. Words of its contracts are those
+//! of `plain` (the machine that all layers above see), `sector`, `device`, `chunk`, `model`, `cow_header`, `store`,
+//! `chunk_alloc` and `settled`.
 //!
 //! It promises that its devices' own bytes stand for one plain machine, of which every call is a step, and of each event
-//! when it is due, that a whole number falls with it, and what made it fail. Where no device drops writes, each event is
+//! when it is due, that a whole number falls with it, and what made it fail; whatever the devices do, that a request leaves
+//! only where it is answered; and of each request which snapshots it spoils. Where no device drops writes, each event is
 //! exactly the event machine's, and so is each request that is accepted or found invalid, whatever is in flight. The time and
 //! messages change layers, and nothing that callers see. A list of calls does what its calls do one after another, each with
 //! its answer, and `peek` copies what the origin or a snapshot shows.
 #![tactic(auto)]
 
-mod attaching;
+mod attach;
 mod calls;
-mod closing;
-mod due;
-mod finding;
-mod issuing;
-mod layering;
-mod lending;
-mod machine;
+mod close;
+mod copies;
+mod detach;
+mod events;
+mod issue;
+mod messages;
 mod peeking;
-mod routing;
-mod running;
-mod step;
-mod stepping;
-mod submit;
-mod submitting;
-mod submitting_snaps;
-mod telling;
+mod refusing;
+mod requests;
+mod snap_requests;
+mod status;
+mod stores;
+mod time;
 mod volume;
 
 pub use calls::{Call, Returned};

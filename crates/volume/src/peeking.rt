@@ -4,16 +4,17 @@ ghost use Rattle.sector.specs.Bytes.{sectors_at};
 ghost use Rattle.model.specs.Pairs.{pairs_of};
 ghost use Rattle.model.specs.Picture.{picture, place_of as place_in};
 ghost use Rattle.plain.specs.Serves.{Shows};
-ghost use Rattle.volume.specs.Volumed.{is_loud_in_all, plain_of};
+ghost use Rattle.volume.specs.Peeking.{is_loud_under};
+ghost use Rattle.volume.specs.Volumed.{plain_of};
 ghost use Rattle.volume.specs.Submitting.{dev_refusal};
 
 use crate::Volume;
-use crate::finding::snap_at;
 use chunk::Geometry;
 use layers::Layered;
 use plain::Dev;
 use sector::{Range, Refusal, SECTOR_BYTES};
 use snapshot::Snapshot;
+use snapshots::snap_at;
 
 /// Copies a piece of what a snapshot shows: from its store where the piece's chunk has a copy, else from the origin disk.
 fn peek_piece<B: Layered>(
@@ -69,14 +70,15 @@ fn peek_pieces<B: Layered>(
 
 impl<B: Layered> Volume<B> {
     /// Copies sectors of what the origin or a live snapshot shows into a buffer that is as long: the bytes on the devices,
-    /// whatever their layers would answer now. No device fails at it, and no operation is counted. `NoSuchDevice` where
-    /// there is no such snapshot, `Invalid` where it is spoiled.
+    /// whatever their layers would answer now; of the origin always, of a snapshot where no layer drops writes of its own
+    /// store. No device fails at it, and no operation is counted. `NoSuchDevice` where there is no such snapshot, `Invalid`
+    /// where it is spoiled.
     pub fn peek(&self, dev: Dev, range: Range, out: &mut [u8]) -> Result<(), Refusal>
         requires some { 0 < range.count }
         requires inside { range.first + range.count ≤ B.size self.now.origin }
         requires room { length out.old ≡ 512 * range.count }
         ensures there { OnOk result (dev_refusal dev self.now.snaps ≡ None) }
-        ensures bytes { OnOk result (is_loud_in_all B.layers self.now ≡ true → (array : List ℕ) → Shows (plain_of B.contents B.layers self.now) dev array → out.new ≡ sectors_at array range.first range.count) }
+        ensures bytes { OnOk result (is_loud_under B.layers dev self.now.snaps ≡ true → (array : List ℕ) → Shows (plain_of B.contents B.layers self.now) dev array → out.new ≡ sectors_at array range.first range.count) }
         ensures err { IfErr result (λ refusal. (dev_refusal dev self.now.snaps ≡ Some refusal) × (out.new ≡ out.old)) }
     {
         match dev {

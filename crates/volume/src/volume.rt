@@ -3,18 +3,18 @@ ghost use Rattle.std.specs.Prelude.{◌≡◌, ◌≤◌, [], IfErr, IfNone, IfO
 ghost use Rattle.chunk.specs.Sizes.{is_chunk};
 ghost use Rattle.std.specs.List.{All};
 ghost use Rattle.plain.specs.declared.request.Reply.{Reply};
-ghost use Rattle.settling.specs.Due.{due as due_in};
+ghost use Rattle.event_machine.specs.Due.{due as due_in};
 ghost use Rattle.volume.specs.Moved.{moving_of};
 ghost use Rattle.sector.specs.declared.refusal.Refusal.TheVariants.{NoMemory};
 ghost use Rattle.volume_laws.specs.Waits.{IsQuiet};
 ghost use Rattle.volume.specs.Volumed.{books_of, next_of, piece_of};
 
-use crate::due::first_due;
 use device::Block;
 use pending::{Flight, MAX_REQUESTS};
 use plain::Event;
 use sector::Refusal;
 use snapshot::Snapshot;
+use snapshots::first_due;
 use std::alloc::Global;
 use std::marker::Model;
 

@@ -42,3 +42,5 @@ pub mod MergeWaiting
 pub mod MergeSaved
 pub mod MergeTests
 pub mod MergeSteps
+pub mod Preparing
+pub mod Accepted

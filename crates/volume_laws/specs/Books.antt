@@ -1,3 +1,4 @@
+-- To be believed: `run`'s output, a volume's steps or its attach are said in these words.
 -- What a volume keeps, as plain records: the bytes of its devices, and what it has in memory. This project's own.
 use Rattle.std.specs.Prelude.{ℕ, Bool, List, [], ◌++◌, Option, Some, None}
 use Rattle.sector.specs.declared.pair.Pair.{Pair}

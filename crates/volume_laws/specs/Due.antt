@@ -1,3 +1,4 @@
+-- To be believed: `run`'s output, a volume's steps or its attach are said in these words.
 -- Which event is due first, and a whole number that every event lowers. The order is this project's own: spoiled
 -- snapshots' marks first, then what frees held writes, then the copies' own steps, and requests last; in each kind the
 -- least number.

@@ -12,3 +12,4 @@ pub mod Waits
 pub mod MergeWaits
 pub mod MergeSteps
 pub mod Shape
+pub mod Accepting

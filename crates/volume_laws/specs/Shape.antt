@@ -1,3 +1,4 @@
+-- To be believed: `run`'s output, a volume's steps or its attach are said in these words.
 -- What callers see of a volume: its devices, each snapshot's state, the requests in flight, and what is left to do.
 use Rattle.std.specs.Prelude.{ℕ, Bool, List, Option, Some, None, map, if◌then◌else◌}
 use Rattle.model.specs.Picture.{picture}

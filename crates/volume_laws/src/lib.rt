@@ -1,4 +1,5 @@
 //! What a volume keeps true of its devices, its copies and its requests, stated over plain records, and the laws that
 //! carry it over each event: every event leaves the plain machine as it is, spoils the snapshots that it names, or is the
-//! one plain step that its reply tells. It stands on `sector`, `model`, `plain` and `pending`, and has no code that runs.
+//! one plain step that its reply tells. So does accepting a request, whose copies are started first (`specs/Accepting`,
+//! `proofs/Accepted`). It stands on `sector`, `model`, `plain` and `pending`, and has no code that runs.
 #![tactic(auto)]

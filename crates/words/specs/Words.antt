@@ -1,3 +1,4 @@
+-- To be believed: `run`'s output, a volume's steps or its attach are said in these words.
 -- The words of a line. This form is the project's own.
 use Rattle.std.specs.Prelude.{ℕ, Bool, ◌&&◌, not, List, ◌∷◌, filter, length, nat_lt, ◌==◌}
 use Rattle.std.specs.List.{slice_split, list_all, flat_map}

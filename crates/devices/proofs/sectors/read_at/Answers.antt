@@ -1,10 +1,14 @@
-use Rattle.std.proofs.Common.{◌∙◌}
+use Rattle.std.proofs.Common.{◌≡◌, ◌∙◌}
+use Rattle.std.specs.Prelude.{Err, false}
 use Rattle.devices.specs.Devices.{table_of}
-use Rattle.named.specs.Sectors.{IsReadAsked, read_in}
+use Rattle.named.specs.Sectors.{asked_of, IsReadAsked, read_in}
 use Rattle.named.proofs.NamedFrames.{put_volume_named}
 use Rattle.named.proofs.SoundFrames.{of_both, put_volume_sound, volume_quiet, volume_sound}
 use Rattle.named_volume.specs.Names.{KeepsNames}
-use Rattle.devices.proofs.InVolume.{changed_in, does_in}
+use Rattle.named_volume.specs.Flights.{IsReadServed}
+use Rattle.devices.specs.Flights.{IsReadAmong}
+use Rattle.devices.proofs.InVolume.{later_asked, asked_did, asked_in, changed_in, does_in, stays_in}
+use Rattle.devices.proofs.Ruled.{quiet_here, sound_here}
 use Rattle.devices.proofs.sectors.read_at.Goals as goal
 
 pub returns : goal.returns
@@ -16,8 +20,11 @@ returns c =
     record {
       done = λ sound.
           does_in c.read.result (IsReadAsked c.args.count) (read_in c.args.role c.args.first c.args.count) c.args.v table old c.read.new.self
-          lt at (c.read.ensures.done (volume_sound table c.args.v old sound lt at) (volume_quiet table c.args.v old sound lt at));
-      told = λ sound. c.read.ensures.told (volume_quiet table c.args.v old sound lt at);
+          lt at (c.read.ensures.done (sound_here table c.args.v old sound lt at).0 (sound_here table c.args.v old sound lt at).1);
+      told = λ quiet. c.read.ensures.told (quiet_here table c.args.v old quiet lt at);
+      asks = asked_in (λ e. c.read.result ≡ Err e) c.args.v c.args.role c.args.first c.args.count table old lt at c.read.ensures.asks;
+      stays = stays_in (c.read.new.ended.items ≡ c.args.ended.now.items) c.args.v c.args.role c.args.first c.args.count table old c.read.new.self lt at c.read.ensures.stays;
+      among = asked_did (IsReadAmong c.read.result c.args.ended.now.items c.read.new.ended.items) c.args.v c.args.role c.args.first c.args.count table old c.read.new.self lt at (later_asked (IsReadServed c.read.result c.args.ended.now.items c.read.new.ended.items old c.read.new.self) (old.quiet ≡ false) (asked_of c.args.role c.args.first c.args.count old) c.read.ensures.among);
       one = changed_in KeepsNames c.args.v table old c.read.new.self lt at c.read.ensures.kept;
       sound = λ sound.
           put_volume_sound table c.args.v c.read.new.self

@@ -1,10 +1,14 @@
-use Rattle.std.proofs.Common.{◌∙◌}
+use Rattle.std.proofs.Common.{◌≡◌, ◌∙◌}
+use Rattle.std.specs.Prelude.{Err, false}
 use Rattle.devices.specs.Devices.{table_of}
-use Rattle.named.specs.Sectors.{IsPartWritten, written_in}
+use Rattle.named.specs.Sectors.{asked_of, IsPartWritten, written_in}
 use Rattle.named.proofs.NamedFrames.{put_volume_named}
 use Rattle.named.proofs.SoundFrames.{of_both, put_volume_sound, volume_quiet, volume_sound}
 use Rattle.named_volume.specs.Names.{KeepsNames}
-use Rattle.devices.proofs.InVolume.{changed_in, does_in}
+use Rattle.named_volume.specs.Flights.{IsWriteServed}
+use Rattle.devices.specs.Flights.{IsWrittenAmong}
+use Rattle.devices.proofs.InVolume.{later_asked, asked_did, asked_in, changed_in, does_in, stays_in}
+use Rattle.devices.proofs.Ruled.{quiet_here, sound_here}
 use Rattle.devices.proofs.sectors.write_at.Goals as goal
 
 pub returns : goal.returns
@@ -16,8 +20,11 @@ returns c =
     record {
       done = λ sound.
           does_in c.write.result (IsPartWritten c.args.role c.args.first c.args.count c.args.bytes.now) (written_in c.args.role c.args.first c.args.count c.args.bytes.now) c.args.v table old c.write.new.self
-          lt at (c.write.ensures.done (volume_sound table c.args.v old sound lt at) (volume_quiet table c.args.v old sound lt at));
-      told = λ sound. c.write.ensures.told (volume_quiet table c.args.v old sound lt at);
+          lt at (c.write.ensures.done (sound_here table c.args.v old sound lt at).0 (sound_here table c.args.v old sound lt at).1);
+      told = λ quiet. c.write.ensures.told (quiet_here table c.args.v old quiet lt at);
+      asks = asked_in (λ e. c.write.result ≡ Err e) c.args.v c.args.role c.args.first c.args.count table old lt at c.write.ensures.asks;
+      stays = stays_in (c.write.new.ended.items ≡ c.args.ended.now.items) c.args.v c.args.role c.args.first c.args.count table old c.write.new.self lt at c.write.ensures.stays;
+      among = asked_did (IsWrittenAmong c.args.bytes.now c.write.result c.args.ended.now.items c.write.new.ended.items) c.args.v c.args.role c.args.first c.args.count table old c.write.new.self lt at (later_asked (IsWriteServed c.args.bytes.now c.write.result c.args.ended.now.items c.write.new.ended.items old c.write.new.self) (old.quiet ≡ false) (asked_of c.args.role c.args.first c.args.count old) c.write.ensures.among);
       one = changed_in KeepsNames c.args.v table old c.write.new.self lt at c.write.ensures.kept;
       sound = λ sound.
           put_volume_sound table c.args.v c.write.new.self

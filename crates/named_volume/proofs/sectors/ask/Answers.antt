@@ -1,7 +1,7 @@
 use Rattle.std.proofs.Common.{◌≡◌, ℕ, ap, sym, ◌∙◌, refl, subst, arith}
 use Rattle.std.specs.Prelude.{Ok, Err}
 use Rattle.layers.specs.declared.stack.Stack.{Stack}
-use Rattle.settling.specs.Devices.{sectors_of}
+use Rattle.settled.specs.Devices.{sectors_of}
 use Rattle.named.specs.Raw.{fits}
 use Rattle.named.specs.Stacks.{device_of}
 use Rattle.layers.specs.Stack.{stack_size}

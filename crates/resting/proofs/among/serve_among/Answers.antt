@@ -1,6 +1,6 @@
 -- The request was served, or refused.
 use Rattle.std.proofs.Common.{inl, inr, None, subst, List, arith}
-use Rattle.resting.specs.declared.flights.Replied.{Replied}
+use Rattle.plain.specs.declared.request.Replied.{Replied}
 use Rattle.resting.specs.Rested.{rested_of}
 use Rattle.resting.specs.Draining.{IsAnsweredAmong}
 use Rattle.resting.proofs.Seen.{devices_kept, devices_more}

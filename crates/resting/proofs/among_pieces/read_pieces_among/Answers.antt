@@ -2,7 +2,7 @@
 use Rattle.std.proofs.Common.{◌+◌, ◌*◌, ◌∙◌, ap, subst, arith}
 use Rattle.chunk.specs.Pieces.{span_of, pieces_of}
 use Rattle.chunk.proofs.Limits.{is_chunk-some, is_chunk-small}
-use Rattle.settled.proofs.Runs.{StandsAt, first_piece, stands_first, stands_next, stands_last}
+use Rattle.chunk.proofs.Runs.{StandsAt, first_piece, stands_first, stands_next, stands_last}
 use Rattle.volume.specs.Volumed.{piece_of}
 use Rattle.resting.proofs.AmongRuns.{among_start, among_next, among_within, reads_start, reads_next, reads_end, reads_stop}
 use Rattle.resting.proofs.among_pieces.read_pieces_among.Goals as goal

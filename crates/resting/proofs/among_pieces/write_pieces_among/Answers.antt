@@ -2,7 +2,7 @@
 use Rattle.std.proofs.Common.{◌+◌, ◌-◌, ◌*◌, take, drop, refl, ◌∙◌, ap, subst, arith}
 use Rattle.chunk.specs.Pieces.{span_of, pieces_of}
 use Rattle.chunk.proofs.Limits.{is_chunk-some, is_chunk-small}
-use Rattle.settled.proofs.Runs.{StandsAt, first_piece, stands_first, stands_next, stands_last}
+use Rattle.chunk.proofs.Runs.{StandsAt, first_piece, stands_first, stands_next, stands_last}
 use Rattle.volume.specs.Volumed.{piece_of}
 use Rattle.resting.proofs.Writing.{part_fits}
 use Rattle.resting.proofs.AmongRuns.{among_start, among_next, among_within, writes_start, writes_next, writes_end, writes_stop}

@@ -1,7 +1,7 @@
 -- The pieces so far were written.
 use Rattle.std.proofs.Common.{◌+◌}
 use Rattle.chunk.specs.Pieces.{span_of, pieces_of}
-use Rattle.settled.proofs.Runs.{StandsAt}
+use Rattle.chunk.proofs.Runs.{StandsAt}
 use Rattle.volume.specs.Volumed.{piece_of}
 use Rattle.resting.proofs.AmongRuns.{GoesAmong, WritesAmong}
 use Rattle.resting.proofs.among_pieces.write_pieces_among.Given as goal

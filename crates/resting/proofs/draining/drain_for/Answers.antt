@@ -2,8 +2,8 @@
 use Rattle.std.proofs.Common.{refl, List, ◌++◌, sym, ◌∙◌, ap}
 use Rattle.std.proofs.lemmas.List.{append-nil}
 use Rattle.plain.specs.declared.event.Outcome.TheVariants.{Done, Fault, Reply as Answered}
-use Rattle.resting.specs.declared.flights.Replied.{Replied}
-use Rattle.resting.specs.Draining.{reply_in}
+use Rattle.plain.specs.declared.request.Replied.{Replied}
+use Rattle.plain.specs.Replies.{reply_in}
 use Rattle.resting.proofs.Quiet.{quiet_is}
 use Rattle.resting.proofs.Seen.{devices_kept}
 use Rattle.resting.proofs.Drains.{done_first, among_more, counts_more, own_told, own_reply, other_told, other_reply}

@@ -4,6 +4,7 @@ use Rattle.std.specs.Prelude.{None}
 use Rattle.volume.specs.Layering.{Measures}
 use Rattle.volume.proofs.Relayered.{ticked_alike}
 use Rattle.resting.proofs.Alike.{quiet_alike, alike_kept, alike_settles, all_moved}
+use Rattle.resting.proofs.Flying.{moving_stays}
 use Rattle.resting.proofs.layering.pass.Goals as goal
 
 pub returns-clause-quiet : goal.returns-clause-quiet
@@ -23,3 +24,6 @@ pub returns-clause-kept : goal.returns-clause-kept
 returns-clause-kept g c =
     let m : Measures g.row.B.Denot = record { contents = g.B.Block.contents; durable = g.B.Block.durable; size = g.B.Block.size; faults = g.B.Block.fault_count; done = g.B.Block.done_count } in
     alike_kept g.B.Block.contents g.B.Block.layers g.B.Block.size c.args.volume.now c.tick.new.self (ticked_alike m g.B.Block.layers c.args.seconds c.args.volume.now c.tick.new.self c.tick.ensures.ticked)
+
+pub returns-clause-flying : goal.returns-clause-flying
+returns-clause-flying g c = moving_stays (layers_ticked c.args.seconds) _ _ (c.tick.ensures.moving None)

@@ -4,11 +4,10 @@ use Rattle.chunk.specs.Pieces.{span_of, pieces_of}
 use Rattle.chunk.proofs.Limits.{is_chunk-some, is_chunk-small}
 use Rattle.plain.specs.declared.request.Op.TheVariants.{Read}
 use Rattle.plain.specs.declared.request.Reply.TheVariants.{Data}
-use Rattle.settled.proofs.Runs.{StandsAt, first_piece, stands_first, stands_next, stands_last}
+use Rattle.chunk.proofs.Runs.{StandsAt, first_piece, stands_first, stands_next, stands_last}
 use Rattle.volume.specs.Volumed.{piece_of}
 use Rattle.resting.specs.Rested.{rested_of, settled_of, IsSettled}
-use Rattle.resting.proofs.Going.{chunks_by}
-use Rattle.resting.proofs.Going.{goes_none, goes_can, goes_more, goes_within, piece_least}
+use Rattle.resting.proofs.Going.{chunks_by, goes_none, goes_can, goes_more, goes_within, piece_least}
 use Rattle.resting.proofs.WriteRuns.{answer}
 use Rattle.resting.proofs.ReadRuns.{ReadsTo, reads_none}
 use Rattle.resting.proofs.Reading.{got_more, got_refused, got_all, refused_first}

@@ -3,11 +3,10 @@ use Rattle.std.proofs.Common.{◌+◌, ◌-◌, ◌*◌, take, drop, ◌∙◌, 
 use Rattle.chunk.specs.Pieces.{span_of, pieces_of}
 use Rattle.chunk.proofs.Limits.{is_chunk-some, is_chunk-small}
 use Rattle.plain.specs.declared.request.Op.TheVariants.{Write}
-use Rattle.settled.proofs.Runs.{StandsAt, first_piece, stands_first, stands_next, stands_last}
+use Rattle.chunk.proofs.Runs.{StandsAt, first_piece, stands_first, stands_next, stands_last}
 use Rattle.volume.specs.Volumed.{piece_of}
 use Rattle.resting.specs.Rested.{rested_of, settled_of}
-use Rattle.resting.proofs.Going.{chunks_by}
-use Rattle.resting.proofs.Going.{goes_none, goes_can, goes_more, goes_within, piece_least}
+use Rattle.resting.proofs.Going.{chunks_by, goes_none, goes_can, goes_more, goes_within, piece_least}
 use Rattle.resting.proofs.WriteRuns.{writes_none}
 use Rattle.resting.proofs.Writing.{part_is, part_fits, wrote_more, wrote_refused, wrote_all}
 use Rattle.resting.proofs.PlainWrites.{plain_write, plain_write_lost}

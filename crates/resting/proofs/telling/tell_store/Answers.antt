@@ -4,6 +4,12 @@ use Rattle.volume.specs.Layering.{Measures}
 use Rattle.volume.proofs.Told.{told_alike, untold_alike}
 use Rattle.resting.proofs.Alike.{quiet_alike, alike_kept, alike_settles, alike_requests, alike_copies}
 use Rattle.resting.proofs.Tells.{store_told, store_untold}
+use Rattle.std.proofs.Common.{ap}
+use Rattle.std.specs.Prelude.{None}
+use Rattle.volume.specs.Moved.{moving_of}
+use Rattle.volume.specs.Telling.{layers_told}
+use Rattle.resting.specs.Flying.{without_devices}
+use Rattle.resting.proofs.Flying.{dev_stays}
 use Rattle.resting.proofs.telling.tell_store.Goals as goal
 
 pub returns-in-Ok-clause-ok : goal.returns-in-Ok-clause-ok
@@ -65,3 +71,9 @@ pub returns-in-Err-clause-copies : goal.returns-in-Err-clause-copies
 returns-in-Err-clause-copies g c =
     let m : Measures g.row.B.Denot = record { contents = g.B.Block.contents; durable = g.B.Block.durable; size = g.B.Block.size; faults = g.B.Block.fault_count; done = g.B.Block.done_count } in
     alike_copies g.B.Block.contents g.B.Block.layers g.B.Block.size c.args.volume.now c.message.new.self (untold_alike m g.B.Block.layers (Snap c.number-number.result) c.args.depth c.args.message.now c.args.volume.now c.message.new.self c.in-Err.refusal c.in-Err.ensures.err)
+
+pub returns-in-Ok-clause-flying : goal.returns-in-Ok-clause-flying
+returns-in-Ok-clause-flying g c = dev_stays (Snap c.number-number.result) (layers_told c.args.depth c.args.message.now) (moving_of g.B.Block.contents g.B.Block.layers None c.args.volume.now) (moving_of g.B.Block.contents g.B.Block.layers None c.message.new.self) (c.in-Ok.ensures.moving None)
+
+pub returns-in-Err-clause-flying : goal.returns-in-Err-clause-flying
+returns-in-Err-clause-flying g c = ap without_devices (c.in-Err.ensures.still None)

@@ -4,10 +4,12 @@ use Rattle.sector.specs.declared.refusal.Refusal.{Refusal}
 use Rattle.command.specs.declared.grammar.Command.{Command}
 use Rattle.devices.specs.Devices.{table_of}
 use Rattle.runner.proofs.Lawful.{command_said}
-use Rattle.runner.proofs.StepLemmas.{silent_does, refused_does, obeyed_does, sound_said, starts_as, starts_too, silent_starts}
+use Rattle.runner.proofs.StepLemmas.{silent_does, refused_does, obeyed_does, sound_said, starts_too, silent_starts}
 use Rattle.runner.specs.Asking.{IsFirst, line_first}
 use Rattle.runner.specs.Output.{told}
 use Rattle.runner.proofs.AskingLemmas.{silent_first, worded_first, command_first, same_still}
+use Rattle.runner.proofs.LeftLemmas.{silent_left, worded_left, command_left}
+use Rattle.runner.proofs.RuledLemmas.{ruled_as}
 use Rattle.runner.specs.Starts.{AreStartReplies}
 use Rattle.runner.proofs.step.answer.Goals as goal
 
@@ -18,30 +20,30 @@ pub obey-requires : goal.obey-requires
 obey-requires c = command_said 65536 c.args.line.now c.in-Ok-Some.command (said c.in-Ok-Some.ensures c.in-Ok-Some.field-0-is)
 
 pub returns-in-Ok-None-clause-done : goal.returns-in-Ok-None-clause-done
-returns-in-Ok-None-clause-done c = λ sound other. silent_does c.args.line.now (table_of c.args.held.now) (said c.in-Ok-None.ensures c.in-Ok-None.field-0-is)
+returns-in-Ok-None-clause-done c = λ ruled. silent_does c.args.line.now (table_of c.args.held.now) (said c.in-Ok-None.ensures c.in-Ok-None.field-0-is)
 
 pub returns-in-Ok-clause-done : goal.returns-in-Ok-clause-done
-returns-in-Ok-clause-done c = λ sound other.
-    obeyed_does c.args.line.now c.in-Ok-Some.command (table_of c.args.held.now) (table_of c.obey.new.held) (Ok c.in-Ok.reply) (said c.in-Ok-Some.ensures c.in-Ok-Some.field-0-is) (c.in-Ok.ensures.done sound (starts_as c.args.line.now c.in-Ok-Some.command (said c.in-Ok-Some.ensures c.in-Ok-Some.field-0-is) other))
+returns-in-Ok-clause-done c = λ ruled.
+    obeyed_does c.args.line.now c.in-Ok-Some.command (table_of c.args.held.now) (table_of c.obey.new.held) (Ok c.in-Ok.reply) (said c.in-Ok-Some.ensures c.in-Ok-Some.field-0-is) (c.in-Ok.ensures.done (ruled_as c.args.line.now c.in-Ok-Some.command (table_of c.args.held.now) (said c.in-Ok-Some.ensures c.in-Ok-Some.field-0-is) ruled))
 
 pub returns-in-Ok-clause-sound : goal.returns-in-Ok-clause-sound
 returns-in-Ok-clause-sound c = λ sound makes. c.in-Ok.ensures.sound sound (sound_said c.args.line.now c.in-Ok-Some.command (said c.in-Ok-Some.ensures c.in-Ok-Some.field-0-is) makes)
 
 pub returns-in-Err-obey-clause-done : goal.returns-in-Err-obey-clause-done
-returns-in-Err-obey-clause-done c = λ sound other.
-    obeyed_does c.args.line.now c.in-Ok-Some.command (table_of c.args.held.now) (table_of c.obey.new.held) (Err c.in-Err-obey.refusal) (said c.in-Ok-Some.ensures c.in-Ok-Some.field-0-is) (c.in-Err-obey.ensures.done sound (starts_as c.args.line.now c.in-Ok-Some.command (said c.in-Ok-Some.ensures c.in-Ok-Some.field-0-is) other))
+returns-in-Err-obey-clause-done c = λ ruled.
+    obeyed_does c.args.line.now c.in-Ok-Some.command (table_of c.args.held.now) (table_of c.obey.new.held) (Err c.in-Err-obey.refusal) (said c.in-Ok-Some.ensures c.in-Ok-Some.field-0-is) (c.in-Err-obey.ensures.done (ruled_as c.args.line.now c.in-Ok-Some.command (table_of c.args.held.now) (said c.in-Ok-Some.ensures c.in-Ok-Some.field-0-is) ruled))
 
 pub returns-in-Err-obey-clause-sound : goal.returns-in-Err-obey-clause-sound
 returns-in-Err-obey-clause-sound c = λ sound makes. c.in-Err-obey.ensures.sound sound (sound_said c.args.line.now c.in-Ok-Some.command (said c.in-Ok-Some.ensures c.in-Ok-Some.field-0-is) makes)
 
 pub returns-in-Err-clause-done : goal.returns-in-Err-clause-done
-returns-in-Err-clause-done c = λ sound other. refused_does c.args.line.now (table_of c.args.held.now) c.in-Err.refusal c.in-Err.ensures
+returns-in-Err-clause-done c = λ ruled. refused_does c.args.line.now (table_of c.args.held.now) c.in-Err.refusal c.in-Err.ensures
 
 pub returns-in-Ok-None-clause-asks : goal.returns-in-Ok-None-clause-asks
 returns-in-Ok-None-clause-asks c = silent_first c.args.line.now (table_of c.args.held.now) [] (said c.in-Ok-None.ensures c.in-Ok-None.field-0-is)
 
 pub returns-in-Ok-None-clause-still : goal.returns-in-Ok-None-clause-still
-returns-in-Ok-None-clause-still c = same_still (line_first c.args.line.now (table_of c.args.held.now)) refl
+returns-in-Ok-None-clause-still c = same_still (line_first c.args.line.now (table_of c.args.held.now)) (refl, refl)
 
 pub returns-in-Ok-clause-asks : goal.returns-in-Ok-clause-asks
 returns-in-Ok-clause-asks c =
@@ -50,7 +52,7 @@ returns-in-Ok-clause-asks c =
 
 pub returns-in-Ok-clause-still : goal.returns-in-Ok-clause-still
 returns-in-Ok-clause-still c =
-    let P : Option Refusal → Type 0 = λ first. IfSome first (λ _. c.obey.new.ended.items ≡ c.args.ended.now.items) in
+    let P : Option Refusal → Type 0 = λ first. IfSome first (λ _. (table_of c.obey.new.held ≡ table_of c.args.held.now) × (c.obey.new.ended.items ≡ c.args.ended.now.items)) in
     subst P (command_first c.args.line.now c.in-Ok-Some.command (table_of c.args.held.now) (said c.in-Ok-Some.ensures c.in-Ok-Some.field-0-is)) c.in-Ok.ensures.still
 
 pub returns-in-Err-obey-clause-asks : goal.returns-in-Err-obey-clause-asks
@@ -60,14 +62,14 @@ returns-in-Err-obey-clause-asks c =
 
 pub returns-in-Err-obey-clause-still : goal.returns-in-Err-obey-clause-still
 returns-in-Err-obey-clause-still c =
-    let P : Option Refusal → Type 0 = λ first. IfSome first (λ _. c.obey.new.ended.items ≡ c.args.ended.now.items) in
+    let P : Option Refusal → Type 0 = λ first. IfSome first (λ _. (table_of c.obey.new.held ≡ table_of c.args.held.now) × (c.obey.new.ended.items ≡ c.args.ended.now.items)) in
     subst P (command_first c.args.line.now c.in-Ok-Some.command (table_of c.args.held.now) (said c.in-Ok-Some.ensures c.in-Ok-Some.field-0-is)) c.in-Err-obey.ensures.still
 
 pub returns-in-Err-clause-asks : goal.returns-in-Err-clause-asks
 returns-in-Err-clause-asks c = worded_first c.args.line.now (table_of c.args.held.now) c.in-Err.refusal c.in-Err.ensures
 
 pub returns-in-Err-clause-still : goal.returns-in-Err-clause-still
-returns-in-Err-clause-still c = same_still (line_first c.args.line.now (table_of c.args.held.now)) refl
+returns-in-Err-clause-still c = same_still (line_first c.args.line.now (table_of c.args.held.now)) (refl, refl)
 
 pub returns-in-Ok-None-clause-number : goal.returns-in-Ok-None-clause-number
 returns-in-Ok-None-clause-number c = silent_starts (AreStartReplies []) c.args.line.now (said c.in-Ok-None.ensures c.in-Ok-None.field-0-is)
@@ -83,3 +85,23 @@ returns-in-Err-obey-clause-number c = λ does. c.in-Err-obey.ensures.number (sta
 
 pub returns-in-Err-obey-clause-alone : goal.returns-in-Err-obey-clause-alone
 returns-in-Err-obey-clause-alone c = λ does. c.in-Err-obey.ensures.alone (starts_too c.args.line.now c.in-Ok-Some.command (said c.in-Ok-Some.ensures c.in-Ok-Some.field-0-is) does)
+
+pub returns-in-Ok-clause-told : goal.returns-in-Ok-clause-told
+returns-in-Ok-clause-told c = λ ruled. c.in-Ok.ensures.told (ruled_as c.args.line.now c.in-Ok-Some.command (table_of c.args.held.now) (said c.in-Ok-Some.ensures c.in-Ok-Some.field-0-is) ruled)
+
+pub returns-in-Err-obey-clause-told : goal.returns-in-Err-obey-clause-told
+returns-in-Err-obey-clause-told c = λ ruled. c.in-Err-obey.ensures.told (ruled_as c.args.line.now c.in-Ok-Some.command (table_of c.args.held.now) (said c.in-Ok-Some.ensures c.in-Ok-Some.field-0-is) ruled)
+
+pub returns-in-Ok-None-clause-left : goal.returns-in-Ok-None-clause-left
+returns-in-Ok-None-clause-left c = silent_left c.args.line.now (table_of c.args.held.now) c.args.ended.now.items (said c.in-Ok-None.ensures c.in-Ok-None.field-0-is)
+
+pub returns-in-Ok-clause-left : goal.returns-in-Ok-clause-left
+returns-in-Ok-clause-left c =
+    command_left c.args.line.now c.in-Ok-Some.command (Ok c.in-Ok.reply) (table_of c.args.held.now) (table_of c.obey.new.held) c.args.ended.now.items c.obey.new.ended.items (said c.in-Ok-Some.ensures c.in-Ok-Some.field-0-is) c.in-Ok.ensures.left
+
+pub returns-in-Err-obey-clause-left : goal.returns-in-Err-obey-clause-left
+returns-in-Err-obey-clause-left c =
+    command_left c.args.line.now c.in-Ok-Some.command (Err c.in-Err-obey.refusal) (table_of c.args.held.now) (table_of c.obey.new.held) c.args.ended.now.items c.obey.new.ended.items (said c.in-Ok-Some.ensures c.in-Ok-Some.field-0-is) c.in-Err-obey.ensures.left
+
+pub returns-in-Err-clause-left : goal.returns-in-Err-clause-left
+returns-in-Err-clause-left c = worded_left c.args.line.now (table_of c.args.held.now) c.args.ended.now.items c.in-Err.refusal c.in-Err.ensures

@@ -21,7 +21,7 @@ loop-preserved g c =
     let over : ReadsLine 65536 (g.R.Read.remaining c.loop.reader) (g.R.Read.remaining c.read_line.new.reader) true c.deref.result.now = search rules in
     record {
       room = search rules;
-      follows = goes_on _ _ _ _ _ _ c.deref.result.now c.loop.desk c.line.new.self d.0 c.loop.invariant.follows over d.1 c.in_ok-line-2.ensures.sound d.4 d.5;
+      follows = goes_on _ _ _ _ _ _ c.deref.result.now c.loop.desk c.line.new.self d.0 c.loop.invariant.follows over d.1.rule c.in_ok-line-2.ensures.sound d.2 d.3;
     }
 
 pub returns-then-not-branch-clause-exact : goal.returns-then-not-branch-clause-exact

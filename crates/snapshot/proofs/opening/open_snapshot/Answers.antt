@@ -1,5 +1,5 @@
 -- What the load gives, the snapshot has.
-use Rattle.std.proofs.Common.{◌≡◌, ◌*◌, ◌++◌, ℕ, List, [], map, true, ◌∙◌, ap, sym, subst}
+use Rattle.std.proofs.Common.{◌≡◌, ◌*◌, ◌++◌, ℕ, List, map, true, ◌∙◌, ap, sym, subst}
 use Rattle.std.proofs.lemmas.List.{append-nil}
 use Rattle.sector.specs.declared.pair.Pair.{Pair}
 use Rattle.model.specs.NextPlace.{IsNextPlace}
@@ -8,7 +8,7 @@ use Rattle.device.specs.Layers.{is_loud}
 use Rattle.model.specs.Pairs.{pairs_of}
 use Rattle.model.specs.Picture.{picture}
 use Rattle.store.specs.declared.state.State.{State}
-use Rattle.store.specs.Held.{committed, pending, pairs_pending}
+use Rattle.store.specs.Held.{committed, pending}
 use Rattle.store.specs.Stored.{new_of}
 use Rattle.store.specs.Loading.{is_begun}
 use Rattle.snapshot.specs.Kept.{Kept}

@@ -6,5 +6,5 @@ abbrev pub invariant-loop-pair : goal.invariant-loop-pair
 invariant-loop-pair l = record {
   committed : committed l.exceptions ≡ take l.pair-index l.pairs;
   pending : length (pending l.exceptions) ≡ 0;
-  reserved : reserved l.exceptions + l.pair-index ≡ reserved l.fn.exceptions + length l.pairs;
+  reserved : reserved l.exceptions ≡ reserved l.fn.exceptions;
 }

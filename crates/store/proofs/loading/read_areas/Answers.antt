@@ -1,4 +1,4 @@
-use Rattle.std.proofs.Common.{inl, inr, ◌<◌, ◌≤◌, ◌+◌, ◌*◌, ◌∙◌, arith, ap, refl}
+use Rattle.std.proofs.Common.{inl, inr, ◌<◌, ◌≤◌, ◌+◌, ◌*◌, ◌∙◌, arith, ap}
 use Rattle.std.proofs.lemmas.Result.{err_from_is_err_and}
 use Rattle.model.specs.Places.{area_place, chunk_at}
 use Rattle.store.proofs.Loads.{prefix_more, pairs-loaded, prefix_lacks, area_far}

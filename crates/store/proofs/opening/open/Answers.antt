@@ -23,6 +23,7 @@ returns-in-Ok-open_written-clause-opened g c =
       part = is.part;
       tail = is.tail;
       rest = is.rest;
+      valid = is.valid;
     }
 
 pub returns-in-Err-open_written-clause-refused : goal.returns-in-Err-open_written-clause-refused

@@ -12,6 +12,7 @@ use Rattle.store.specs.Stored.{AreGiven, new_of}
 use Rattle.store.specs.declared.state.State.{State}
 use Rattle.store.specs.Loaded.{IsRead, IsCleared}
 use Rattle.store.proofs.Opened.{front_loaded, stored_loaded, formed_loaded, greatest_inside, refused_formed}
+use Rattle.store.proofs.Heads.{head_loaded}
 use Rattle.store.proofs.AreaReads.{areas_are_read}
 use Rattle.store.proofs.Given.{given_loaded}
 use Rattle.store.proofs.opening.open_written.Goals as goal
@@ -61,9 +62,9 @@ invariant_of-result-clause-front g c =
     let below : c.len.result - current * (32 * c.args.chunk) < 32 * c.args.chunk = omega arith in
     let chunk : c.read_areas.new.area.chunk ≡ c.args.chunk = c.in-Ok-read_areas.ensures.chunk ∙ c.in-Ok.ensures.chunk in
     let clear : IsCleared c.args.chunk (c.len.result - current * (32 * c.args.chunk)) area c.clear_load-left.result area' = rw chunk at c.clear_load-left.ensures.cleared in
-    let state : State = record { chunk = c.args.chunk; origin = c.args.origin; size = c.sectors-size.result; current = current; filled = c.len.result - current * (32 * c.args.chunk); zeroed = false; left = c.clear_load-left.result; copying = true } in
+    let state : State = record { chunk = c.args.chunk; origin = c.args.origin; size = c.sectors-size.result; current = current; filled = c.len.result - current * (32 * c.args.chunk); zeroed = false; left = c.clear_load-left.result; copying = true; valid = true } in
     let whole : length area' ≡ 512 * c.args.chunk = c.clear_load-left.new.area.whole ∙ ap (λ n. 512 * n) (c.clear_load-left.ensures.chunk ∙ chunk) in
-    rw held (front_loaded state bytes area area' ps c.requires.some c.requires.allowed there count below clear whole refl)
+    rw held (front_loaded state bytes area area' ps c.requires.some c.requires.allowed c.requires.size refl there count below clear whole refl)
 
 pub invariant_of-result-clause-given : goal.invariant_of-result-clause-given
 invariant_of-result-clause-given g c =
@@ -105,8 +106,8 @@ invariant_of-result-clause-stored g c = λ loud.
     let below : c.len.result - current * (32 * c.args.chunk) < 32 * c.args.chunk = omega arith in
     let chunk : c.read_areas.new.area.chunk ≡ c.args.chunk = c.in-Ok-read_areas.ensures.chunk ∙ c.in-Ok.ensures.chunk in
     let clear : IsCleared c.args.chunk (c.len.result - current * (32 * c.args.chunk)) area c.clear_load-left.result area' = rw chunk at c.clear_load-left.ensures.cleared in
-    let state : State = record { chunk = c.args.chunk; origin = c.args.origin; size = c.sectors-size.result; current = current; filled = c.len.result - current * (32 * c.args.chunk); zeroed = false; left = c.clear_load-left.result; copying = true } in
-    rw (held, c.in-Ok-read_areas.ensures.contents) (stored_loaded state bytes area area' ps c.requires.some there count below clear refl)
+    let state : State = record { chunk = c.args.chunk; origin = c.args.origin; size = c.sectors-size.result; current = current; filled = c.len.result - current * (32 * c.args.chunk); zeroed = false; left = c.clear_load-left.result; copying = true; valid = true } in
+    rw (held, c.in-Ok-read_areas.ensures.contents) (stored_loaded state bytes area area' ps c.requires.some (c.requires.found ∙ sym (head_loaded c.clear_load-left.result c.args.chunk c.clear_load-left.ensures.tail)) there count below clear refl)
 
 pub returns-clause-formed : goal.returns-clause-formed
 returns-clause-formed g c =

@@ -1,4 +1,4 @@
-use Rattle.std.proofs.Common.{◌≡◌, ℕ, arith, sym, ◌∙◌, ap, Ok, Err}
+use Rattle.std.proofs.Common.{◌≡◌, arith, sym, ◌∙◌, ap, Ok, Err}
 use Rattle.cow_header.specs.HeaderText.{found_in}
 use Rattle.store.proofs.FirstReads.{none_there, first_fails, first_says}
 use Rattle.store.proofs.opening.read_header.Goals as goal

@@ -3,7 +3,7 @@ use Rattle.std.proofs.Common.{◌≡◌, ◌+◌, ◌*◌, ◌/◌, ◌%◌, ◌
 use Rattle.sector.specs.Bytes.{sectors_at}
 use Rattle.model.specs.Pairs.{pairs_of}
 use Rattle.model.specs.Picture.{place_of}
-use Rattle.settled.proofs.Shown.{shown_plain, shown_copied, listed_place, one_of}
+use Rattle.settled.proofs.PictureSectors.{shown_plain, shown_copied, listed_place, one_of}
 use Rattle.volume.proofs.Peeked.{place_low, place_high}
 use Rattle.volume.proofs.peeking.peek_piece.Goals as goal
 

@@ -2,8 +2,8 @@
 use Rattle.std.proofs.Common.{◌≡◌, ◌*◌, length, arith}
 use Rattle.chunk.specs.Pieces.{span_of}
 use Rattle.model.proofs.Pictures.{length-picture}
-use Rattle.settled.proofs.Runs.{first_piece, stands_first, stands_next, stands_last}
-use Rattle.settled.proofs.Shown.{read_next, read_all}
+use Rattle.chunk.proofs.Runs.{first_piece, stands_first, stands_next, stands_last}
+use Rattle.settled.proofs.PictureSectors.{read_next, read_all}
 use Rattle.volume.proofs.peeking.peek_pieces.Goals as goal
 
 pub loop-piece-init : goal.loop-piece-init

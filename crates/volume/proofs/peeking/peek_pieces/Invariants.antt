@@ -2,7 +2,7 @@
 use Rattle.std.proofs.Common.{◌≡◌, ◌+◌, ◌*◌, ◌<◌, get_or, ℕ}
 use Rattle.model.specs.Pairs.{pairs_of}
 use Rattle.model.specs.Picture.{picture}
-use Rattle.settled.proofs.Runs.{StandsAt}
+use Rattle.chunk.proofs.Runs.{StandsAt}
 use Rattle.volume.proofs.peeking.peek_pieces.Given as goal
 
 abbrev pub invariant-loop-piece : goal.invariant-loop-piece

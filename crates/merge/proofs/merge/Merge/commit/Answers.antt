@@ -68,6 +68,8 @@ invariant_of-self g c =
       room = m.room ∙ ap (λ n. 512 * n) (sym chunk);
       present = λ h same. present_committed s.state t.state (committed s.exceptions) (committed t.exceptions) c.self.inside.group m.present due chunk origin size h (ap (changed committed_in) c.in-Some.is ∙ same);
       alone = λ f. (let none : Some c.in-Some.group ≡ None = sym c.in-Some.is ∙ m.alone f in absurd (cc));
+      unfinished = λ f. (let none : Some c.in-Some.group ≡ None = sym c.in-Some.is ∙ m.alone f in absurd (cc));
+      valid = ap (λ (x : State). x.valid) state ∙ m.valid;
     }
 
 pub returns-in-Ok-clause-step : goal.returns-in-Ok-clause-step

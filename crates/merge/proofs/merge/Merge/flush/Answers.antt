@@ -21,6 +21,8 @@ invariant_of-self g c =
       room = m.room;
       present = λ h same. present_flushed s.state (committed s.exceptions) c.self.inside.group m.present due h (sym c.mark_flushed.ensures ∙ same);
       alone = λ f. c.mark_flushed.ensures ∙ ap (changed flushed_in) (m.alone f);
+      unfinished = m.unfinished;
+      valid = m.valid;
     }
 
 pub returns-in-Ok-clause-step : goal.returns-in-Ok-clause-step

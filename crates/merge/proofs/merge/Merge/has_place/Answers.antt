@@ -1,6 +1,5 @@
 use Rattle.std.proofs.Common.{ap, sym, ◌∙◌}
-use Rattle.merge.specs.Lists.{has_place as has_place_in}
-use Rattle.merge.specs.Lists.{group_pairs}
+use Rattle.merge.specs.Lists.{has_place as has_place_in, group_pairs}
 use Rattle.merge.specs.Merging.{Merging}
 use Rattle.merge.proofs.Groups.{group_all}
 use Rattle.merge.proofs.merge.Merge.has_place.Goals as goal

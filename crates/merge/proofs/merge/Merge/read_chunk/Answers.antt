@@ -32,6 +32,8 @@ invariant_of-self g c =
       room = ap length (written_back c.self.inside.buffer.len c.fetch.new.buffer c.self.inside.buffer.items (c.fetch.auto.buffer ∙ c.as_mut_slice.ensures.len)) ∙ c.fetch.auto.buffer ∙ ap length c.as_mut_slice.ensures.value ∙ m.room;
       present = λ h same. present_taken s.state (committed s.exceptions) c.self.inside.group c.in-Some.pair m.present is h (sym c.take_last.ensures ∙ same);
       alone = λ f. c.take_last.ensures ∙ ap (changed taken_in) (m.alone f);
+      unfinished = m.unfinished;
+      valid = m.valid;
     })
 
 pub returns-in-Ok-clause-step : goal.returns-in-Ok-clause-step

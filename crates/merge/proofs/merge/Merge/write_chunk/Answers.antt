@@ -39,6 +39,8 @@ invariant_of-self g c =
       room = m.room;
       present = λ h same. present_written s.state (committed s.exceptions) c.self.inside.group c.in-Some.pair m.present is h (sym c.count_copied.ensures ∙ same);
       alone = λ f. c.count_copied.ensures ∙ ap (changed written_in) (m.alone f);
+      unfinished = m.unfinished;
+      valid = m.valid;
     }
 
 pub returns-in-Ok-clause-step : goal.returns-in-Ok-clause-step

@@ -10,14 +10,14 @@ use Rattle.named_volume.proofs.origin.NamedVolume.attach.Goals as goal
 
 pub returns-after-self-clause-ok : goal.returns-after-self-clause-ok
 returns-after-self-clause-ok c =
-    rw (← c.self.view_is) (rw c.into_parts-names.ensures (rw (c.in-Ok-attach.ensures.quiet.1 ∙ sym c.in-Ok-attach.ensures.quiet.0) (λ sound quiet loud.
+    rw (← c.self.view_is) (rw c.into_parts-names.ensures (rw c.in-Ok-attach.ensures.quiet.1 (rw c.in-Ok-attach.ensures.quiet.0 (λ sound quiet loud.
     let here : Stacked = record { names = c.into_parts-names.result.0.items; device = device_of c.into_parts-names.result.1; stale = c.into_parts-names.result.2 } in
     let same : c.is_loud-loud.result ≡ is_loud here.device.layers = c.is_loud-loud.ensures ∙ ap (λ (s : Stacked). is_loud s.device.layers) c.into_parts-names.ensures in
     let both : c.if-self.self ≡ (c.self.inside.sound && is_loud here.device.layers) =
     elim c.if-self.branch [ then-self w ↦ rw sound (w.self-is ∙ same) | else-self w ↦ absurd (cc) ] in
     met c.args.name c.args.chunk here _ c.push_reserved.new.self.items (settled_in c.attach.new.self) c.attach.new.self.attached c.in-Ok-attach.field-0 c.if-self.self
-    c.in-Ok-attach.ensures.number (c.in-Ok-attach.ensures.exact (c.look.ensures quiet (c.self.invariant.loud sound)) loud)
-    (c.push_reserved.ensures.items ∙ ap (λ names. names ++ (record { snapshot = c.args.name; store = here.names }) ∷ []) c.reserve.ensures.items) c.in-Ok-attach.ensures.taken.attached both)))
+    c.in-Ok-attach.ensures.number (c.in-Ok-attach.ensures.exact (c.look.ensures c.in-Ok-attach.ensures.quiet.0 (c.self.invariant.loud sound)) loud)
+    (c.push_reserved.ensures.items ∙ ap (λ names. names ++ (record { snapshot = c.args.name; store = here.names }) ∷ []) c.reserve.ensures.items) c.in-Ok-attach.ensures.taken.attached both))))
 
 pub returns-in-Err-attach-clause-err : goal.returns-in-Err-attach-clause-err
 returns-in-Err-attach-clause-err c =

@@ -48,7 +48,7 @@ returns-clause-parted c =
     let many = c.self.invariant.many in
     rw (← c.self.view_is)
     (parted_is c.args.k _ c.self.inside.volume c.detach.new.self c.number-number.result c.remove.result c.in-Ok.given refl lt (sym c.is_quiet.ensures.value ∙ c.if-not-is_quiet.false) c.remove.ensures.value (omega (arith, lt, many)) c.number-number.ensures.value c.in-Ok.ensures.left
-    c.of_parts.result _ (c.of_parts.ensures ∙ ap (λ (n : Names). let s : Stacked = record { names = n.store; device = device_of c.in-Ok.given.device; stale = c.in-Ok.given.stale } in s) c.store.view_is) (rw c.remove.ensures.items (rw c.in-Ok.ensures.left.attached (rw (c.in-Ok.ensures.quiet.1 ∙ sym c.in-Ok.ensures.quiet.0) refl))))
+    c.of_parts.result _ (c.of_parts.ensures ∙ ap (λ (n : Names). let s : Stacked = record { names = n.store; device = device_of c.in-Ok.given.device; stale = c.in-Ok.given.stale } in s) c.store.view_is) (rw c.remove.ensures.items (rw c.in-Ok.ensures.left.attached (rw c.in-Ok.ensures.quiet.1 (rw c.in-Ok.ensures.quiet.0 refl)))))
 
 pub returns-clause-loud : goal.returns-clause-loud
 returns-clause-loud c =

@@ -1,6 +1,6 @@
 use Rattle.std.proofs.Common.{◌≡◌, sym, ap, ◌∙◌, refl, arith}
 use Rattle.layers.specs.declared.stack.Stack.{Stack}
-use Rattle.settling.specs.Devices.{sectors_of}
+use Rattle.settled.specs.Devices.{sectors_of}
 use Rattle.named.specs.Stacks.{device_of}
 use Rattle.named_volume.proofs.Uses.{origin_says, snapshot_says}
 use Rattle.named_volume.proofs.origin.NamedVolume.status.Goals.{in-Origin, in-Snapshot}

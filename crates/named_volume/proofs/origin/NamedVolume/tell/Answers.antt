@@ -12,4 +12,4 @@ invariant_of-self c =
 pub returns : goal.returns
 returns c =
     rw (← c.self.view_is)
-    (mounted c.args.role c.args.message.now c.tell_role.result _ _ (settled_in c.tell_role.new.volume) (rw c.tell_role.ensures.kept.attached (rw c.tell_role.ensures.quiet refl)) c.tell_role.ensures.steps)
+    (mounted c.args.role c.args.message.now c.tell_role.result _ _ (settled_in c.tell_role.new.volume) (rw c.tell_role.ensures.kept.attached (rw c.tell_role.ensures.quiet (rw c.tell_role.ensures.flying refl))) c.tell_role.ensures.steps)

@@ -7,7 +7,8 @@ use Rattle.reply.specs.declared.Reply.{Reply}
 use Rattle.runner.specs.Asking.{line_first}
 use Rattle.runner.specs.Ended.{line_replies}
 use Rattle.runner.specs.Output.{printed}
-use Rattle.runner.proofs.AskingLemmas.{first_lines}
+use Rattle.runner.proofs.AskingLemmas.{first_lines, first_none, first_stays}
+use Rattle.runner.proofs.LeftLemmas.{told_for}
 use Rattle.runner.proofs.DeskLemmas.{line_done, line_counted, start_alone}
 use Rattle.runner.proofs.desk.Desk.line.Goals as goal
 
@@ -19,8 +20,13 @@ returns-clause-done g c =
     let last : P (line_replies ended own) = search rules in
     let small : c.self.inside.summary.lines < 2 ^ 64 = omega (arith, c.self.ranges) in
     let size : c.len.result ≡ length ended = search rules in
-    let none : IfSome (line_first c.args.line.now (table_of c.self.inside.held)) (λ _. ended ≡ []) = search rules in
-    let asks = first_lines (line_first c.args.line.now (table_of c.self.inside.held)) ended own c.outcome-own.ensures.asks none in
+    let first = line_first c.args.line.now (table_of c.self.inside.held) in
+    let both : IfSome first (λ _. (table_of c.outcome-own.new.held ≡ table_of c.self.inside.held) × (ended ≡ c.new-ended.result.items)) = c.outcome-own.ensures.still in
+    let none = first_none (table_of c.outcome-own.new.held ≡ table_of c.self.inside.held) first c.new-ended.result.items ended [] both c.new-ended.ensures.items in
+    let stays = first_stays (table_of c.outcome-own.new.held ≡ table_of c.self.inside.held) (ended ≡ c.new-ended.result.items) first both in
+    let asks = first_lines first ended own c.outcome-own.ensures.asks none in
     let number = start_alone c.args.line.now ended own c.outcome-own.ensures.number (λ does. c.outcome-own.ensures.alone does ∙ c.new-ended.ensures.items) in
     let counts = line_counted c.self.inside.summary c.with_lines.result c.with_own-self-inside.result c.len.result ended own small size c.with_lines.ensures c.with_own-self-inside.ensures in
-    line_done c.args.line.now c.args.self.now (table_of c.self.inside.held) (table_of c.outcome-own.new.held) c.self.inside.summary c.with_own-self-inside.result ended own P (sym c.self.view_is) c.outcome-own.ensures.done (λ sound. c.outcome-own.ensures.told sound ∙ c.new-ended.ensures.items) asks number counts last
+    let left = c.outcome-own.ensures.left in
+    let told = told_for c.args.line.now (table_of c.self.inside.held) (table_of c.outcome-own.new.held) c.new-ended.result.items ended own left.0 c.new-ended.ensures.items left.1 left.2 in
+    line_done c.args.line.now c.args.self.now (table_of c.self.inside.held) (table_of c.outcome-own.new.held) c.self.inside.summary c.with_own-self-inside.result ended own P (sym c.self.view_is) c.outcome-own.ensures.done (λ ruled. c.outcome-own.ensures.told ruled ∙ c.new-ended.ensures.items) asks stays number told counts last

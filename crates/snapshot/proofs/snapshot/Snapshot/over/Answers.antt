@@ -3,6 +3,7 @@ use Rattle.std.proofs.Common.{◌≡◌, ◌*◌, ◌∙◌, ap, length, sym, re
 use Rattle.store.specs.Held.{committed, pending, pairs_pending}
 use Rattle.store.specs.Loading.{is_begun}
 use Rattle.snapshot.proofs.Stores.{store_holds, store_alone, none_pending}
+use Rattle.snapshot.proofs.Steps.{in_step}
 use Rattle.snapshot.proofs.snapshot.Snapshot.over.Goals as goal
 
 pub returns-clause-new : goal.returns-clause-new
@@ -22,3 +23,8 @@ returns-clause-new g c = λ origin fits.
           (store_holds s.state.chunk s.state.origin s.state.size s.places.next s.state.copying bytes (committed s.exceptions) (pairs_pending s.exceptions) s.front.some s.front.allowed whole s.given);
       stored = λ loud. (s.stored loud).listed (ap is_begun c.requires.ready);
     }
+
+pub returns-clause-in_step : goal.returns-clause-in_step
+returns-clause-in_step g c =
+    let s = c.args.store in
+    in_step g.B.Block.contents g.B.Block.layers g.B.Block.size _ s.area.bytes.items c.requires.ready (λ _. c.requires.copying) c.requires.valid s.size s.given s.stored

@@ -5,9 +5,10 @@ use Rattle.pending.specs.declared.copies.ChunkCopy.{ChunkCopy}
 use Rattle.pending.specs.declared.copies.Stage.TheVariants.{Waiting}
 use Rattle.store.specs.Held.{committed, pending, pairs_pending}
 use Rattle.snapshot.specs.Calls.{started}
-use Rattle.snapshot.proofs.Copies.{copies_push, not_begun, state_same}
+use Rattle.snapshot.proofs.Copies.{copies_push, not_begun, state_same, like_same}
 use Rattle.snapshot.proofs.Stores.{pairs_more, store_holds, text_started}
 use Rattle.snapshot.proofs.Events.{starts_at}
+use Rattle.snapshot.proofs.Steps.{step_like}
 use Rattle.snapshot.proofs.snapshot.Snapshot.start.Goals as goal
 
 pub start-requires-clause-idle : goal.start-requires-clause-idle
@@ -55,3 +56,15 @@ returns-clause-started g c =
     refl
     (c.requires.buffer ∙ ap (λ v. 512 * count_of v.state.chunk v.state.origin c.args.chunk) (sym c.self.view_is))
     (text_started s.state t.state (g.B.Block.contents s.device) (g.B.Block.contents t.device) (committed s.exceptions) (committed t.exceptions) (pairs_pending s.exceptions) (pairs_pending t.exceptions) p.pair c.start.ensures.state (ap g.B.Block.contents c.start.ensures.device) c.start.ensures.committed begun text))
+
+pub returns-in_default-clause-in_step : goal.returns-in_default-clause-in_step
+returns-in_default-clause-in_step g c =
+    let s = c.self.inside.store in
+    let t = c.start.new.self in
+    step_like g.B.Block.contents g.B.Block.layers g.B.Block.size _ s.state t.area.bytes.items _ _ _ c.self.invariant.0 (like_same s.state t.state c.start.ensures.state) t.size t.given t.stored
+
+pub returns-clause-in_step : goal.returns-clause-in_step
+returns-clause-in_step g c =
+    let s = c.self.inside.store in
+    let t = c.start.new.self in
+    step_like g.B.Block.contents g.B.Block.layers g.B.Block.size _ s.state t.area.bytes.items _ _ _ c.self.invariant.0 (like_same s.state t.state c.start.ensures.state) t.size t.given t.stored

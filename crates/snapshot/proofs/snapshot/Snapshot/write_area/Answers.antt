@@ -7,9 +7,10 @@ use Rattle.exception_arena.specs.Pending.{pair_of}
 use Rattle.store.specs.Held.{committed, pending, pairs_pending}
 use Rattle.store.specs.Slots.{pairs_bytes, slot_start}
 use Rattle.snapshot.specs.Kept.{Kept}
-use Rattle.snapshot.proofs.Copies.{ahead_commit, copies_drop, like_commit}
+use Rattle.snapshot.proofs.Copies.{ahead_commit, copies_drop, like_commit, like_same}
 use Rattle.snapshot.proofs.Stores.{listed_now, pairs_dropped}
 use Rattle.snapshot.proofs.Events.{commit_fields, commits_at, marked_count}
+use Rattle.snapshot.proofs.Steps.{step_like}
 use Rattle.snapshot.proofs.snapshot.Snapshot.write_area.Goals as goal
 
 pub invariant_of-self : goal.invariant_of-self
@@ -65,4 +66,16 @@ returns-in-Ok-clause-commits g c =
     like few
     (subst (λ (v : Kept g.row.B.Denot). All (λ p. p.stage ≡ Written) (take c.args.count v.copies)) (sym c.self.view_is) c.requires.ready)
     c.write_area.ensures.loud e.only
-    (λ l. listed_now (g.B.Block.contents t.device) (committed t.exceptions) s.state t.state t.area.bytes.items (t.stored (c.write_area.ensures.loud ∙ l)) (like.left ∙ c.self.invariant.0.ready alive) like.chunk))
+    (λ l. listed_now (g.B.Block.contents t.device) (committed t.exceptions) s.state t.state t.area.bytes.items (t.stored (c.write_area.ensures.loud ∙ l)) (like.left ∙ c.self.invariant.0.ready) like.chunk))
+
+pub returns-in-Ok-clause-in_step : goal.returns-in-Ok-clause-in_step
+returns-in-Ok-clause-in_step g c =
+    let s = c.self.inside.store in
+    let t = c.write_area.new.self in
+    step_like g.B.Block.contents g.B.Block.layers g.B.Block.size _ s.state t.area.bytes.items _ _ _ c.self.invariant.0 (like_commit s.state t.state c.args.count c.in-Ok.ensures.state) t.size t.given t.stored
+
+pub returns-in-Err-clause-in_step : goal.returns-in-Err-clause-in_step
+returns-in-Err-clause-in_step g c =
+    let s = c.self.inside.store in
+    let t = c.write_area.new.self in
+    step_like g.B.Block.contents g.B.Block.layers g.B.Block.size _ s.state t.area.bytes.items _ _ _ c.self.invariant.0 (like_same s.state t.state c.in-Err.ensures.kept.0) t.size t.given t.stored

@@ -4,8 +4,9 @@ use Rattle.sector.specs.Bytes.{with_sectors}
 use Rattle.pending.specs.declared.copies.ChunkCopy.{ChunkCopy}
 use Rattle.pending.specs.declared.copies.Stage.TheVariants.{Written}
 use Rattle.store.specs.Held.{committed, pairs_pending, reserved}
-use Rattle.snapshot.proofs.Copies.{copy_inside, copy_set, state_same}
+use Rattle.snapshot.proofs.Copies.{copy_inside, copy_set, state_same, like_same}
 use Rattle.snapshot.proofs.Events.{writes_at}
+use Rattle.snapshot.proofs.Steps.{step_like}
 use Rattle.snapshot.proofs.snapshot.Snapshot.write_copy.Goals as goal
 
 pub sectors_of-count-requires : goal.sectors_of-count-requires
@@ -76,3 +77,15 @@ returns-in-Ok-clause-wrote g c =
           e.loud e.only
           (λ l. e.written l ∙ ap (λ n. with_sectors (g.B.Block.contents s.device) n c.as_slice-bytes.result.now) at ∙ ap (λ b. with_sectors (g.B.Block.contents s.device) (s.state.chunk * p.pair.new) b) c.as_slice-bytes.ensures.value),
     )
+
+pub returns-in-Ok-clause-in_step : goal.returns-in-Ok-clause-in_step
+returns-in-Ok-clause-in_step g c =
+    let s = c.self.inside.store in
+    let t = c.write_chunk.new.self in
+    step_like g.B.Block.contents g.B.Block.layers g.B.Block.size _ s.state t.area.bytes.items _ _ _ c.self.invariant.0 (like_same s.state t.state c.write_chunk.ensures.state) t.size t.given t.stored
+
+pub returns-in-Err-clause-in_step : goal.returns-in-Err-clause-in_step
+returns-in-Err-clause-in_step g c =
+    let s = c.self.inside.store in
+    let t = c.write_chunk.new.self in
+    step_like g.B.Block.contents g.B.Block.layers g.B.Block.size _ s.state t.area.bytes.items _ _ _ c.self.invariant.0 (like_same s.state t.state c.write_chunk.ensures.state) t.size t.given t.stored

@@ -2,7 +2,8 @@ use Rattle.std.proofs.Common.{◌≡◌, ◌+◌, ◌*◌, ◌<◌, length, arit
 use Rattle.store.specs.Held.{pairs_pending, reserved}
 use Rattle.snapshot.specs.Held.{IsSnapshot}
 use Rattle.snapshot.specs.Kept.{needs_area}
-use Rattle.snapshot.proofs.Copies.{ahead_zeroed, like_zeroed, needs_is, state_kept, state_same}
+use Rattle.snapshot.proofs.Copies.{ahead_zeroed, like_same, like_zeroed, needs_is, state_kept, state_same}
+use Rattle.snapshot.proofs.Steps.{step_like}
 use Rattle.snapshot.proofs.snapshot.Snapshot.zero_next.Goals as goal
 use Rattle.snapshot.proofs.snapshot.Snapshot.zero_next.Goals.{in-Ok, in-Err}
 
@@ -19,3 +20,9 @@ invariant_of-self g c =
       | in-Err w ↦ state_same _ _ _ s.state t.state _ _ _ _ c.self.invariant.0 w.in-Err.ensures.kept begun
     ] in
     (kept, rw (ap reserved c.zero_next.ensures.exceptions) c.self.invariant.1)
+
+pub returns-clause-in_step : goal.returns-clause-in_step
+returns-clause-in_step g c =
+    let s = c.self.inside.store in
+    let t = c.zero_next.new.self in
+    step_like g.B.Block.contents g.B.Block.layers g.B.Block.size _ s.state t.area.bytes.items _ _ _ c.self.invariant.0 (elim c.match-zero_next.branch [ in-Ok w ↦ like_zeroed s.state t.state w.in-Ok.ensures.zeroed | in-Err w ↦ like_same s.state t.state w.in-Err.ensures.kept ]) t.size t.given t.stored

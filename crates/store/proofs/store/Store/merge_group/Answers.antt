@@ -1,4 +1,4 @@
-use Rattle.std.proofs.Common.{◌≡◌, ◌⊎◌, inl, inr, ◌+◌, ◌-◌, ◌*◌, ◌<◌, ◌≤◌, length, get_or, arith, refl, ap, ◌∙◌, sym}
+use Rattle.std.proofs.Common.{◌≡◌, inl, inr, ◌+◌, ◌-◌, ◌<◌, length, get_or, arith, refl, ap, ◌∙◌}
 use Rattle.store.specs.Held.{committed}
 use Rattle.store.proofs.Groups.{run_last, run_more}
 use Rattle.store.proofs.store.Store.merge_group.Goals as goal

@@ -6,14 +6,15 @@ use Rattle.snapshot.specs.Kept.{Kept, books_of as snap_books}
 use Rattle.snapshot.specs.Opening.{IsWanted, IsOpenRefused, shown_array}
 use Rattle.snapshot.proofs.Openings.{opened_origin}
 use Rattle.volume.specs.Volumed.{Volumed}
-use Rattle.volume.specs.Whole.{IsCounted, numbers_in}
+use Rattle.snapshots.specs.Numbers.{numbers_in}
+use Rattle.volume.specs.Whole.{IsCounted}
 use Rattle.volume.specs.Leaving.{is_quiet_of}
 use Rattle.volume.specs.Taking.{wanted_of, attach_refusal}
 use Rattle.volume.proofs.Leaves.{quiet_none}
-use Rattle.volume.proofs.Attaches.{taking_none, whole_taken, plain_taken_as}
+use Rattle.volume.proofs.Attaches.{attach_fresh, taking_none, whole_taken, plain_taken_as}
 use Rattle.chunk.proofs.Limits.{is_chunk-some}
 use Rattle.snapshot.specs.Attaching.{AreSized}
-use Rattle.settling.specs.Attaching.{open_store, done}
+use Rattle.settled.specs.Attaching.{open_store, done}
 use Rattle.volume.specs.Moved.{device_of}
 use Rattle.volume.specs.Attached.{store_of, volume_in}
 use Rattle.volume.proofs.AttachedAs.{number_left, refused_before, admitted, count_in, sized, resting, attached_is, back_is, unzeroed_of, loud_taken_as}
@@ -74,6 +75,7 @@ returns-in-Ok-open_snapshot-clause-gained g c =
       snap = c.in-Ok-open_snapshot.snap;
       becomes = rw pushed refl;
       number_is = ap (λ (x : Kept g.row.B.Denot). x.number) o.fields;
+      fresh = attach_fresh g.B.Block.contents g.B.Block.layers g.B.Block.size _ c.self.invariant _ refl;
       live = ap (λ (x : Kept g.row.B.Denot). x.live) o.fields;
       stale = ap (λ (x : Kept g.row.B.Denot). x.stale) o.fields;
       untried = ap (λ (x : Kept g.row.B.Denot). x.untried) o.fields;

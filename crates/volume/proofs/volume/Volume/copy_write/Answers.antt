@@ -5,14 +5,13 @@ use Rattle.std.proofs.lemmas.List.{get_or_default}
 use Rattle.device.specs.Layers.{is_loud}
 use Rattle.pending.specs.declared.copies.Stage.TheVariants.{Read}
 use Rattle.pending.specs.Routes.{refused_of}
-use Rattle.volume.specs.Finding.{is_copy_of, has_copy_at}
+use Rattle.snapshots.specs.Finding.{is_copy_of, has_copy_at}
 use Rattle.volume.proofs.Changing.{same_disk}
-use Rattle.volume.proofs.Finds.{position_within}
+use Rattle.snapshots.proofs.Finds.{position_within}
 use Rattle.volume.proofs.DueEvents.{due_by, copy_found, copy_due}
 use Rattle.volume.proofs.CopyEvents.{write_good, write_fault, copy_lives, copy_is, copy_stage}
 use Rattle.snapshot.specs.Kept.{Kept}
 use Rattle.volume.proofs.Spoilt.{spoilt_device}
-use Rattle.volume.proofs.CopyEvents.{copy_stage}
 use Rattle.volume.proofs.Exactly.{write_exact, write_fault_exact}
 use Rattle.volume.proofs.volume.Volume.copy_write.Goals as goal
 

@@ -3,8 +3,8 @@ use Rattle.std.proofs.Common.{◌≡◌, List, [], get_or, sym, ◌∙◌, ap}
 use Rattle.std.proofs.lemmas.List.{get_or_default}
 use Rattle.snapshot.specs.Kept.{Kept}
 use Rattle.volume.specs.Volumed.{Volumed}
-use Rattle.volume.specs.Leaving.{place_of_snap}
-use Rattle.volume.proofs.Leaves.{whole_left, plain_left_as, found_place, quiet_none}
+use Rattle.snapshots.specs.Finding.{place_of_snap}
+use Rattle.volume.proofs.Leaves.{whole_left, plain_left_as, found_place, quiet_none, without_loud}
 use Rattle.volume.proofs.volume.Volume.detach.Goals as goal
 
 pub invariant_of-self : goal.invariant_of-self
@@ -35,3 +35,6 @@ returns-clause-plain g c = λ _.
     let none : v.flights ≡ [] = ap (λ (x : Volumed g.row.B.Denot). x.flights) c.self.view_is ∙ quiet_none c.args.self.now (sym c.if-not-is_quiet.ensures.value) in
     let mine = ap (λ (x : Kept g.row.B.Denot). x.number) c.remove-snap.ensures.value ∙ found.1 in
     rw (← c.self.view_is) (plain_left_as g.B.Block.contents g.B.Block.layers g.B.Block.size v c.in-Some.k c.remove-snap.result found.0 c.remove-snap.ensures.value none c.args.number c.remove-snap.new.self.items c.remove-snap.ensures.items mine c.self.invariant)
+
+pub returns-clause-loud : goal.returns-clause-loud
+returns-clause-loud g c = without_loud g.B.Block.layers c.args.number _ _ _ c.remove-snap.result (returns-clause-taken g c)

@@ -1,5 +1,5 @@
 -- A request is issued at the origin disk.
-use Rattle.std.proofs.Common.{◌≡◌, ◌*◌, ◌∙◌, sym, ap, Some, get_or, length, nat_eq, arith}
+use Rattle.std.proofs.Common.{◌≡◌, ◌*◌, ◌∙◌, sym, ap, Some, get_or, length, nat_eq, arith, true, false, refl}
 use Rattle.std.specs.List.{position}
 use Rattle.std.proofs.lemmas.List.{with_items_is}
 use Rattle.sector.specs.Bytes.{with_sectors}
@@ -8,13 +8,12 @@ use Rattle.pending.specs.Kinds.{room_at}
 use Rattle.pending.specs.declared.flights.Flight.{Flight}
 use Rattle.pending.specs.declared.flights.Route.TheVariants.{Origin}
 use Rattle.volume.specs.Volumed.{Volumed}
-use Rattle.volume.proofs.Finds.{position_within}
+use Rattle.snapshots.proofs.Finds.{position_within}
 use Rattle.volume.proofs.IssueEvents.{request_at}
 use Rattle.volume.proofs.DiskIssues.{disk_read, disk_read_io, disk_write, disk_write_io}
 use Rattle.device.specs.declared.operation.Operation.TheVariants.{Reads, Writes}
 use Rattle.plain.specs.declared.request.Reply.TheVariants.{Data}
 use Rattle.store.specs.Operations.{IsOneOperation}
-use Rattle.std.proofs.Common.{true, false, refl}
 use Rattle.volume.proofs.ExactIssues.{origin_read_exact, origin_write_exact}
 use Rattle.volume.proofs.volume.Volume.issue_disk.Goals as goal
 
@@ -37,7 +36,10 @@ invariant_of-self g c =
     let was : r ≡ get_or v.flights.items c.args.place r = c.remove-flight.ensures.value in
     let route : r.route ≡ Origin = ap (λ (x : Flight). x.route) was ∙ ap (λ (x : Volumed _). (get_or x.flights c.args.place r).route) c.self.view_is ∙ c.requires.route r in
     let bytes : c.from_vec.result ≡ c.read.new.out = c.from_vec.ensures ∙ with_items_is r.room c.read.new.out (omega (arith, c.read.auto.out, c.as_mut_slice.ensures.len)) in
-    let good = disk_read g.B.Block.contents g.B.Block.layers g.B.Block.size g.B.Block.fault_count g.B.Block.done_count _ c.self.invariant c.args.number c.args.place r found was route c.read.new.self c.read.ensures.size c.read.ensures.loud c.in-Read.is c.read.ensures.contents c.read.ensures.done c.from_vec.result (bytes ∙ c.in-Ok.ensures.data) c.in-Ok.ensures.faults in
+    let request = request_at g.B.Block.contents g.B.Block.layers g.B.Block.size _ c.self.invariant c.args.place r within was in
+    let filled = ap length c.as_mut_slice.ensures.value ∙ request.room ∙ ap (λ (o : Op). room_at o r.request.range.count) c.in-Read.is in
+    let len : length c.from_vec.result ≡ 512 * r.request.range.count = omega (arith, ap length bytes, c.read.auto.out, filled) in
+    let good = disk_read g.B.Block.contents g.B.Block.layers g.B.Block.size g.B.Block.fault_count g.B.Block.done_count _ c.self.invariant c.args.number c.args.place r found was route c.read.new.self c.read.ensures.size c.read.ensures.loud c.in-Read.is c.read.ensures.contents c.read.ensures.done c.from_vec.result len (bytes ∙ c.in-Ok.ensures.data) c.in-Ok.ensures.faults in
     rw c.remove-flight.ensures.items good.whole
 
 pub returns-in-Ok-clause-step : goal.returns-in-Ok-clause-step
@@ -49,7 +51,10 @@ returns-in-Ok-clause-step g c =
     let was : r ≡ get_or v.flights.items c.args.place r = c.remove-flight.ensures.value in
     let route : r.route ≡ Origin = ap (λ (x : Flight). x.route) was ∙ ap (λ (x : Volumed _). (get_or x.flights c.args.place r).route) c.self.view_is ∙ c.requires.route r in
     let bytes : c.from_vec.result ≡ c.read.new.out = c.from_vec.ensures ∙ with_items_is r.room c.read.new.out (omega (arith, c.read.auto.out, c.as_mut_slice.ensures.len)) in
-    let good = disk_read g.B.Block.contents g.B.Block.layers g.B.Block.size g.B.Block.fault_count g.B.Block.done_count _ c.self.invariant c.args.number c.args.place r found was route c.read.new.self c.read.ensures.size c.read.ensures.loud c.in-Read.is c.read.ensures.contents c.read.ensures.done c.from_vec.result (bytes ∙ c.in-Ok.ensures.data) c.in-Ok.ensures.faults in
+    let request = request_at g.B.Block.contents g.B.Block.layers g.B.Block.size _ c.self.invariant c.args.place r within was in
+    let filled = ap length c.as_mut_slice.ensures.value ∙ request.room ∙ ap (λ (o : Op). room_at o r.request.range.count) c.in-Read.is in
+    let len : length c.from_vec.result ≡ 512 * r.request.range.count = omega (arith, ap length bytes, c.read.auto.out, filled) in
+    let good = disk_read g.B.Block.contents g.B.Block.layers g.B.Block.size g.B.Block.fault_count g.B.Block.done_count _ c.self.invariant c.args.number c.args.place r found was route c.read.new.self c.read.ensures.size c.read.ensures.loud c.in-Read.is c.read.ensures.contents c.read.ensures.done c.from_vec.result len (bytes ∙ c.in-Ok.ensures.data) c.in-Ok.ensures.faults in
     rw (← c.self.view_is, c.remove-flight.ensures.items) good.stepped
 
 pub returns-in-Ok-clause-exact : goal.returns-in-Ok-clause-exact

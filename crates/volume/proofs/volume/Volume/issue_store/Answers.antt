@@ -1,5 +1,5 @@
 -- A request is issued at the store of its snapshot.
-use Rattle.std.proofs.Common.{◌≡◌, ◌+◌, ◌*◌, ◌/◌, ◌%◌, ◌^◌, rules, ◌<◌, ◌∙◌, sym, ap, subst, Some, get_or, length, nat_eq, arith, List, ℕ}
+use Rattle.std.proofs.Common.{◌≡◌, ◌+◌, ◌*◌, ◌/◌, ◌%◌, ◌^◌, rules, ◌<◌, ◌∙◌, sym, ap, subst, Some, get_or, length, nat_eq, arith, List, ℕ, true, false, refl}
 use Rattle.std.specs.List.{position, list_any}
 use Rattle.std.proofs.Math.Nat.{mod-lt}
 use Rattle.std.proofs.lemmas.Bool.{false≢true}
@@ -13,14 +13,13 @@ use Rattle.pending.specs.declared.flights.Route.TheVariants.{Store}
 use Rattle.volume_laws.specs.Steps.{WritesPlace}
 use Rattle.snapshot.specs.Kept.{Kept, books_of}
 use Rattle.volume.specs.Volumed.{Volumed}
-use Rattle.volume.proofs.Finds.{position_within}
+use Rattle.snapshots.proofs.Finds.{position_within}
 use Rattle.volume.proofs.Chunks.{chunks_all}
 use Rattle.volume.proofs.IssueEvents.{request_at}
 use Rattle.volume.proofs.StoreIssues.{is_snap, held_any, read_placed, read_part, write_placed, write_part, store_read, store_read_io, store_write, store_write_io}
 use Rattle.device.specs.declared.operation.Operation.TheVariants.{Reads, Writes}
 use Rattle.plain.specs.declared.request.Reply.TheVariants.{Data}
 use Rattle.store.specs.Operations.{IsOneOperation}
-use Rattle.std.proofs.Common.{true, false, refl}
 use Rattle.volume.proofs.ExactIssues.{store_read_exact, store_write_exact}
 use Rattle.volume.proofs.volume.Volume.issue_store.Goals as goal
 
@@ -138,7 +137,10 @@ invariant_of-self g c =
     let dev : r.request.dev ≡ Snap s.number = c.in-Some.ensures.found.1 s ∙ ap (λ (x : Kept _). Snap x.number) (ap (λ xs. get_or xs k s) c.deref.ensures.value ∙ sym is) in
     let bytes : c.from_vec.result ≡ c.read_at.new.out = c.from_vec.ensures ∙ with_items_is r.room c.read_at.new.out (omega (arith, c.read_at.auto.out, c.as_mut_slice.ensures.len)) in
     let read = bytes ∙ c.in-Ok.ensures.data ∙ ap (λ n. sectors_at (g.B.Block.contents s.device) (s.state.chunk * c.args.at + r.request.range.first % n) r.request.range.count) c.chunk.ensures.is in
-    let good = store_read g.B.Block.contents g.B.Block.layers g.B.Block.size g.B.Block.fault_count g.B.Block.done_count _ c.self.invariant c.args.number c.args.place r found was c.args.at k s route within is dev c.read_at.new.self c.read_at.new.self.device c.read_at.ensures.fields c.read_at.ensures.loud c.read_at.ensures.size c.in-Ok.ensures.operation.counted c.in-Read.is c.from_vec.result c.read_at.ensures.same read c.in-Ok.ensures.operation.faulty in
+    let request = request_at g.B.Block.contents g.B.Block.layers g.B.Block.size _ c.self.invariant c.args.place r inside was in
+    let filled = ap length c.as_mut_slice.ensures.value ∙ request.room ∙ ap (λ (o : Op). room_at o r.request.range.count) c.in-Read.is in
+    let len : length c.from_vec.result ≡ 512 * r.request.range.count = omega (arith, ap length bytes, c.read_at.auto.out, filled) in
+    let good = store_read g.B.Block.contents g.B.Block.layers g.B.Block.size g.B.Block.fault_count g.B.Block.done_count _ c.self.invariant c.args.number c.args.place r found was c.args.at k s route within is dev c.read_at.new.self c.read_at.new.self.device c.read_at.ensures.fields c.read_at.ensures.loud c.read_at.ensures.size c.in-Ok.ensures.operation.counted c.in-Read.is c.from_vec.result len c.read_at.ensures.same read c.in-Ok.ensures.operation.faulty in
     rw c.remove-flight.ensures.items good.whole
 
 pub returns-in-Ok-clause-step : goal.returns-in-Ok-clause-step
@@ -156,7 +158,10 @@ returns-in-Ok-clause-step g c =
     let dev : r.request.dev ≡ Snap s.number = c.in-Some.ensures.found.1 s ∙ ap (λ (x : Kept _). Snap x.number) (ap (λ xs. get_or xs k s) c.deref.ensures.value ∙ sym is) in
     let bytes : c.from_vec.result ≡ c.read_at.new.out = c.from_vec.ensures ∙ with_items_is r.room c.read_at.new.out (omega (arith, c.read_at.auto.out, c.as_mut_slice.ensures.len)) in
     let read = bytes ∙ c.in-Ok.ensures.data ∙ ap (λ n. sectors_at (g.B.Block.contents s.device) (s.state.chunk * c.args.at + r.request.range.first % n) r.request.range.count) c.chunk.ensures.is in
-    let good = store_read g.B.Block.contents g.B.Block.layers g.B.Block.size g.B.Block.fault_count g.B.Block.done_count _ c.self.invariant c.args.number c.args.place r found was c.args.at k s route within is dev c.read_at.new.self c.read_at.new.self.device c.read_at.ensures.fields c.read_at.ensures.loud c.read_at.ensures.size c.in-Ok.ensures.operation.counted c.in-Read.is c.from_vec.result c.read_at.ensures.same read c.in-Ok.ensures.operation.faulty in
+    let request = request_at g.B.Block.contents g.B.Block.layers g.B.Block.size _ c.self.invariant c.args.place r inside was in
+    let filled = ap length c.as_mut_slice.ensures.value ∙ request.room ∙ ap (λ (o : Op). room_at o r.request.range.count) c.in-Read.is in
+    let len : length c.from_vec.result ≡ 512 * r.request.range.count = omega (arith, ap length bytes, c.read_at.auto.out, filled) in
+    let good = store_read g.B.Block.contents g.B.Block.layers g.B.Block.size g.B.Block.fault_count g.B.Block.done_count _ c.self.invariant c.args.number c.args.place r found was c.args.at k s route within is dev c.read_at.new.self c.read_at.new.self.device c.read_at.ensures.fields c.read_at.ensures.loud c.read_at.ensures.size c.in-Ok.ensures.operation.counted c.in-Read.is c.from_vec.result len c.read_at.ensures.same read c.in-Ok.ensures.operation.faulty in
     rw (← c.self.view_is, c.remove-flight.ensures.items) good.stepped
 
 pub returns-in-Ok-clause-exact : goal.returns-in-Ok-clause-exact

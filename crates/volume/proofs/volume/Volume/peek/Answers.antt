@@ -6,11 +6,12 @@ use Rattle.plain.specs.Serves.{Shows}
 use Rattle.plain.specs.declared.request.Dev.{Dev}
 use Rattle.plain.specs.declared.request.Dev.TheVariants.{Snap}
 use Rattle.snapshot.specs.Kept.{Kept}
-use Rattle.volume.specs.Volumed.{Volumed, is_loud_in_all, plain_of}
-use Rattle.volume.specs.Leaving.{place_of_snap}
+use Rattle.volume.specs.Peeking.{is_loud_under}
+use Rattle.volume.specs.Volumed.{Volumed, plain_of}
+use Rattle.snapshots.specs.Finding.{place_of_snap}
 use Rattle.volume.proofs.MovedLists.{IsFirst, first_position}
 use Rattle.volume.proofs.Named.{found_within}
-use Rattle.volume.proofs.Peeked.{places_inside, pairs_stored, shown_snap, live_refusal}
+use Rattle.volume.proofs.Peeked.{places_inside, pairs_stored, shown_snap, snap_loud, live_refusal}
 use Rattle.volume.proofs.volume.Volume.peek.Goals as goal
 
 pub peek_pieces-requires-clause-places : goal.peek_pieces-requires-clause-places
@@ -35,6 +36,6 @@ returns-else-not-is_live-clause-bytes g c = λ loud array shown.
     let first : IsFirst (λ (x : Kept g.row.B.Denot). x.number == c.in-Snap.number) c.in-Some.k s v.snaps = first_position (λ (x : Kept g.row.B.Denot). x.number == c.in-Snap.number) c.in-Some.k s v.snaps c.index-snap.ensures (sym found) in
     let mine : Shows (plain_of g.B.Block.contents g.B.Block.layers v) (Snap c.in-Snap.number) array =
     subst (λ (d : Dev). Shows (plain_of g.B.Block.contents g.B.Block.layers v) d array) c.in-Snap.is (subst (λ (x : Volumed g.row.B.Denot). Shows (plain_of g.B.Block.contents g.B.Block.layers x) c.args.dev array) (sym c.self.view_is) shown) in
-    let stored = pairs_stored g.B.Block.contents g.B.Block.layers g.B.Block.size v c.self.invariant c.in-Some.k s (found_within c.in-Snap.number v.snaps c.in-Some.k found) c.index-snap.ensures live (ap (is_loud_in_all g.B.Block.layers) c.self.view_is ∙ loud) in
+    let stored = pairs_stored g.B.Block.contents g.B.Block.layers g.B.Block.size v c.self.invariant c.in-Some.k s (found_within c.in-Snap.number v.snaps c.in-Some.k found) c.index-snap.ensures live (snap_loud g.B.Block.layers v.snaps c.args.dev c.in-Snap.number c.in-Some.k s c.in-Snap.is found c.index-snap.ensures (ap (λ (x : Volumed g.row.B.Denot). is_loud_under g.B.Block.layers c.args.dev x.snaps) c.self.view_is ∙ loud)) in
     c.peek_pieces.ensures stored
     ∙ ap (λ (a : List ℕ). sectors_at a c.args.range.first c.args.range.count) (sym (shown_snap g.B.Block.contents (g.B.Block.contents v.origin) c.in-Snap.number c.in-Some.k s v.snaps array first live mine))

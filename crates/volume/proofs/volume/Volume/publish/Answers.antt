@@ -4,8 +4,8 @@ use Rattle.std.specs.List.{All, position, list_any}
 use Rattle.volume_laws.specs.Published.{is_clear}
 use Rattle.volume_laws.specs.Again.{again_of, placed_of}
 use Rattle.snapshot.specs.Kept.{Kept, books_of}
-use Rattle.volume.specs.Finding.{is_mark_of, has_mark_at}
-use Rattle.volume.proofs.Finds.{position_within}
+use Rattle.snapshots.specs.Finding.{is_mark_of, has_mark_at}
+use Rattle.snapshots.proofs.Finds.{position_within}
 use Rattle.volume.proofs.DueEvents.{due_by, mark_found, mark_due, mark_is}
 use Rattle.volume.proofs.Chunks.{chunks_all, chunks_set}
 use Rattle.volume.proofs.AgainEvents.{published_good}

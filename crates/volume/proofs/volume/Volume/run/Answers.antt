@@ -1,11 +1,13 @@
 -- Each turn does the next call, and its answer has its place.
-use Rattle.std.proofs.Common.{rules, ◌∙◌, ◌++◌, [], ◌∷◌, length, ap, refl, arith}
+use Rattle.std.proofs.Common.{rules, inl, ◌∙◌, ◌++◌, [], ◌∷◌, length, ap, refl, arith}
 use Rattle.std.proofs.lemmas.Iterator.Adapters.{YieldsList-from_vec}
 use Rattle.std.proofs.lemmas.Iterator.Consumers.{YieldsList-turn, YieldsList-end}
 use Rattle.std.proofs.lemmas.List.{length-append}
 use Rattle.volume.specs.Layering.{Measures}
+use Rattle.volume.specs.Volumed.{plain_of}
 use Rattle.volume.specs.Running.{AreReturned}
 use Rattle.volume.proofs.Ran.{all_returned, are_legal, are_loud, are_more}
+use Rattle.volume.proofs.Unwritten.{run_keeps}
 use Rattle.volume.proofs.volume.Volume.run.Goals as goal
 
 pub loop-call-init : goal.loop-call-init
@@ -44,6 +46,15 @@ returns-clause-legal g c = λ loud.
     let end = YieldsList-end (YieldsList-from_vec {s = c.into_iter-call-iterator.result} c.args.calls.items (search rules) (search rules)) c.loop-call.yielded c.loop-call.call-iterator c.loop-call.yielded_by c.next.result c.next.new.self c.in-None.is c.next.ensures.steps in
     are_legal m g.B.Block.layers c.args.calls.items c.loop-call.returned.items c.args.self.now c.loop-call.self loud
     (all_returned m g.B.Block.layers c.loop-call.yielded c.args.calls.items c.loop-call.returned.items c.args.self.now c.loop-call.self end.0 c.loop-call.invariant.done)
+
+pub returns-clause-keeps : goal.returns-clause-keeps
+returns-clause-keeps g c = λ loud number array shows free none.
+    let m : Measures g.row.B.Denot = record { contents = g.B.Block.contents; durable = g.B.Block.durable; size = g.B.Block.size; faults = g.B.Block.fault_count; done = g.B.Block.done_count } in
+    let end = YieldsList-end (YieldsList-from_vec {s = c.into_iter-call-iterator.result} c.args.calls.items (search rules) (search rules)) c.loop-call.yielded c.loop-call.call-iterator c.loop-call.yielded_by c.next.result c.next.new.self c.in-None.is c.next.ensures.steps in
+    run_keeps number array c.args.calls.items (plain_of m.contents g.B.Block.layers c.args.self.now) (plain_of m.contents g.B.Block.layers c.loop-call.self)
+    (are_legal m g.B.Block.layers c.args.calls.items c.loop-call.returned.items c.args.self.now c.loop-call.self loud
+    (all_returned m g.B.Block.layers c.loop-call.yielded c.args.calls.items c.loop-call.returned.items c.args.self.now c.loop-call.self end.0 c.loop-call.invariant.done))
+    (inl shows) free none
 
 pub returns-clause-loud : goal.returns-clause-loud
 returns-clause-loud g c =

@@ -2,7 +2,7 @@
 use Rattle.std.proofs.Common.{◌≡◌, ◌<◌, length, get_or, true, sym, ◌∙◌, ap, subst}
 use Rattle.snapshot.specs.Kept.{Kept}
 use Rattle.volume.specs.Volumed.{Volumed}
-use Rattle.volume.specs.Leaving.{place_of_snap}
+use Rattle.snapshots.specs.Finding.{place_of_snap}
 use Rattle.volume.proofs.Ranks.{place_is, size_is}
 use Rattle.volume.proofs.volume.Volume.snap.Goals as goal
 

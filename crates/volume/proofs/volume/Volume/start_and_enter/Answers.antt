@@ -6,9 +6,10 @@ use Rattle.pending.specs.Copies.{count_of}
 use Rattle.pending.specs.declared.flights.Flight.{Flight}
 use Rattle.snapshot.specs.Kept.{Kept}
 use Rattle.volume.specs.Volumed.{Volumed, piece_of}
-use Rattle.volume.specs.Whole.{count_in}
-use Rattle.volume.specs.Leaving.{place_of_snap}
-use Rattle.volume.specs.Submitting.{lacks, starts, dev_refusal, HasRoomFor, IsSavedIn, IsAsked, IsAcceptedAs, IsFoundFull}
+use Rattle.snapshots.specs.Numbers.{count_in}
+use Rattle.snapshots.specs.Finding.{place_of_snap}
+use Rattle.snapshots.specs.Starting.{lacks, starts, HasRoomFor, IsSavedIn}
+use Rattle.volume.specs.Submitting.{dev_refusal, IsAsked, IsAcceptedAs, IsFoundFull}
 use Rattle.volume.proofs.Finishes.{back, begins_all}
 use Rattle.volume.proofs.Named.{IsNamed, dev_of_write, found_within, is_named}
 use Rattle.volume.proofs.Spoilt.{attached_at}

@@ -2,7 +2,7 @@
 use Rattle.std.proofs.Common.{◌/◌, ◌∙◌, ap, arith, nat_eq}
 use Rattle.std.specs.Prelude.{◌&&◌, count_by}
 use Rattle.volume.specs.Volumed.{Volumed, piece_of}
-use Rattle.volume.specs.Submitting.{starts}
+use Rattle.snapshots.specs.Starting.{starts}
 use Rattle.volume.proofs.Enters.{piece_some}
 use Rattle.volume.proofs.volume.Volume.starting.Goals as goal
 

@@ -1,11 +1,12 @@
 -- A request that no limit, range or missing snapshot refuses is taken by its kind.
 use Rattle.std.proofs.Common.{◌/◌, [], inl, refl, sym, ◌∙◌, ap, subst, arith}
 use Rattle.pending.specs.Kinds.{kind_of, room_of}
-use Rattle.submit_laws.proofs.Preparing.{prepared_none}
+use Rattle.volume_laws.proofs.Preparing.{prepared_none}
 use Rattle.volume.specs.Volumed.{books_of, piece_of}
 use Rattle.volume.specs.Submitting.{starting, IsAsked}
 use Rattle.volume.proofs.Admits.{admitted}
 use Rattle.volume.proofs.ByKind.{origin_read_enters}
+use Rattle.pending.specs.declared.flights.Kind.TheVariants.{OriginRead}
 use Rattle.pending.specs.declared.flights.Route.TheVariants.{Origin}
 use Rattle.volume.specs.Whole.{IsWhole}
 use Rattle.volume.proofs.Accepts.{if_ok, if_err, entered_accepted}
@@ -127,7 +128,7 @@ returns-in-Some-clause-starved g c =
 pub returns-in-OriginRead-clause-ok : goal.returns-in-OriginRead-clause-ok
 returns-in-OriginRead-clause-ok g c =
     let whole : IsWhole g.B.Block.contents g.B.Block.layers g.B.Block.size c.args.self.now = subst (IsWhole g.B.Block.contents g.B.Block.layers g.B.Block.size) c.self.view_is c.self.invariant in
-    if_ok c.enter.result _ _ (λ number e. entered_accepted g.B.Block.contents g.B.Block.layers c.args.request Origin number c.args.self.now c.enter.new.self e (origin_read_submitted g.B.Block.contents g.B.Block.layers g.B.Block.size c.args.self.now whole c.args.request Origin number c.enter.new.self e (sym c.in-OriginRead.ensures) refl)) c.enter.ensures.ok
+    if_ok c.enter.result _ _ (λ number e. entered_accepted g.B.Block.contents g.B.Block.layers c.args.request Origin number c.args.self.now c.enter.new.self OriginRead (sym c.in-OriginRead.ensures) (λ n. refl) (λ n. refl) e (origin_read_submitted g.B.Block.contents g.B.Block.layers g.B.Block.size c.args.self.now whole c.args.request Origin number c.enter.new.self e (sym c.in-OriginRead.ensures) refl)) c.enter.ensures.ok
 
 pub returns-in-OriginRead-clause-exact : goal.returns-in-OriginRead-clause-exact
 returns-in-OriginRead-clause-exact g c =

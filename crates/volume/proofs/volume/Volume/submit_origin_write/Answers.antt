@@ -9,8 +9,9 @@ use Rattle.pending.specs.declared.flights.Flight.{Flight}
 use Rattle.volume_laws.specs.Published.{is_clear}
 use Rattle.snapshot.specs.Kept.{Kept, books_of as snap_books}
 use Rattle.volume.specs.Volumed.{Volumed, piece_of}
-use Rattle.volume.specs.Whole.{count_in}
-use Rattle.volume.specs.Submitting.{unroomed, starts, AreSavedIn, HaveRooms, IsAsked, IsAcceptedAs}
+use Rattle.snapshots.specs.Numbers.{count_in}
+use Rattle.snapshots.specs.Starting.{unroomed, starts, AreSavedIn, HaveRooms}
+use Rattle.volume.specs.Submitting.{IsAsked, IsAcceptedAs}
 use Rattle.volume.proofs.Roomed.{whole_roomed}
 use Rattle.volume.proofs.Finishes.{back, begins_all, some_all, written_whole, written_accepted}
 use Rattle.volume.proofs.volume.Volume.submit_origin_write.Goals as goal

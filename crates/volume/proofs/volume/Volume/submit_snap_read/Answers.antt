@@ -1,13 +1,14 @@
 -- The snapshot that is found is live, and the read goes where its chunk is.
-use Rattle.std.proofs.Common.{◌/◌, ℕ, sym, ◌∙◌, ap, subst, arith}
+use Rattle.std.proofs.Common.{◌/◌, ℕ, refl, sym, ◌∙◌, ap, subst, arith}
 use Rattle.model.specs.Picture.{place_of}
+use Rattle.pending.specs.declared.flights.Kind.TheVariants.{SnapRead}
 use Rattle.pending.specs.Kinds.{kind_of, room_of}
 use Rattle.pending.specs.Routes.{read_route_of}
 use Rattle.plain.specs.declared.request.Request.{Request}
 use Rattle.snapshot.specs.Kept.{Kept}
 use Rattle.volume.specs.Volumed.{Volumed, piece_of}
 use Rattle.volume.specs.Whole.{IsWhole}
-use Rattle.volume.specs.Leaving.{place_of_snap}
+use Rattle.snapshots.specs.Finding.{place_of_snap}
 use Rattle.volume.specs.Submitting.{IsAsked}
 use Rattle.volume.proofs.Named.{dev_of_read, found_some, found_within, is_named, snap_read_goes}
 use Rattle.volume.proofs.Accepts.{if_ok, entered_accepted}
@@ -41,5 +42,5 @@ returns-clause-ok g c =
     let whole : IsWhole g.B.Block.contents g.B.Block.layers g.B.Block.size c.args.self.now = subst (IsWhole g.B.Block.contents g.B.Block.layers g.B.Block.size) c.self.view_is c.self.invariant in
     let route = c.read_route-route.ensures ∙ ap read_route_of c.place_of.ensures ∙ ap (λ (n : ℕ). read_route_of (place_of s.pairs (c.args.request.range.first / n))) c.piece.ensures.piece in
     if_ok c.enter.result _ _
-    (λ number e. entered_accepted g.B.Block.contents g.B.Block.layers c.args.request c.read_route-route.result number c.args.self.now c.enter.new.self e
+    (λ number e. entered_accepted g.B.Block.contents g.B.Block.layers c.args.request c.read_route-route.result number c.args.self.now c.enter.new.self (SnapRead c.args.id) c.requires.kind (λ n. refl) (λ n. refl) e
     (snap_read_submitted g.B.Block.contents g.B.Block.layers g.B.Block.size c.args.self.now whole c.args.request c.read_route-route.result number c.enter.new.self e c.args.id c.in-Some.k s named c.requires.kind route)) c.enter.ensures.ok

@@ -1,6 +1,7 @@
 -- The snapshot that is found is live, and the write goes where its chunk is, or waits for its copy.
 use Rattle.std.proofs.Common.{◌≡◌, ◌/◌, ℕ, List, length, slice_index_or, refl, sym, ◌∙◌, ap, subst, arith}
 use Rattle.model.specs.Picture.{place_of}
+use Rattle.pending.specs.declared.flights.Kind.TheVariants.{SnapWrite}
 use Rattle.pending.specs.Kinds.{kind_of, room_of}
 use Rattle.pending.specs.Routes.{read_route_of}
 use Rattle.plain.specs.declared.request.Request.{Request}
@@ -9,8 +10,9 @@ use Rattle.snapshot.specs.Kept.{Kept}
 use Rattle.volume.specs.Volumed.{Volumed, piece_of}
 use Rattle.pending.specs.declared.flights.Route.TheVariants.{Held}
 use Rattle.volume.specs.Whole.{IsWhole}
-use Rattle.volume.specs.Leaving.{place_of_snap}
-use Rattle.volume.specs.Submitting.{lacks, IsAsked}
+use Rattle.snapshots.specs.Finding.{place_of_snap}
+use Rattle.snapshots.specs.Starting.{lacks}
+use Rattle.volume.specs.Submitting.{IsAsked}
 use Rattle.volume.proofs.Named.{dev_of_write, found_within, is_named, index_same, snap_write_placed_goes, snap_write_held_goes}
 use Rattle.volume.proofs.Accepts.{if_ok, entered_accepted}
 use Rattle.volume.proofs.Submitted.{snap_placed_submitted, snap_waits_submitted}
@@ -54,7 +56,7 @@ returns-then-is_published-clause-ok g c =
     let whole : IsWhole g.B.Block.contents g.B.Block.layers g.B.Block.size c.args.self.now = subst (IsWhole g.B.Block.contents g.B.Block.layers g.B.Block.size) c.self.view_is c.self.invariant in
     let route = c.read_route-route.ensures ∙ ap read_route_of c.place_of.ensures ∙ ap (λ (x : Kept g.row.B.Denot). read_route_of (place_of x.pairs (c.args.request.range.first / c.piece.result))) at ∙ ap (λ (n : ℕ). read_route_of (place_of s.pairs n)) chunk in
     if_ok c.enter.result _ _
-    (λ number e. entered_accepted g.B.Block.contents g.B.Block.layers c.args.request c.read_route-route.result number c.args.self.now c.enter.new.self e
+    (λ number e. entered_accepted g.B.Block.contents g.B.Block.layers c.args.request c.read_route-route.result number c.args.self.now c.enter.new.self (SnapWrite c.args.id) c.requires.kind (λ n. refl) (λ n. refl) e
     (snap_placed_submitted g.B.Block.contents g.B.Block.layers g.B.Block.size c.args.self.now whole c.args.request c.read_route-route.result number c.enter.new.self e c.args.id c.in-Some.k s named c.requires.kind published route)) c.enter.ensures.ok
 
 pub returns-clause-ok : goal.returns-clause-ok
@@ -69,7 +71,7 @@ returns-clause-ok g c =
     let has = sym (ap (λ (x : Kept g.row.B.Denot). lacks (c.args.request.range.first / c.piece.result) x) at ∙ ap (λ (n : ℕ). lacks n s) chunk) ∙ sym c.if-is_lacking.ensures in
     let whole : IsWhole g.B.Block.contents g.B.Block.layers g.B.Block.size c.args.self.now = subst (IsWhole g.B.Block.contents g.B.Block.layers g.B.Block.size) c.self.view_is c.self.invariant in
     if_ok c.enter-2.result _ _
-    (λ number e. entered_accepted g.B.Block.contents g.B.Block.layers c.args.request Held number c.args.self.now c.enter-2.new.self e
+    (λ number e. entered_accepted g.B.Block.contents g.B.Block.layers c.args.request Held number c.args.self.now c.enter-2.new.self (SnapWrite c.args.id) c.requires.kind (λ n. refl) (λ n. refl) e
     (snap_waits_submitted g.B.Block.contents g.B.Block.layers g.B.Block.size c.args.self.now whole c.args.request Held number c.enter-2.new.self e c.args.id c.in-Some.k s named c.requires.kind published has refl)) c.enter-2.ensures.ok
 
 pub start_and_enter-requires-clause-lacking : goal.start_and_enter-requires-clause-lacking

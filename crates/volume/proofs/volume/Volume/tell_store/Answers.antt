@@ -1,7 +1,7 @@
 -- The store of the snapshot that is found answers for the volume.
 use Rattle.std.proofs.Common.{sym, ◌∙◌, ap, arith, Some, ◌≡◌}
 use Rattle.volume.specs.Volumed.{Volumed}
-use Rattle.volume.specs.Leaving.{place_of_snap}
+use Rattle.snapshots.specs.Finding.{place_of_snap}
 use Rattle.volume.specs.Layering.{Measures}
 use Rattle.volume.proofs.Named.{found_within}
 use Rattle.volume.proofs.Told.{store_answered, store_refused, store_whole, none_refused}

@@ -3,7 +3,7 @@ use Rattle.std.proofs.Common.{◌≡◌, ◌<◌, true, false, refl, sym, ◌∙
 use Rattle.device.specs.Layers.{is_loud}
 use Rattle.pending.specs.Routes.{refused_of}
 use Rattle.snapshot.specs.Kept.{Kept}
-use Rattle.volume.specs.Finding.{is_committing}
+use Rattle.snapshots.specs.Finding.{is_committing}
 use Rattle.volume.proofs.DueEvents.{due_by, snap_found, snap_due}
 use Rattle.volume.proofs.Spoilt.{spoilt_device}
 use Rattle.volume.proofs.StoreEvents.{commit_good, commit_fault, front_live, committing_front, committing_next, first_some, first_ready}

@@ -4,7 +4,7 @@ use Rattle.std.specs.List.{All}
 use Rattle.volume_laws.specs.Published.{is_clear}
 use Rattle.volume_laws.specs.Again.{again_of}
 use Rattle.snapshot.specs.Kept.{Kept, books_of}
-use Rattle.volume.specs.Finding.{is_trying}
+use Rattle.snapshots.specs.Finding.{is_trying}
 use Rattle.volume.proofs.DueEvents.{due_by, snap_found, snap_due}
 use Rattle.volume.proofs.Chunks.{chunks_set}
 use Rattle.volume.proofs.Tried.{tried_done, tried_fault}

@@ -1,0 +1,5 @@
+pub mod Lists
+pub mod Loads
+pub mod Sorts
+pub mod Places
+pub mod Tells

@@ -1,0 +1,5 @@
+pub mod Loaded
+pub mod Judged
+pub mod Sorted
+pub mod Listed
+pub mod Maps

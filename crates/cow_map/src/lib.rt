@@ -1,0 +1,21 @@
+//! The map of a store, read from an image: which chunks of the origin it has, and where; or why it is refused.
+#![tactic(auto)]
+
+mod failure;
+mod fault;
+mod finding;
+mod found;
+mod judging;
+mod map;
+mod reading;
+mod sorting;
+mod telling;
+
+pub use failure::Failure;
+pub use fault::Fault;
+pub use finding::place_in;
+pub use found::{Reason, Told};
+pub use judging::judge;
+pub use map::{CowMap, Usage};
+pub use reading::{Listed, MAX_IMAGE, read_pairs};
+pub use telling::{read_first, read_slots, read_store, sectors_of};

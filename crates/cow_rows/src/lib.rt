@@ -1,0 +1,15 @@
+//! Images of stores, read, judged, printed and exported.
+//!
+//! It stands on `cow_shown` and `cow_words` and has tests only, by values from outside: stores and origins as a Linux 6.x
+//! kernel wrote them, with the status line that it printed and the array that its snapshot device showed; each bit of a
+//! header and of its first slots flipped in turn, beside a slow plain judge; and each read that fails.
+#![tactic(auto)]
+
+#[cfg(test)]
+mod exports;
+#[cfg(test)]
+mod flips;
+#[cfg(test)]
+mod images;
+#[cfg(test)]
+mod shows;

@@ -1,0 +1,10 @@
+//! What a snapshot shows, read from the images of its origin and of its store, and written out. It stands on `image` and
+//! `cow_map`. It promises that what is written is the picture of the bytes that the images give, and that what was written
+//! before an error is a front of it.
+#![tactic(auto)]
+
+mod exporting;
+mod showing;
+
+pub use exporting::{Stopped, export};
+pub use showing::show_chunk;

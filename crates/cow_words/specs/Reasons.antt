@@ -1,0 +1,43 @@
+-- Why a store is refused, in words. They are this project's own.
+use Rattle.std.specs.Prelude.{ℕ, ◌*◌, ◌/◌, ◌%◌, List, ◌++◌, codes, decimal}
+use Rattle.sector.specs.Refusal.{name_of}
+use Rattle.sector.specs.declared.refusal.Refusal.{Refusal}
+use Rattle.sector.specs.declared.refusal.Refusal.TheVariants.{BadHeader, BadVersion, BadChunk, Invalid, StoreTooSmall, Damaged}
+use Rattle.cow_map.specs.declared.fault.Fault.{Fault}
+use Rattle.cow_map.specs.declared.fault.Fault.TheVariants.{PastOrigin, OutsideStore, AtArea, OldTwice, NewTwice, NoArea}
+use Rattle.cow_map.specs.declared.found.Reason.{Reason}
+use Rattle.cow_map.specs.declared.found.Reason.TheVariants.{Empty, Header, TooSmall, Pairs}
+
+-- the place of a slot, in a store whose areas have so many slots
+abbrev pub slot_text : ℕ → ℕ → List ℕ
+slot_text slots slot = codes "area " ++ decimal (slot / slots) ++ codes " slot " ++ decimal (slot % slots)
+
+-- what is wrong with the pairs, in a store whose areas have so many slots
+abbrev pub fault_text : ℕ → Fault → List ℕ
+fault_text slots (PastOrigin slot pair) = slot_text slots slot ++ codes ": old chunk " ++ decimal pair.old ++ codes " begins past the origin's end"
+fault_text slots (OutsideStore slot pair) = slot_text slots slot ++ codes ": new chunk " ++ decimal pair.new ++ codes " does not lie inside the store"
+fault_text slots (AtArea slot pair) = slot_text slots slot ++ codes ": new chunk " ++ decimal pair.new ++ codes " is an area's place"
+fault_text slots (OldTwice old) = codes "old chunk " ++ decimal old ++ codes " stands in more than one pair"
+fault_text slots (NewTwice new) = codes "new chunk " ++ decimal new ++ codes " stands in more than one pair"
+fault_text slots (NoArea area) = codes "area " ++ decimal area ++ codes " comes after full areas and does not lie inside the store"
+
+-- what is wrong with a first sector
+abbrev pub header_text : Refusal → List ℕ
+header_text BadHeader = codes "the store begins neither with zero nor with SnAp"
+header_text BadVersion = codes "the version is not 1"
+header_text BadChunk = codes "the chunk size is no power of two from 1 to 1024"
+header_text Invalid = codes "the store is marked as invalid"
+header_text _ = codes "the first sector is refused"
+
+abbrev pub reason_text : ℕ → Reason → List ℕ
+reason_text slots Empty = codes "the store has no sector"
+reason_text slots (Header refusal) = header_text refusal
+reason_text slots (TooSmall chunk) = codes "less than two chunks of " ++ decimal chunk ++ codes " sectors"
+reason_text slots (Pairs fault) = fault_text slots fault
+
+-- the refusal's name
+abbrev pub refused_name : Reason → List ℕ
+refused_name Empty = name_of StoreTooSmall
+refused_name (Header refusal) = name_of refusal
+refused_name (TooSmall chunk) = name_of StoreTooSmall
+refused_name (Pairs fault) = name_of Damaged

@@ -1,0 +1,25 @@
+-- What is printed of a store: lines of a key and a value. They are this project's own, but the status, which is as the
+-- kernel's admin-guide page on snapshots has it.
+use Rattle.std.specs.Prelude.{ℕ, ◌%◌, List, ◌++◌, codes, decimal, length}
+use Rattle.cow_map.specs.declared.found.Told.{Told}
+use Rattle.cow_map.specs.declared.found.Told.TheVariants.{Fresh, Refused, Written}
+use Rattle.cow_words.specs.declared.showing.Numbers.{Numbers}
+use Rattle.cow_words.specs.Reasons.{reason_text, refused_name}
+
+-- a line of a key and a number
+abbrev pub line_text : List ℕ → ℕ → List ℕ
+line_text key number = key ++ codes " " ++ decimal number ++ codes "\n"
+
+-- the four numbers of a header
+abbrev pub numbers_text : Numbers → List ℕ
+numbers_text n = line_text (codes "magic") n.magic ++ line_text (codes "valid") n.valid ++ line_text (codes "version") n.version ++ line_text (codes "chunk") n.chunk
+
+-- what a store holds, or why it is refused, where its areas have so many slots
+abbrev pub told_text : ℕ → Told → List ℕ
+told_text slots Fresh = codes "fresh\n"
+told_text slots (Refused reason) = codes "refused " ++ refused_name reason ++ codes "\nreason " ++ reason_text slots reason ++ codes "\n"
+told_text slots (Written map) = line_text (codes "pairs") (length map.pairs.items) ++ line_text (codes "area") map.current ++ line_text (codes "slot") (length map.pairs.items % slots)
+
+-- the numbers of a status line
+abbrev pub status_text : ℕ → ℕ → ℕ → List ℕ
+status_text allocated total metadata = codes "status " ++ decimal allocated ++ codes "/" ++ decimal total ++ codes " " ++ decimal metadata ++ codes "\n"

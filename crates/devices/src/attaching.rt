@@ -1,0 +1,96 @@
+// Snapshots: taken over an origin, and taken away again.
+ghost use Rattle.std.specs.Prelude.{◌≡◌, ◌<◌, length, nat_le, true, false, slice_get, None, IfOk};
+ghost use Rattle.named.specs.Changes.{Changes, Does};
+ghost use Rattle.named.specs.Disks.{device_count};
+ghost use Rattle.named.specs.Naming.{AreNamed};
+ghost use Rattle.named.specs.Places.{IsPlaceIn, place_of};
+ghost use Rattle.named.specs.Snapshots.{left_by, named_in, over, snapshot_by, snapshot_made};
+ghost use Rattle.named.specs.Sound.{is_sound};
+ghost use Rattle.named.specs.declared.place.Place.TheVariants.{In};
+ghost use Rattle.named.specs.declared.place.Role.TheVariants.{Snapshot};
+ghost use Rattle.devices.specs.Busy.{IsBusyRefused};
+ghost use Rattle.devices.specs.Devices.{named_at, table_of};
+ghost use Rattle.devices.specs.Ruled.{is_sound_for};
+
+use crate::back::put_stack_back;
+use crate::find::find;
+use crate::held::Held;
+use crate::lay::top;
+use crate::origins::same_size;
+use named::{Place, Role};
+use sector::Refusal;
+use std::alloc::Global;
+use words::Name;
+
+/// The volume whose origin stands on the device of a name.
+fn volume_over(held: &Held, name: &Name) -> Result<usize, Refusal>
+    ensures volume { result ≡ over (place_of name.now (table_of held.now)) }
+    ensures within { IfOk result (λ v. v < length held.now.volumes.items) }
+{
+    match find(held, name) {
+        Some(Place::In(v, Role::Under(0))) => Ok(v),
+        _ => Err(Refusal::NoSuchDevice),
+    }
+}
+
+/// A snapshot of a volume takes over a stack that nothing uses as its store.
+fn meet(
+    alloc: Global,
+    held: &mut Held,
+    name: Name,
+    chunk: u32,
+    v: usize,
+    i: usize,
+) -> Result<(), Refusal>
+    requires stack { i < length held.old.stacks.items }
+    requires volume { v < length held.old.volumes.items }
+    ensures done { is_sound_for (named_at v i (table_of held.old)) ≡ true → Does result (table_of held.new) (λ t. t ≡ table_of held.old) (snapshot_by name chunk (table_of held.old) (named_at v i (table_of held.old))) }
+    ensures busy { IsBusyRefused result (table_of held.old) (table_of held.new) (named_at v i (table_of held.old)) }
+    ensures named { place_of name (table_of held.old) ≡ None → nat_le 64 (device_count (table_of held.old)) ≡ false → AreNamed (table_of held.old) → AreNamed (table_of held.new) }
+{
+    let stack = held.stacks.remove(i);
+    match held.volumes[v].attach(alloc, name, stack, chunk) {
+        Ok(()) => Ok(()),
+        Err((refusal, stack)) => {
+            put_stack_back(&mut held.stacks, i, stack);
+            Err(refusal)
+        }
+    }
+}
+
+/// A snapshot of the origin on the device of a name, with the stack that another is the top of as its store.
+#[tactic(auto, unfolding(named::specs::Snapshots::snapshot_made, named::specs::Snapshots::named_in))]
+pub fn make_snapshot(
+    alloc: Global,
+    held: &mut Held,
+    name: Name,
+    sectors: u32,
+    device: &Name,
+    store: &Name,
+    chunk: u32,
+) -> Result<(), Refusal>
+    ensures done { is_sound_for (named_in sectors device.now store.now (table_of held.old)) ≡ true → Does result (table_of held.new) (λ t. t ≡ table_of held.old) (snapshot_made name sectors device.now store.now chunk (table_of held.old)) }
+    ensures busy { IsBusyRefused result (table_of held.old) (table_of held.new) (named_in sectors device.now store.now (table_of held.old)) }
+    ensures named { place_of name (table_of held.old) ≡ None → nat_le 64 (device_count (table_of held.old)) ≡ false → AreNamed (table_of held.old) → AreNamed (table_of held.new) }
+{
+    let v = volume_over(held, device)?;
+    let i = top(held, store)?;
+    same_size(sectors, u64::from(held.volumes[v].sectors()))?;
+    meet(alloc, held, name, chunk, v, i)
+}
+
+/// A snapshot goes, and nothing uses its store any more. `NotQuiet` where its volume has something left to do.
+pub fn detach(held: &mut Held, v: usize, k: usize) -> Result<(), Refusal>
+    requires { IsPlaceIn (In v (Snapshot k)) (table_of held.old) }
+    ensures done { Changes result (table_of held.old) (table_of held.new) (left_by v k (table_of held.old)) }
+    ensures sound { is_sound (table_of held.old) ≡ true → is_sound (table_of held.new) ≡ true }
+{
+    held.stacks.reserve(1).map_err(|_| Refusal::NoMemory)?;
+    match held.volumes[v].detach(k) {
+        Ok(stack) => {
+            held.stacks.push_reserved(stack);
+            Ok(())
+        }
+        Err(refusal) => Err(refusal),
+    }
+}

@@ -1,0 +1,5 @@
+pub mod Lists
+pub mod Around
+pub mod Clears
+pub mod Found
+pub mod Tied

@@ -1,0 +1,71 @@
+-- Which event is due first, as `volume_laws` has it: marks of spoiled snapshots, then what frees held writes, then the
+-- copies' own steps, and requests last; in each kind the least number.
+use Rattle.std.specs.Prelude.{◌==◌, ◌&&◌, not, ℕ, ◌+◌, ◌*◌, ◌/◌, ◌%◌, Bool, false, List, [], ◌∷◌, length, Option, None}
+use Rattle.std.specs.List.{list_any}
+use Rattle.plain.specs.declared.event.Event.{Event}
+use Rattle.plain.specs.declared.event.Event.TheVariants.{Issue, CopyRead, CopyWrite, ZeroNext, WriteArea, Publish, WriteInvalid}
+use Rattle.pending.specs.declared.copies.Stage.{Stage}
+use Rattle.pending.specs.declared.copies.Stage.TheVariants.{Waiting, Read, Written}
+use Rattle.pending.specs.declared.copies.Mark.{Mark}
+use Rattle.pending.specs.Kinds.{kind_of}
+use Rattle.pending.specs.Routes.{reads_origin_of}
+use Rattle.pending.specs.Due.{first_by, least, is_stage, is_routed, number_of_mark}
+use Rattle.volume_laws.specs.Due.{event_or}
+use Rattle.event_machine.specs.Held.{Copying, Held, Going, Moving, number_of, is_untried}
+
+-- the pair that is committed next fills its area, and the next area is not zeroed yet
+abbrev pub needs_area : Held → Bool
+needs_area h = ((length h.pairs + 1) % (32 * h.snap.chunk) == 0) && not h.zeroed
+
+abbrev pub is_front_written : List Copying → Bool
+is_front_written [] = false
+is_front_written (p ∷ copies) = is_stage Written p.stage
+
+abbrev pub can_commit : Held → Bool
+can_commit h = is_front_written h.copies && not (needs_area h)
+
+abbrev pub can_zero : Held → Bool
+can_zero h = is_front_written h.copies && needs_area h
+
+abbrev pub is_at : Stage → Copying → Bool
+is_at stage p = is_stage stage p.stage
+
+abbrev pub number_of_copying : Copying → ℕ
+number_of_copying p = p.number
+
+-- the number of a snapshot's first copy at a stage
+abbrev pub copy_at : Stage → Held → Option ℕ
+copy_at stage h = first_by (is_at stage) number_of_copying h.copies
+
+-- whether a request reads this chunk of the snapshot from the origin disk
+abbrev pub is_reading : Held → ℕ → Going → Bool
+is_reading h c r = (r.request.range.first / h.snap.chunk == c) && reads_origin_of h.snap.number (kind_of r.request) r.route
+
+abbrev pub is_publishable : List Going → Held → Mark → Bool
+is_publishable rs h m = not (list_any (is_reading h m.chunk) rs)
+
+-- the number of a snapshot's first mark that can be published
+abbrev pub publishable_in : List Going → Held → Option ℕ
+publishable_in rs h = first_by (is_publishable rs h) number_of_mark h.marks
+
+abbrev pub is_issuable : Going → Bool
+is_issuable r = is_routed r.route
+
+abbrev pub number_of_going : Going → ℕ
+number_of_going r = r.number
+
+-- the least of what each snapshot has
+abbrev pub least_in : (Held → Option ℕ) → List Held → Option ℕ
+least_in f [] = None
+least_in f (h ∷ snaps) = least (f h) (least_in f snaps)
+
+-- the first of these events that there is: an invalid mark, a publication, an area, zeros, a copy's write, a copy's read, a
+-- request
+abbrev pub chosen : Option ℕ → Option ℕ → Option ℕ → Option ℕ → Option ℕ → Option ℕ → Option ℕ → Option Event
+chosen invalid publish area zeros write read issue =
+    event_or invalid WriteInvalid (event_or publish Publish (event_or area WriteArea (event_or zeros ZeroNext (event_or write CopyWrite (event_or read CopyRead (event_or issue Issue None))))))
+
+abbrev pub due : Moving → Option Event
+due v =
+    chosen (first_by is_untried number_of v.snaps) (least_in (publishable_in v.requests) v.snaps) (first_by can_commit number_of v.snaps) (first_by can_zero number_of v.snaps)
+    (least_in (copy_at Read) v.snaps) (least_in (copy_at Waiting) v.snaps) (first_by is_issuable number_of_going v.requests)

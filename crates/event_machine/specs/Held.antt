@@ -1,0 +1,59 @@
+-- To be believed: `run`'s output, a volume's steps or its attach are said in these words.
+-- A volume with events: what it keeps of its snapshots, its copies and its requests beside its devices. No merge runs.
+use Rattle.std.specs.Prelude.{ℕ, Bool, false, true, List, [], Option}
+use Rattle.sector.specs.declared.pair.Pair.{Pair}
+use Rattle.plain.specs.declared.request.Request.{Request}
+use Rattle.plain.specs.declared.request.Reply.{Reply}
+use Rattle.pending.specs.declared.copies.Stage.{Stage}
+use Rattle.pending.specs.declared.copies.Mark.{Mark}
+use Rattle.pending.specs.declared.flights.Route.{Route}
+use Rattle.settled.specs.Devices.{Device}
+use Rattle.settled.specs.Snaps.{Snap}
+
+-- a copy that is not committed: its number, its pair, how far it is, and the bytes that were read, none while it waits
+pub record Copying : Type 0 where
+  pub number : ℕ
+  pub pair : Pair
+  pub stage : Stage
+  pub bytes : List ℕ
+
+-- A snapshot, and what is in memory of it. untried: it is spoiled, and its header was not yet marked. next: the place that
+-- is handed out next. zeroed: the area after the current one is zeroed. marks: of copies that are committed and not
+-- published.
+pub record Held : Type 0 where
+  pub snap : Snap
+  pub untried : Bool
+  pub pairs : List Pair
+  pub next : ℕ
+  pub zeroed : Bool
+  pub copies : List Copying
+  pub marks : List Mark
+
+-- a request in flight
+pub record Going : Type 0 where
+  pub number : ℕ
+  pub request : Request
+  pub route : Route
+
+-- The origin's device, the snapshots in order of attaching, the requests in flight, the last reply, and how many copies
+-- were started.
+pub record Moving : Type 0 where
+  pub origin : Device
+  pub snaps : List Held
+  pub requests : List Going
+  pub replied : Option Reply
+  pub started : ℕ
+
+abbrev pub number_of : Held → ℕ
+number_of h = h.snap.number
+
+abbrev pub is_untried : Held → Bool
+is_untried h = h.untried
+
+-- the snapshot with another device for its store
+abbrev pub with_store : Held → Device → Held
+with_store h store = record h { snap = record h.snap { store = store } }
+
+-- the snapshot is spoiled: its copies are dropped
+abbrev pub spoiled : Held → Held
+spoiled h = record h { snap = record h.snap { live = false }; untried = true; copies = []; marks = [] }

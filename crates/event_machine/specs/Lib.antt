@@ -1,0 +1,9 @@
+pub mod Held
+pub mod Due
+pub mod Again
+pub mod Stepping
+pub mod Submitting
+pub mod Rest
+pub mod Settles
+pub mod Requests
+pub mod Seen

@@ -1,0 +1,28 @@
+-- A volume between two requests.
+use Rattle.std.specs.Prelude.{◌≡◌, ℕ, ◌*◌, true, false, [], length}
+use Rattle.std.specs.List.{All}
+use Rattle.model.specs.Pairs.{pairs_of}
+use Rattle.settled.specs.Saves.{next_of}
+use Rattle.settled.specs.Order.{IsInOrder}
+use Rattle.event_machine.specs.Held.{Held, Moving}
+
+-- A live snapshot of an origin of so many sectors: its store is in order, its pairs and its next place are those of the
+-- store's bytes, and no area is zeroed ahead.
+pub record IsKept (sectors : ℕ) (h : Held) : Type 0 where
+  pub order : (size : ℕ) × IsInOrder h.snap.chunk sectors size h.snap.store.bytes
+  pub pairs : pairs_of h.snap.chunk h.snap.store.bytes ≡ h.pairs
+  pub next : h.next ≡ next_of h.snap.chunk h.pairs
+  pub zeroed : h.zeroed ≡ false
+
+-- a snapshot of which nothing is under way
+pub record IsResting (sectors : ℕ) (h : Held) : Type 0 where
+  pub tried : h.untried ≡ false
+  pub copies : h.copies ≡ []
+  pub marks : h.marks ≡ []
+  pub live : h.snap.live ≡ true → IsKept sectors h
+
+-- a volume of so many sectors with no request in flight
+pub record IsAtRest (sectors : ℕ) (v : Moving) : Type 0 where
+  pub whole : length v.origin.bytes ≡ 512 * sectors
+  pub snaps : All (IsResting sectors) v.snaps
+  pub requests : v.requests ≡ []

@@ -1,0 +1,63 @@
+-- What a volume keeps, as `volume_laws` has it, seen as the machine of this crate: without the buffers of copies that wait
+-- and of reads in flight.
+use Rattle.std.specs.Prelude.{◌≡◌, ℕ, Bool, true, List, [], Option, Some, map, if◌then◌else◌}
+use Rattle.device.specs.Layers.{Layer}
+use Rattle.plain.specs.declared.event.Outcome.{Outcome}
+use Rattle.plain.specs.declared.event.Outcome.TheVariants.{Done, Fault, Reply as Replied}
+use Rattle.plain.specs.declared.request.Reply.{Reply}
+use Rattle.pending.specs.declared.copies.ChunkCopy.{ChunkCopy}
+use Rattle.pending.specs.declared.copies.Stage.TheVariants.{Waiting}
+use Rattle.pending.specs.declared.flights.Flight.{Flight}
+use Rattle.pending.specs.Due.{is_stage, front_written}
+use Rattle.volume_laws.specs.Due.{DueSnap}
+use Rattle.settled.specs.Devices.{Device}
+use Rattle.event_machine.specs.Held.{Copying, Held, Going, Moving}
+use Rattle.event_machine.specs.Due.{needs_area}
+
+-- a snapshot: its books and what is due of it, its store's layers, whether the store is stale, and its next place
+pub record Seen : Type 0 where
+  pub due : DueSnap
+  pub layers : List Layer
+  pub stale : Bool
+  pub next : ℕ
+
+abbrev pub copying_of : ChunkCopy → Copying
+copying_of p = record { number = p.number; pair = p.pair; stage = p.stage; bytes = if is_stage Waiting p.stage then [] else p.buffer.items }
+
+abbrev pub going_of : Flight → Going
+going_of f = record { number = f.number; request = f.request; route = f.route }
+
+abbrev pub held_of : Seen → Held
+held_of s = record {
+  snap = record {
+    number = s.due.books.number;
+    chunk = s.due.books.chunk;
+    live = s.due.books.live;
+    stale = s.stale;
+    store = record { bytes = s.due.books.store; layers = s.layers };
+  };
+  untried = s.due.books.untried;
+  pairs = s.due.books.pairs;
+  next = s.next;
+  zeroed = s.due.zeroed;
+  copies = map copying_of s.due.books.copies;
+  marks = s.due.books.marks;
+}
+
+abbrev pub due_in : Seen → DueSnap
+due_in s = s.due
+
+-- a volume over its origin's device, with the reply that was last given and the count of the copies that were started
+abbrev pub moving_of : Device → List Seen → List Flight → Option Reply → ℕ → Moving
+moving_of origin snaps flights replied started =
+    record { origin = origin; snaps = map held_of snaps; requests = map going_of flights; replied = replied; started = started }
+
+-- the last reply after an event with this outcome
+abbrev pub replied_by : Outcome → Option Reply → Option Reply
+replied_by Done before = before
+replied_by Fault before = before
+replied_by (Replied number reply) before = Some reply
+
+-- where its first copy is written, it needs the next area as its pairs say
+abbrev pub NeedsAsSeen : Seen → Type 0
+NeedsAsSeen s = front_written s.due.books.copies ≡ true → s.due.needs ≡ needs_area (held_of s)

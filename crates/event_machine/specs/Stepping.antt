@@ -1,0 +1,164 @@
+-- What each event does to the devices and to what is in memory: one table decision, or one operation of one device. This
+-- project's own; each step of a copy is one that the kernel's snapshot target does.
+use Rattle.std.specs.Prelude.{◌==◌, ◌&&◌, not, ℕ, ◌+◌, ◌*◌, ◌/◌, ◌%◌, Bool, true, false, List, [], ◌∷◌, ◌++◌, length, Option, Some, None, map, if◌then◌else◌}
+use Rattle.std.specs.List.{list_any}
+use Rattle.sector.specs.Bytes.{sectors_at, with_sectors}
+use Rattle.device.specs.declared.operation.Operation.{Operation}
+use Rattle.device.specs.declared.operation.Operation.TheVariants.{Reads, Writes}
+use Rattle.plain.specs.declared.event.Event.{Event}
+use Rattle.plain.specs.declared.event.Event.TheVariants.{Issue, CopyRead, CopyWrite, ZeroNext, WriteArea, Publish, WriteInvalid}
+use Rattle.plain.specs.declared.request.Dev.{Dev}
+use Rattle.plain.specs.declared.request.Dev.TheVariants.{Origin as ToOrigin, Snap as ToSnap}
+use Rattle.plain.specs.declared.request.Op.{Op}
+use Rattle.plain.specs.declared.request.Op.TheVariants.{Read as ReadOp, Write as WriteOp}
+use Rattle.plain.specs.declared.request.Reply.{Reply}
+use Rattle.plain.specs.declared.request.Reply.TheVariants.{Written as Done, Refused as Declined}
+use Rattle.plain.specs.declared.request.Failure.TheVariants.{Invalid, Io}
+use Rattle.model.specs.Places.{area_place}
+use Rattle.pending.specs.Copies.{count_of}
+use Rattle.pending.specs.declared.copies.Stage.{Stage}
+use Rattle.pending.specs.declared.copies.Stage.TheVariants.{Waiting, Read, Written}
+use Rattle.pending.specs.declared.copies.Mark.{Mark}
+use Rattle.pending.specs.declared.flights.Route.{Route}
+use Rattle.pending.specs.declared.flights.Route.TheVariants.{Held as Waits, Origin, Store, Refused}
+use Rattle.settled.specs.Saves.{marked, paired, zeroed}
+use Rattle.settled.specs.Devices.{Device, sectors_of, answers, met, written_by, read_reply}
+use Rattle.settled.specs.Saving.{lacks_area}
+use Rattle.event_machine.specs.Held.{Copying, Held, Going, Moving, with_store, spoiled}
+use Rattle.event_machine.specs.Due.{can_commit, can_zero, is_at, is_publishable, is_issuable}
+use Rattle.event_machine.specs.Again.{placed, refused, rerouted}
+
+-- what is done with something, if it is there
+abbrev pub for_some : {X : Type 0} → Option X → (X → Moving) → Moving → Moving
+for_some None f otherwise = otherwise
+for_some (Some x) f otherwise = f x
+
+-- the first element that passes a test, and a list with another in its place
+abbrev pub first_that : {X : Type 0} → (X → Bool) → List X → Option X
+first_that test [] = None
+first_that test (x ∷ xs) = if test x then Some x else first_that test xs
+
+abbrev pub with_first : {X : Type 0} → (X → Bool) → X → List X → List X
+with_first test y [] = []
+with_first test y (x ∷ xs) = if test x then y ∷ xs else x ∷ with_first test y xs
+
+abbrev pub without_first : {X : Type 0} → (X → Bool) → List X → List X
+without_first test [] = []
+without_first test (x ∷ xs) = if test x then xs else x ∷ without_first test xs
+
+-- the snapshot that passed the test becomes another
+abbrev pub put : (Held → Bool) → Held → Moving → Moving
+put test h v = record v { snaps = with_first test h v.snaps }
+
+-- or is spoiled: its requests are refused
+abbrev pub spoil : (Held → Bool) → Held → Moving → Moving
+spoil test h v = record v { snaps = with_first test (spoiled h) v.snaps; requests = map (refused h.snap.number) v.requests }
+
+-- an operation that leaves its store with these bytes; where that fails it is spoiled
+abbrev pub store_write : (Held → Bool) → Held → Operation → List ℕ → (Held → Held) → Moving → Moving
+store_write test h op bytes next v =
+    let after : Held = with_store h (written_by h.snap.store op bytes) in
+    if answers h.snap.store op then put test (next after) v else spoil test after v
+
+-- a copy's chunk is read from the origin disk
+abbrev pub read_copy : (Held → Bool) → (Copying → Bool) → Held → Copying → Moving → Moving
+read_copy test mine h p v =
+    let count : ℕ = count_of h.snap.chunk (sectors_of v.origin) p.pair.old in
+    let op : Operation = Reads (h.snap.chunk * p.pair.old) count in
+    let read : Copying = record p { stage = Read; bytes = sectors_at v.origin.bytes (h.snap.chunk * p.pair.old) count } in
+    let w : Moving = record v { origin = met v.origin op } in
+    if answers v.origin op then put test (record h { copies = with_first mine read h.copies }) w else spoil test h w
+
+-- it is written to its place
+abbrev pub write_copy : (Held → Bool) → (Copying → Bool) → Held → Copying → Moving → Moving
+write_copy test mine h p v =
+    store_write test h (Writes (h.snap.chunk * p.pair.new) (count_of h.snap.chunk (sectors_of v.origin) p.pair.old)) (with_sectors h.snap.store.bytes (h.snap.chunk * p.pair.new) p.bytes)
+    (λ after. record after { copies = with_first mine (record p { stage = Written }) after.copies }) v
+
+-- the area after the current one is zeroed; a store that lacks it is spoiled
+abbrev pub zero_next : (Held → Bool) → Held → Moving → Moving
+zero_next test h v =
+    let a : ℕ = (length h.pairs + 1) / (32 * h.snap.chunk) in
+    if lacks_area a h.snap then spoil test h v
+    else store_write test h (Writes (h.snap.chunk * area_place h.snap.chunk a) h.snap.chunk) (zeroed h.snap.chunk h.snap.store.bytes a) (λ after. record after { zeroed = true }) v
+
+-- the first copy is committed
+abbrev pub commit_first : (Held → Bool) → Held → List Copying → Moving → Moving
+commit_first test h [] v = v
+commit_first test h (p ∷ copies) v =
+    let k : ℕ = length h.pairs in
+    let mark : Mark = record { number = p.number; chunk = p.pair.old } in
+    store_write test h (Writes (h.snap.chunk * area_place h.snap.chunk (k / (32 * h.snap.chunk))) h.snap.chunk) (paired h.snap.chunk h.snap.store.bytes k p.pair)
+    (λ after. record after { pairs = after.pairs ++ p.pair ∷ []; copies = copies; marks = after.marks ++ mark ∷ []; zeroed = after.zeroed && not ((k + 1) % (32 * after.snap.chunk) == 0) }) v
+
+-- a mark is taken away: held writes of the snapshot are routed again, and then those of the origin
+abbrev pub publish : (Held → Bool) → (Mark → Bool) → Held → Moving → Moving
+publish test mine h v =
+    let after : Held = record h { marks = without_first mine h.marks } in
+    rerouted (record v { snaps = with_first test after v.snaps; requests = map (placed after) v.requests })
+
+-- a spoiled snapshot's header is marked invalid: the mark is tried, whatever became of it
+abbrev pub mark_invalid : (Held → Bool) → Held → Moving → Moving
+mark_invalid test h v =
+    let op : Operation = Writes 0 h.snap.chunk in
+    let store : Device = written_by h.snap.store op (marked h.snap.chunk h.snap.store.bytes) in
+    rerouted (put test (record h { snap = record h.snap { store = store; stale = not (answers h.snap.store op) }; untried = false }) v)
+
+-- a request is answered
+abbrev pub answer : (Going → Bool) → Reply → Moving → Moving
+answer mine reply v = record v { requests = without_first mine v.requests; replied = Some reply }
+
+-- the reply of a write
+abbrev pub write_reply : Device → ℕ → ℕ → Reply
+write_reply device first count = if answers device (Writes first count) then Done else Declined Io
+
+-- a request of the origin disk
+abbrev pub on_disk : Op → ℕ → ℕ → (Going → Bool) → Moving → Moving
+on_disk ReadOp first count mine v = answer mine (read_reply v.origin first count) (record v { origin = met v.origin (Reads first count) })
+on_disk (WriteOp bytes) first count mine v =
+    answer mine (write_reply v.origin first count) (record v { origin = written_by v.origin (Writes first count) (with_sectors v.origin.bytes first bytes) })
+
+-- of a snapshot's store
+abbrev pub on_store : Op → ℕ → ℕ → (Going → Bool) → (Held → Bool) → Held → Moving → Moving
+on_store ReadOp first count mine test h v = answer mine (read_reply h.snap.store first count) (put test (with_store h (met h.snap.store (Reads first count))) v)
+on_store (WriteOp bytes) first count mine test h v =
+    answer mine (write_reply h.snap.store first count) (put test (with_store h (written_by h.snap.store (Writes first count) (with_sectors h.snap.store.bytes first bytes))) v)
+
+-- of the chunk `place` of the store of a request's snapshot
+abbrev pub on_place : Dev → Op → ℕ → ℕ → ℕ → (Going → Bool) → Moving → Moving
+on_place ToOrigin op place first count mine v = v
+on_place (ToSnap n) op place first count mine v =
+    for_some (first_that (λ h. h.snap.number == n) v.snaps) (λ h. on_store op (h.snap.chunk * place + first % h.snap.chunk) count mine (λ k. k.snap.number == n) h v) v
+
+-- a request goes where its route says
+abbrev pub issue : Route → (Going → Bool) → Going → Moving → Moving
+issue Waits mine r v = v
+issue Origin mine r v = on_disk r.request.op r.request.range.first r.request.range.count mine v
+issue (Store place) mine r v = on_place r.request.dev r.request.op place r.request.range.first r.request.range.count mine v
+issue Refused mine r v = answer mine (Declined Invalid) v
+
+-- whether a copy has this number and stage
+abbrev pub is_copy : Stage → ℕ → Copying → Bool
+is_copy stage n p = (p.number == n) && is_at stage p
+
+-- an event of a copy
+abbrev pub on_copy : Stage → ℕ → ((Held → Bool) → (Copying → Bool) → Held → Copying → Moving → Moving) → Moving → Moving
+on_copy stage n f v =
+    for_some (first_that (λ h. list_any (is_copy stage n) h.copies) v.snaps)
+    (λ h. for_some (first_that (is_copy stage n) h.copies) (λ p. f (λ k. list_any (is_copy stage n) k.copies) (is_copy stage n) h p v) v) v
+
+-- an event of a snapshot
+abbrev pub on_snap : (Held → Bool) → ((Held → Bool) → Held → Moving → Moving) → Moving → Moving
+on_snap test f v = for_some (first_that test v.snaps) (λ h. f test h v) v
+
+-- an event that is due; any other changes nothing
+abbrev pub stepped : Event → Moving → Moving
+stepped (WriteInvalid n) v = on_snap (λ h. (h.snap.number == n) && h.untried) mark_invalid v
+stepped (Publish n) v =
+    on_snap (λ h. list_any (λ m. (m.number == n) && is_publishable v.requests h m) h.marks) (λ test h. publish test (λ m. m.number == n) h) v
+stepped (WriteArea n) v = on_snap (λ h. (h.snap.number == n) && can_commit h) (λ test h. commit_first test h h.copies) v
+stepped (ZeroNext n) v = on_snap (λ h. (h.snap.number == n) && can_zero h) zero_next v
+stepped (CopyWrite n) v = on_copy Read n write_copy v
+stepped (CopyRead n) v = on_copy Waiting n read_copy v
+stepped (Issue n) v = for_some (first_that (λ r. (r.number == n) && is_issuable r) v.requests) (λ r. issue r.route (λ k. k.number == n) r v) v
+stepped event v = v

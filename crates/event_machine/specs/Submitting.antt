@@ -1,0 +1,101 @@
+-- A request is submitted: it is routed, and the copies that it waits for are started. This project's own.
+use Rattle.std.specs.Prelude.{◌==◌, ◌||◌, not, ℕ, ◌+◌, ◌*◌, ◌/◌, nat_lt, is_some, Bool, false, List, [], ◌∷◌, ◌++◌, length, map, Option, Some, None, if◌then◌else◌}
+use Rattle.std.specs.List.{list_any}
+use Rattle.plain.specs.declared.request.Request.{Request}
+use Rattle.plain.specs.declared.request.Reply.TheVariants.{Refused as Declined}
+use Rattle.plain.specs.declared.request.Failure.TheVariants.{Invalid}
+use Rattle.model.specs.NextPlace.{stepped as stepped_place}
+use Rattle.model.specs.Picture.{place_of}
+use Rattle.pending.specs.Kinds.{kind_of}
+use Rattle.pending.specs.Routes.{read_route_of, write_route_of}
+use Rattle.pending.specs.declared.copies.Stage.TheVariants.{Waiting}
+use Rattle.pending.specs.declared.flights.Kind.{Kind}
+use Rattle.pending.specs.declared.flights.Kind.TheVariants.{OriginRead, OriginWrite, SnapRead, SnapWrite}
+use Rattle.pending.specs.declared.flights.Route.{Route}
+use Rattle.pending.specs.declared.flights.Route.TheVariants.{Held as Waits, Origin, Store}
+use Rattle.volume_laws.specs.Again.{published_place}
+use Rattle.event_machine.specs.Held.{Held, Going, Moving, spoiled}
+use Rattle.event_machine.specs.Again.{is_clear, refused}
+use Rattle.event_machine.specs.Stepping.{for_some, first_that, put, spoil}
+
+-- whether the next place is not wholly inside the store
+abbrev pub is_filled : Held → Bool
+is_filled h = nat_lt (length h.snap.store.bytes) (512 * (h.snap.chunk * (h.next + 1)))
+
+-- a copy of chunk c under a number
+abbrev pub with_copy : ℕ → ℕ → Held → Held
+with_copy number c h = record h {
+  next = stepped_place h.snap.chunk (h.next + 1);
+  copies = h.copies ++ (record { number = number; pair = record { old = c; new = h.next }; stage = Waiting; bytes = [] }) ∷ [];
+}
+
+-- whether a snapshot needs no copy of chunk c: it is not live, or has the chunk, or a copy of it is under way
+abbrev pub needs_none : ℕ → Held → Bool
+needs_none c h = not h.snap.live || is_some (place_of h.pairs c) || list_any (λ p. p.pair.old == c) h.copies
+
+-- A copy of the chunk of the origin's sector `first` is started in each live snapshot that lacks it, under the number after
+-- `started`, and so on; a snapshot whose store is full is spoiled.
+abbrev pub started_all : ℕ → ℕ → List Held → List Held
+started_all first started [] = []
+started_all first started (h ∷ snaps) =
+    if needs_none (first / h.snap.chunk) h then h ∷ started_all first started snaps
+    else (if is_filled h then spoiled h ∷ started_all first started snaps
+    else with_copy (started + 1) (first / h.snap.chunk) h ∷ started_all first (started + 1) snaps)
+
+-- how many copies were started then
+abbrev pub started_by : ℕ → ℕ → List Held → ℕ
+started_by first started [] = started
+started_by first started (h ∷ snaps) =
+    if needs_none (first / h.snap.chunk) h || is_filled h then started_by first started snaps else started_by first (started + 1) snaps
+
+-- the requests in flight: those of the snapshots that are spoiled are refused
+abbrev pub refused_by : ℕ → List Held → List Going → List Going
+refused_by first [] requests = requests
+refused_by first (h ∷ snaps) requests =
+    if needs_none (first / h.snap.chunk) h || not (is_filled h) then refused_by first snaps requests else refused_by first snaps (map (refused h.snap.number) requests)
+
+-- a request that is accepted
+abbrev pub accepted : ℕ → Request → Route → Moving → Moving
+accepted number request route v = record v { requests = v.requests ++ (record { number = number; request = request; route = route }) ∷ [] }
+
+-- one that is refused
+abbrev pub declined : Moving → Moving
+declined v = record v { replied = Some (Declined Invalid) }
+
+abbrev pub write_origin : ℕ → Request → Moving → Moving
+write_origin number request v =
+    let first : ℕ = request.range.first in
+    let snaps : List Held = started_all first v.started v.snaps in
+    accepted number request (write_route_of false None (is_clear snaps first))
+    (record v { snaps = snaps; requests = refused_by first v.snaps v.requests; started = started_by first v.started v.snaps })
+
+abbrev pub read_snap : ℕ → Request → Held → Moving → Moving
+read_snap number request h v =
+    if h.snap.live then accepted number request (read_route_of (place_of h.pairs (request.range.first / h.snap.chunk))) v else declined v
+
+-- a write of a live snapshot that has not published its chunk waits for the copy
+abbrev pub write_held : ℕ → Request → (Held → Bool) → Held → Moving → Moving
+write_held number request test h v =
+    let c : ℕ = request.range.first / h.snap.chunk in
+    if needs_none c h then accepted number request Waits v
+    else (if is_filled h then declined (spoil test h v) else accepted number request Waits (put test (with_copy (v.started + 1) c h) (record v { started = v.started + 1 })))
+
+-- by the place of the chunk, where that is published
+abbrev pub write_placed : ℕ → Request → (Held → Bool) → Held → Option ℕ → Moving → Moving
+write_placed number request test h (Some place) v = accepted number request (Store place) v
+write_placed number request test h None v = write_held number request test h v
+
+abbrev pub write_snap : ℕ → Request → (Held → Bool) → Held → Moving → Moving
+write_snap number request test h v =
+    if h.snap.live then write_placed number request test h (published_place h.pairs h.marks (request.range.first / h.snap.chunk)) v else declined v
+
+abbrev pub submitted_as : Kind → ℕ → Request → Moving → Moving
+submitted_as OriginRead number request v = accepted number request Origin v
+submitted_as OriginWrite number request v = write_origin number request v
+submitted_as (SnapRead n) number request v = for_some (first_that (λ h. h.snap.number == n) v.snaps) (λ h. read_snap number request h v) (declined v)
+submitted_as (SnapWrite n) number request v =
+    for_some (first_that (λ h. h.snap.number == n) v.snaps) (λ h. write_snap number request (λ k. k.snap.number == n) h v) (declined v)
+
+-- a request under a number
+abbrev pub submitted : ℕ → Request → Moving → Moving
+submitted number request v = submitted_as (kind_of request) number request v

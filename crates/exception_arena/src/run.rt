@@ -1,0 +1,49 @@
+// Runs of pairs: what a node holds.
+ghost use Rattle.std.specs.Prelude.{◌≡◌, ℕ, ◌+◌, ◌<◌, ◌≤◌, MatchBool};
+ghost use Rattle.model.specs.Picture.{place_of};
+ghost use Rattle.exception_arena.specs.Runs.{pair_after, pairs_in, IsRun, GoesOn, or_else};
+
+use sector::{Chunk, Pair};
+
+/// So many old chunks share a bucket, and a run lies within such a block: it never goes past a multiple of this. The
+/// kernel's table of exceptions keeps as many together.
+pub const BLOCK: u64 = 256;
+
+/// Pairs both chunks of which rise by one: the first of them, and how many they are.
+#[derive(Clone, Copy, Debug, PartialEq, Eq)]
+pub struct Run {
+    pub first: Pair,
+    pub count: u64,
+}
+
+/// Whether a pair comes next after a run, in one block with it.
+pub fn goes_on(run: Run, pair: Pair) -> bool
+    ensures { MatchBool result (GoesOn run pair) (GoesOn run pair → ⊥) }
+{
+    !pair.old.is_multiple_of(BLOCK)
+        && run.first.old.checked_add(run.count) == Some(pair.old)
+        && run.first.new.checked_add(run.count) == Some(pair.new)
+}
+
+/// A pair of a run, counted from 0.
+pub fn pair_in(run: Run, index: u64) -> Pair
+    requires run { IsRun run }
+    requires within { index < run.count }
+    ensures { result ≡ pair_after run.first index }
+{
+    Pair {
+        old: run.first.old + index,
+        new: run.first.new + index,
+    }
+}
+
+/// The new chunk of the run's pair that names the chunk, and else the one that was found before.
+pub fn copy_of(run: Run, old_chunk: Chunk, found: Option<Chunk>) -> Option<Chunk>
+    requires { IsRun run }
+    ensures { result ≡ or_else (place_of (pairs_in run) old_chunk) found }
+{
+    match old_chunk.checked_sub(run.first.old) {
+        Some(after) if after < run.count => Some(run.first.new + after),
+        _ => found,
+    }
+}

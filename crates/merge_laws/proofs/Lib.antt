@@ -1,0 +1,12 @@
+pub mod MergeSaves
+pub mod MergeRuns
+pub mod MergeCopies
+pub mod MergeShows
+pub mod MergeEnds
+pub mod MergeBegins
+pub mod MergeServes
+pub mod Undoes
+pub mod MergeLaws
+pub mod MergeCommands
+pub mod MergeFaultless
+pub mod MergeReads

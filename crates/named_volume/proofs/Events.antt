@@ -1,0 +1,67 @@
+-- What a call did to the volume of events, as the volume with names shows it.
+use Rattle.std.proofs.Common.{◌≡◌, ◌≢◌, ℕ, true, false, List, refl, sym, ap, ◌∙◌, subst}
+use Rattle.std.specs.Prelude.{MatchResult, Result, Ok, Err, IfOk, IfErr, OnOk, OnErr, is_ok}
+use Rattle.sector.specs.declared.range.Range.{Range}
+use Rattle.sector.specs.declared.refusal.Refusal.{Refusal}
+use Rattle.chunk.specs.Pieces.{Span, span_of}
+use Rattle.layers.specs.declared.stack.Stack.{Stack}
+use Rattle.layers.specs.Stack.{stack_contents, stack_layers, stack_size}
+use Rattle.plain.specs.declared.request.Dev.{Dev}
+use Rattle.plain.specs.declared.request.Op.{Op}
+use Rattle.plain.specs.declared.request.Request.{Request}
+use Rattle.volume.specs.Volumed.{Volumed}
+use Rattle.volume.specs.Leaving.{is_quiet_of}
+use Rattle.volume.specs.Submitting.{IsAcceptedAs, IsRefusedAs}
+use Rattle.plain.specs.declared.request.Replied.{Replied}
+use Rattle.resting.specs.Rested.{Rested, rested_of}
+use Rattle.resting.specs.Flying.{IsWhole}
+use Rattle.resting.specs.Among.{AreReadAmong, AreWrittenAmong, IsReadRefusedAmong, IsWriteRefusedAmong, pieces_among}
+use Rattle.named.specs.State.{Volume}
+use Rattle.named.specs.Sectors.{Asked}
+use Rattle.named_volume.specs.Held.{flying_in, settled_in}
+use Rattle.named_volume.specs.Flights.{IsBehind, InEvents, IsStarted, IsNotStarted, IsReadServed, IsWriteServed}
+
+-- the volume of events that stands behind
+pub behind : (before : Rested Stack) (volume : Volume) → IsWhole before → volume.state ≡ settled_in before → volume.quiet ≡ is_quiet_of before.events → volume.flying ≡ flying_in before.events → IsBehind before.events volume
+behind before volume whole state quiet flying = record { state = state ∙ ap settled_in whole; quiet = quiet; flying = flying }
+
+module _ (before after : Rested Stack) (old new : Volume) (was : IsBehind before.events old) (is : IsBehind after.events new) (dev : Dev) (range : Range) (asked : Result Asked Refusal) (asks : asked ≡ Ok (record { dev = dev; span = span_of range })) where
+  -- a request that is started, or isn't
+  pub started : (op : Op) (r : Result ℕ Refusal) → IfOk r (λ number. IsAcceptedAs stack_contents stack_layers (record { dev = dev; op = op; range = range }) number before.events after.events) → IfOk r (λ number. IfOk asked (IsStarted op number old new))
+  started op (Err e) did = tt
+  started op (Ok number) did =
+      let P : Result Asked Refusal → Type 0 = λ x. IfOk x (IsStarted op number old new) in
+      subst P (sym asks) (record { before = before.events; after = after.events; was = was; is = is; did = (record { dev = dev; op = op; range = range }, record { dev_is = refl; op_is = refl; range_is = refl }, did) })
+
+  pub not_started : (op : Op) (r : Result ℕ Refusal) → IfErr r (λ e. IsRefusedAs stack_contents stack_layers stack_size (record { dev = dev; op = op; range = range }) e before.events after.events) → IfErr r (λ e. IfOk asked (IsNotStarted op e old new))
+  not_started op (Ok number) did = tt
+  not_started op (Err e) did =
+      let P : Result Asked Refusal → Type 0 = λ x. IfOk x (IsNotStarted op e old new) in
+      subst P (sym asks) (record { before = before.events; after = after.events; was = was; is = is; did = (record { dev = dev; op = op; range = range }, record { dev_is = refl; op_is = refl; range_is = refl }, did) })
+
+  module _ (whole_before : IsWhole before) (whole_after : IsWhole after) (earlier later : List Replied) where
+    -- what was read among requests in flight
+    pub read_served : (r : Result (List ℕ) Refusal) → IfOk r (λ bytes. AreReadAmong stack_contents stack_layers dev (pieces_among (span_of range) before) bytes before.events after.events earlier later)
+        → IfErr r (λ e. IsReadRefusedAmong stack_contents stack_layers stack_size dev (pieces_among (span_of range) before) e before after earlier later)
+        → IfOk asked (IsReadServed r earlier later old new)
+    read_served (Ok bytes) did why =
+        let P : Result Asked Refusal → Type 0 = λ x. IfOk x (IsReadServed (Ok bytes) earlier later old new) in
+        subst P (sym asks) (record { before = before.events; after = after.events; was = was; is = is; did = did })
+    read_served (Err e) did why =
+        let P : Result Asked Refusal → Type 0 = λ x. IfOk x (IsReadServed (Err e) earlier later old new) in
+        let F : Rested Stack → Type 0 = λ x. IsReadRefusedAmong stack_contents stack_layers stack_size dev (pieces_among (span_of range) before) e x after earlier later in
+        let G : Rested Stack → Type 0 = λ y. IsReadRefusedAmong stack_contents stack_layers stack_size dev (pieces_among (span_of range) before) e (rested_of before.events) y earlier later in
+        subst P (sym asks) (record { before = before.events; after = after.events; was = was; is = is; did = subst G whole_after (subst F whole_before why) })
+
+    -- and what was written
+    pub write_served : (bytes : List ℕ) (r : Result (Unit {0}) Refusal) → OnOk r (AreWrittenAmong stack_contents stack_layers dev (pieces_among (span_of range) before) bytes before.events after.events earlier later)
+        → IfErr r (λ e. IsWriteRefusedAmong stack_contents stack_layers stack_size dev (pieces_among (span_of range) before) bytes e before after earlier later)
+        → IfOk asked (IsWriteServed bytes r earlier later old new)
+    write_served bytes (Ok unit) did why =
+        let P : Result Asked Refusal → Type 0 = λ x. IfOk x (IsWriteServed bytes (Ok unit) earlier later old new) in
+        subst P (sym asks) (record { before = before.events; after = after.events; was = was; is = is; did = did })
+    write_served bytes (Err e) did why =
+        let P : Result Asked Refusal → Type 0 = λ x. IfOk x (IsWriteServed bytes (Err e) earlier later old new) in
+        let F : Rested Stack → Type 0 = λ x. IsWriteRefusedAmong stack_contents stack_layers stack_size dev (pieces_among (span_of range) before) bytes e x after earlier later in
+        let G : Rested Stack → Type 0 = λ y. IsWriteRefusedAmong stack_contents stack_layers stack_size dev (pieces_among (span_of range) before) bytes e (rested_of before.events) y earlier later in
+        subst P (sym asks) (record { before = before.events; after = after.events; was = was; is = is; did = subst G whole_after (subst F whole_before why) })

@@ -1,0 +1,82 @@
+-- What calls do to a volume whatever is in flight in it: that of the volume of events behind its names.
+use Rattle.std.specs.Prelude.{◌≡◌, ◌≢◌, ℕ, true, List, MatchResult, Result}
+use Rattle.sector.specs.declared.refusal.Refusal.{Refusal}
+use Rattle.chunk.specs.Pieces.{pieces_of}
+use Rattle.layers.specs.declared.stack.Stack.{Stack}
+use Rattle.layers.specs.Stack.{stack_contents, stack_layers, stack_size, stack_faults, stack_done}
+use Rattle.plain.specs.declared.event.Event.{Event}
+use Rattle.plain.specs.declared.event.Outcome.{Outcome}
+use Rattle.plain.specs.declared.request.Op.{Op}
+use Rattle.plain.specs.declared.request.Request.{Request}
+use Rattle.plain.specs.Legal.{IsLegalStep}
+use Rattle.volume_laws.specs.Due.{is_due}
+use Rattle.volume.specs.Volumed.{Volumed, dues_of, is_loud_in_all, piece_of, plain_of}
+use Rattle.volume.specs.Causes.{HasCause, IsOneAtMost}
+use Rattle.volume.specs.Exact.{IsExact}
+use Rattle.volume.specs.Leaving.{is_quiet_of}
+use Rattle.volume.specs.Submitting.{IsAcceptedAs, IsRefusedAs}
+use Rattle.plain.specs.declared.request.Replied.{Replied}
+use Rattle.resting.specs.Rested.{rested_of}
+use Rattle.resting.specs.Among.{IsRequestOf, AreReadAmong, AreWrittenAmong, IsReadRefusedAmong, IsWriteRefusedAmong}
+use Rattle.resting.specs.Draining.{IsDrained}
+use Rattle.named.specs.State.{Volume}
+use Rattle.named.specs.Sectors.{Asked}
+use Rattle.named_volume.specs.Held.{flying_in, settled_in}
+
+-- A volume of events that stands behind a volume with names: the same devices, and the same in flight.
+pub record IsBehind (events : Volumed Stack) (volume : Volume) : Type 0 where
+  pub state : volume.state ≡ settled_in (rested_of events)
+  pub quiet : volume.quiet ≡ is_quiet_of events
+  pub flying : volume.flying ≡ flying_in events
+
+-- this was done to the volume of events
+pub record InEvents (holds : Volumed Stack → Volumed Stack → Type 0) (old new : Volume) : Type 0 where
+  pub before : Volumed Stack
+  pub after : Volumed Stack
+  pub was : IsBehind before old
+  pub is : IsBehind after new
+  pub did : holds before after
+
+-- what was asked for is in flight, under this number
+abbrev pub IsStarted : Op → ℕ → Volume → Volume → Asked → Type 0
+IsStarted op number old new asks =
+    InEvents (λ before after. (request : Request) × IsRequestOf asks.dev op asks.span request × IsAcceptedAs stack_contents stack_layers request number before after) old new
+
+-- or was refused by the volume
+abbrev pub IsNotStarted : Op → Refusal → Volume → Volume → Asked → Type 0
+IsNotStarted op refusal old new asks =
+    InEvents (λ before after. (request : Request) × IsRequestOf asks.dev op asks.span request × IsRefusedAs stack_contents stack_layers stack_size request refusal before after) old new
+
+-- an event that was due was done
+pub record IsEventDone (event : Event) (outcome : Outcome) (before after : Volumed Stack) : Type 0 where
+  pub due : is_due (dues_of stack_contents stack_layers before) before.flights event ≡ true
+  pub exact : IsExact stack_contents stack_layers event outcome before after
+  pub legal : is_loud_in_all stack_layers before ≡ true → IsLegalStep (plain_of stack_contents stack_layers before) event outcome (plain_of stack_contents stack_layers after)
+  pub cause : HasCause stack_faults event outcome before after
+  pub one : IsOneAtMost stack_done before after
+
+abbrev pub IsStepped : Event → Outcome → Volume → Volume → Type 0
+IsStepped event outcome old new = InEvents (IsEventDone event outcome) old new
+
+-- an event is not due
+pub record IsNotDue (event : Event) (volume : Volume) : Type 0 where
+  pub events : Volumed Stack
+  pub behind : IsBehind events volume
+  pub not_due : is_due (dues_of stack_contents stack_layers events) events.flights event ≢ true
+
+-- all that was due was done, up to where memory was refused
+abbrev pub IsSettledBy : List Replied → List Replied → Volume → Volume → Type 0
+IsSettledBy earlier later old new = InEvents (λ before after. IsDrained stack_contents stack_layers before after earlier later) old new
+
+-- what was asked for was read or written, piece after piece, or a piece was refused
+abbrev pub IsReadServed : Result (List ℕ) Refusal → List Replied → List Replied → Volume → Volume → Asked → Type 0
+IsReadServed result earlier later old new asks =
+    InEvents (λ before after. MatchResult result
+    (λ bytes. AreReadAmong stack_contents stack_layers asks.dev (pieces_of (piece_of before.snaps) asks.span) bytes before after earlier later)
+    (λ refusal. IsReadRefusedAmong stack_contents stack_layers stack_size asks.dev (pieces_of (piece_of before.snaps) asks.span) refusal (rested_of before) (rested_of after) earlier later)) old new
+
+abbrev pub IsWriteServed : List ℕ → Result (Unit {0}) Refusal → List Replied → List Replied → Volume → Volume → Asked → Type 0
+IsWriteServed bytes result earlier later old new asks =
+    InEvents (λ before after. MatchResult result
+    (λ done. AreWrittenAmong stack_contents stack_layers asks.dev (pieces_of (piece_of before.snaps) asks.span) bytes before after earlier later)
+    (λ refusal. IsWriteRefusedAmong stack_contents stack_layers stack_size asks.dev (pieces_of (piece_of before.snaps) asks.span) bytes refusal (rested_of before) (rested_of after) earlier later)) old new

@@ -1,0 +1,47 @@
+# A snapshot made again one pair short of a full area fills it, and goes on in the next.
+# Status lines and raw bytes as recorded from the Linux kernel.
+disk base 128
+disk cow 64
+create vol 0 128 snapshot-origin base
+write vol 0 65536*11
+create snap 0 128 snapshot base cow P 1
+write vol 0 512*aa
+write vol 1 512*aa
+write vol 2 512*aa
+write vol 3 512*aa
+write vol 4 512*aa
+write vol 5 512*aa
+write vol 6 512*aa
+write vol 7 512*aa
+write vol 8 512*aa
+write vol 9 512*aa
+write vol 10 512*aa
+write vol 11 512*aa
+write vol 12 512*aa
+write vol 13 512*aa
+write vol 14 512*aa
+write vol 15 512*aa
+write vol 16 512*aa
+write vol 17 512*aa
+write vol 18 512*aa
+write vol 19 512*aa
+write vol 20 512*aa
+write vol 21 512*aa
+write vol 22 512*aa
+write vol 23 512*aa
+write vol 24 512*aa
+write vol 25 512*aa
+write vol 26 512*aa
+write vol 27 512*aa
+write vol 28 512*aa
+write vol 29 512*aa
+write vol 30 512*aa
+remove snap
+create snap 0 128 snapshot base cow P 1
+status snap
+write vol 99 512*aa
+status snap
+save cow 1 1
+write vol 100 512*aa
+status snap
+save cow 34 1

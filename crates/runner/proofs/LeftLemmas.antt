@@ -1,0 +1,81 @@
+-- What a line leaves of the devices, by what its command does.
+use Rattle.std.proofs.Common.{◌≡◌, ◌≢◌, ◌⊎◌, ℕ, List, [], ◌++◌, Option, Some, None, refl, sym, ap, ◌∙◌, inl, inr, subst}
+use Rattle.std.specs.Prelude.{IfErr, IfSome, OnOk, Result, Ok, Err}
+use Rattle.sector.specs.declared.refusal.Refusal.{Refusal}
+use Rattle.sector.specs.declared.refusal.Refusal.TheVariants.{NoMemory}
+use Rattle.command.specs.Line.{said_of}
+use Rattle.command.specs.declared.grammar.Command.{Command}
+use Rattle.reply.specs.declared.Reply.{Reply}
+use Rattle.plain.specs.declared.request.Replied.{Replied}
+use Rattle.named.specs.State.{Table}
+use Rattle.runner.specs.Asking.{refusal_in, IsFirst}
+use Rattle.runner.specs.Ended.{ended_lines, line_replies}
+use Rattle.command.specs.declared.events.Event.{Event}
+use Rattle.devices.specs.Devices.{KeepsOthers}
+use Rattle.runner.specs.Left.{IsLeft, IsLeftSaid, IsLineLeft, IsStepLeft}
+use Rattle.runner.specs.Output.{Outcome, answered, told}
+use Rattle.runner.specs.Done.{IsToldFor}
+use Rattle.runner.specs.Steps.{reworded}
+use Rattle.runner.proofs.AskingLemmas.{memory_or_not}
+
+-- what holds of a call that answered holds of its answer in other words
+pub on_worded : {A B : Type 0} (words : A → B) (call : Result A Refusal) (reply : Result B Refusal) (P : Type 0) → reply ≡ reworded words call → OnOk call P → OnOk reply P
+on_worded {B = B} words (Ok x) reply P is h = let Q : Result B Refusal → Type 0 = λ r. OnOk r P in subst Q (sym is) h
+on_worded {B = B} words (Err e) reply P is h = let Q : Result B Refusal → Type 0 = λ r. OnOk r P in subst Q (sym is) tt
+
+-- a command that is refused before its volume is asked
+pub worded_asked : {A B : Type 0} (words : B → Reply) (asks : Result A Refusal) (call : Result B Refusal) (reply : Result Reply Refusal) → IfErr asks (λ e. call ≡ Err e) → reply ≡ reworded words call → IsFirst (refusal_in asks) (told (reworded Some reply))
+worded_asked words (Ok x) call reply same is = tt
+worded_asked words (Err e) call reply same is = inl (ap (λ r. told (reworded Some r)) (is ∙ ap (reworded words) same))
+
+pub asked_still : {A : Type 0} (P : Type 0) (asks : Result A Refusal) → IfErr asks (λ _. P) → IfSome (refusal_in asks) (λ _. P)
+asked_still P (Ok x) h = tt
+asked_still P (Err e) h = h
+
+-- both facts of it
+pub asked_both : {A : Type 0} (P Q : Type 0) (asks : Result A Refusal) → IfErr asks (λ _. P) → Q → IfSome (refusal_in asks) (λ _. P × Q)
+asked_both P Q (Ok x) h q = tt
+asked_both P Q (Err e) h q = (h, q)
+
+-- a line that says nothing
+pub silent_left : (line : List ℕ) (table : Table) (ended : List Replied) → said_of 65536 line ≡ Ok None → IsLineLeft line (Ok None) table table ended ended
+unfolding IsLineLeft
+silent_left line table ended is =
+    let P : Result (Option Command) Refusal → Type 0 = λ said. IsLeftSaid said (Ok None) table table ended ended in inr (subst P (sym is) (refl, refl))
+
+-- one that is refused for its words, or for which there is no memory
+pub worded_left : (line : List ℕ) (table : Table) (ended : List Replied) (e : Refusal) → (e ≢ NoMemory → said_of 65536 line ≡ Err e) → IsLineLeft line (Err e) table table ended ended
+unfolding IsLineLeft
+worded_left line table ended e is = elim (memory_or_not e) [
+  | inl memory ↦ inl (ap (λ r. Err r) memory, refl, refl)
+  | inr other ↦ let P : Result (Option Command) Refusal → Type 0 = λ said. IsLeftSaid said (Err e) table table ended ended in inr (subst P (sym (is other)) (refl, refl))
+]
+
+-- and one that says a command
+pub command_left : (line : List ℕ) (command : Command) (own : Result Reply Refusal) (old new : Table) (before after : List Replied) → said_of 65536 line ≡ Ok (Some command) → IsLeft command own old new before after → IsLineLeft line (reworded Some own) old new before after
+unfolding IsLineLeft
+command_left line command own old new before after is left =
+    let P : Result (Option Command) Refusal → Type 0 = λ said. IsLeftSaid said (reworded Some own) old new before after in inr (subst P (sym is) (own, refl, left))
+
+-- what a line answers is told by its desk, after the lines of the requests that ended
+pub told_for : (line : List ℕ) (old new : Table) (before ended : List Replied) (own : Option Reply) (answer : Result (Option Reply) Refusal) → before ≡ [] → answered own ≡ told answer → IsLineLeft line answer old new before ended → IsToldFor line old (record { replies = line_replies ended own; table = new })
+told_for line old new before ended own answer none is left =
+    let P : List Replied → Type 0 = λ es. IsLineLeft line answer old new es ended in
+    record {
+      ended = ended;
+      own = answer;
+      lines = ap (λ rs. ended_lines ended ++ rs) is;
+      left = subst P none left;
+    }
+
+-- an event for whose reply there is no memory
+pub step_starved : (volume : List ℕ) (event : Event) (answer : Result Reply Refusal) (table : Table) (before after : List Replied) → answer ≡ Err NoMemory → after ≡ before → IsStepLeft volume event answer table table before after
+unfolding KeepsOthers
+step_starved volume event answer table before after is same = record {
+  outcome = Err NoMemory;
+  answer_is = is;
+  others = inl refl;
+  stepped = tt;
+  stays = (refl, same);
+  due = λ other. absurd (other refl);
+}

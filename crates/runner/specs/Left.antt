@@ -1,0 +1,99 @@
+-- What a command leaves of the devices in any case, whatever drops writes and whatever is in flight: of one that is asked of
+-- a volume, that no other device changes.
+use Rattle.std.specs.Prelude.{◌≡◌, ◌≢◌, ◌⊎◌, ◌++◌, ℕ, false, List, Option, Some, None, Result, Ok, Err, IfErr, IfOk, OnErr, OnOk}
+use Rattle.sector.specs.declared.refusal.Refusal.{Refusal}
+use Rattle.sector.specs.declared.refusal.Refusal.TheVariants.{NoMemory}
+use Rattle.command.specs.Line.{said_of}
+use Rattle.command.specs.declared.grammar.Command.{Command}
+use Rattle.command.specs.declared.grammar.Command.TheVariants as commands
+use Rattle.command.specs.declared.events.Event.{Event}
+use Rattle.plain.specs.declared.event.Outcome.{Outcome}
+use Rattle.plain.specs.declared.event.Outcome.TheVariants as outcomes
+use Rattle.plain.specs.declared.request.Op.{Op}
+use Rattle.plain.specs.declared.request.Op.TheVariants.{Read as ReadOp, Write as WriteOp}
+use Rattle.reply.specs.declared.Reply.{Reply}
+use Rattle.reply.specs.declared.Reply.TheVariants.{Data, Done, Fault, Number}
+use Rattle.plain.specs.Replies.{reply_in}
+use Rattle.plain.specs.declared.request.Replied.{Replied}
+use Rattle.named.specs.State.{Table}
+use Rattle.named.specs.Events.{event_asked, origin_by, rested}
+use Rattle.named.specs.Places.{volume_at}
+use Rattle.named.specs.Sectors.{Asked}
+use Rattle.named.specs.Starting.{read_asked, write_asked}
+use Rattle.devices.specs.Devices.{Flies, KeepsOthers}
+use Rattle.devices.specs.Flights.{IsDoneFor, IsEventDoneFor, IsNotDueIn, IsReadAmong, IsSettledAmong, IsStartedAs, IsWrittenAmong, event_of}
+use Rattle.devices.specs.Ruled.{is_quiet_in}
+use Rattle.runner.specs.Steps.{reworded}
+
+-- What was read, and what was done for it of what is in flight in the volume.
+pub record IsReadLeft (device : List ℕ) (first count : ℕ) (answer : Result Reply Refusal) (old new : Table) (before after : List Replied) : Type 0 where
+  pub got : Result (List ℕ) Refusal
+  pub answer_is : answer ≡ reworded Data got
+  pub others : KeepsOthers device old new
+  pub among : IfOk (read_asked device first count old) (λ asks. IsDoneFor device (IsReadAmong got before after asks) old new)
+
+-- and of a write
+pub record IsWriteLeft (device : List ℕ) (first : ℕ) (bytes : List ℕ) (answer : Result Reply Refusal) (old new : Table) (before after : List Replied) : Type 0 where
+  pub did : Result (Unit {0}) Refusal
+  pub answer_is : answer ≡ reworded (λ _. Done) did
+  pub others : KeepsOthers device old new
+  pub among : IfOk (write_asked device first bytes old) (λ asks. IsDoneFor device (IsWrittenAmong bytes did before after asks) old new)
+
+-- a request that is started is in flight then, under the number that is told, and alone changes its volume
+pub record IsStartLeft (device : List ℕ) (op : Op) (asked : Result Asked Refusal) (answer : Result Reply Refusal) (old new : Table) (before after : List Replied) : Type 0 where
+  pub number : Result ℕ Refusal
+  pub answer_is : answer ≡ reworded Number number
+  pub others : KeepsOthers device old new
+  pub flies : OnOk number (Flies device old new)
+  pub started : IfOk number (λ n. IfOk asked (λ asks. IsDoneFor device (IsStartedAs op n asks) old new))
+  pub alone : after ≡ before
+
+-- an event's own reply: its request's comes before it, and a fault is told
+abbrev pub stepped_reply : Outcome → Reply
+stepped_reply outcomes.Done = Done
+stepped_reply outcomes.Fault = Fault
+stepped_reply (outcomes.Reply number reply) = Done
+
+-- the event that is named was done, or memory was refused, or it was not due
+pub record IsStepLeft (volume : List ℕ) (event : Event) (answer : Result Reply Refusal) (old new : Table) (before after : List Replied) : Type 0 where
+  pub outcome : Result Outcome Refusal
+  pub answer_is : answer ≡ reworded stepped_reply outcome
+  pub others : KeepsOthers volume old new
+  pub stepped : IfOk outcome (λ o. IsEventDoneFor volume (event_of event old) o old new × (after ≡ before ++ reply_in o))
+  pub stays : OnErr outcome ((new ≡ old) × (after ≡ before))
+  pub due : IfErr outcome (λ e. e ≢ NoMemory → IfOk (event_asked volume event old) (λ v. is_quiet_in (volume_at v old) ≡ false → IsNotDueIn (event_of event old) (volume_at v old)))
+
+-- once a volume was settled nothing is in flight in it
+pub record IsSettleLeft (volume : List ℕ) (answer : Result Reply Refusal) (old new : Table) (before after : List Replied) : Type 0 where
+  pub others : KeepsOthers volume old new
+  pub rested : OnOk answer (rested volume old new ≡ Ok tt)
+  pub drained : IfOk (origin_by volume old) (λ v. IsDoneFor volume (IsSettledAmong before after) old new)
+
+-- what a command leaves, with this answer; one that has its rule in any case is left to that
+abbrev pub IsLeft : Command → Result Reply Refusal → Table → Table → List Replied → List Replied → Type 0
+IsLeft (commands.Read device first count) answer old new before after = IsReadLeft device first count answer old new before after
+IsLeft (commands.Write device first bytes) answer old new before after = IsWriteLeft device first bytes answer old new before after
+IsLeft (commands.StartRead device first count) answer old new before after = IsStartLeft device ReadOp (read_asked device first count old) answer old new before after
+IsLeft (commands.StartWrite device first bytes) answer old new before after = IsStartLeft device (WriteOp bytes) (write_asked device first bytes old) answer old new before after
+IsLeft (commands.Step volume event) answer old new before after = IsStepLeft volume event answer old new before after
+IsLeft (commands.Settle volume) answer old new before after = IsSettleLeft volume answer old new before after
+IsLeft (commands.Status device) answer old new before after = (new ≡ old) × (after ≡ before)
+IsLeft (commands.Table device) answer old new before after = (new ≡ old) × (after ≡ before)
+IsLeft (commands.Save disk first count) answer old new before after = (new ≡ old) × (after ≡ before)
+IsLeft (commands.Create name line) answer old new before after = after ≡ before
+IsLeft (commands.Disk name sectors) answer old new before after = after ≡ before
+IsLeft (commands.Remove name) answer old new before after = after ≡ before
+IsLeft (commands.Load disk first bytes) answer old new before after = after ≡ before
+IsLeft (commands.Message device message) answer old new before after = after ≡ before
+IsLeft (commands.Tick seconds) answer old new before after = after ≡ before
+
+-- the same of what a line says
+abbrev pub IsLeftSaid : Result (Option Command) Refusal → Result (Option Reply) Refusal → Table → Table → List Replied → List Replied → Type 0
+IsLeftSaid (Ok None) answer old new before after = (new ≡ old) × (after ≡ before)
+IsLeftSaid (Ok (Some command)) answer old new before after = (own : Result Reply Refusal) × (answer ≡ reworded Some own) × IsLeft command own old new before after
+IsLeftSaid (Err refusal) answer old new before after = (new ≡ old) × (after ≡ before)
+
+-- and of a line, where memory may run out for its words
+unfoldable pub IsLineLeft : List ℕ → Result (Option Reply) Refusal → Table → Table → List Replied → List Replied → Type 0
+IsLineLeft line answer old new before after =
+    ((answer ≡ Err NoMemory) × (new ≡ old) × (after ≡ before)) ⊎ IsLeftSaid (said_of 65536 line) answer old new before after

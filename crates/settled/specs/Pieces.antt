@@ -1,0 +1,101 @@
+-- To be believed: `run`'s output, a volume's steps or its attach are said in these words.
+-- A read or a write of one piece of the origin or of a snapshot: this project's own big step. The kernel's admin-guide page
+-- on snapshots says in words which device a read or a write goes to.
+use Rattle.std.specs.Prelude.{◌==◌, ℕ, ◌+◌, ◌*◌, ◌/◌, ◌%◌, List, [], ◌∷◌, Option, Some, None, if◌then◌else◌}
+use Rattle.sector.specs.Bytes.{with_sectors}
+use Rattle.device.specs.declared.operation.Operation.TheVariants.{Reads, Writes}
+use Rattle.chunk.specs.Pieces.{Span}
+use Rattle.model.specs.Pairs.{pairs_of}
+use Rattle.model.specs.Picture.{place_of}
+use Rattle.plain.specs.declared.request.Reply.{Reply}
+use Rattle.plain.specs.declared.request.Reply.TheVariants.{Written, Refused}
+use Rattle.plain.specs.declared.request.Failure.TheVariants.{Invalid, Io}
+use Rattle.settled.specs.Devices.{Device, answers, met, written_by, read_reply}
+use Rattle.settled.specs.Snaps.{Snap, Volume}
+use Rattle.settled.specs.Saving.{Saving, save}
+
+-- a volume after a request, and the reply
+pub record Answered : Type 0 where
+  pub volume : Volume
+  pub reply : Reply
+
+-- The chunk of this sector of the origin is saved in each live snapshot, in order of attaching. Only their reads of the
+-- origin meet one another: a snapshot's other operations go to its own store.
+abbrev pub save_all : ℕ → Device → List Snap → Volume
+save_all first origin [] = record { origin = origin; snaps = [] }
+save_all first origin (s ∷ snaps) =
+    let here = save (first / s.chunk) origin s in
+    let rest = save_all first here.origin snaps in
+    record { origin = rest.origin; snaps = here.snap ∷ rest.snaps }
+
+-- so many sectors are written to the origin's device
+abbrev pub write_disk : Span → List ℕ → Volume → Answered
+write_disk piece bytes v =
+    let write = Writes piece.first piece.count in record {
+      volume = record { origin = written_by v.origin write (with_sectors v.origin.bytes piece.first bytes); snaps = v.snaps };
+      reply = if answers v.origin write then Written else Refused Io;
+    }
+
+-- a write of the origin
+abbrev pub write_origin : Span → List ℕ → Volume → Answered
+write_origin piece bytes v = write_disk piece bytes (save_all piece.first v.origin v.snaps)
+
+-- a read of the origin
+abbrev pub read_origin : Span → Volume → Answered
+read_origin piece v = record {
+  volume = record { origin = met v.origin (Reads piece.first piece.count); snaps = v.snaps };
+  reply = read_reply v.origin piece.first piece.count;
+}
+
+-- the origin's device and one snapshot after a request, and the reply
+pub record Served : Type 0 where
+  pub origin : Device
+  pub snap : Snap
+  pub reply : Reply
+
+-- so many sectors are written to the store, by the place of their chunk's copy
+abbrev pub write_place : Span → List ℕ → Device → Snap → Option ℕ → Served
+write_place piece bytes origin s None = record { origin = origin; snap = s; reply = Refused Invalid }
+write_place piece bytes origin s (Some n) =
+    let first = s.chunk * n + piece.first % s.chunk in
+    let write = Writes first piece.count in record {
+      origin = origin;
+      snap = record s { store = written_by s.store write (with_sectors s.store.bytes first bytes) };
+      reply = if answers s.store write then Written else Refused Io;
+    }
+
+-- a write of a snapshot: its chunk is saved, and then it goes to the copy, or is answered Invalid where there is none
+abbrev pub write_saved : Span → List ℕ → Saving → Served
+write_saved piece bytes a =
+    if a.snap.live then write_place piece bytes a.origin a.snap (place_of (pairs_of a.snap.chunk a.snap.store.bytes) (piece.first / a.snap.chunk))
+    else record { origin = a.origin; snap = a.snap; reply = Refused Invalid }
+
+abbrev pub write_snap : Span → List ℕ → Device → Snap → Served
+write_snap piece bytes origin s = write_saved piece bytes (save (piece.first / s.chunk) origin s)
+
+-- a read by the place of its chunk's copy: of the store, or of the origin without one
+abbrev pub read_place : Span → Device → Snap → Option ℕ → Served
+read_place piece origin s None = record {
+  origin = met origin (Reads piece.first piece.count);
+  snap = s;
+  reply = read_reply origin piece.first piece.count;
+}
+read_place piece origin s (Some n) =
+    let first = s.chunk * n + piece.first % s.chunk in record {
+      origin = origin;
+      snap = record s { store = met s.store (Reads first piece.count) };
+      reply = read_reply s.store first piece.count;
+    }
+
+-- a read of a snapshot
+abbrev pub read_snap : Span → Device → Snap → Served
+read_snap piece origin s =
+    if s.live then read_place piece origin s (place_of (pairs_of s.chunk s.store.bytes) (piece.first / s.chunk))
+    else record { origin = origin; snap = s; reply = Refused Invalid }
+
+-- a request to the snapshot of a number, the first that has it; Invalid where none has
+abbrev pub in_snap : ℕ → (Device → Snap → Served) → Device → List Snap → Answered
+in_snap number serve origin [] = record { volume = record { origin = origin; snaps = [] }; reply = Refused Invalid }
+in_snap number serve origin (s ∷ snaps) =
+    if s.number == number then (let a = serve origin s in record { volume = record { origin = a.origin; snaps = a.snap ∷ snaps }; reply = a.reply })
+    else (let a = in_snap number serve origin snaps in record { volume = record { origin = a.volume.origin; snaps = s ∷ a.volume.snaps }; reply = a.reply })

@@ -1,0 +1,24 @@
+-- To be believed: `run`'s output, a volume's steps or its attach are said in these words.
+-- A snapshot between two commands: all that it is stands in its store's bytes, but whether it is still live.
+use Rattle.std.specs.Prelude.{ℕ, Bool, List, if◌then◌else◌}
+use Rattle.model.specs.Picture.{picture}
+use Rattle.plain.specs.Plain.{Saved, Live, Invalid}
+use Rattle.settled.specs.Devices.{Device}
+
+-- Its number, the sectors of its chunks, whether it is live, whether its store is stale (it was spoiled, and the store could
+-- not be marked), and its store.
+pub record Snap : Type 0 where
+  pub number : ℕ
+  pub chunk : ℕ
+  pub live : Bool
+  pub stale : Bool
+  pub store : Device
+
+-- what it shows over an origin disk with these bytes: while it is live, the picture of the devices' own bytes
+abbrev pub shown : List ℕ → Snap → Saved
+shown origin s = if s.live then Live (picture s.chunk origin s.store.bytes) else Invalid
+
+-- a volume: the origin's device, and the snapshots in order of attaching
+pub record Volume : Type 0 where
+  pub origin : Device
+  pub snaps : List Snap

@@ -1,0 +1,5 @@
+pub mod Finds
+pub mod Firsts
+pub mod Roomed
+pub mod Starts
+pub mod Overflowing

@@ -1,0 +1,117 @@
+// What is due of a volume's snapshots and requests: the first event, by kind and then by number.
+ghost use Rattle.std.specs.Prelude.{◌≡◌, ◌<◌, map};
+ghost use Rattle.std.specs.List.{All};
+ghost use Rattle.pending.specs.Due.{first_by};
+ghost use Rattle.volume_laws.specs.Due.{can_commit as can_be_committed, can_zero as can_be_zeroed, copy_of, due_of, is_untried, least_of, publishable_of, snap_number};
+ghost use Rattle.snapshot.specs.Kept.{due_of_kept};
+
+use device::Block;
+use pending::{Flight, Stage, first_copy, first_publishable, first_routed, front_written, least};
+use plain::{CopyId, Event, SnapId};
+use snapshot::Snapshot;
+
+/// Whether a snapshot's first copy can be committed: it is written, and the area of its pair can be.
+pub(crate) fn can_commit<B: Block>(snap: &Snapshot<B>) -> bool
+    ensures { result ≡ can_be_committed (due_of_kept B.contents B.layers snap.now) }
+{
+    front_written(snap.copies()) && !snap.needs_next_area()
+}
+
+/// Whether a snapshot needs its next area zeroed for its first copy, which is written.
+pub(crate) fn can_zero<B: Block>(snap: &Snapshot<B>) -> bool
+    ensures { result ≡ can_be_zeroed (due_of_kept B.contents B.layers snap.now) }
+{
+    front_written(snap.copies()) && snap.needs_next_area()
+}
+
+/// The number of the first snapshot whose store's header is to be marked invalid.
+fn first_untried<B: Block>(snaps: &[Snapshot<B>]) -> Option<SnapId>
+    ensures { result ≡ first_by is_untried snap_number (map (due_of_kept B.contents B.layers) snaps.now) }
+{
+    for s in snaps {
+        if s.is_untried() {
+            return Some(s.number());
+        }
+    }
+    None
+}
+
+/// The number of the first snapshot whose first copy can be committed.
+fn first_committing<B: Block>(snaps: &[Snapshot<B>]) -> Option<SnapId>
+    ensures { result ≡ first_by can_be_committed snap_number (map (due_of_kept B.contents B.layers) snaps.now) }
+{
+    for s in snaps {
+        if can_commit(s) {
+            return Some(s.number());
+        }
+    }
+    None
+}
+
+/// The number of the first snapshot that needs its next area zeroed for its first copy.
+fn first_zeroing<B: Block>(snaps: &[Snapshot<B>]) -> Option<SnapId>
+    ensures { result ≡ first_by can_be_zeroed snap_number (map (due_of_kept B.contents B.layers) snaps.now) }
+{
+    for s in snaps {
+        if can_zero(s) {
+            return Some(s.number());
+        }
+    }
+    None
+}
+
+/// The least number of a copy at a stage, of each snapshot's first.
+fn least_copy<B: Block>(snaps: &[Snapshot<B>], stage: Stage) -> Option<CopyId>
+    ensures { result ≡ least_of (copy_of stage) (map (due_of_kept B.contents B.layers) snaps.now) }
+{
+    let mut found = None;
+    for s in snaps {
+        found = least(found, first_copy(s.copies(), stage));
+    }
+    found
+}
+
+/// The least number of a mark that can be taken away, of each snapshot's first.
+fn least_mark<B: Block>(snaps: &[Snapshot<B>], flights: &[Flight]) -> Option<CopyId>
+    requires { All (λ s. 0 < s.state.chunk) snaps.now }
+    ensures { result ≡ least_of (publishable_of flights.now) (map (due_of_kept B.contents B.layers) snaps.now) }
+{
+    let mut found = None;
+    for s in snaps {
+        found = least(
+            found,
+            first_publishable(s.marks(), flights, s.number(), s.chunk()),
+        );
+    }
+    found
+}
+
+/// The event that is due first: a mark of a spoiled snapshot, a publication, a commit, a zeroed area, a copy's write, a
+/// copy's read, or the first request that goes somewhere; in each kind the one with the least number.
+pub fn first_due<B: Block>(snaps: &[Snapshot<B>], flights: &[Flight]) -> Option<Event>
+    requires { All (λ s. 0 < s.state.chunk) snaps.now }
+    ensures { result ≡ due_of (map (due_of_kept B.contents B.layers) snaps.now) flights.now }
+{
+    if let Some(number) = first_untried(snaps) {
+        return Some(Event::WriteInvalid(number));
+    }
+    if let Some(number) = least_mark(snaps, flights) {
+        return Some(Event::Publish(number));
+    }
+    if let Some(number) = first_committing(snaps) {
+        return Some(Event::WriteArea(number));
+    }
+    if let Some(number) = first_zeroing(snaps) {
+        return Some(Event::ZeroNext(number));
+    }
+    if let Some(number) = least_copy(snaps, Stage::Read) {
+        return Some(Event::CopyWrite(number));
+    }
+    if let Some(number) = least_copy(snaps, Stage::Waiting) {
+        return Some(Event::CopyRead(number));
+    }
+    match first_routed(flights) {
+        Some(number) => Some(Event::Issue(number)),
+        None => None,
+    }
+}

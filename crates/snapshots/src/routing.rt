@@ -1,0 +1,110 @@
+// Held writes are routed again: after a publication, and after a spoiled snapshot's mark was tried.
+ghost use Rattle.std.specs.Prelude.{◌≡◌, ◌<◌, None, map};
+ghost use Rattle.std.specs.List.{All, list_all, list_any};
+ghost use Rattle.volume_laws.specs.Again.{again_of, placed_of, published_place as place_if_published};
+ghost use Rattle.volume_laws.specs.Published.{is_clear as is_clear_in, is_saved as is_saved_in};
+ghost use Rattle.snapshot.specs.Kept.{books_of};
+
+use device::Block;
+use pending::{Flight, Route, again_route, placed_route, request_kind, write_route};
+use sector::Chunk;
+use snapshot::Snapshot;
+
+/// Whether a snapshot has published the chunk of this sector of the origin, if it is live.
+fn is_saved<B: Block>(snap: &Snapshot<B>, first: u64) -> bool
+    requires { 0 < snap.now.state.chunk }
+    ensures { result ≡ is_saved_in first (books_of B.contents B.layers snap.now) }
+{
+    !snap.is_live() || snap.is_published(first / snap.chunk() as u64)
+}
+
+/// Whether every live snapshot has published the chunk of this sector of the origin.
+fn are_saved<B: Block>(snaps: &[Snapshot<B>], first: u64) -> bool
+    requires { All (λ s. 0 < s.state.chunk) snaps.now }
+    ensures { result ≡ list_all (is_saved_in first) (map (books_of B.contents B.layers) snaps.now) }
+{
+    for s in snaps {
+        if !is_saved(s, first) {
+            return false;
+        }
+    }
+    true
+}
+
+/// Whether the header of some spoiled snapshot's store is to be marked invalid.
+fn is_any_untried<B: Block>(snaps: &[Snapshot<B>]) -> bool
+    ensures { result ≡ list_any (λ s. s.untried) (map (books_of B.contents B.layers) snaps.now) }
+{
+    for s in snaps {
+        if s.is_untried() {
+            return true;
+        }
+    }
+    false
+}
+
+/// Whether an origin write at this sector may go to the origin disk: every live snapshot has published its chunk of it, and
+/// no header is left to be marked invalid.
+pub fn is_clear<B: Block>(snaps: &[Snapshot<B>], first: u64) -> bool
+    requires { All (λ s. 0 < s.state.chunk) snaps.now }
+    ensures { result ≡ is_clear_in (map (books_of B.contents B.layers) snaps.now) first }
+{
+    are_saved(snaps, first) && !is_any_untried(snaps)
+}
+
+/// The route of a request after held origin writes were routed again.
+fn again_for<B: Block>(snaps: &[Snapshot<B>], flight: &Flight) -> Route
+    requires { All (λ s. 0 < s.state.chunk) snaps.now }
+    ensures { result ≡ (again_of None (is_clear_in (map (books_of B.contents B.layers) snaps.now)) flight.now).route }
+{
+    let new = write_route(false, None, is_clear(snaps, flight.request.range.first));
+    again_route(request_kind(&flight.request), flight.route, new)
+}
+
+/// Routes the held origin writes again: those that may go to the origin disk now go there.
+pub fn route_again<B: Block>(snaps: &[Snapshot<B>], flights: &mut Vec<Flight>)
+    requires { All (λ s. 0 < s.state.chunk) snaps.now }
+    ensures { flights.new.items ≡ map (again_of None (is_clear_in (map (books_of B.contents B.layers) snaps.now))) flights.old.items }
+{
+    route_all_again(snaps, flights);
+}
+
+/// The same, over a slice.
+fn route_all_again<B: Block>(snaps: &[Snapshot<B>], flights: &mut [Flight])
+    requires { All (λ s. 0 < s.state.chunk) snaps.now }
+    ensures { flights.new ≡ map (again_of None (is_clear_in (map (books_of B.contents B.layers) snaps.now))) flights.old }
+{
+    for f in flights.iter_mut() {
+        f.route = again_for(snaps, f);
+    }
+}
+
+/// The place of a chunk of the origin, where the snapshot has published it.
+fn published_place<B: Block>(snap: &Snapshot<B>, chunk: Chunk) -> Option<Chunk>
+    ensures { result ≡ place_if_published snap.now.pairs snap.now.marks chunk }
+{
+    if snap.is_published(chunk) {
+        snap.place_of(chunk)
+    } else {
+        None
+    }
+}
+
+/// Routes the held writes of a snapshot again, each to its chunk's place if that is published.
+pub fn route_placed<B: Block>(snap: &Snapshot<B>, flights: &mut Vec<Flight>)
+    requires { 0 < snap.now.state.chunk }
+    ensures { flights.new.items ≡ map (placed_of (books_of B.contents B.layers snap.now)) flights.old.items }
+{
+    route_all_placed(snap, flights);
+}
+
+/// The same, over a slice.
+fn route_all_placed<B: Block>(snap: &Snapshot<B>, flights: &mut [Flight])
+    requires { 0 < snap.now.state.chunk }
+    ensures { flights.new ≡ map (placed_of (books_of B.contents B.layers snap.now)) flights.old }
+{
+    for f in flights.iter_mut() {
+        let place = published_place(snap, f.request.range.first / snap.chunk() as u64);
+        f.route = placed_route(snap.number(), request_kind(&f.request), f.route, place);
+    }
+}

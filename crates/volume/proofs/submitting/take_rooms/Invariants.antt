@@ -1,8 +1,0 @@
--- The snapshots before the present one have room, and nothing but room has changed.
-use Rattle.std.proofs.Common.{◌≡◌, map}
-use Rattle.volume.specs.Submitting.{unroomed}
-use Rattle.volume.proofs.Loops.{HaveRoomBelow}
-use Rattle.volume.proofs.submitting.take_rooms.Given as goal
-
-abbrev pub invariant-loop-k : goal.invariant-loop-k
-invariant-loop-k g l = (map unroomed l.snaps ≡ map unroomed l.fn.snaps) × HaveRoomBelow l.chunk l.k l.snaps l.rooms.items

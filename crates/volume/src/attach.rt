@@ -1,0 +1,105 @@
+// A snapshot is taken.
+ghost use Rattle.std.specs.Prelude.{◌≡◌, ◌≢◌, ◌⊎◌, ◌&&◌, MatchResult, ℕ, ◌+◌, ◌*◌, List, [], ◌∷◌, ◌++◌, length, Option, Some, None, IfOk, IfErr, OnErr, Ok, Err, true, false, IsTrue};
+ghost use Rattle.sector.specs.declared.refusal.Refusal.TheVariants.{Io as IoRefusal, NoMemory};
+ghost use Rattle.device.specs.Layers.{is_loud};
+ghost use Rattle.plain.specs.Legal.{IsTaken};
+ghost use Rattle.snapshot.specs.Opened.{IsBack};
+ghost use Rattle.snapshot.specs.Opening.{shown_array};
+ghost use Rattle.snapshot.specs.Kept.{Kept};
+ghost use Rattle.volume.specs.Volumed.{Volumed, plain_of, is_loud_in_all};
+ghost use Rattle.volume.specs.Taking.{attach_refusal, wanted_of, IsNotTaken};
+ghost use Rattle.volume.specs.Attached.{store_of, volume_in, IsAttachedAs, IsGained};
+ghost use Rattle.volume.specs.Leaving.{is_quiet_of};
+ghost use Rattle.settled.specs.Attaching.{attached as attached_by, refused_attach};
+ghost use Rattle.store.specs.Reading.{AreRead};
+
+use crate::{MAX_SNAPSHOTS, Volume};
+use chunk::is_chunk_size;
+use device::Block;
+use plain::SnapId;
+use sector::Refusal;
+use snapshot::{StoreDev, open_snapshot};
+use std::alloc::Global;
+
+impl<B: Block> Volume<B> {
+    /// Why no snapshot is taken, before the store is looked at.
+    fn attach_refused(&self, stale: bool, chunk: u32) -> Option<Refusal>
+        ensures { result ≡ attach_refusal stale chunk self.now }
+    {
+        if stale {
+            return Some(Refusal::Stale);
+        }
+        if !self.is_quiet() {
+            return Some(Refusal::NotQuiet);
+        }
+        if self.snaps.len() >= MAX_SNAPSHOTS || self.attached == u32::MAX {
+            return Some(Refusal::TooMany);
+        }
+        if is_chunk_size(chunk) {
+            None
+        } else {
+            Some(Refusal::BadChunk)
+        }
+    }
+
+    /// The chunk size of the snapshots that are there.
+    fn wanted(&self) -> Option<u32>
+        ensures { result ≡ wanted_of self.now.snaps }
+    {
+        match self.snaps.as_slice() {
+            [] => None,
+            [first, ..] => Some(first.chunk()),
+        }
+    }
+
+    /// Takes a snapshot over a store, by a table line with this chunk size, and tells its number. Over a fresh store it
+    /// shows the origin; a written store has a chunk size of its own, and its snapshot shows the chunks that it has in
+    /// place of the origin's. Refused, in this order: a stale store (`Stale`), a volume that is not quiet (`NotQuiet`), a
+    /// ninth snapshot or one whose number would be 2^32 (`TooMany`), a chunk size that is none (`BadChunk`); and then as
+    /// the store's load says. The store is given back with a refusal.
+    pub fn attach(
+        &mut self,
+        alloc: Global,
+        store: StoreDev<B>,
+        chunk: u32,
+    ) -> Result<SnapId, (Refusal, StoreDev<B>)>
+        ensures number { IfOk result (λ number. number ≡ self.old.attached + 1) }
+        ensures admitted { IfOk result (λ _. attach_refusal store.stale chunk self.old ≡ None) }
+        ensures taken { IfOk result (λ number. is_loud_in_all B.layers self.old ≡ true → is_loud (B.layers store.device) ≡ true → IsTaken (plain_of B.contents B.layers self.old) number (shown_array (B.contents self.old.origin) (B.contents store.device)) (plain_of B.contents B.layers self.new)) }
+        ensures refused { IfErr result (λ e. IsNotTaken store.stale chunk (B.size self.old.origin) (B.size store.device) (B.contents store.device) self.old e.0) }
+        ensures unread { IfErr result (λ e. attach_refusal store.stale chunk self.old ≡ Some e.0 → e.1 ≡ store) }
+        ensures gained { IfOk result (λ number. IsGained B.layers B.size number store self.old self.new) }
+        ensures exact { IfOk result (λ number. is_loud_in_all B.layers self.old ≡ true → is_loud (B.layers store.device) ≡ true → IsAttachedAs B.contents B.layers number chunk store self.old self.new) }
+        ensures back { IfErr result (λ e. e.0 ≢ NoMemory → is_quiet_of self.old ≡ true → is_loud_in_all B.layers self.old ≡ true → is_loud (B.layers store.device) ≡ true → attached_by (self.old.attached + 1) chunk (store_of B.contents B.layers store) (volume_in B.contents B.layers self.old) ≡ refused_attach e.0 (store_of B.contents B.layers e.1) (volume_in B.contents B.layers self.old)) }
+        ensures starved { IfErr result (λ e. e.0 ≡ NoMemory → (B.contents e.1.device ≡ B.contents store.device) × AreRead (B.layers store.device) (B.layers e.1.device)) }
+        ensures size { IfErr result (λ e. B.size e.1.device ≡ B.size store.device) }
+        ensures loud { MatchResult result (λ _. is_loud_in_all B.layers self.new ≡ (is_loud_in_all B.layers self.old && is_loud (B.layers store.device))) (λ e. is_loud (B.layers e.1.device) ≡ is_loud (B.layers store.device)) }
+        ensures same { OnErr result (self.new ≡ self.old) }
+        ensures stale { IfErr result (λ e. e.1.stale ≡ store.stale) }
+    {
+        match self.attach_refused(store.stale, chunk) {
+            Some(refusal) => return Err((refusal, store)),
+            None => {}
+        }
+        match self.snaps.reserve(1) {
+            Ok(()) => {}
+            Err(_) => return Err((Refusal::NoMemory, store)),
+        }
+        let number = self.attached + 1;
+        match open_snapshot(
+            alloc,
+            number,
+            store,
+            chunk,
+            self.wanted(),
+            self.origin.sectors(),
+        ) {
+            Ok(snap) => {
+                self.snaps.push_reserved(snap);
+                self.attached = number;
+                Ok(number)
+            }
+            Err(refused) => Err(refused),
+        }
+    }
+}

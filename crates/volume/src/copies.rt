@@ -1,0 +1,171 @@
+// The events of copies, stores and marks, each a call of its own.
+ghost use Rattle.std.specs.Prelude.{◌≡◌, [], ◌∷◌, false, IfOk, OnErr, is_ok, map, true};
+ghost use Rattle.plain.specs.declared.event.Event.TheVariants.{CopyRead, CopyWrite, Publish, WriteArea, WriteInvalid, ZeroNext};
+ghost use Rattle.pending.specs.Routes.{refused_of};
+ghost use Rattle.volume_laws.specs.Due.{is_due};
+ghost use Rattle.volume_laws.specs.Steps.{SpoilsSnap};
+ghost use Rattle.snapshot.specs.Kept.{books_of};
+ghost use Rattle.volume.specs.Volumed.{dues_of};
+ghost use Rattle.volume.specs.Stepping.{IsStepped};
+ghost use Rattle.volume.specs.Exact.{IsExact};
+
+use crate::Volume;
+use device::{Block, Io};
+use pending::{Flight, Stage, refuse};
+use plain::{CopyId, NotDue, Outcome, SnapId};
+use snapshot::Snapshot;
+use snapshots::{
+    committing_at, find_copy, find_mark, route_again, route_placed, trying_at, zeroing_at,
+};
+
+/// Spoils a snapshot whose device failed, and refuses its requests.
+fn spoil<B: Block>(snap: &mut Snapshot<B>, flights: &mut Vec<Flight>)
+    requires { snap.old.live ≡ true }
+    ensures fields { snap.new ≡ record snap.old { live = false; untried = true; state = record snap.old.state { copying = false }; begun = []; copies = []; marks = [] } }
+    ensures spoils { SpoilsSnap (books_of B.contents B.layers snap.old) (books_of B.contents B.layers snap.new) }
+    ensures flights { flights.new.items ≡ map (refused_of (snap.old.number ∷ [])) flights.old.items }
+{
+    snap.spoil();
+    refuse(flights, snap.number());
+}
+
+impl<B: Block> Volume<B> {
+    /// Reads a copy's chunk from the origin disk. Where that fails, the copy's snapshot is spoiled.
+    pub(crate) fn copy_read(&mut self, number: CopyId) -> Result<Outcome, NotDue>
+        ensures step { IfOk result (λ outcome. IsStepped B.contents B.layers B.size B.fault_count B.done_count (CopyRead number) outcome self.old self.new) }
+        ensures exact { IfOk result (λ outcome. IsExact B.contents B.layers (CopyRead number) outcome self.old self.new) }
+        ensures due { is_ok result ≡ is_due (dues_of B.contents B.layers self.old) self.old.flights (CopyRead number) }
+        ensures same { OnErr result (self.new ≡ self.old) }
+    {
+        match find_copy(&self.snaps, Stage::Waiting, number) {
+            Some((place, index)) => {
+                let snap = &mut self.snaps[place];
+                match snap.read_copy(&mut self.origin, index) {
+                    Ok(()) => Ok(Outcome::Done),
+                    Err(Io) => {
+                        spoil(snap, &mut self.flights);
+                        Ok(Outcome::Fault)
+                    }
+                }
+            }
+            None => Err(NotDue),
+        }
+    }
+
+    /// Writes a copy that was read to its place. Where that fails, its snapshot is spoiled.
+    pub(crate) fn copy_write(&mut self, number: CopyId) -> Result<Outcome, NotDue>
+        ensures step { IfOk result (λ outcome. IsStepped B.contents B.layers B.size B.fault_count B.done_count (CopyWrite number) outcome self.old self.new) }
+        ensures exact { IfOk result (λ outcome. IsExact B.contents B.layers (CopyWrite number) outcome self.old self.new) }
+        ensures due { is_ok result ≡ is_due (dues_of B.contents B.layers self.old) self.old.flights (CopyWrite number) }
+        ensures same { OnErr result (self.new ≡ self.old) }
+    {
+        match find_copy(&self.snaps, Stage::Read, number) {
+            Some((place, index)) => {
+                let snap = &mut self.snaps[place];
+                match snap.write_copy(index) {
+                    Ok(()) => Ok(Outcome::Done),
+                    Err(Io) => {
+                        spoil(snap, &mut self.flights);
+                        Ok(Outcome::Fault)
+                    }
+                }
+            }
+            None => Err(NotDue),
+        }
+    }
+
+    /// Zeroes the area after the current one of a snapshot's store. Where that fails, or the store has no room for it, the
+    /// snapshot is spoiled; want of room is no fault.
+    pub(crate) fn zero_next(&mut self, number: SnapId) -> Result<Outcome, NotDue>
+        ensures step { IfOk result (λ outcome. IsStepped B.contents B.layers B.size B.fault_count B.done_count (ZeroNext number) outcome self.old self.new) }
+        ensures exact { IfOk result (λ outcome. IsExact B.contents B.layers (ZeroNext number) outcome self.old self.new) }
+        ensures due { is_ok result ≡ is_due (dues_of B.contents B.layers self.old) self.old.flights (ZeroNext number) }
+        ensures same { OnErr result (self.new ≡ self.old) }
+    {
+        match zeroing_at(&self.snaps, number) {
+            Some(place) => {
+                let snap = &mut self.snaps[place];
+                if snap.lacks_next_area() {
+                    spoil(snap, &mut self.flights);
+                    return Ok(Outcome::Done);
+                }
+                match snap.zero_next() {
+                    Ok(()) => Ok(Outcome::Done),
+                    Err(Io) => {
+                        spoil(snap, &mut self.flights);
+                        Ok(Outcome::Fault)
+                    }
+                }
+            }
+            None => Err(NotDue),
+        }
+    }
+
+    /// Commits the first copy of a snapshot. Where that fails, the snapshot is spoiled.
+    pub(crate) fn write_area(&mut self, number: SnapId) -> Result<Outcome, NotDue>
+        ensures step { IfOk result (λ outcome. IsStepped B.contents B.layers B.size B.fault_count B.done_count (WriteArea number) outcome self.old self.new) }
+        ensures exact { IfOk result (λ outcome. IsExact B.contents B.layers (WriteArea number) outcome self.old self.new) }
+        ensures due { is_ok result ≡ is_due (dues_of B.contents B.layers self.old) self.old.flights (WriteArea number) }
+        ensures same { OnErr result (self.new ≡ self.old) }
+    {
+        match committing_at(&self.snaps, number) {
+            Some(place) => {
+                let snap = &mut self.snaps[place];
+                match snap.write_area(1) {
+                    Ok(()) => Ok(Outcome::Done),
+                    Err(Io) => {
+                        spoil(snap, &mut self.flights);
+                        Ok(Outcome::Fault)
+                    }
+                }
+            }
+            None => Err(NotDue),
+        }
+    }
+
+    /// Publishes a committed copy: its mark is taken away, its snapshot's held writes of the chunk go to its place, and
+    /// held origin writes are routed again.
+    pub(crate) fn publish(&mut self, number: CopyId) -> Result<Outcome, NotDue>
+        ensures step { IfOk result (λ outcome. IsStepped B.contents B.layers B.size B.fault_count B.done_count (Publish number) outcome self.old self.new) }
+        ensures exact { IfOk result (λ outcome. IsExact B.contents B.layers (Publish number) outcome self.old self.new) }
+        ensures due { is_ok result ≡ is_due (dues_of B.contents B.layers self.old) self.old.flights (Publish number) }
+        ensures same { OnErr result (self.new ≡ self.old) }
+    {
+        match find_mark(&self.snaps, &self.flights, number) {
+            Some((place, index)) => {
+                let snap = &mut self.snaps[place];
+                snap.publish(index);
+                route_placed(snap, &mut self.flights);
+                route_again(&self.snaps, &mut self.flights);
+                Ok(Outcome::Done)
+            }
+            None => Err(NotDue),
+        }
+    }
+
+    /// Marks the header of a spoiled snapshot's store invalid, and routes held origin writes again. Where that fails, the
+    /// store is stale, and nothing else is changed.
+    pub(crate) fn write_invalid(&mut self, number: SnapId) -> Result<Outcome, NotDue>
+        ensures step { IfOk result (λ outcome. IsStepped B.contents B.layers B.size B.fault_count B.done_count (WriteInvalid number) outcome self.old self.new) }
+        ensures exact { IfOk result (λ outcome. IsExact B.contents B.layers (WriteInvalid number) outcome self.old self.new) }
+        ensures due { is_ok result ≡ is_due (dues_of B.contents B.layers self.old) self.old.flights (WriteInvalid number) }
+        ensures same { OnErr result (self.new ≡ self.old) }
+    {
+        match trying_at(&self.snaps, number) {
+            Some(place) => {
+                let snap = &mut self.snaps[place];
+                match snap.write_invalid() {
+                    Ok(()) => {
+                        route_again(&self.snaps, &mut self.flights);
+                        Ok(Outcome::Done)
+                    }
+                    Err(Io) => {
+                        route_again(&self.snaps, &mut self.flights);
+                        Ok(Outcome::Fault)
+                    }
+                }
+            }
+            None => Err(NotDue),
+        }
+    }
+}

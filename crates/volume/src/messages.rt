@@ -1,0 +1,59 @@
+// Messages to the layers of a volume's devices.
+ghost use Rattle.std.specs.Prelude.{◌≡◌, IfOk, IfErr, OnOk, OnErr, Option};
+ghost use Rattle.layers.specs.Messages.{answer_of};
+ghost use Rattle.plain.specs.declared.request.Dev.TheVariants.{Origin, Snap};
+ghost use Rattle.plain.specs.declared.request.Reply.{Reply};
+ghost use Rattle.volume.specs.Volumed.{books_of, is_loud_in_all, plain_of};
+ghost use Rattle.volume.specs.Moved.{moving_of};
+ghost use Rattle.volume.specs.Telling.{IsNotTold, IsTold, dev_relayered, layers_told};
+
+use crate::Volume;
+use layers::{Answer, Layered, Message};
+use plain::{Dev, SnapId};
+use sector::Refusal;
+use snapshots::snap_at;
+
+impl<B: Layered> Volume<B> {
+    /// Tells a layer of the device under the origin.
+    fn tell_origin(&mut self, depth: usize, message: &Message) -> Result<Answer, Refusal>
+        ensures ok { IfOk result (λ answer. IsTold (record { contents = B.contents; durable = B.durable; size = B.size; faults = B.fault_count; done = B.done_count }) B.layers Origin depth message.now answer self.old self.new) }
+        ensures err { IfErr result (λ refusal. IsNotTold (record { contents = B.contents; durable = B.durable; size = B.size; faults = B.fault_count; done = B.done_count }) B.layers Origin depth message.now refusal self.old self.new) }
+    {
+        self.origin.message(depth, message)
+    }
+
+    /// Tells a layer of a snapshot's store.
+    fn tell_store(
+        &mut self,
+        number: SnapId,
+        depth: usize,
+        message: &Message,
+    ) -> Result<Answer, Refusal>
+        ensures ok { IfOk result (λ answer. IsTold (record { contents = B.contents; durable = B.durable; size = B.size; faults = B.fault_count; done = B.done_count }) B.layers (Snap number) depth message.now answer self.old self.new) }
+        ensures err { IfErr result (λ refusal. IsNotTold (record { contents = B.contents; durable = B.durable; size = B.size; faults = B.fault_count; done = B.done_count }) B.layers (Snap number) depth message.now refusal self.old self.new) }
+    {
+        let Some(k) = snap_at(self.snaps.as_slice(), number) else {
+            return Err(Refusal::NoSuchDevice);
+        };
+        self.snaps[k].message(depth, message)
+    }
+
+    /// Tells the layer at a depth, counted from the top, from 0, of the device under the origin or of a snapshot's store. In
+    /// this order: `NoSuchDevice` where there is no such snapshot, `BadTable` where that is no dust layer or there is none,
+    /// `OutOfRange` for a block past its end, `NoMemory` where a block is added and the allocator refuses room. No request,
+    /// no copy and no byte changes, and no operation is counted; what is refused changes no layer either.
+    pub fn message(&mut self, dev: Dev, depth: usize, message: &Message) -> Result<Answer, Refusal>
+        ensures ok { IfOk result (λ answer. IsTold (record { contents = B.contents; durable = B.durable; size = B.size; faults = B.fault_count; done = B.done_count }) B.layers dev depth message.now answer self.old self.new) }
+        ensures err { IfErr result (λ refusal. IsNotTold (record { contents = B.contents; durable = B.durable; size = B.size; faults = B.fault_count; done = B.done_count }) B.layers dev depth message.now refusal self.old self.new) }
+        ensures moving { OnOk result ((replied : Option Reply) → moving_of B.contents B.layers replied self.new ≡ dev_relayered dev (layers_told depth message.now) (moving_of B.contents B.layers replied self.old)) }
+        ensures still { OnErr result ((replied : Option Reply) → moving_of B.contents B.layers replied self.new ≡ moving_of B.contents B.layers replied self.old) }
+        ensures books { books_of B.contents B.layers B.size self.new ≡ books_of B.contents B.layers B.size self.old }
+        ensures plain { plain_of B.contents B.layers self.new ≡ plain_of B.contents B.layers self.old }
+        ensures loud { is_loud_in_all B.layers self.new ≡ is_loud_in_all B.layers self.old }
+    {
+        match dev {
+            Dev::Origin => self.tell_origin(depth, message),
+            Dev::Snap(number) => self.tell_store(number, depth, message),
+        }
+    }
+}

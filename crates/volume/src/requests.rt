@@ -1,0 +1,133 @@
+// A request is accepted or refused: it is routed, and the copies that it waits for are started.
+ghost use Rattle.std.specs.Prelude.{◌≡◌, ◌≢◌, ◌*◌, ◌+◌, ◌/◌, ◌<◌, ◌^◌, ◌≤◌, IfErr, IfOk, List, None, Option, Some, [], count_by, length, sum_by, ℕ};
+ghost use Rattle.sector.specs.declared.refusal.Refusal.TheVariants.{Invalid, NoMemory};
+ghost use Rattle.plain.specs.declared.request.Failure.TheVariants.{Invalid as IsInvalid};
+ghost use Rattle.plain.specs.declared.request.Op.TheVariants.{Write};
+ghost use Rattle.plain.specs.declared.request.Reply.{Reply};
+ghost use Rattle.plain.specs.declared.request.Reply.TheVariants.{Refused};
+ghost use Rattle.pending.specs.Kinds.{kind_of, room_of};
+ghost use Rattle.pending.specs.declared.flights.Flight.{Flight};
+ghost use Rattle.pending.specs.declared.flights.Kind.TheVariants.{OriginWrite};
+ghost use Rattle.volume_laws.specs.Accepting.{IsTakenIn};
+ghost use Rattle.event_machine.specs.Submitting.{submitted};
+ghost use Rattle.snapshots.specs.Numbers.{count_in};
+ghost use Rattle.snapshots.specs.Starting.{starts};
+ghost use Rattle.volume.specs.Moved.{moving_of};
+ghost use Rattle.volume.specs.Stepping.{KeepsAll, KeepsDevices};
+ghost use Rattle.volume.specs.Submitting.{IsAcceptedAs, IsAsked, IsEntered, IsRefusedAs, SameButRoom, entered_of, submit_refusal};
+ghost use Rattle.volume.specs.Volumed.{books_of, piece_of};
+ghost use Rattle.volume.specs.Whole.{IsWhole};
+
+use crate::Volume;
+use device::Block;
+use pending::{Flight, Kind, Route, request_kind, sectors_of, write_route};
+use plain::{ReqId, Request};
+use sector::Refusal;
+use snapshots::{is_clear, save_in_all, take_rooms};
+use std::alloc::Global;
+
+impl<B: Block> Volume<B> {
+    /// Accepts a request, and tells its number. No device is asked for anything yet.
+    ///
+    /// A read goes to the origin disk, or to the place of a snapshot's committed copy. A write of the origin is held until
+    /// each live snapshot has published its chunk, and starts the copies that are lacking: snapshots whose stores are full
+    /// are spoiled. A write of a snapshot is held until that one has published its chunk, and starts its copy.
+    ///
+    /// Refused, in this order: there is no such snapshot (`NoSuchDevice`), it is spoiled (`Invalid`), the range is empty or
+    /// lies not inside the origin and one piece (`OutOfRange`), it is the 65th request, starts the 257th copy, or is past the
+    /// last number (`TooMany`), memory is refused (`NoMemory`), or a snapshot's write finds its store full (`Invalid`: the
+    /// one refusal that changes something, for that snapshot is spoiled).
+    pub fn submit(&mut self, alloc: Global, request: Request) -> Result<ReqId, Refusal>
+        requires bytes { (bytes : List ℕ) → request.op ≡ Write bytes → length bytes ≡ 512 * request.range.count }
+        ensures ok { IfOk result (λ number. IsAcceptedAs B.contents B.layers request number self.old self.new) }
+        ensures kept { KeepsAll B.size self.old self.new }
+        ensures untouched { KeepsDevices self.old self.new }
+        ensures admitted { IfOk result (λ _. submit_refusal B.size request self.old ≡ None) }
+        ensures exact { IfOk result (λ number. (replied : Option Reply) → submitted number request (moving_of B.contents B.layers replied self.old) ≡ moving_of B.contents B.layers replied self.new) }
+        ensures refused { IfErr result (λ refusal. IsRefusedAs B.contents B.layers B.size request refusal self.old self.new) }
+        ensures declined { IfErr result (λ refusal. refusal ≡ Invalid → (number : ℕ) (replied : Option Reply) → submitted number request (moving_of B.contents B.layers replied self.old) ≡ moving_of B.contents B.layers (Some (Refused IsInvalid)) self.new) }
+        ensures starved { IfErr result (λ refusal. refusal ≢ Invalid → (replied : Option Reply) → moving_of B.contents B.layers replied self.new ≡ moving_of B.contents B.layers replied self.old) }
+    {
+        // A look at a field: what the type keeps is known from here on.
+        let _ = &self.flights;
+        match self.submit_refused(&request) {
+            Some(refusal) => return Err(refusal),
+            None => {}
+        }
+        match request_kind(&request) {
+            Kind::OriginRead => self.enter(alloc, request, Route::Origin),
+            Kind::OriginWrite => self.submit_origin_write(alloc, request),
+            Kind::SnapRead(id) => self.submit_snap_read(alloc, request, id),
+            Kind::SnapWrite(id) => self.submit_snap_write(alloc, request, id),
+        }
+    }
+
+    /// Puts a request in flight by a route.
+    pub(crate) fn enter(
+        &mut self,
+        alloc: Global,
+        request: Request,
+        route: Route,
+    ) -> Result<ReqId, Refusal>
+        requires room { length self.old.flights < 64 }
+        requires numbers { self.old.requests + 1 < 2 ^ 64 }
+        requires goes { (f : Flight) → IsWhole B.contents B.layers B.size self.old → f.number ≡ self.old.requests + 1 → f.request ≡ request → f.route ≡ route → length f.room.items ≡ room_of request → IsTakenIn [] f.number f.request (books_of B.contents B.layers B.size self.old) (books_of B.contents B.layers B.size (entered_of f self.old)) }
+        ensures ok { IfOk result (λ number. IsEntered B.contents B.layers request route number self.old self.new) }
+        ensures err { IfErr result (λ e. (e ≡ NoMemory) × (self.new ≡ self.old)) }
+    {
+        let Ok(flight) = Flight::new(alloc, self.requests + 1, request, route) else {
+            return Err(Refusal::NoMemory);
+        };
+        match self.flights.push(flight) {
+            Ok(()) => {}
+            Err(_) => return Err(Refusal::NoMemory),
+        }
+        self.requests += 1;
+        Ok(self.requests)
+    }
+
+    /// Accepts a write of the origin: copies of its chunk are started in the live snapshots that lack it, and it is held
+    /// until each live snapshot has published the chunk. Snapshots whose stores are full are spoiled.
+    pub(crate) fn submit_origin_write(
+        &mut self,
+        alloc: Global,
+        request: Request,
+    ) -> Result<ReqId, Refusal>
+        requires kind { kind_of request ≡ OriginWrite }
+        requires asked { IsAsked (B.size self.old.origin) (piece_of self.old.snaps) request }
+        requires room { length self.old.flights < 64 }
+        requires numbers { self.old.requests + 1 < 2 ^ 64 }
+        requires copies { self.old.copies + 8 < 2 ^ 64 }
+        requires few { sum_by count_in self.old.snaps + count_by (starts (request.range.first / piece_of self.old.snaps)) self.old.snaps ≤ 256 }
+        ensures ok { IfOk result (λ number. IsAcceptedAs B.contents B.layers request number self.old self.new) }
+        ensures err { IfErr result (λ e. (e ≡ NoMemory) × SameButRoom self.old self.new) }
+    {
+        let sectors = self.origin.sectors();
+        let piece = self.piece();
+        let first = request.range.first;
+        let chunk = first / piece as u64;
+        let count = sectors_of(piece, sectors, chunk);
+        let rooms = match take_rooms(alloc, self.snaps.as_mut_slice(), chunk, count) {
+            Ok(rooms) => rooms,
+            Err(refusal) => return Err(refusal),
+        };
+        let Ok(mut flight) = Flight::new(alloc, self.requests + 1, request, Route::Held) else {
+            return Err(Refusal::NoMemory);
+        };
+        match self.flights.reserve(1) {
+            Ok(()) => {}
+            Err(_) => return Err(Refusal::NoMemory),
+        }
+        self.copies = save_in_all(
+            self.snaps.as_mut_slice(),
+            self.flights.as_mut_slice(),
+            self.copies,
+            chunk,
+            rooms,
+        );
+        flight.route = write_route(false, None, is_clear(self.snaps.as_slice(), first));
+        self.flights.push_reserved(flight);
+        self.requests += 1;
+        Ok(self.requests)
+    }
+}

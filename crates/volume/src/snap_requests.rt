@@ -1,0 +1,127 @@
+// A request of a snapshot is accepted: it is routed, and the copy that a write waits for is started.
+ghost use Rattle.std.specs.Prelude.{◌≡◌, ◌⊎◌, ◌==◌, ◌&&◌, true, ℕ, ◌+◌, ◌*◌, ◌/◌, ◌^◌, ◌<◌, ◌≤◌, List, length, sum_by, count_by, slice_index_or, Some, None, IfOk, IfErr};
+ghost use Rattle.sector.specs.declared.refusal.Refusal.TheVariants.{NoMemory, Invalid};
+ghost use Rattle.pending.specs.Kinds.{kind_of};
+ghost use Rattle.pending.specs.declared.flights.Kind.TheVariants.{SnapRead, SnapWrite};
+ghost use Rattle.snapshot.specs.Kept.{Kept};
+ghost use Rattle.volume.specs.Volumed.{piece_of};
+ghost use Rattle.snapshots.specs.Numbers.{count_in};
+ghost use Rattle.snapshots.specs.Finding.{place_of_snap};
+ghost use Rattle.snapshots.specs.Starting.{lacks, starts};
+ghost use Rattle.volume.specs.Submitting.{dev_refusal, IsAsked, IsAcceptedAs, SameButRoom, IsFoundFull};
+
+use crate::Volume;
+use device::Block;
+use pending::{Flight, Route, read_route, sectors_of};
+use plain::{ReqId, Request, SnapId};
+use sector::Refusal;
+use snapshots::{is_lacking, save_in, snap_at, take_room};
+use std::alloc::Global;
+
+impl<B: Block> Volume<B> {
+    /// Accepts a read of a live snapshot: it goes to the place of its chunk's committed copy, or to the origin disk.
+    pub(crate) fn submit_snap_read(
+        &mut self,
+        alloc: Global,
+        request: Request,
+        id: SnapId,
+    ) -> Result<ReqId, Refusal>
+        requires kind { kind_of request ≡ SnapRead id }
+        requires found { dev_refusal request.dev self.old.snaps ≡ None }
+        requires asked { IsAsked (B.size self.old.origin) (piece_of self.old.snaps) request }
+        requires room { length self.old.flights < 64 }
+        requires numbers { self.old.requests + 1 < 2 ^ 64 }
+        ensures ok { IfOk result (λ number. IsAcceptedAs B.contents B.layers request number self.old self.new) }
+        ensures err { IfErr result (λ e. (e ≡ NoMemory) × (self.new ≡ self.old)) }
+    {
+        let Some(k) = snap_at(self.snaps.as_slice(), id) else {
+            return Err(Refusal::NoSuchDevice);
+        };
+        let chunk = request.range.first / self.piece() as u64;
+        let route = read_route(self.snaps[k].place_of(chunk));
+        self.enter(alloc, request, route)
+    }
+
+    /// Accepts a write of a live snapshot: it goes to the place of its chunk's copy once that is published, and is held until
+    /// then. Where no copy is under way one is started; where the store is full the snapshot is spoiled, and the write is
+    /// refused with `Invalid`.
+    pub(crate) fn submit_snap_write(
+        &mut self,
+        alloc: Global,
+        request: Request,
+        id: SnapId,
+    ) -> Result<ReqId, Refusal>
+        requires kind { kind_of request ≡ SnapWrite id }
+        requires found { dev_refusal request.dev self.old.snaps ≡ None }
+        requires asked { IsAsked (B.size self.old.origin) (piece_of self.old.snaps) request }
+        requires room { length self.old.flights < 64 }
+        requires numbers { self.old.requests + 1 < 2 ^ 64 }
+        requires copies { self.old.copies + 8 < 2 ^ 64 }
+        requires few { sum_by count_in self.old.snaps + count_by (λ s. (s.number == id) && starts (request.range.first / piece_of self.old.snaps) s) self.old.snaps ≤ 256 }
+        ensures ok { IfOk result (λ number. IsAcceptedAs B.contents B.layers request number self.old self.new) }
+        ensures err { IfErr result (λ e. ((e ≡ NoMemory) × SameButRoom self.old self.new) ⊎ ((e ≡ Invalid) × IsFoundFull B.contents B.layers id (request.range.first / piece_of self.old.snaps) self.old self.new)) }
+    {
+        let Some(k) = snap_at(self.snaps.as_slice(), id) else {
+            return Err(Refusal::NoSuchDevice);
+        };
+        let chunk = request.range.first / self.piece() as u64;
+        if is_lacking(&self.snaps[k], chunk) {
+            return self.start_and_enter(alloc, request, id, k);
+        }
+        if self.snaps[k].is_published(chunk) {
+            let route = read_route(self.snaps[k].place_of(chunk));
+            return self.enter(alloc, request, route);
+        }
+        self.enter(alloc, request, Route::Held)
+    }
+
+    /// Starts the copy that a write of the snapshot at place `k` waits for, and puts the write in flight.
+    fn start_and_enter(
+        &mut self,
+        alloc: Global,
+        request: Request,
+        id: SnapId,
+        k: usize,
+    ) -> Result<ReqId, Refusal>
+        requires kind { kind_of request ≡ SnapWrite id }
+        requires found { dev_refusal request.dev self.old.snaps ≡ None }
+        requires place { Some k ≡ place_of_snap id self.old.snaps }
+        requires lacking { (s : Kept B) → s ≡ slice_index_or self.old.snaps k s → lacks (request.range.first / piece_of self.old.snaps) s ≡ true }
+        requires asked { IsAsked (B.size self.old.origin) (piece_of self.old.snaps) request }
+        requires room { length self.old.flights < 64 }
+        requires numbers { self.old.requests + 1 < 2 ^ 64 }
+        requires copies { self.old.copies + 8 < 2 ^ 64 }
+        requires few { sum_by count_in self.old.snaps + count_by (λ s. (s.number == id) && starts (request.range.first / piece_of self.old.snaps) s) self.old.snaps ≤ 256 }
+        ensures ok { IfOk result (λ number. IsAcceptedAs B.contents B.layers request number self.old self.new) }
+        ensures err { IfErr result (λ e. ((e ≡ NoMemory) × SameButRoom self.old self.new) ⊎ ((e ≡ Invalid) × IsFoundFull B.contents B.layers id (request.range.first / piece_of self.old.snaps) self.old self.new)) }
+    {
+        let piece = self.piece();
+        let chunk = request.range.first / piece as u64;
+        let count = sectors_of(piece, self.origin.sectors(), chunk);
+        let room = match take_room(alloc, &mut self.snaps[k], chunk, count) {
+            Ok(room) => room,
+            Err(refusal) => return Err(refusal),
+        };
+        let Ok(flight) = Flight::new(alloc, self.requests + 1, request, Route::Held) else {
+            return Err(Refusal::NoMemory);
+        };
+        match self.flights.reserve(1) {
+            Ok(()) => {}
+            Err(_) => return Err(Refusal::NoMemory),
+        }
+        let given = save_in(
+            &mut self.snaps[k],
+            self.flights.as_mut_slice(),
+            self.copies,
+            chunk,
+            room,
+        );
+        if given == self.copies {
+            return Err(Refusal::Invalid);
+        }
+        self.copies = given;
+        self.flights.push_reserved(flight);
+        self.requests += 1;
+        Ok(self.requests)
+    }
+}

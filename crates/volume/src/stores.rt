@@ -1,0 +1,29 @@
+// What the snapshots' stores say, at every moment.
+ghost use Rattle.std.specs.List.{All};
+ghost use Rattle.snapshot.specs.InStep.{IsInStep};
+
+use crate::Volume;
+use device::Block;
+use snapshot::Snapshot;
+
+/// A look at the stores of some snapshots.
+fn look_at_each<B: Block>(snaps: &[Snapshot<B>])
+    ensures in_step { All (IsInStep B.contents B.layers B.size) snaps.now }
+{
+    for snap in snaps {
+        snap.look_at_store();
+    }
+}
+
+impl<B: Block> Volume<B> {
+    /// A look at the snapshots' stores, which does nothing. At every moment, whatever was done to the volume and whatever
+    /// failed, each store is in step with its snapshot: its pairs are such as a load accepts, with room for the area of
+    /// the next pair, and the next place of a live one is the least that is free; and where its layers drop no writes, its
+    /// bytes hold those pairs and its first sector is the header with its chunk size. So a live snapshot's store, and a
+    /// spoiled one's whose mark was not yet written, can be loaded as it is; once the mark was written it is invalid.
+    pub fn look_at_stores(&self)
+        ensures in_step { All (IsInStep B.contents B.layers B.size) self.now.snaps }
+    {
+        look_at_each(self.snaps.as_slice())
+    }
+}
