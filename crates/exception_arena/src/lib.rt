@@ -3,7 +3,7 @@
 //! by two lists and a count. `Arena` is the lasting form: its nodes stand in one vector, on a free list, a pending list
 //! and a chain for each bucket, so that a look-up walks one short chain. A committed node holds a run of up to 256 pairs,
 //! so that pairs that are copied in order take a node in 256. `PlainExceptions` is the plain form, with which tests
-//! compare it. Whatever is not `reserve` takes no memory, and so cannot fail.
+//! compare it. Whatever is not `reserve` needs no memory, and so cannot fail for want of it.
 #![tactic(auto)]
 
 mod arena;
