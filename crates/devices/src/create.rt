@@ -11,11 +11,11 @@ ghost use Rattle.devices.specs.Busy.{IsBusyTarget};
 ghost use Rattle.devices.specs.Devices.{table_of};
 ghost use Rattle.devices.specs.Ruled.{is_sound_target};
 
+use crate::attaching::make_snapshot;
 use crate::find::{find, is_full};
 use crate::held::Held;
 use crate::lay::{features_of, lay_dust, lay_error, lay_flakey};
 use crate::origins::make_origin;
-use crate::attaching::make_snapshot;
 use layers::Flakey;
 use sector::Refusal;
 use std::alloc::Global;

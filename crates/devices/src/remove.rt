@@ -8,10 +8,10 @@ ghost use Rattle.named.specs.Sound.{is_sound};
 ghost use Rattle.named.specs.declared.place.Place.TheVariants.{Free};
 ghost use Rattle.devices.specs.Devices.{table_of};
 
+use crate::attaching::detach;
 use crate::find::find_device;
 use crate::held::Held;
 use crate::origins::close;
-use crate::attaching::detach;
 use named::{Place, Role};
 use sector::Refusal;
 use words::Name;
