@@ -3,6 +3,8 @@ pub mod Stages
 pub mod Ends
 pub mod Resting
 pub mod Primed
+pub mod Starts
+pub mod SavesSettle
 pub mod OriginWrites
 pub mod Issued
 pub mod WritesSettle

@@ -48,7 +48,7 @@ use Rattle.settled.proofs.Saves.{saves_nothing, saves_full, saves_copy, chunk_re
 use Rattle.settling.proofs.Resting.{rests_live, saved_snap, saved_chunk, saved_number}
 use Rattle.event_machine.proofs.Clears.{and_last}
 use Rattle.settling.proofs.Primed.{tried_of, resting_idle}
-use Rattle.settling.proofs.OriginWrites.{needs_same, next_same, copy_bytes, as_holding}
+use Rattle.settling.proofs.Starts.{needs_same, next_same, copy_bytes, as_holding}
 use Rattle.event_machine.proofs.Found.{split_at, none_that, served_nowhere}
 use Rattle.settling.proofs.Issued.{mine_of, issued, answered_here, settles_there}
 use Rattle.settling.proofs.Served.{snap_of, each_first, each_here, each_last, each_joined, served_settles}
@@ -168,13 +168,13 @@ module _ (sectors number n : ℕ) (range : Range) (bytes : List ℕ) where
           (by_place (Some place) on some) (place_goes origin done rest h place a k idle before pass)
 
       full_same : h.snap.live ≡ true → is_filled h ≡ is_full h.snap
-      full_same on = ap (λ x. nat_lt (length h.snap.store.bytes) (512 * (h.snap.chunk * (x + 1)))) (next_same sectors number range bytes a k h (here.live on))
+      full_same on = ap (λ x. nat_lt (length h.snap.store.bytes) (512 * (h.snap.chunk * (x + 1)))) (next_same sectors h (here.live on))
 
       lacks : h.snap.live ≡ true → place_of h.pairs c ≡ None → (not h.snap.live || has_chunk c h.snap) ≡ false
       lacks on none = rw (on, has_same None on none) refl
 
       lacks_copy : h.snap.live ≡ true → place_of h.pairs c ≡ None → needs_none c h ≡ false
-      lacks_copy on none = needs_same sectors number range bytes a k c h here ∙ lacks on none
+      lacks_copy on none = needs_same sectors c h here ∙ lacks on none
 
       -- one whose store is full
       write_full : h.snap.live ≡ true → place_of h.pairs c ≡ None → is_filled h ≡ true → WriteSettles (done ++ h ∷ rest)
@@ -206,9 +206,9 @@ module _ (sectors number n : ℕ) (range : Range) (bytes : List ℕ) where
           let kept : IsKept sectors h = here.live on in
           let low : least_in (copy_at Waiting) rest ≡ None = none_least (copy_at Waiting) rest (each_weaker IsIdle (λ d. copy_at Waiting d ≡ None) rest (λ d i. rw i.copies refl) idle_rest) in
           subst (λ (w : Held). Ends done rest (routed Waits ∷ []) a (k + 1) (met origin (chunk_read c origin h.snap)) (at origin (done ++ w ∷ rest) (routed Waits ∷ []) a (k + 1)) (h.pairs ++ q ∷ []) (stepped h.snap.chunk (next_place h.snap + 1)) (saved_snap sectors c origin h h))
-          (sym (as_holding sectors number range bytes a k c (k + 1) h here kept))
+          (sym (as_holding sectors c (k + 1) h here kept))
           (ends_read done rest (routed Waits ∷ []) a (k + 1) (k + 1) q h.pairs (stepped h.snap.chunk (next_place h.snap + 1)) idle_done (each_weaker IsIdle IsLater rest idle_later idle_rest) unread origin h.snap on kept.pairs
-          (copy_bytes sectors number range bytes a k origin h.snap c (next_place h.snap) whole) (ap (least (Some (k + 1))) low))
+          (copy_bytes sectors origin h.snap c (next_place h.snap) whole) (ap (least (Some (k + 1))) low))
 
       -- the snapshot once its copy came to its end
       module _ (on : h.snap.live ≡ true) (none : place_of h.pairs c ≡ None) (filled : is_filled h ≡ false) (e : CopyEnds) where
