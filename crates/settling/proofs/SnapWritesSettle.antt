@@ -30,7 +30,7 @@ use Rattle.volume_laws.specs.Again.{published_place}
 use Rattle.settled.specs.Devices.{Device, met, written_by}
 use Rattle.settled.specs.Snaps.{Snap}
 use Rattle.settled.specs.Saving.{Saving, spoilt, next_place, is_full, has_chunk, save}
-use Rattle.settled.specs.Pieces.{Served, write_snap, write_saved, write_place, in_snap}
+use Rattle.settled.specs.Pieces.{Answered, Served, write_snap, write_saved, write_place, in_snap}
 use Rattle.event_machine.specs.Held.{Held, Going, Moving, with_store, spoiled}
 use Rattle.event_machine.specs.Due.{copy_at, least_in}
 use Rattle.event_machine.specs.Again.{again}
@@ -41,7 +41,7 @@ use Rattle.event_machine.specs.Settles.{SettlesTo}
 use Rattle.settled.proofs.Each.{Each, each_weaker, each_from}
 use Rattle.event_machine.proofs.Lists.{here_that, none_least}
 use Rattle.settling.proofs.Goes.{Goes, goes_none, goes_on}
-use Rattle.event_machine.proofs.Around.{at, IsIdle, IsLater, idle_later}
+use Rattle.event_machine.proofs.Around.{at, at_alone, IsIdle, IsLater, idle_later}
 use Rattle.settling.proofs.Stages.{put_here, marks_here}
 use Rattle.settling.proofs.Ends.{Ends, IsUnread, requests_after, ends_read}
 use Rattle.settled.proofs.Saves.{saves_nothing, saves_full, saves_copy, chunk_read}
@@ -316,6 +316,9 @@ module _ (sectors number n : ℕ) (range : Range) (bytes : List ℕ) where
 pub snap_write_settles : (sectors number n : ℕ) (range : Range) (bytes : List ℕ) (v : Moving) → IsAtRest sectors v → range.first < sectors → length bytes ≡ 512 * range.count → All (λ (h : Held). range.first + range.count ≤ h.snap.chunk * (range.first / h.snap.chunk) + h.snap.chunk) v.snaps →
     SettlesTo sectors (submitted number (snap_write_request n range bytes) v) (in_snap n (write_snap (span_of range) bytes) v.origin (map snap_of v.snaps))
 snap_write_settles sectors number n range bytes v rest inside len pieces =
-    subst (λ (rs : List Going). SettlesTo sectors (submitted number (snap_write_request n range bytes) (at v.origin v.snaps rs v.replied v.started)) (in_snap n (write_snap (span_of range) bytes) v.origin (map snap_of v.snaps))) (sym rest.requests)
+    let answer : Answered = in_snap n (write_snap (span_of range) bytes) v.origin (map snap_of v.snaps) in
+    let Settles : Moving → Type 0 = λ (w : Moving). SettlesTo sectors (submitted number (snap_write_request n range bytes) w) answer in
+    subst Settles (sym (at_alone v rest.alone))
+    (subst (λ (rs : List Going). Settles (at v.origin v.snaps rs v.replied v.started)) (sym rest.requests)
     (write_all sectors number n range bytes v.origin v.replied v.started rest.whole inside len v.snaps (each_from (IsResting sectors) v.snaps rest.snaps)
-    (each_from (λ (h : Held). range.first + range.count ≤ h.snap.chunk * (range.first / h.snap.chunk) + h.snap.chunk) v.snaps pieces))
+    (each_from (λ (h : Held). range.first + range.count ≤ h.snap.chunk * (range.first / h.snap.chunk) + h.snap.chunk) v.snaps pieces)))

@@ -20,7 +20,7 @@ use Rattle.event_machine.specs.Rest.{IsResting, IsAtRest}
 use Rattle.event_machine.specs.Settles.{SettlesTo}
 use Rattle.settled.proofs.Each.{Each, each_weaker, each_from}
 use Rattle.settling.proofs.Goes.{goes_on}
-use Rattle.event_machine.proofs.Around.{at, IsIdle}
+use Rattle.event_machine.proofs.Around.{at, at_alone, IsIdle}
 use Rattle.settling.proofs.Issued.{settles_there}
 use Rattle.settling.proofs.Primed.{resting_idle, refused_none}
 use Rattle.settling.proofs.SavesSettle.{snap_of, Finals, saves_settle}
@@ -57,6 +57,7 @@ origin_write_settles sectors number range bytes v rest some fits len =
     let after : Device = written_by all.origin (Writes range.first range.count) (with_sectors all.origin.bytes range.first bytes) in
     let reply : Reply = write_reply all.origin range.first range.count in
     let made : List Snap → Answered = λ (ss : List Snap). record { volume = record { origin = after; snaps = ss }; reply = reply } in
-    settles_there sectors (submitted number (write_request range bytes) v) start after saved.finals reply k _ (ap (λ (rs : List Going). going_as (refused_by range.first v.snaps rs)) rest.requests ∙ ap going_as (refused_none range.first v.snaps))
+    settles_there sectors (submitted number (write_request range bytes) v) start after saved.finals reply k _
+    (ap (submitted number (write_request range bytes)) (at_alone v rest.alone) ∙ ap (λ (rs : List Going). going_as (refused_by range.first v.snaps rs)) rest.requests ∙ ap going_as (refused_none range.first v.snaps))
     (goes_on start _ _ saved.goes (issues sectors number range bytes v.replied k all.origin saved.finals idle saved.saved))
     (written_length all.origin range.first range.count bytes len room ∙ same ∙ whole) saved.rest (ap made (sym saved.same))
