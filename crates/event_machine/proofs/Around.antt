@@ -11,9 +11,13 @@ use Rattle.event_machine.specs.Due.{can_commit, can_zero, copy_at, publishable_i
 use Rattle.settled.proofs.Each.{Each, each_weaker}
 use Rattle.event_machine.proofs.Lists.{here_by, none_by, nowhere_by, only_least, here_least, nowhere_least, none_least}
 
--- a volume without a merge
+-- a volume
+abbrev pub at_with : Option MergeHeld → Device → List Held → List Going → Option Reply → ℕ → Moving
+at_with merge origin snaps requests replied started = record { origin = origin; snaps = snaps; merge = merge; requests = requests; replied = replied; started = started }
+
+-- one without a merge; what is due of snapshots and requests is due beside any merge
 abbrev pub at : Device → List Held → List Going → Option Reply → ℕ → Moving
-at origin snaps requests replied started = record { origin = origin; snaps = snaps; merge = None; requests = requests; replied = replied; started = started }
+at origin snaps requests replied started = at_with None origin snaps requests replied started
 
 -- one without a merge is that
 pub at_alone : (v : Moving) → v.merge ≡ None → v ≡ at v.origin v.snaps v.requests v.replied v.started

@@ -60,7 +60,7 @@ module _ (sectors number : ℕ) (range : Range) (bytes : List ℕ) (a : Option R
 
   -- the volume with that write in flight
   abbrev pub writing : Device → List Held → Moving
-  writing origin snaps = with_requests sectors range.first held_write write_routed a k origin snaps
+  writing origin snaps = with_requests sectors range.first held_write write_routed None a k origin snaps
 
   -- the write itself, once each snapshot is idle and has the chunk
   pub issues : (origin : Device) (snaps : List Held) → Each IsIdle snaps → Each (λ d. is_saved range.first d ≡ true) snaps →

@@ -129,7 +129,7 @@ module _ (sectors number n : ℕ) (range : Range) (origin : Device) (a : Option 
         (served_as (Some place) on some) (routed_as (Some place) on some)
         (goes_to _ _ _ (issued origin (done ++ h ∷ rest) r a k idle refl)
         (ap (λ o. for_some o (λ x. on_store Read (x.snap.chunk * place + range.first % x.snap.chunk) range.count (mine_of r) is_this x v) v) (here_that is_this done rest h before pass)
-        ∙ ap (answer (mine_of r) reply) (put_here origin done rest (r ∷ []) a k is_this h before pass now)
+        ∙ ap (answer (mine_of r) reply) (put_here None origin done rest (r ∷ []) a k is_this h before pass now)
         ∙ answered_here origin (done ++ now ∷ rest) r reply a k))
 
     read_here : ReadSettles (done ++ h ∷ rest)

@@ -14,14 +14,14 @@ use Rattle.settled.specs.Devices.{Device, met}
 use Rattle.settled.specs.Snaps.{Snap, Volume}
 use Rattle.settled.specs.Saving.{Saving, spoilt, next_place, is_full, has_chunk, save}
 use Rattle.settled.specs.Pieces.{save_all}
-use Rattle.event_machine.specs.Held.{Held, Going, Moving, spoiled}
+use Rattle.event_machine.specs.Held.{Held, Going, MergeHeld, Moving, spoiled}
 use Rattle.event_machine.specs.Due.{copy_at, least_in}
 use Rattle.event_machine.specs.Again.{again, is_saved}
 use Rattle.event_machine.specs.Submitting.{needs_none, is_filled, with_copy, started_all}
 use Rattle.event_machine.specs.Rest.{IsKept, IsResting}
 use Rattle.settled.proofs.Each.{Each, each_weaker, each_more}
 use Rattle.settling.proofs.Goes.{Goes, goes_none, goes_on}
-use Rattle.event_machine.proofs.Around.{at, IsIdle}
+use Rattle.event_machine.proofs.Around.{at_with, IsIdle}
 use Rattle.settling.proofs.Stages.{holding, copying, marks_here}
 use Rattle.settling.proofs.Ends.{Ends, IsUnread, requests_after, ends_read}
 use Rattle.settled.proofs.Saves.{saves_nothing, saves_full, saves_copy, chunk_read}
@@ -43,16 +43,16 @@ pub record AreRouted (first : ℕ) (requests : List Held → List Going) : Type 
   pub tried : (done rest : List Held) (h after : Held) → h.untried ≡ true → map (again (done ++ after ∷ rest)) (requests (done ++ h ∷ rest)) ≡ requests (done ++ after ∷ rest)
   pub saved : (done rest : List Held) (h after : Held) → is_saved first h ≡ false → requests_after (done ++ after ∷ rest) after (requests (done ++ h ∷ rest)) ≡ requests (done ++ after ∷ rest)
 
-module _ (sectors first : ℕ) (requests : List Held → List Going) (routed : AreRouted first requests) (a : Option Reply) (k : ℕ) where
+module _ (sectors first : ℕ) (requests : List Held → List Going) (routed : AreRouted first requests) (g : Option MergeHeld) (a : Option Reply) (k : ℕ) where
   -- the volume with these requests in flight
   abbrev pub with_requests : Device → List Held → Moving
-  with_requests origin snaps = at origin snaps (requests snaps) a k
+  with_requests origin snaps = at_with g origin snaps (requests snaps) a k
 
   -- a spoiled snapshot's mark
   tries_here : (origin : Device) (done rest : List Held) (h : Held) → Each (λ d. d.untried ≡ false) done → Goes (with_requests origin (done ++ spoiled h ∷ rest)) (with_requests origin (done ++ tried_of h ∷ rest))
   tries_here origin done rest h before =
-      goes_between _ _ _ _ refl (ap (λ rs. at origin (done ++ tried_of h ∷ rest) rs a k) (routed.tried done rest (spoiled h) (tried_of h) refl))
-      (marks_here origin done rest (requests (done ++ spoiled h ∷ rest)) a k (spoiled h) before refl)
+      goes_between _ _ _ _ refl (ap (λ rs. at_with g origin (done ++ tried_of h ∷ rest) rs a k) (routed.tried done rest (spoiled h) (tried_of h) refl))
+      (marks_here g origin done rest (requests (done ++ spoiled h ∷ rest)) a k (spoiled h) before refl)
 
   -- one snapshot more that is done with
   onward : (origin origin' : Device) (done xs ys : List Held) (x : Held) → Goes (with_requests origin ((done ++ x ∷ []) ++ xs)) (with_requests origin' ((done ++ x ∷ []) ++ ys)) → Goes (with_requests origin (done ++ x ∷ xs)) (with_requests origin' (done ++ x ∷ ys))
@@ -128,8 +128,8 @@ module _ (sectors first : ℕ) (requests : List Held → List Going) (routed : A
       let none : is_some (place_of h.pairs c) ≡ false = ap (λ ps. is_some (place_of ps c)) (sym kept.pairs) ∙ lacks in
       let unsaved : is_saved first start ≡ false = rw (on, none) refl in
       let rs : List Going = requests (done ++ start ∷ rest) in
-      let e : Ends done rest rs a k (met origin (chunk_read c origin s)) (at origin (done ++ start ∷ rest) rs a k) (h.pairs ++ q ∷ []) nx (saved_snap sectors c origin h h) =
-      ends_read done rest rs a k (m + 1) q h.pairs nx before (primed_later first (m + 1) snaps idle) (routed.unread (done ++ start ∷ rest)) origin s on kept.pairs (copy_bytes sectors origin s c (next_place s) whole)
+      let e : Ends g done rest rs a k (met origin (chunk_read c origin s)) (at_with g origin (done ++ start ∷ rest) rs a k) (h.pairs ++ q ∷ []) nx (saved_snap sectors c origin h h) =
+      ends_read g done rest rs a k (m + 1) q h.pairs nx before (primed_later first (m + 1) snaps idle) (routed.unread (done ++ start ∷ rest)) origin s on kept.pairs (copy_bytes sectors origin s c (next_place s) whole)
       (least_low (m + 1) (least_in (copy_at Waiting) rest) (primed_above first (m + 1) snaps idle)) in
       let low : s.chunk * c ≤ first = piece_low s.chunk first in
       let chunk : e.held.snap.chunk ≡ s.chunk = ap (λ (t : Snap). t.chunk) e.snap ∙ saved_chunk sectors c origin h h in
@@ -138,7 +138,7 @@ module _ (sectors first : ℕ) (requests : List Held → List Going) (routed : A
         snap = e.snap;
         goes = goes_between _ _ _ _
             (ap (λ xs. with_requests origin (done ++ xs)) (primed_copy first m h snaps some filled ∙ ap (λ (w : Held). w ∷ rest) (as_holding sectors c (m + 1) h resting kept)))
-            (ap (λ xs. at (met origin (chunk_read c origin s)) (done ++ e.held ∷ rest) xs a k) (routed.saved done rest start e.held unsaved)) e.goes;
+            (ap (λ xs. at_with g (met origin (chunk_read c origin s)) (done ++ e.held ∷ rest) xs a k) (routed.saved done rest start e.held unsaved)) e.goes;
         rest = record {
           tried = e.idle.tried;
           copies = e.idle.copies;

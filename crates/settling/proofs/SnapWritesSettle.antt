@@ -83,7 +83,7 @@ module _ (sectors number n : ℕ) (range : Range) (bytes : List ℕ) where
       let v : Moving = at origin (done ++ h ∷ rest) (r ∷ []) a k in
       goes_to _ _ _ (issued origin (done ++ h ∷ rest) r a k idle refl)
       (ap (λ o. for_some o (λ x. on_store (Write bytes) (x.snap.chunk * place + range.first % x.snap.chunk) range.count (mine_of r) is_this x v) v) (here_that is_this done rest h before pass)
-      ∙ ap (answer (mine_of r) (place_reply h place)) (put_here origin done rest (r ∷ []) a k is_this h before pass (after_place h place))
+      ∙ ap (answer (mine_of r) (place_reply h place)) (put_here None origin done rest (r ∷ []) a k is_this h before pass (after_place h place))
       ∙ answered_here origin (done ++ after_place h place ∷ rest) r (place_reply h place) a k)
 
   -- a write whose snapshot was spoiled
@@ -185,8 +185,8 @@ module _ (sectors number n : ℕ) (range : Range) (bytes : List ℕ) where
           served_settles sectors n (write_snap (span_of range) bytes) origin origin done rest h (tried_of h) reply k _ v before pass all
           (record { tried = refl; copies = refl; marks = refl; live = λ live. absurd (true≢false (sym live)) }) whole
           (saved_is origin h.snap x (saves_full c origin h.snap (lacks on none) (sym (full_same on) ∙ filled)) ∙ saved_dead x refl)
-          (by_place None on none ∙ cond-false _ _ _ (lacks_copy on none) ∙ cond-true _ _ _ filled ∙ ap declined (put_here origin done rest [] a k is_this h before pass (spoiled h)))
-          (marks_here origin done rest [] (Some reply) k (spoiled h) (each_weaker IsIdle (λ (d : Held). d.untried ≡ false) done (λ d i. i.tried) idle_done) refl)
+          (by_place None on none ∙ cond-false _ _ _ (lacks_copy on none) ∙ cond-true _ _ _ filled ∙ ap declined (put_here None origin done rest [] a k is_this h before pass (spoiled h)))
+          (marks_here None origin done rest [] (Some reply) k (spoiled h) (each_weaker IsIdle (λ (d : Held). d.untried ≡ false) done (λ d i. i.tried) idle_done) refl)
 
       -- one that copies the chunk first
       unread : IsUnread (routed Waits ∷ [])
@@ -199,15 +199,15 @@ module _ (sectors number n : ℕ) (range : Range) (bytes : List ℕ) where
       saving = record { origin = met origin (chunk_read c origin h.snap); snap = saved_snap sectors c origin h h }
 
       abbrev CopyEnds : Type 0
-      CopyEnds = Ends done rest (routed Waits ∷ []) a (k + 1) (met origin (chunk_read c origin h.snap)) (at origin (done ++ with_copy (k + 1) c h ∷ rest) (routed Waits ∷ []) a (k + 1)) (h.pairs ++ q ∷ []) (stepped h.snap.chunk (next_place h.snap + 1)) (saved_snap sectors c origin h h)
+      CopyEnds = Ends None done rest (routed Waits ∷ []) a (k + 1) (met origin (chunk_read c origin h.snap)) (at origin (done ++ with_copy (k + 1) c h ∷ rest) (routed Waits ∷ []) a (k + 1)) (h.pairs ++ q ∷ []) (stepped h.snap.chunk (next_place h.snap + 1)) (saved_snap sectors c origin h h)
 
       copy_ends : h.snap.live ≡ true → place_of h.pairs c ≡ None → CopyEnds
       copy_ends on none =
           let kept : IsKept sectors h = here.live on in
           let low : least_in (copy_at Waiting) rest ≡ None = none_least (copy_at Waiting) rest (each_weaker IsIdle (λ d. copy_at Waiting d ≡ None) rest (λ d i. rw i.copies refl) idle_rest) in
-          subst (λ (w : Held). Ends done rest (routed Waits ∷ []) a (k + 1) (met origin (chunk_read c origin h.snap)) (at origin (done ++ w ∷ rest) (routed Waits ∷ []) a (k + 1)) (h.pairs ++ q ∷ []) (stepped h.snap.chunk (next_place h.snap + 1)) (saved_snap sectors c origin h h))
+          subst (λ (w : Held). Ends None done rest (routed Waits ∷ []) a (k + 1) (met origin (chunk_read c origin h.snap)) (at origin (done ++ w ∷ rest) (routed Waits ∷ []) a (k + 1)) (h.pairs ++ q ∷ []) (stepped h.snap.chunk (next_place h.snap + 1)) (saved_snap sectors c origin h h))
           (sym (as_holding sectors c (k + 1) h here kept))
-          (ends_read done rest (routed Waits ∷ []) a (k + 1) (k + 1) q h.pairs (stepped h.snap.chunk (next_place h.snap + 1)) idle_done (each_weaker IsIdle IsLater rest idle_later idle_rest) unread origin h.snap on kept.pairs
+          (ends_read None done rest (routed Waits ∷ []) a (k + 1) (k + 1) q h.pairs (stepped h.snap.chunk (next_place h.snap + 1)) idle_done (each_weaker IsIdle IsLater rest idle_later idle_rest) unread origin h.snap on kept.pairs
           (copy_bytes sectors origin h.snap c (next_place h.snap) whole) (ap (least (Some (k + 1))) low))
 
       -- the snapshot once its copy came to its end
@@ -235,7 +235,7 @@ module _ (sectors number n : ℕ) (range : Range) (bytes : List ℕ) where
         copied_idle = each_joined IsIdle done rest e.held idle_done (resting_idle sectors e.held copied_rests) idle_rest
 
         copied_begun : write_begun (done ++ h ∷ rest) ≡ at origin (done ++ with_copy (k + 1) c h ∷ rest) (routed Waits ∷ []) a (k + 1)
-        copied_begun = by_place None on none ∙ cond-false _ _ _ (lacks_copy on none) ∙ cond-false _ _ _ filled ∙ ap (accepted number (snap_write_request n range bytes) Waits) (put_here origin done rest [] a (k + 1) is_this h before pass (with_copy (k + 1) c h))
+        copied_begun = by_place None on none ∙ cond-false _ _ _ (lacks_copy on none) ∙ cond-false _ _ _ filled ∙ ap (accepted number (snap_write_request n range bytes) Waits) (put_here None origin done rest [] a (k + 1) is_this h before pass (with_copy (k + 1) c h))
 
         copied_saved : write_snap (span_of range) bytes origin h.snap ≡ write_saved (span_of range) bytes saving
         copied_saved = saved_is origin h.snap saving (saves_copy c origin h.snap (lacks on none) has_room)

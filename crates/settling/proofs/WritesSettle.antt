@@ -1,5 +1,5 @@
 -- A write of the origin, submitted to a volume at rest, settles to the big step.
-use Rattle.std.proofs.Common.{◌≡◌, ℕ, ◌+◌, ◌*◌, ◌<◌, ◌≤◌, List, [], ◌∷◌, ◌++◌, length, map, arith, ap, ◌∙◌, sym, inl, inr}
+use Rattle.std.proofs.Common.{◌≡◌, ℕ, ◌+◌, ◌*◌, ◌<◌, ◌≤◌, List, [], ◌∷◌, ◌++◌, length, map, None, arith, ap, ◌∙◌, sym, inl, inr}
 use Rattle.std.proofs.lemmas.Bool.{cases_Bool, cond-true, cond-false}
 use Rattle.sector.specs.Bytes.{with_sectors}
 use Rattle.sector.specs.declared.range.Range.{Range}
@@ -48,8 +48,8 @@ origin_write_settles sectors number range bytes v rest some fits len =
     let resting : Each (IsResting sectors) v.snaps = each_from (IsResting sectors) v.snaps rest.snaps in
     let whole = rest.whole in
     let inside : range.first < sectors = omega arith in
-    let saved : Finals sectors range.first (held_write sectors number range bytes v.replied k) (write_routed sectors number range bytes v.replied k) v.replied k start v.origin [] v.snaps =
-    saves_settle sectors range.first (held_write sectors number range bytes v.replied k) (write_routed sectors number range bytes v.replied k) v.replied k v.origin v.snaps v.started whole inside resting in
+    let saved : Finals sectors range.first (held_write sectors number range bytes v.replied k) (write_routed sectors number range bytes v.replied k) None v.replied k start v.origin [] v.snaps =
+    saves_settle sectors range.first (held_write sectors number range bytes v.replied k) (write_routed sectors number range bytes v.replied k) None v.replied k v.origin v.snaps v.started whole inside resting in
     let all : Volume = save_all range.first v.origin (map snap_of v.snaps) in
     let idle : Each IsIdle saved.finals = each_weaker (IsResting sectors) IsIdle saved.finals (resting_idle sectors) saved.rest in
     let same : length all.origin.bytes ≡ length v.origin.bytes = ap length (save_all_bytes range.first v.origin (map snap_of v.snaps)) in
