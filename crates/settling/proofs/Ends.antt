@@ -27,8 +27,8 @@ use Rattle.event_machine.proofs.Around.{at_with, IsIdle, IsLater}
 use Rattle.settling.proofs.Stages.{holding, copying, marks_here, reads_done, reads_failed, writes_done, writes_failed, zeros_lacking, zeros_done, zeros_failed, area_done, area_failed, publishes}
 
 -- the requests in flight once a snapshot's copy came to its end
-abbrev pub requests_after : List Held → Held → List Going → List Going
-requests_after snaps h rs = map (again snaps) (map (if h.snap.live then placed h else refused h.snap.number) rs)
+abbrev pub requests_after : Option MergeHeld → List Held → Held → List Going → List Going
+requests_after g snaps h rs = map (again g snaps) (map (if h.snap.live then placed h else refused h.snap.number) rs)
 
 -- no request reads a chunk from the origin disk for a snapshot
 abbrev pub IsUnread : List Going → Type 0
@@ -41,7 +41,7 @@ module _ (g : Option MergeHeld) (done rest : List Held) (rs : List Going) (a : O
     pub held : Held
     pub snap : held.snap ≡ target
     pub idle : IsIdle held
-    pub goes : Goes v (at_with g origin (done ++ held ∷ rest) (requests_after (done ++ held ∷ rest) held rs) a k)
+    pub goes : Goes v (at_with g origin (done ++ held ∷ rest) (requests_after g (done ++ held ∷ rest) held rs) a k)
     pub pairs : held.snap.live ≡ true → held.pairs ≡ ps
     pub next : held.snap.live ≡ true → held.next ≡ nx
     pub zeroed : held.snap.live ≡ true → held.zeroed ≡ false
@@ -71,7 +71,7 @@ module _ (g : Option MergeHeld) (done rest : List Held) (rs : List Going) (a : O
     ends_published : (origin : Device) (s : Snap) (z : Bool) → s.live ≡ true → z ≡ false → Ends origin (at_with g origin (done ++ holding s (ps ++ q ∷ []) nx z [] ((record { number = n; chunk = q.old }) ∷ []) ∷ rest) rs a k) (ps ++ q ∷ []) nx s
     ends_published origin s z live unzeroed =
         let now : Held = holding s (ps ++ q ∷ []) nx z [] [] in
-        let same : map (again (done ++ now ∷ rest)) (map (placed now) rs) ≡ requests_after (done ++ now ∷ rest) now rs = ap (λ f. map (again (done ++ now ∷ rest)) (map f rs)) (sym (cond-true _ _ _ live)) in
+        let same : map (again g (done ++ now ∷ rest)) (map (placed now) rs) ≡ requests_after g (done ++ now ∷ rest) now rs = ap (λ f. map (again g (done ++ now ∷ rest)) (map f rs)) (sym (cond-true _ _ _ live)) in
         record {
           held = now;
           snap = refl;

@@ -14,18 +14,18 @@ use Rattle.pending.specs.Routes.{write_route_of}
 use Rattle.pending.specs.declared.flights.Route.{Route}
 use Rattle.pending.specs.declared.flights.Route.TheVariants.{Held as Waits, Origin}
 use Rattle.settled.specs.Devices.{Device, written_by}
-use Rattle.event_machine.specs.Held.{Held, Going, Moving, is_untried}
-use Rattle.event_machine.specs.Again.{again, is_saved, is_clear}
+use Rattle.event_machine.specs.Held.{Held, Going, MergeHeld, Moving, is_untried}
+use Rattle.event_machine.specs.Again.{again, is_saved, is_clear, is_grouped, merged_place, write_route}
 use Rattle.event_machine.specs.Stepping.{for_some, issue, write_reply}
 use Rattle.event_machine.proofs.Lists.{same_number}
 use Rattle.settled.proofs.Each.{Each, each_weaker}
 use Rattle.settling.proofs.Goes.{Goes, goes_step}
-use Rattle.event_machine.proofs.Around.{at, IsIdle, due_request}
+use Rattle.event_machine.proofs.Around.{at_with, IsIdle, due_request}
 use Rattle.settling.proofs.Ends.{IsUnread, requests_after}
 use Rattle.event_machine.proofs.Clears.{and_last, unclear_unsaved, unclear_untried, clear_all}
 use Rattle.settling.proofs.SavesSettle.{goes_between, AreRouted, with_requests}
 
-module _ (sectors number : ℕ) (range : Range) (bytes : List ℕ) (a : Option Reply) (k : ℕ) where
+module _ (g : Option MergeHeld) (sectors number : ℕ) (range : Range) (ungrouped : is_grouped g range.first ≡ false) (unplaced : merged_place g range.first ≡ None) (bytes : List ℕ) (a : Option Reply) (k : ℕ) where
   abbrev pub request : Request
   request = record { dev = ToOrigin; op = Write bytes; range = range }
 
@@ -33,7 +33,10 @@ module _ (sectors number : ℕ) (range : Range) (bytes : List ℕ) (a : Option R
   going route = record { number = number; request = request; route = route }
 
   abbrev pub route_for : List Held → Route
-  route_for snaps = write_route_of false None (is_clear snaps range.first)
+  route_for snaps = write_route g snaps range.first
+
+  routed_by : (snaps : List Held) → route_for snaps ≡ write_route_of false None (is_clear snaps range.first)
+  routed_by snaps = ap (λ b. write_route_of b (merged_place g range.first) (is_clear snaps range.first)) ungrouped ∙ ap (λ o. write_route_of false o (is_clear snaps range.first)) unplaced
 
   -- that write in flight, routed by the snapshots
   abbrev pub held_write : List Held → List Going
@@ -43,34 +46,34 @@ module _ (sectors number : ℕ) (range : Range) (bytes : List ℕ) (a : Option R
   unread route h c = ap (λ b. b || false) (and_last ((range.first / h.snap.chunk) == c) false refl)
 
   held_here : (snaps : List Held) → is_clear snaps range.first ≡ false → held_write snaps ≡ going Waits ∷ []
-  held_here snaps e = ap (λ b. going (write_route_of false None b) ∷ []) e
+  held_here snaps e = ap (λ r. going r ∷ []) (routed_by snaps ∙ ap (write_route_of false None) e)
 
-  routed_again : (snaps : List Held) (h : Held) → requests_after snaps h (going Waits ∷ []) ≡ held_write snaps
+  routed_again : (snaps : List Held) (h : Held) → requests_after g snaps h (going Waits ∷ []) ≡ held_write snaps
   routed_again snaps h = elim (cases_Bool h.snap.live) [
-    | inl on ↦ ap (λ (f : Going → Going). map (again snaps) (map f (going Waits ∷ []))) (cond-true _ _ _ on)
-    | inr out ↦ ap (λ (f : Going → Going). map (again snaps) (map f (going Waits ∷ []))) (cond-false _ _ _ out)
+    | inl on ↦ ap (λ (f : Going → Going). map (again g snaps) (map f (going Waits ∷ []))) (cond-true _ _ _ on)
+    | inr out ↦ ap (λ (f : Going → Going). map (again g snaps) (map f (going Waits ∷ []))) (cond-false _ _ _ out)
   ]
 
-  pub write_routed : AreRouted range.first held_write
+  pub write_routed : AreRouted g range.first held_write
   write_routed = record {
     unread = λ snaps. unread (route_for snaps);
-    tried = λ done rest h after is. ap (map (again (done ++ after ∷ rest))) (held_here (done ++ h ∷ rest) (unclear_untried range.first done rest h is));
-    saved = λ done rest h after is. ap (requests_after (done ++ after ∷ rest) after) (held_here (done ++ h ∷ rest) (unclear_unsaved range.first done rest h is)) ∙ routed_again (done ++ after ∷ rest) after;
+    tried = λ done rest h after is. ap (map (again g (done ++ after ∷ rest))) (held_here (done ++ h ∷ rest) (unclear_untried range.first done rest h is));
+    saved = λ done rest h after is. ap (requests_after g (done ++ after ∷ rest) after) (held_here (done ++ h ∷ rest) (unclear_unsaved range.first done rest h is)) ∙ routed_again (done ++ after ∷ rest) after;
   }
 
   -- the volume with that write in flight
   abbrev pub writing : Device → List Held → Moving
-  writing origin snaps = with_requests sectors range.first held_write write_routed None a k origin snaps
+  writing origin snaps = with_requests g sectors range.first held_write write_routed a k origin snaps
 
   -- the write itself, once each snapshot is idle and has the chunk
   pub issues : (origin : Device) (snaps : List Held) → Each IsIdle snaps → Each (λ d. is_saved range.first d ≡ true) snaps →
-      Goes (writing origin snaps) (at (written_by origin (Writes range.first range.count) (with_sectors origin.bytes range.first bytes)) snaps [] (Some (write_reply origin range.first range.count)) k)
+      Goes (writing origin snaps) (at_with g (written_by origin (Writes range.first range.count) (with_sectors origin.bytes range.first bytes)) snaps [] (Some (write_reply origin range.first range.count)) k)
   issues origin snaps idle saved =
       let clear : is_clear snaps range.first ≡ true = clear_all range.first snaps saved (each_weaker IsIdle (λ d. is_untried d ≡ false) snaps (λ d i. i.tried) idle) in
-      let v : Moving = at origin snaps (going Origin ∷ []) a k in
+      let v : Moving = at_with g origin snaps (going Origin ∷ []) a k in
       let mine : Going → Bool = λ r. r.number == number in
       let after : Device = written_by origin (Writes range.first range.count) (with_sectors origin.bytes range.first bytes) in
-      goes_between _ _ _ _ (ap (λ b. at origin snaps (going (write_route_of false None b) ∷ []) a k) clear) refl
+      goes_between _ _ _ _ (ap (λ r. at_with g origin snaps (going r ∷ []) a k) (routed_by snaps ∙ ap (write_route_of false None) clear)) refl
       (goes_step v _ (Issue number) (due_request origin snaps (going Origin ∷ []) a k idle (Some number) refl)
       (ap (λ o. for_some o (λ (r : Going). issue r.route mine r v) v) (cond-true _ _ _ (same_number number true))
-      ∙ ap (λ rs. at after snaps rs (Some (write_reply origin range.first range.count)) k) (cond-true _ _ _ (eq-eqb number number refl))))
+      ∙ ap (λ rs. at_with g after snaps rs (Some (write_reply origin range.first range.count)) k) (cond-true _ _ _ (eq-eqb number number refl))))

@@ -38,12 +38,12 @@ snap_of h = h.snap
 -- The requests in flight, as the snapshots route them: none reads a chunk from the origin disk for a snapshot. That is what
 -- they are routed to again once a spoiled snapshot's mark is tried, and once a snapshot that had not saved the chunk of this
 -- sector came to its end.
-pub record AreRouted (first : ℕ) (requests : List Held → List Going) : Type 0 where
+pub record AreRouted (g : Option MergeHeld) (first : ℕ) (requests : List Held → List Going) : Type 0 where
   pub unread : (snaps : List Held) → IsUnread (requests snaps)
-  pub tried : (done rest : List Held) (h after : Held) → h.untried ≡ true → map (again (done ++ after ∷ rest)) (requests (done ++ h ∷ rest)) ≡ requests (done ++ after ∷ rest)
-  pub saved : (done rest : List Held) (h after : Held) → is_saved first h ≡ false → requests_after (done ++ after ∷ rest) after (requests (done ++ h ∷ rest)) ≡ requests (done ++ after ∷ rest)
+  pub tried : (done rest : List Held) (h after : Held) → h.untried ≡ true → map (again g (done ++ after ∷ rest)) (requests (done ++ h ∷ rest)) ≡ requests (done ++ after ∷ rest)
+  pub saved : (done rest : List Held) (h after : Held) → is_saved first h ≡ false → requests_after g (done ++ after ∷ rest) after (requests (done ++ h ∷ rest)) ≡ requests (done ++ after ∷ rest)
 
-module _ (sectors first : ℕ) (requests : List Held → List Going) (routed : AreRouted first requests) (g : Option MergeHeld) (a : Option Reply) (k : ℕ) where
+module _ (g : Option MergeHeld) (sectors first : ℕ) (requests : List Held → List Going) (routed : AreRouted g first requests) (a : Option Reply) (k : ℕ) where
   -- the volume with these requests in flight
   abbrev pub with_requests : Device → List Held → Moving
   with_requests origin snaps = at_with g origin snaps (requests snaps) a k
@@ -187,5 +187,5 @@ module _ (sectors first : ℕ) (requests : List Held → List Going) (routed : A
       }
 
 -- no request is in flight
-pub none_routed : (first : ℕ) → AreRouted first (λ snaps. [])
-none_routed first = record { unread = λ snaps h c. refl; tried = λ done rest h after is. refl; saved = λ done rest h after is. refl }
+pub none_routed : (g : Option MergeHeld) (first : ℕ) → AreRouted g first (λ snaps. [])
+none_routed g first = record { unread = λ snaps h c. refl; tried = λ done rest h after is. refl; saved = λ done rest h after is. refl }
