@@ -1,6 +1,6 @@
 -- To be believed: `run`'s output, a volume's steps or its attach are said in these words.
 -- A volume with events: what it keeps of its snapshots, its copies, its merge and its requests beside its devices.
-use Rattle.std.specs.Prelude.{ℕ, Bool, false, true, List, [], Option}
+use Rattle.std.specs.Prelude.{ℕ, Bool, false, true, List, [], ◌++◌, Option, Some}
 use Rattle.sector.specs.declared.pair.Pair.{Pair}
 use Rattle.plain.specs.declared.request.Request.{Request}
 use Rattle.plain.specs.declared.request.Reply.{Reply}
@@ -72,3 +72,15 @@ with_store h store = record h { snap = record h.snap { store = store } }
 -- the snapshot is spoiled: its copies are dropped
 abbrev pub spoiled : Held → Held
 spoiled h = record h { snap = record h.snap { live = false }; untried = true; copies = []; marks = [] }
+
+-- the present group of a merge
+abbrev pub group_in : MergeHeld → List Pair
+group_in m = m.waiting ++ (m.reading ++ (m.copied ++ m.released))
+
+-- the merge with another device for its store
+abbrev pub on_device : MergeHeld → Device → MergeHeld
+on_device m store = record m { merge = record m.merge { store = store } }
+
+-- the volume with this merge
+abbrev pub with_merge : MergeHeld → Moving → Moving
+with_merge m v = record v { merge = Some m }

@@ -1,6 +1,6 @@
 -- One snapshot's copy from any stage to its end: it is published, or the snapshot is spoiled and its mark is tried. What is
 -- left is what the big step says.
-use Rattle.std.proofs.Common.{◌≡◌, inl, inr, ℕ, ◌+◌, ◌*◌, ◌/◌, ◌%◌, Bool, true, false, List, [], ◌∷◌, ◌++◌, length, map, Option, Some, refl, ap, ◌∙◌, sym, subst}
+use Rattle.std.proofs.Common.{◌≡◌, inl, inr, ℕ, ◌+◌, ◌*◌, ◌/◌, ◌%◌, Bool, true, false, List, [], ◌∷◌, ◌++◌, length, map, Option, None, Some, refl, ap, ◌∙◌, sym, subst}
 use Rattle.std.specs.Prelude.{◌==◌, ◌&&◌, not, if◌then◌else◌}
 use Rattle.std.specs.List.{list_any}
 use Rattle.std.proofs.lemmas.Bool.{cases_Bool, cond-true, cond-false, true≢false}
@@ -28,7 +28,7 @@ use Rattle.settling.proofs.Stages.{holding, copying, marks_here, reads_done, rea
 
 -- the requests in flight once a snapshot's copy came to its end
 abbrev pub requests_after : List Held → Held → List Going → List Going
-requests_after snaps h rs = map (again snaps) (map (if h.snap.live then placed h else refused h.snap.number) rs)
+requests_after snaps h rs = map (again None snaps) (map (if h.snap.live then placed h else refused h.snap.number) rs)
 
 -- no request reads a chunk from the origin disk for a snapshot
 abbrev pub IsUnread : List Going → Type 0
@@ -71,7 +71,7 @@ module _ (done rest : List Held) (rs : List Going) (a : Option Reply) (k : ℕ) 
     ends_published : (origin : Device) (s : Snap) (z : Bool) → s.live ≡ true → z ≡ false → Ends origin (at origin (done ++ holding s (ps ++ q ∷ []) nx z [] ((record { number = n; chunk = q.old }) ∷ []) ∷ rest) rs a k) (ps ++ q ∷ []) nx s
     ends_published origin s z live unzeroed =
         let now : Held = holding s (ps ++ q ∷ []) nx z [] [] in
-        let same : map (again (done ++ now ∷ rest)) (map (placed now) rs) ≡ requests_after (done ++ now ∷ rest) now rs = ap (λ f. map (again (done ++ now ∷ rest)) (map f rs)) (sym (cond-true _ _ _ live)) in
+        let same : map (again None (done ++ now ∷ rest)) (map (placed now) rs) ≡ requests_after (done ++ now ∷ rest) now rs = ap (λ f. map (again None (done ++ now ∷ rest)) (map f rs)) (sym (cond-true _ _ _ live)) in
         record {
           held = now;
           snap = refl;

@@ -73,8 +73,8 @@ module _ (sectors number : ℕ) (range : Range) (bytes : List ℕ) (a : Option R
 
   routed_again : (snaps : List Held) (h : Held) → requests_after snaps h (going Waits ∷ []) ≡ going (route_for snaps) ∷ []
   routed_again snaps h = elim (cases_Bool h.snap.live) [
-    | inl on ↦ ap (λ (f : Going → Going). map (again snaps) (map f (going Waits ∷ []))) (cond-true _ _ _ on)
-    | inr out ↦ ap (λ (f : Going → Going). map (again snaps) (map f (going Waits ∷ []))) (cond-false _ _ _ out)
+    | inl on ↦ ap (λ (f : Going → Going). map (again None snaps) (map f (going Waits ∷ []))) (cond-true _ _ _ on)
+    | inr out ↦ ap (λ (f : Going → Going). map (again None snaps) (map f (going Waits ∷ []))) (cond-false _ _ _ out)
   ]
 
   -- a spoiled snapshot's mark

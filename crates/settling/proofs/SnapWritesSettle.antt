@@ -249,8 +249,8 @@ module _ (sectors number n : ℕ) (range : Range) (bytes : List ℕ) where
         -- it was spoiled
         routed_refused : e.held.snap.live ≡ false → requests_after copied_after e.held (routed Waits ∷ []) ≡ routed Refused ∷ []
         routed_refused out =
-            ap (λ (f : Going → Going). map (again copied_after) (map f (routed Waits ∷ []))) (cond-false _ _ _ out)
-            ∙ ap (λ b. again copied_after (routed (if b || false then Refused else Waits)) ∷ []) copied_this
+            ap (λ (f : Going → Going). map (again None copied_after) (map f (routed Waits ∷ []))) (cond-false _ _ _ out)
+            ∙ ap (λ b. again None copied_after (routed (if b || false then Refused else Waits)) ∷ []) copied_this
 
         copied_dead : e.held.snap.live ≡ false → WriteSettles (done ++ h ∷ rest)
         copied_dead out =
@@ -275,9 +275,9 @@ module _ (sectors number n : ℕ) (range : Range) (bytes : List ℕ) where
 
           routed_place : requests_after copied_after e.held (routed Waits ∷ []) ≡ routed (Store (next_place h.snap)) ∷ []
           routed_place =
-              ap (λ (f : Going → Going). map (again copied_after) (map f (routed Waits ∷ []))) (cond-true _ _ _ live)
-              ∙ ap (λ o. again copied_after (routed (placed_route_of e.held.snap.number (SnapWrite n) Waits o)) ∷ []) (published_is e.held.pairs e.held.marks (range.first / e.held.snap.chunk) (next_place h.snap) e.idle.marks copied_place)
-              ∙ ap (λ b. again copied_after (routed (if b then Store (next_place h.snap) else Waits)) ∷ []) this_again
+              ap (λ (f : Going → Going). map (again None copied_after) (map f (routed Waits ∷ []))) (cond-true _ _ _ live)
+              ∙ ap (λ o. again None copied_after (routed (placed_route_of e.held.snap.number (SnapWrite n) Waits o)) ∷ []) (published_is e.held.pairs e.held.marks (range.first / e.held.snap.chunk) (next_place h.snap) e.idle.marks copied_place)
+              ∙ ap (λ b. again None copied_after (routed (if b then Store (next_place h.snap) else Waits)) ∷ []) this_again
 
           copied_live : WriteSettles (done ++ h ∷ rest)
           copied_live =

@@ -1,6 +1,6 @@
 -- One snapshot's copy, event by event: each event is due where the snapshots before it are idle and those after it wait, and
 -- what it does.
-use Rattle.std.proofs.Common.{◌≡◌, ℕ, ◌+◌, ◌*◌, ◌/◌, ◌%◌, Bool, true, false, List, [], ◌∷◌, ◌++◌, length, map, Option, Some, refl, ap, ◌∙◌, eq-eqb}
+use Rattle.std.proofs.Common.{◌≡◌, ℕ, ◌+◌, ◌*◌, ◌/◌, ◌%◌, Bool, true, false, List, [], ◌∷◌, ◌++◌, length, map, Option, Some, None, refl, ap, ◌∙◌, eq-eqb}
 use Rattle.std.specs.Prelude.{◌==◌, ◌&&◌, not}
 use Rattle.std.specs.List.{list_any}
 use Rattle.std.proofs.lemmas.Bool.{cond-true, cond-false}
@@ -57,14 +57,14 @@ module _ (origin : Device) (done rest : List Held) (rs : List Going) (a : Option
 
   -- the mark of a spoiled snapshot
   pub marks_here : (h : Held) → Each (λ d. d.untried ≡ false) done → h.untried ≡ true → (let after : Held = record h { snap = record h.snap { store = written_by h.snap.store (Writes 0 h.snap.chunk) (marked h.snap.chunk h.snap.store.bytes); stale = not (answers h.snap.store (Writes 0 h.snap.chunk)) }; untried = false } in
-      Goes (at origin (done ++ h ∷ rest) rs a k) (at origin (done ++ after ∷ rest) (map (again (done ++ after ∷ rest)) rs) a k))
+      Goes (at origin (done ++ h ∷ rest) rs a k) (at origin (done ++ after ∷ rest) (map (again None (done ++ after ∷ rest)) rs) a k))
   marks_here h before is =
       let test : Held → Bool = λ d. (d.snap.number == h.snap.number) && d.untried in
       let fails : Each (λ d. test d ≡ false) done = each_weaker (λ (d : Held). d.untried ≡ false) (λ d. test d ≡ false) done (λ d e. and_no (d.snap.number == h.snap.number) d.untried e) before in
       let pass : test h ≡ true = same_number h.snap.number h.untried ∙ is in
       let after : Held = record h { snap = record h.snap { store = written_by h.snap.store (Writes 0 h.snap.chunk) (marked h.snap.chunk h.snap.store.bytes); stale = not (answers h.snap.store (Writes 0 h.snap.chunk)) }; untried = false } in
       goes_step _ _ (WriteInvalid h.snap.number) (due_invalid origin done rest h rs a k before is)
-      (on_this_snap test h fails pass mark_invalid ∙ ap (λ xs. at origin xs (map (again xs) rs) a k) (here_with test after done rest h fails pass))
+      (on_this_snap test h fails pass mark_invalid ∙ ap (λ xs. at origin xs (map (again None xs) rs) a k) (here_with test after done rest h fails pass))
     where
       and_no : (x y : Bool) → y ≡ false → (x && y) ≡ false
       and_no true y e = e
@@ -238,7 +238,7 @@ module _ (done rest : List Held) (a : Option Reply) (k : ℕ) (s : Snap) (ps : L
   idle_here = holding s ps nx z [] []
 
   pub publishes : (origin : Device) (rs : List Going) → ((h : Held) (c : ℕ) → list_any (is_reading h c) rs ≡ false) →
-      Goes (at origin (done ++ holding s ps nx z [] (mark_here ∷ []) ∷ rest) rs a k) (at origin (done ++ idle_here ∷ rest) (map (again (done ++ idle_here ∷ rest)) (map (placed idle_here) rs)) a k)
+      Goes (at origin (done ++ holding s ps nx z [] (mark_here ∷ []) ∷ rest) rs a k) (at origin (done ++ idle_here ∷ rest) (map (again None (done ++ idle_here ∷ rest)) (map (placed idle_here) rs)) a k)
   publishes origin rs unread =
       let h : Held = holding s ps nx z [] (mark_here ∷ []) in
       let free : is_publishable rs h mark_here ≡ true = rw (unread h q.old) refl in
@@ -248,4 +248,4 @@ module _ (done rest : List Held) (a : Option Reply) (k : ℕ) (s : Snap) (ps : L
       goes_step _ _ (Publish n) (due_publish origin done rest h rs a k before later n refl (cond-true _ _ _ free))
       (on_this_snap origin done rest rs a k test h fails pass (λ t g. publish t (λ m. m.number == n) g)
       ∙ ap (λ ms. rerouted (at origin (with_first test (holding s ps nx z [] ms) (done ++ h ∷ rest)) (map (placed (holding s ps nx z [] ms)) rs) a k)) (cond-true _ _ _ (eq-eqb n n refl))
-      ∙ ap (λ xs. at origin xs (map (again xs) (map (placed idle_here) rs)) a k) (here_with test idle_here done rest h fails pass))
+      ∙ ap (λ xs. at origin xs (map (again None xs) (map (placed idle_here) rs)) a k) (here_with test idle_here done rest h fails pass))
