@@ -11,3 +11,4 @@ pub mod MergeCommands
 pub mod MergeFaultless
 pub mod MergeReads
 pub mod SettlesCopies
+pub mod SettlesGroups
