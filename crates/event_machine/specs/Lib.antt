@@ -10,3 +10,4 @@ pub mod Rest
 pub mod Settles
 pub mod Requests
 pub mod Seen
+pub mod MergeSeen
