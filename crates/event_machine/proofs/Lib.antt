@@ -6,3 +6,4 @@ pub mod Tied
 pub mod Alone
 pub mod MergeTied
 pub mod Grouped
+pub mod MergeMoves
