@@ -7,3 +7,4 @@ pub mod Alone
 pub mod MergeTied
 pub mod Grouped
 pub mod MergeMoves
+pub mod MergeCommands

@@ -6,6 +6,7 @@ pub mod Submitting
 pub mod MergeDue
 pub mod MergeStepping
 pub mod Merging
+pub mod MergeRest
 pub mod Rest
 pub mod Settles
 pub mod Requests
