@@ -1,6 +1,6 @@
 -- A volume at rest with a merge settles to the whole merge, whatever fails: group after group, and area after area, until no
 -- pair is left or an operation failed.
-use Rattle.std.proofs.Common.{◌≡◌, inl, inr, ℕ, zero, suc, ◌+◌, ◌-◌, ◌*◌, ◌<◌, ◌≤◌, Bool, true, false, List, [], ◌∷◌, length, drop, map, Option, Some, None, refl, arith, ap, ◌∙◌, sym, subst, length-drop}
+use Rattle.std.proofs.Common.{◌≡◌, inl, inr, ℕ, zero, suc, ◌+◌, ◌-◌, ◌*◌, ◌<◌, ◌≤◌, Bool, true, false, List, [], length, drop, map, Option, Some, None, refl, arith, ap, ◌∙◌, sym, subst, length-drop}
 use Rattle.std.specs.Prelude.{◌==◌, ◌&&◌, not, nat_lt}
 use Rattle.std.proofs.lemmas.Bool.{cases_Bool, cases_lt, cases_eq, lt-ltb, eq-eqb, ne_eqb, cond-true, cond-false}
 use Rattle.std.proofs.lemmas.Nat.{mul-le}
@@ -10,25 +10,25 @@ use Rattle.device.specs.declared.operation.Operation.TheVariants.{Reads}
 use Rattle.plain.specs.declared.event.Event.TheVariants.{MergeGroup, MergeAreaRead}
 use Rattle.plain.specs.declared.request.Reply.{Reply}
 use Rattle.model.specs.Places.{area_place}
-use Rattle.volume_laws.specs.MergeDue.{one_of}
+use Rattle.volume_laws.specs.MergeDue.{one_of, due_or}
 use Rattle.settled.specs.Devices.{answers, met}
 use Rattle.settled.specs.Snaps.{Snap}
-use Rattle.settled.specs.Merges.{Merge, Merged, Merging, merged_of as in_one, pairs_in, stopped, with_store, in_area, read_before, merge_step, merge_steps, merge_all, merged}
+use Rattle.settled.specs.Merges.{Merge, Merged, Merging, merged_of as in_one, pairs_in, with_store, in_area, read_before, merge_step, merge_steps, merge_all, merged}
 use Rattle.settled.specs.MergeShown.{IsMerging}
-use Rattle.event_machine.specs.Held.{Held, MergeHeld, Moving}
+use Rattle.event_machine.specs.Held.{Held, Going, MergeHeld, Moving}
 use Rattle.event_machine.specs.MergeDue.{due_all, merge_due}
-use Rattle.event_machine.specs.MergeStepping.{without_group}
-use Rattle.event_machine.specs.MergeRest.{merged_of, in_big_steps, IsMergeResting, IsBetween}
+use Rattle.event_machine.specs.MergeRest.{merge_in, merged_of, in_big_steps, IsMergeResting, IsBetween}
 use Rattle.event_machine.specs.MergeSettles.{SettlesToMerged}
+use Rattle.event_machine.specs.Requests.{volume_of}
 use Rattle.event_machine.specs.Rest.{IsResting}
-use Rattle.event_machine.proofs.Around.{at_with, IsIdle}
+use Rattle.event_machine.proofs.Around.{at_with, IsIdle, due_request}
 use Rattle.settled.proofs.Each.{Each, each_weaker, each_from, all_from}
-use Rattle.settling.proofs.GoesAll.{GoesAll, all_none, all_on, all_there, merge_first}
+use Rattle.settling.proofs.GoesAll.{all_none, all_there, merge_first}
 use Rattle.settling.proofs.MergeStages.{ungrouped, area_read, area_lost}
 use Rattle.settling.proofs.Primed.{resting_idle}
 use Rattle.settling.proofs.SavesSettle.{snap_of}
 use Rattle.merge_laws.proofs.MergeEnds.{step_steps, merge_ends, merge_unseen}
-use Rattle.merge_laws.proofs.SettlesCopies.{merging_at, Reaches, reaches_after}
+use Rattle.merge_laws.proofs.SettlesCopies.{Reaches, reaches_after}
 use Rattle.merge_laws.proofs.SettlesGroups.{free_at, group_settles}
 
 module _ (sectors : ℕ) (a : Option Reply) where
@@ -132,3 +132,41 @@ module _ (sectors : ℕ) (m : Merging) (is : IsMerging sectors m) where
     where
       held_in : {x y : MergeHeld} → Some x ≡ Some y → x ≡ y
       held_in e = cc
+
+-- a volume without a merge stays
+alone_settles : (sectors : ℕ) (v : Moving) → IsBetween sectors v → v.merge ≡ None → SettlesToMerged sectors v (merged (merged_of v))
+alone_settles sectors v rest alone =
+    let with_both : Option MergeHeld → List Going → Moving = λ (o : Option MergeHeld) (rs : List Going). at_with o v.origin v.snaps rs v.replied v.started in
+    let w : Moving = with_both None [] in
+    let is : v ≡ w = ap (λ o. with_both o v.requests) alone ∙ ap (with_both None) rest.requests in
+    let idle : Each IsIdle v.snaps = each_weaker (IsResting sectors) IsIdle v.snaps (resting_idle sectors) (each_from (IsResting sectors) v.snaps rest.snaps) in
+    let quiet : due_all w ≡ None = ap (λ o. due_or o None) (due_request v.origin v.snaps [] v.replied v.started idle None refl) in
+    let there = all_there w w (all_none w) quiet in
+    subst (λ (u : Moving). SettlesToMerged sectors u (merged (merged_of u))) (sym is) (record {
+      fuel = there.0;
+      last = w;
+      ends = there.1;
+      quiet = quiet;
+      rest = record { whole = rest.whole; snaps = rest.snaps; requests = refl; merge = λ h none. absurd (cc) };
+      is = refl;
+      silent = refl;
+    })
+
+-- The law of settling of a merge: from a volume at rest, with all its events, to the whole merge in big steps.
+pub merge_settles : (sectors : ℕ) (v : Moving) → IsBetween sectors v → ((h : MergeHeld) → v.merge ≡ Some h → IsMerging sectors (in_big_steps h v)) → SettlesToMerged sectors v (merged (merged_of v))
+merge_settles sectors v rest is = settles_from v.merge refl
+  where
+    begun_settles : (h : MergeHeld) → v.merge ≡ Some h → SettlesToMerged sectors v (merged (merged_of v))
+    begun_settles h begun =
+        let m : Merging = in_big_steps h v in
+        let resting : IsMergeResting h = rest.merge h begun in
+        let with_both : Option MergeHeld → List Going → Moving = λ (o : Option MergeHeld) (rs : List Going). at_with o v.origin v.snaps rs v.replied v.started in
+        let held_is : h ≡ ungrouped h.merge (pairs_in h.merge) = sym resting.free ∙ ap (ungrouped h.merge) (sym resting.pairs) in
+        let v_is : v ≡ free_at v.replied m v.snaps v.started = ap (λ o. with_both o v.requests) begun ∙ ap (with_both (Some h)) rest.requests ∙ ap (λ (x : MergeHeld). with_both (Some x) []) held_is in
+        let all : SettlesToMerged sectors (free_at v.replied m v.snaps v.started) (in_one (merge_all m)) = all_settles sectors m (is h begun) v.replied v.snaps v.started refl (each_from (IsResting sectors) v.snaps rest.snaps) in
+        let answer : in_one (merge_all m) ≡ merged (merged_of v) = ap (λ o. let x : Merged = record { volume = volume_of v; merge = merge_in o } in merged x) (sym begun) in
+        subst (SettlesToMerged sectors v) answer (subst (λ (u : Moving). SettlesToMerged sectors u (in_one (merge_all m))) (sym v_is) all)
+
+    settles_from : (o : Option MergeHeld) → v.merge ≡ o → SettlesToMerged sectors v (merged (merged_of v))
+    settles_from None alone = alone_settles sectors v rest alone
+    settles_from (Some h) begun = begun_settles h begun
