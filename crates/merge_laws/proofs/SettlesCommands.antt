@@ -4,6 +4,7 @@ use Rattle.std.proofs.Common.{◌≡◌, ℕ, ◌+◌, ◌*◌, ◌/◌, ◌<◌
 use Rattle.std.specs.List.{All}
 use Rattle.chunk.specs.Pieces.{Span, span_of, IsInOneChunk, AreCutFrom, pieces_of}
 use Rattle.chunk.proofs.PiecePlaces.{piece_high}
+use Rattle.chunk.proofs.Whole.{cut_pieces}
 use Rattle.plain.specs.declared.request.Request.{Request}
 use Rattle.plain.specs.declared.request.Dev.{Dev}
 use Rattle.plain.specs.declared.request.Dev.TheVariants.{Origin, Snap as ToSnap}
@@ -13,8 +14,7 @@ use Rattle.plain.specs.declared.request.Reply.{Reply}
 use Rattle.plain.specs.declared.request.Reply.TheVariants.{Data, Written, Refused}
 use Rattle.settled.specs.Commands.{bytes_in}
 use Rattle.settled.specs.Requests.{answered_by, FitsRange}
-use Rattle.settled.specs.Snaps.{Snap}
-use Rattle.settled.specs.Merges.{Merge, Merging, Replied, beside, go_on, write_part, write_parts, read_part, read_parts, least_chunk, written_through, read_through}
+use Rattle.settled.specs.Merges.{Merging, Replied, beside, go_on, write_part, write_parts, read_part, read_parts, least_chunk, written_through, read_through}
 use Rattle.settled.specs.MergeShown.{IsWell, IsMerging}
 use Rattle.settled.proofs.Chunks.{HasChunks, answer_keeps}
 use Rattle.settled.proofs.Each.{Each, each_from, all_from}
@@ -27,6 +27,7 @@ use Rattle.settling.specs.Running.{IsDone, GoesOn, IsWritten, IsRead}
 use Rattle.settling.proofs.Ending.{replied_one}
 use Rattle.settling.proofs.Running.{FitsPiece, counts_of, fits_all, goes_as, fits_joined, counts_joined}
 use Rattle.settling.proofs.SavesSettle.{snap_of}
+use Rattle.merge_laws.proofs.MergeCommands.{least_is}
 use Rattle.merge_laws.proofs.MergeLaws.{snap_bytes}
 use Rattle.merge_laws.proofs.MergeServes.{reads_through, writes_through}
 use Rattle.merge_laws.proofs.SettlesParts.{part_settles}
@@ -132,7 +133,7 @@ module _ (sectors chunk : ℕ) (pos : 0 < chunk) where
       goes_left w mid reply got here (rest_of here.state) left
       (goes_as sectors chunk pos got _ _ ((w ≡ mid) × (reply ≡ got))
       (λ more. next_left mid w got reply here rest_of left
-          (written_left pieces (number + 1) dev (drop (512 * p.count) bytes) mid w reply left.held left.rest (subst (IsMerging sectors) (sym left.is) left.merging) (ap (λ (x : Merging). x.merge.chunk) left.is ∙ left.chunk_is) fits.1 back more)) done.3)
+      (written_left pieces (number + 1) dev (drop (512 * p.count) bytes) mid w reply left.held left.rest (subst (IsMerging sectors) (sym left.is) left.merging) (ap (λ (x : Merging). x.merge.chunk) left.is ∙ left.chunk_is) fits.1 back more)) done.3)
 
   read_left : (pieces : List Span) (number : ℕ) (dev : Dev) (before : List ℕ) (v w : Moving) (reply : Reply) (h : MergeHeld) → IsMergedAtRest sectors h v → IsMerging sectors (in_big_steps h v) → h.merge.chunk ≡ chunk → Each (FitsPiece sectors chunk) pieces →
       IsRead number dev pieces before v w reply → IsLeftBeside sectors chunk w reply (read_parts dev pieces before (in_big_steps h v))
@@ -146,5 +147,39 @@ module _ (sectors chunk : ℕ) (pos : 0 < chunk) where
       goes_left w mid reply got here (rest_of here.state) left
       (goes_as sectors chunk pos got _ _ ((w ≡ mid) × (reply ≡ got))
       (λ more. next_left mid w got reply here rest_of left
-          (subst (λ (r : Reply). IsLeftBeside sectors chunk w reply (read_parts dev pieces (before ++ bytes_in r) (in_big_steps left.held mid))) left.replied
-          (read_left pieces (number + 1) dev (before ++ bytes_in got) mid w reply left.held left.rest (subst (IsMerging sectors) (sym left.is) left.merging) (ap (λ (x : Merging). x.merge.chunk) left.is ∙ left.chunk_is) fits.1 more))) done.3)
+      (subst (λ (r : Reply). IsLeftBeside sectors chunk w reply (read_parts dev pieces (before ++ bytes_in r) (in_big_steps left.held mid))) left.replied
+      (read_left pieces (number + 1) dev (before ++ bytes_in got) mid w reply left.held left.rest (subst (IsMerging sectors) (sym left.is) left.merging) (ap (λ (x : Merging). x.merge.chunk) left.is ∙ left.chunk_is) fits.1 more))) done.3)
+
+-- a whole command
+module _ (sectors number : ℕ) (dev : Dev) (span : Span) (v w : Moving) (reply : Reply) (h : MergeHeld) (rest : IsMergedAtRest sectors h v) (is : IsMerging sectors (in_big_steps h v)) (small : h.merge.chunk ≤ 1024) (inside : span.first + span.count ≤ sectors) where
+  abbrev pub big : Merging
+  big = in_big_steps h v
+
+  abbrev pub pieces : List Span
+  pieces = pieces_of (least_chunk big) span
+
+  abbrev size : ℕ
+  size = h.merge.chunk
+
+  least : least_chunk big ≡ size
+  least = least_is size big.volume.snaps small (each_from (HasChunks size) big.volume.snaps is.chunks)
+
+  cut : AreCutFrom size span (pieces_of size span)
+  cut = cut_pieces size span (pieces_of size span) refl is.merge.some
+
+  fits : Each (FitsPiece sectors size) (pieces_of size span)
+  fits = fits_joined sectors size is.merge.some span.first (span.first + span.count) (pieces_of size span) cut.join (each_from (IsInOneChunk size) (pieces_of size span) cut.inside) inside
+
+  pub write_command : (bytes : List ℕ) → length bytes ≡ 512 * span.count → IsWritten number dev pieces bytes v w reply → IsLeftBeside sectors size w reply (written_through dev span bytes big)
+  unfolding written_through
+  write_command bytes len done =
+      let all = counts_joined sectors size is.merge.some span.first (span.first + span.count) (pieces_of size span) cut.join in
+      let whole : length bytes ≡ 512 * counts_of (pieces_of size span) = omega arith in
+      subst (λ (n : ℕ). IsLeftBeside sectors size w reply (write_parts dev (pieces_of n span) bytes big)) (sym least)
+      (written_left sectors size is.merge.some (pieces_of size span) number dev bytes v w reply h rest is refl fits whole (subst (λ (n : ℕ). IsWritten number dev (pieces_of n span) bytes v w reply) least done))
+
+  pub read_command : IsRead number dev pieces [] v w reply → IsLeftBeside sectors size w reply (read_through dev span big)
+  unfolding read_through
+  read_command done =
+      subst (λ (n : ℕ). IsLeftBeside sectors size w reply (read_parts dev (pieces_of n span) [] big)) (sym least)
+      (read_left sectors size is.merge.some (pieces_of size span) number dev [] v w reply h rest is refl fits (subst (λ (n : ℕ). IsRead number dev (pieces_of n span) [] v w reply) least done))
