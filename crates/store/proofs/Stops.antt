@@ -9,7 +9,7 @@ use Rattle.model.specs.Places.{area_place, is_area_place, slot, ChangesOnly}
 use Rattle.model.specs.Slots.{pair_in}
 use Rattle.model.specs.Pairs.{pairs_of, AreWellFormed, IsListed}
 use Rattle.model.proofs.AreaPlaces.{area_of, places_apart}
-use Rattle.model.proofs.Slots.{slot-at, IsListed-of}
+use Rattle.model.proofs.Slots.{slot-at, IsListed-of, pairs-outside}
 use Rattle.cow_header.specs.HeaderText.{found_in}
 use Rattle.cow_header.specs.declared.found.Found.TheVariants.{Header}
 use Rattle.exception_arena.specs.Pending.{pairs}
@@ -19,19 +19,22 @@ use Rattle.stop_laws.specs.Again.{LoadsAgain, IsRefusedAgain}
 use Rattle.stop_laws.proofs.Between.{IsBetween}
 use Rattle.stop_laws.proofs.Areas.{between_all, between_first, torn_pairs}
 use Rattle.stop_laws.proofs.Loads.{torn_commit_loads, torn_mark}
+use Rattle.stop_laws.proofs.Torn.{torn_only}
 use Rattle.store.specs.Headed.{head_of, marked_as}
 use Rattle.store.specs.Loading.{is_begun, is_settled}
 use Rattle.store.specs.Slots.{IsPut}
 use Rattle.store.specs.Stored.{IsFront, IsStored, AreGiven}
-use Rattle.store.specs.Stopping.{LoadsFirst, StopsWithin, StopsMarking}
-use Rattle.store.specs.declared.state.Left.TheVariants.{Nothing}
+use Rattle.store.specs.Stopping.{LoadsFirst, StopsWithin, StopsMarking, IsFreshAgain, MayPrepare}
+use Rattle.store.specs.declared.state.Left.{Left}
+use Rattle.store.specs.declared.state.Left.TheVariants.{FirstArea, HeaderChunk, Tail, Nothing}
 use Rattle.store.specs.declared.state.State.{State}
 use Rattle.store.proofs.Areas.{chunk_only}
 use Rattle.store.proofs.Commits.{pairs-more}
 use Rattle.store.proofs.Given.{given_moved, given_formed}
 use Rattle.store.proofs.Merges.{IsCut, front_less, stored_less}
 use Rattle.store.proofs.Pending.{length-first, first_valid, first_moved}
-use Rattle.store.proofs.Writes.{stored_zeroed, stored_outside}
+use Rattle.store.proofs.Heads.{first_inside, head_kept}
+use Rattle.store.proofs.Writes.{stored_zeroed, stored_outside, header_free}
 
 -- the slots after the pairs in use, up to the last that one area more can hold, are empty in the bytes `few`; the last of them
 -- may stand in the next area, where `all` has the same bytes
@@ -213,3 +216,46 @@ kept_stops count place ps qs s area old new is stored given ready valid whole sa
       few = omega arith;
       pairs = all.pairs ∙ ap (λ z. ps ++ z) none ∙ append-nil ps ∙ sym (ap (λ z. take (length ps - count) ps ++ z) (take_all _ (drop (length ps - count) ps) (omega arith)) ∙ take-append-drop (length ps - count) ps);
     }
+
+-- the header after a write to another chunk, torn
+head_torn : (chunk n size : ℕ) (old new torn : List ℕ) → 0 < chunk → n ≢ 0 → IsTorn size old new torn → length old ≡ 512 * size → ChangesOnly chunk n old new → found_in (sector_at torn 0) ≡ found_in (sector_at old 0)
+head_torn chunk n size old new torn pos ne within whole only = head_kept chunk n old torn pos ne (torn_only size chunk n old new torn within whole only)
+
+-- area 0 of a fresh store is zeroed
+pub first_stops : (n : ℕ) (ps : List Pair) (s : State) (area old new torn : List ℕ) → 0 < s.chunk → n ≢ 0 → IsStored old ps s area → s.left ≡ FirstArea → length old ≡ 512 * s.size → ChangesOnly s.chunk n old new → IsTorn s.size old new torn → IsFreshAgain torn
+first_stops n ps s area old new torn pos ne stored left whole only within = head_torn s.chunk n s.size old new torn pos ne within whole only ∙ stored.head ∙ ap (λ x. head_of x s.valid s.chunk) left
+
+-- the header of a fresh store is written
+pub header_stops : (place : ℕ) (ps qs : List Pair) (s : State) (area old new torn : List ℕ) → IsFront ps s area → IsStored old ps s area → found_in (sector_at new 0) ≡ Ok (Header s.chunk) → AreGiven s.chunk s.origin s.size place s.copying ps qs → s.left ≡ HeaderChunk → s.valid ≡ true → length old ≡ 512 * s.size → ChangesOnly s.chunk 0 old new → IsTorn s.size old new torn → IsFreshAgain torn ⊎ LoadsFirst s.chunk s.origin s.size ps [] torn
+header_stops place ps qs s area old new torn is stored says given left valid whole only within =
+    let some : 0 < s.size = (let h = first_inside s.chunk (area_place s.chunk s.current) s.size is.place in let p = is.some in omega arith) in
+    let same : pairs_of s.chunk torn ≡ ps = pairs-outside s.chunk 0 old torn is.some (header_free s.chunk) (torn_only s.size s.chunk 0 old new torn within whole only) ∙ stored.listed (ap is_begun left) in
+    elim (within.each 0 some) [
+      | inl e ↦ inl (ap found_in e ∙ stored.head ∙ ap (λ x. head_of x s.valid s.chunk) left)
+      | inr e ↦ inr (record {
+        again = record { header = ap found_in e ∙ says; formed = subst (λ (z : List Pair). AreWellFormed s.chunk s.origin s.size z) (sym same) (given_formed s.chunk s.origin s.size place s.copying ps qs given) };
+        count = 0;
+        few = omega arith;
+        pairs = same ∙ sym (append-nil ps);
+      })
+    ]
+
+-- the current area of a written store is written with its tail zero
+pub tail_stops : (place : ℕ) (ps qs : List Pair) (s : State) (area old new torn : List ℕ) → IsFront ps s area → IsStored old ps s area → pairs_of s.chunk new ≡ ps → AreGiven s.chunk s.origin s.size place s.copying ps qs → s.left ≡ Tail → s.valid ≡ true → length old ≡ 512 * s.size → ChangesOnly s.chunk (area_place s.chunk s.current) old new → IsTorn s.size old new torn → LoadsFirst s.chunk s.origin s.size ps [] torn
+tail_stops place ps qs s area old new torn is stored listed given left valid whole only within =
+    stops_beside s.chunk s.origin s.size (area_place s.chunk s.current) old new ps is.some (area_ne_head s.chunk s.current) only whole (stored.listed (ap is_begun left)) listed
+    (stored.head ∙ ap (λ x. head_of x s.valid s.chunk) left ∙ ap (λ b. marked_as b s.chunk) valid) (given_formed s.chunk s.origin s.size place s.copying ps qs given) torn within
+
+-- where nothing is written
+pub unwritten_stops : (left : Left) (place : ℕ) (ps qs : List Pair) (s : State) (area old new torn : List ℕ) → left ≡ s.left → IsFront ps s area → IsStored old ps s area → AreGiven s.chunk s.origin s.size place s.copying ps qs → s.valid ≡ true → length old ≡ 512 * s.size → new ≡ old → IsTorn s.size old new torn → MayPrepare left s.chunk s.origin s.size ps torn
+unwritten_stops FirstArea place ps qs s area old new torn left is stored given valid whole same within =
+    let only : ChangesOnly s.chunk 1 old new = subst (λ (z : List ℕ). ChangesOnly s.chunk 1 old z) (sym same) (record { len = refl; rest = λ m ne. refl }) in
+    first_stops 1 ps s area old new torn is.some (λ e. absurd (omega arith)) stored (sym left) whole only within
+unwritten_stops HeaderChunk place ps qs s area old new torn left is stored given valid whole same within =
+    let only : ChangesOnly s.chunk 1 old new = subst (λ (z : List ℕ). ChangesOnly s.chunk 1 old z) (sym same) (record { len = refl; rest = λ m ne. refl }) in
+    inl (head_torn s.chunk 1 s.size old new torn is.some (λ e. absurd (omega arith)) within whole only ∙ stored.head ∙ ap (λ x. head_of x s.valid s.chunk) (sym left))
+unwritten_stops Tail place ps qs s area old new torn left is stored given valid whole same within =
+    stops_still s.chunk s.origin s.size old new ps [] is.some same whole (stored.listed (ap is_begun (sym left)))
+    (stored.head ∙ ap (λ x. head_of x s.valid s.chunk) (sym left) ∙ ap (λ b. marked_as b s.chunk) valid) (given_formed s.chunk s.origin s.size place s.copying ps qs given) torn within
+unwritten_stops Nothing place ps qs s area old new torn left is stored given valid whole same within =
+    still_stops place ps qs [] s area old new is stored given (sym left) valid whole same torn within

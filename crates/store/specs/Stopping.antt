@@ -1,8 +1,13 @@
 -- A stop within an operation of a store: what is left of its bytes is loaded again. A stop leaves each sector as it was or as
 -- the operation writes it, each by itself; what a load accepts is this project's own rule, after the kernel's format.
-use Rattle.std.specs.Prelude.{◌≡◌, ◌⊎◌, ℕ, ◌≤◌, List, [], ◌++◌, length, take}
+use Rattle.std.specs.Prelude.{◌≡◌, ◌⊎◌, ℕ, ◌≤◌, List, [], ◌++◌, length, take, Ok}
 use Rattle.sector.specs.declared.pair.Pair.{Pair}
+use Rattle.sector.specs.Bytes.{sector_at}
 use Rattle.model.specs.Pairs.{pairs_of}
+use Rattle.cow_header.specs.HeaderText.{found_in}
+use Rattle.cow_header.specs.declared.found.Found.TheVariants.{Fresh}
+use Rattle.store.specs.declared.state.Left.{Left}
+use Rattle.store.specs.declared.state.Left.TheVariants.{FirstArea, HeaderChunk, Tail, Nothing}
 use Rattle.stop_laws.specs.Stop.{IsTorn}
 use Rattle.stop_laws.specs.Again.{LoadsAgain, IsRefusedAgain}
 
@@ -20,3 +25,18 @@ StopsWithin chunk origin size kept more old new = (torn : List ℕ) → IsTorn s
 -- while a store is marked invalid: it is loaded again with its pairs, or refused
 abbrev pub StopsMarking : ℕ → ℕ → ℕ → List Pair → List ℕ → List ℕ → Type 0
 StopsMarking chunk origin size kept old new = (torn : List ℕ) → IsTorn size old new torn → LoadsFirst chunk origin size kept [] torn ⊎ IsRefusedAgain torn
+
+-- its first sector says that the store is fresh
+abbrev pub IsFreshAgain : List ℕ → Type 0
+IsFreshAgain bytes = found_in (sector_at bytes 0) ≡ Ok Fresh
+
+-- While a store is made ready, by what is left of that: it is fresh still; then fresh, or loaded again with its pairs, of
+-- which a fresh one has none; a store that was written is loaded again with its pairs.
+abbrev pub MayPrepare : Left → ℕ → ℕ → ℕ → List Pair → List ℕ → Type 0
+MayPrepare FirstArea chunk origin size ps bytes = IsFreshAgain bytes
+MayPrepare HeaderChunk chunk origin size ps bytes = IsFreshAgain bytes ⊎ LoadsFirst chunk origin size ps [] bytes
+MayPrepare Tail chunk origin size ps bytes = LoadsFirst chunk origin size ps [] bytes
+MayPrepare Nothing chunk origin size ps bytes = LoadsFirst chunk origin size ps [] bytes
+
+abbrev pub StopsPreparing : Left → ℕ → ℕ → ℕ → List Pair → List ℕ → List ℕ → Type 0
+StopsPreparing left chunk origin size ps old new = (torn : List ℕ) → IsTorn size old new torn → MayPrepare left chunk origin size ps torn
