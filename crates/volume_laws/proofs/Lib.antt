@@ -44,3 +44,4 @@ pub mod MergeTests
 pub mod MergeSteps
 pub mod Preparing
 pub mod Accepted
+pub mod AcceptedAlone

@@ -1,15 +1,13 @@
 -- Copies are started for a request, and snapshots whose stores are full are spoiled, one after the other.
-use Rattle.std.proofs.Common.{◌≡◌, ◌≢◌, ◌⊎◌, inl, inr, ℕ, ◌+◌, ◌<◌, Bool, true, false, List, [], ◌∷◌, ◌++◌, length, get_or, set, map, refl, sym, ◌∙◌, ap, subst, arith, length-append}
+use Rattle.std.proofs.Common.{◌≡◌, inl, inr, ℕ, ◌+◌, ◌<◌, true, List, [], ◌∷◌, ◌++◌, length, get_or, set, map, refl, sym, ◌∙◌, ap, subst, arith, length-append}
 use Rattle.std.specs.Prelude.{Any}
-use Rattle.std.proofs.lemmas.Bool.{cases_eq, false≢true}
-use Rattle.std.proofs.lemmas.List.{get_or-set_same, get_or-set_other, length-set, get_or_default, get_or-append-add, append-nil}
-use Rattle.plain.specs.Plain.{Plain}
+use Rattle.std.proofs.lemmas.Bool.{cases_eq}
+use Rattle.std.proofs.lemmas.List.{get_or-set_same, get_or-set_other, get_or_default, get_or-append-add, append-nil}
 use Rattle.plain.specs.Legal.{Spoils}
 use Rattle.pending.specs.Kinds.{in_flight}
-use Rattle.pending.specs.Routes.{refused_of}
 use Rattle.pending.specs.declared.copies.ChunkCopy.{ChunkCopy}
 use Rattle.volume_laws.specs.Books.{SnapBooks, Books}
-use Rattle.volume_laws.specs.Whole.{Holds, IsLoud, plain_of}
+use Rattle.volume_laws.specs.Whole.{Holds, plain_of}
 use Rattle.volume_laws.specs.Waits.{Waits, IsSaving}
 use Rattle.volume_laws.specs.Steps.{ChangesSnap, StartsCopy, SpoilsOne}
 use Rattle.volume_laws.specs.Outcomes.{IsSilent, IsSpoil}
