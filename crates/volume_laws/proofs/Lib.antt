@@ -45,3 +45,6 @@ pub mod MergeSteps
 pub mod Preparing
 pub mod Accepted
 pub mod AcceptedAlone
+pub mod MergeRooms
+pub mod MergeRoomEvents
+pub mod MergeRoomSteps
