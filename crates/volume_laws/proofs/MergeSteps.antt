@@ -14,7 +14,7 @@ use Rattle.volume_laws.specs.Steps.{WritesDisk}
 use Rattle.volume_laws.specs.Again.{Reroutes}
 use Rattle.volume_laws.specs.Outcomes.{IsSilent, IsSpoil}
 use Rattle.volume_laws.specs.Waits.{Waits}
-use Rattle.volume_laws.specs.MergeDue.{DueMerge, left_in_merge}
+use Rattle.volume_laws.specs.MergeDue.{DueMerge, per_pair, left_in_merge}
 use Rattle.volume_laws.specs.MergeWaits.{HaveChunk, next_in, IsSavedSoon, MergeGoes}
 use Rattle.volume_laws.specs.MergeSteps.{FormsGroup, ReadsBack, WritesBack, FlushesBack, CommitsGroup, ReleasesGroup, ReadsArea, FailsMerge, Resumes, ChangesMerge, without_group}
 use Rattle.volume_laws.proofs.Same.{books, same_volume}
@@ -51,9 +51,9 @@ pub record IsMergeStart (which : List ℕ) (v w : Books) (d d' : DueMerge) : Typ
   pub waits : Waits w
   pub loud : IsLoud v → IsLoud w
   pub goes : MergeGoes w.snaps d'
-  pub less : left_in_merge d' + 43 ≤ left_in_merge d
+  pub less : left_in_merge d' + (per_pair + 1) ≤ left_in_merge d
 
-starts_after : (which : List ℕ) (v u w : Books) (d d' : DueMerge) → IsMergeChange v u → StartsCopies which u w → MergeGoes w.snaps d' → left_in_merge d' + 43 ≤ left_in_merge d → IsMergeStart which v w d d'
+starts_after : (which : List ℕ) (v u w : Books) (d d' : DueMerge) → IsMergeChange v u → StartsCopies which u w → MergeGoes w.snaps d' → left_in_merge d' + (per_pair + 1) ≤ left_in_merge d → IsMergeStart which v w d d'
 starts_after which v u w d d' one starts goes less = record {
   spoil = spoil_then [] which v u w (silent_is v u one.silent) starts.spoil one.loud;
   waits = starts.waits;
