@@ -48,3 +48,4 @@ pub mod AcceptedAlone
 pub mod MergeRooms
 pub mod MergeRoomEvents
 pub mod MergeRoomSteps
+pub mod Beside

@@ -12,6 +12,7 @@ use Rattle.volume_laws.specs.Published.{IsSaved, is_clear}
 use Rattle.volume_laws.specs.Whole.{Holds, IsLoud}
 use Rattle.volume_laws.specs.Steps.{WritesDisk}
 use Rattle.volume_laws.specs.Again.{Reroutes}
+use Rattle.volume_laws.specs.Accepting.{IsPrepared}
 use Rattle.volume_laws.specs.Outcomes.{IsSilent, IsSpoil}
 use Rattle.volume_laws.specs.Waits.{Waits}
 use Rattle.volume_laws.specs.MergeDue.{DueMerge, per_pair, left_in_merge}
@@ -44,6 +45,10 @@ pub record StartsCopies (which : List ℕ) (v w : Books) : Type 0 where
   pub waits : Waits w
   pub loud : IsLoud v → IsLoud w
   pub keeps : KeepsAll v.snaps w.snaps
+
+-- where they are prepared, and each snapshot keeps what it saves
+pub starts_by : (which : List ℕ) (v w : Books) → IsPrepared which v w → KeepsAll v.snaps w.snaps → StartsCopies which v w
+starts_by which v w h keeps = record { spoil = record { holds = h.holds; step = h.step }; waits = h.waits; loud = h.loud; keeps = keeps }
 
 -- an event of a merge that starts copies: all that is seen is which snapshots are spoiled
 pub record IsMergeStart (which : List ℕ) (v w : Books) (d d' : DueMerge) : Type 0 where

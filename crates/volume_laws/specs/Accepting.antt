@@ -1,6 +1,7 @@
 -- What accepting a request does to a volume: copies are started, snapshots whose stores are full are spoiled, and then the
 -- request is in flight. This project's own.
-use Rattle.std.specs.Prelude.{◌≡◌, ◌≢◌, ℕ, ◌/◌, ◌<◌, true, List, map, slice_index_or}
+use Rattle.std.specs.Prelude.{◌≡◌, ◌≢◌, ℕ, ◌/◌, ◌<◌, true, List, Option, Some, map, slice_index_or}
+use Rattle.std.specs.List.{All}
 use Rattle.plain.specs.declared.request.Request.{Request}
 use Rattle.plain.specs.Legal.{Spoils, IsSubmitted}
 use Rattle.pending.specs.Kinds.{kind_of, in_flight}
@@ -34,6 +35,10 @@ pub record IsBeside (f : Flight) (m : MergeBooks) : Type 0 where
   pub piece : IsPiece m.chunk f.request.range
   pub no_read : kind_of f.request ≢ SnapRead m.number
   pub no_write : kind_of f.request ≢ SnapWrite m.number
+
+-- the merged snapshot's number is none of the others'
+abbrev pub IsNumberedApart : Option MergeBooks → List SnapBooks → Type 0
+IsNumberedApart merge snaps = (m : MergeBooks) → merge ≡ Some m → All (λ s. s.number ≢ m.number) snaps
 
 -- each of the first snapshots that is live has the chunk, or a copy of it is under way
 pub record AreSaving (c i : ℕ) (snaps : List SnapBooks) : Type 0 where
