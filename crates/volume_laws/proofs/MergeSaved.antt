@@ -111,7 +111,7 @@ pub place_saved : (c place off : ℕ) (bytes : List ℕ) (v w : SnapBooks) → W
 place_saved c place off bytes v w e = keeps_pairs v w e.same e.pairs e.copies (λ n all. subst (All (λ (m : Mark). m.chunk ≢ n)) (sym e.marks) all)
 
 -- a spoiled snapshot is asked for nothing
-dead_saved : (s s' : SnapBooks) → s'.live ≡ false → KeepsSaved s s'
+pub dead_saved : (s s' : SnapBooks) → s'.live ≡ false → KeepsSaved s s'
 dead_saved s s' dead = record {
   live = λ live. absurd (false≢true (sym dead ∙ live));
   chunk = λ live. absurd (false≢true (sym dead ∙ live));

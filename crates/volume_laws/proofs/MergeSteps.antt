@@ -12,9 +12,10 @@ use Rattle.volume_laws.specs.Published.{IsSaved, is_clear}
 use Rattle.volume_laws.specs.Whole.{Holds, IsLoud}
 use Rattle.volume_laws.specs.Steps.{WritesDisk}
 use Rattle.volume_laws.specs.Again.{Reroutes}
+use Rattle.volume_laws.specs.Accepting.{IsPrepared}
 use Rattle.volume_laws.specs.Outcomes.{IsSilent, IsSpoil}
 use Rattle.volume_laws.specs.Waits.{Waits}
-use Rattle.volume_laws.specs.MergeDue.{DueMerge, left_in_merge}
+use Rattle.volume_laws.specs.MergeDue.{DueMerge, per_pair, left_in_merge}
 use Rattle.volume_laws.specs.MergeWaits.{HaveChunk, next_in, IsSavedSoon, MergeGoes}
 use Rattle.volume_laws.specs.MergeSteps.{FormsGroup, ReadsBack, WritesBack, FlushesBack, CommitsGroup, ReleasesGroup, ReadsArea, FailsMerge, Resumes, ChangesMerge, without_group}
 use Rattle.volume_laws.proofs.Same.{books, same_volume}
@@ -45,15 +46,19 @@ pub record StartsCopies (which : List ℕ) (v w : Books) : Type 0 where
   pub loud : IsLoud v → IsLoud w
   pub keeps : KeepsAll v.snaps w.snaps
 
+-- where they are prepared, and each snapshot keeps what it saves
+pub starts_by : (which : List ℕ) (v w : Books) → IsPrepared which v w → KeepsAll v.snaps w.snaps → StartsCopies which v w
+starts_by which v w h keeps = record { spoil = record { holds = h.holds; step = h.step }; waits = h.waits; loud = h.loud; keeps = keeps }
+
 -- an event of a merge that starts copies: all that is seen is which snapshots are spoiled
 pub record IsMergeStart (which : List ℕ) (v w : Books) (d d' : DueMerge) : Type 0 where
   pub spoil : IsSpoil which v w
   pub waits : Waits w
   pub loud : IsLoud v → IsLoud w
   pub goes : MergeGoes w.snaps d'
-  pub less : left_in_merge d' + 43 ≤ left_in_merge d
+  pub less : left_in_merge d' + (per_pair + 1) ≤ left_in_merge d
 
-starts_after : (which : List ℕ) (v u w : Books) (d d' : DueMerge) → IsMergeChange v u → StartsCopies which u w → MergeGoes w.snaps d' → left_in_merge d' + 43 ≤ left_in_merge d → IsMergeStart which v w d d'
+starts_after : (which : List ℕ) (v u w : Books) (d d' : DueMerge) → IsMergeChange v u → StartsCopies which u w → MergeGoes w.snaps d' → left_in_merge d' + (per_pair + 1) ≤ left_in_merge d → IsMergeStart which v w d d'
 starts_after which v u w d d' one starts goes less = record {
   spoil = spoil_then [] which v u w (silent_is v u one.silent) starts.spoil one.loud;
   waits = starts.waits;

@@ -74,7 +74,7 @@ no_write : (place : ℕ) (kind : Kind) (route : Route) → writes_to place kind 
 no_write place kind route e is to = false≢true (sym e ∙ ap (λ k. writes_to place k route) is ∙ ap (writes_to place OriginWrite) to ∙ eq-eqb place place refl)
 
 -- a list with a last pair ends with it
-last_is : (pairs : List Pair) (q : Pair) → last_of pairs ≡ Some q → (rest : List Pair) × (pairs ≡ rest ++ q ∷ [])
+pub last_is : (pairs : List Pair) (q : Pair) → last_of pairs ≡ Some q → (rest : List Pair) × (pairs ≡ rest ++ q ∷ [])
 last_is [] q e = cc
 last_is (p ∷ []) q e = ([], (let same : p ≡ q = cc in ap (λ x. x ∷ []) same))
 last_is (p ∷ r ∷ pairs) q e = (let h = last_is (r ∷ pairs) q e in (p ∷ h.0, ap (λ x. p ∷ x) h.1))
