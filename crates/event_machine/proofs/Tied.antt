@@ -121,8 +121,8 @@ untried_seen (s ∷ snaps) = ap (λ b. s.due.books.untried || b) (untried_seen s
 pub clear_seen : (first : ℕ) (snaps : List Seen) → is_clear (map held_of snaps) first ≡ is_clear_in (map (λ s. s.due.books) snaps) first
 clear_seen first snaps = ap (λ b. b && not (list_any is_untried (map held_of snaps))) (saved_seen first snaps) ∙ ap (λ b. list_all (is_saved_in first) (map (λ s. s.due.books) snaps) && not b) (untried_seen snaps)
 
-pub again_seen : (snaps : List Seen) (fs : List Flight) → map (again (map held_of snaps)) (map going_of fs) ≡ map going_of (map (again_of None (is_clear_in (map (λ s. s.due.books) snaps))) fs)
-again_seen snaps fs = seen_alike (again (map held_of snaps)) (again_of None (is_clear_in (map (λ s. s.due.books) snaps))) fs
+pub again_seen : (snaps : List Seen) (fs : List Flight) → map (again None (map held_of snaps)) (map going_of fs) ≡ map going_of (map (again_of None (is_clear_in (map (λ s. s.due.books) snaps))) fs)
+again_seen snaps fs = seen_alike (again None (map held_of snaps)) (again_of None (is_clear_in (map (λ s. s.due.books) snaps))) fs
     (λ f. ap (λ b. again_with f b) (clear_seen f.request.range.first snaps))
   where
     again_with : Flight → Bool → Going

@@ -3,6 +3,9 @@ pub mod Due
 pub mod Again
 pub mod Stepping
 pub mod Submitting
+pub mod MergeDue
+pub mod MergeStepping
+pub mod Merging
 pub mod Rest
 pub mod Settles
 pub mod Requests

@@ -24,7 +24,7 @@ use Rattle.pending.specs.declared.flights.Route.TheVariants.{Held as Waits, Orig
 use Rattle.settled.specs.Saves.{marked, paired, zeroed}
 use Rattle.settled.specs.Devices.{Device, sectors_of, answers, met, written_by, read_reply}
 use Rattle.settled.specs.Saving.{lacks_area}
-use Rattle.event_machine.specs.Held.{Copying, Held, Going, Moving, with_store, spoiled}
+use Rattle.event_machine.specs.Held.{Copying, Held, Going, MergeHeld, Moving, with_store, spoiled, on_device, with_merge}
 use Rattle.event_machine.specs.Due.{can_commit, can_zero, is_at, is_publishable, is_issuable}
 use Rattle.event_machine.specs.Again.{placed, refused, rerouted}
 
@@ -124,9 +124,15 @@ on_store ReadOp first count mine test h v = answer mine (read_reply h.snap.store
 on_store (WriteOp bytes) first count mine test h v =
     answer mine (write_reply h.snap.store first count) (put test (with_store h (written_by h.snap.store (Writes first count) (with_sectors h.snap.store.bytes first bytes))) v)
 
--- of the chunk `place` of the store of a request's snapshot
+-- of the merging store
+abbrev pub on_merging : Op → ℕ → ℕ → (Going → Bool) → MergeHeld → Moving → Moving
+on_merging ReadOp first count mine m v = answer mine (read_reply m.merge.store first count) (with_merge (on_device m (met m.merge.store (Reads first count))) v)
+on_merging (WriteOp bytes) first count mine m v =
+    answer mine (write_reply m.merge.store first count) (with_merge (on_device m (written_by m.merge.store (Writes first count) (with_sectors m.merge.store.bytes first bytes))) v)
+
+-- of the chunk `place` of the merging store, or of the store of a request's snapshot
 abbrev pub on_place : Dev → Op → ℕ → ℕ → ℕ → (Going → Bool) → Moving → Moving
-on_place ToOrigin op place first count mine v = v
+on_place ToOrigin op place first count mine v = for_some v.merge (λ m. on_merging op (m.merge.chunk * place + first % m.merge.chunk) count mine m v) v
 on_place (ToSnap n) op place first count mine v =
     for_some (first_that (λ h. h.snap.number == n) v.snaps) (λ h. on_store op (h.snap.chunk * place + first % h.snap.chunk) count mine (λ k. k.snap.number == n) h v) v
 
@@ -151,7 +157,7 @@ on_copy stage n f v =
 abbrev pub on_snap : (Held → Bool) → ((Held → Bool) → Held → Moving → Moving) → Moving → Moving
 on_snap test f v = for_some (first_that test v.snaps) (λ h. f test h v) v
 
--- an event that is due; any other changes nothing
+-- an event of a snapshot or a request that is due; any other changes nothing
 abbrev pub stepped : Event → Moving → Moving
 stepped (WriteInvalid n) v = on_snap (λ h. (h.snap.number == n) && h.untried) mark_invalid v
 stepped (Publish n) v =

@@ -43,7 +43,7 @@ settles_there sectors u v origin snaps reply k answered begun goes whole rest is
       last = last;
       ends = λ more. ap (settle (there.0 + more)) begun ∙ there.1 more;
       quiet = quiet;
-      rest = record { whole = whole; snaps = all_from (IsResting sectors) snaps rest; requests = refl };
+      rest = record { whole = whole; snaps = all_from (IsResting sectors) snaps rest; requests = refl; alone = refl };
       origin = sym (ap (λ (x : Answered). x.volume.origin) is);
       snaps = sym (ap (λ (x : Answered). x.volume.snaps) is);
       reply = sym (ap (λ (x : Answered). Some x.reply) is);

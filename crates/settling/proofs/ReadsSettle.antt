@@ -18,7 +18,7 @@ use Rattle.pending.specs.declared.flights.Route.{Route}
 use Rattle.pending.specs.declared.flights.Route.TheVariants.{Origin, Store}
 use Rattle.settled.proofs.Laws.{option_cases}
 use Rattle.settled.specs.Devices.{Device, met, read_reply}
-use Rattle.settled.specs.Pieces.{read_origin, read_snap, read_place, in_snap}
+use Rattle.settled.specs.Pieces.{Answered, read_origin, read_snap, read_place, in_snap}
 use Rattle.event_machine.specs.Held.{Held, Going, Moving, with_store}
 use Rattle.event_machine.specs.Stepping.{for_some, answer, on_store}
 use Rattle.event_machine.specs.Submitting.{submitted, declined, read_snap as submit_read}
@@ -27,7 +27,7 @@ use Rattle.event_machine.specs.Settles.{SettlesTo}
 use Rattle.settled.proofs.Each.{Each, each_weaker, each_from}
 use Rattle.event_machine.proofs.Lists.{here_that}
 use Rattle.settling.proofs.Goes.{Goes, goes_none}
-use Rattle.event_machine.proofs.Around.{at, IsIdle}
+use Rattle.event_machine.proofs.Around.{at, at_alone, IsIdle}
 use Rattle.settling.proofs.Stages.{put_here}
 use Rattle.settling.proofs.Primed.{resting_idle}
 use Rattle.event_machine.proofs.Found.{split_at, none_that, served_nowhere}
@@ -49,7 +49,7 @@ origin_read_settles sectors number range v rest =
     let reply : Reply = read_reply v.origin range.first range.count in
     settles_there sectors (submitted number (read_request range) v) (at v.origin v.snaps (r ∷ []) v.replied v.started) after v.snaps reply v.started
     (read_origin (span_of range) (record { origin = v.origin; snaps = map snap_of v.snaps }))
-    (ap (λ (rs : List Going). at v.origin v.snaps (rs ++ r ∷ []) v.replied v.started) rest.requests)
+    (ap (submitted number (read_request range)) (at_alone v rest.alone) ∙ ap (λ (rs : List Going). at v.origin v.snaps (rs ++ r ∷ []) v.replied v.started) rest.requests)
     (goes_to _ _ _ (issued v.origin v.snaps r v.replied v.started (each_weaker (IsResting sectors) IsIdle v.snaps (resting_idle sectors) resting) refl)
     (answered_here after v.snaps r reply v.replied v.started))
     rest.whole resting refl
@@ -129,7 +129,7 @@ module _ (sectors number n : ℕ) (range : Range) (origin : Device) (a : Option 
         (served_as (Some place) on some) (routed_as (Some place) on some)
         (goes_to _ _ _ (issued origin (done ++ h ∷ rest) r a k idle refl)
         (ap (λ o. for_some o (λ x. on_store Read (x.snap.chunk * place + range.first % x.snap.chunk) range.count (mine_of r) is_this x v) v) (here_that is_this done rest h before pass)
-        ∙ ap (answer (mine_of r) reply) (put_here origin done rest (r ∷ []) a k is_this h before pass now)
+        ∙ ap (answer (mine_of r) reply) (put_here None origin done rest (r ∷ []) a k is_this h before pass now)
         ∙ answered_here origin (done ++ now ∷ rest) r reply a k))
 
     read_here : ReadSettles (done ++ h ∷ rest)
@@ -146,5 +146,8 @@ module _ (sectors number n : ℕ) (range : Range) (origin : Device) (a : Option 
 
 pub snap_read_settles : (sectors number n : ℕ) (range : Range) (v : Moving) → IsAtRest sectors v → SettlesTo sectors (submitted number (snap_read_request n range) v) (in_snap n (read_snap (span_of range)) v.origin (map snap_of v.snaps))
 snap_read_settles sectors number n range v rest =
-    subst (λ (rs : List Going). SettlesTo sectors (submitted number (snap_read_request n range) (at v.origin v.snaps rs v.replied v.started)) (in_snap n (read_snap (span_of range)) v.origin (map snap_of v.snaps))) (sym rest.requests)
-    (read_all sectors number n range v.origin v.replied v.started rest.whole v.snaps (each_from (IsResting sectors) v.snaps rest.snaps))
+    let answer : Answered = in_snap n (read_snap (span_of range)) v.origin (map snap_of v.snaps) in
+    let Settles : Moving → Type 0 = λ (w : Moving). SettlesTo sectors (submitted number (snap_read_request n range) w) answer in
+    subst Settles (sym (at_alone v rest.alone))
+    (subst (λ (rs : List Going). Settles (at v.origin v.snaps rs v.replied v.started)) (sym rest.requests)
+    (read_all sectors number n range v.origin v.replied v.started rest.whole v.snaps (each_from (IsResting sectors) v.snaps rest.snaps)))

@@ -30,7 +30,7 @@ use Rattle.volume_laws.specs.Again.{published_place}
 use Rattle.settled.specs.Devices.{Device, met, written_by}
 use Rattle.settled.specs.Snaps.{Snap}
 use Rattle.settled.specs.Saving.{Saving, spoilt, next_place, is_full, has_chunk, save}
-use Rattle.settled.specs.Pieces.{Served, write_snap, write_saved, write_place, in_snap}
+use Rattle.settled.specs.Pieces.{Answered, Served, write_snap, write_saved, write_place, in_snap}
 use Rattle.event_machine.specs.Held.{Held, Going, Moving, with_store, spoiled}
 use Rattle.event_machine.specs.Due.{copy_at, least_in}
 use Rattle.event_machine.specs.Again.{again}
@@ -41,14 +41,14 @@ use Rattle.event_machine.specs.Settles.{SettlesTo}
 use Rattle.settled.proofs.Each.{Each, each_weaker, each_from}
 use Rattle.event_machine.proofs.Lists.{here_that, none_least}
 use Rattle.settling.proofs.Goes.{Goes, goes_none, goes_on}
-use Rattle.event_machine.proofs.Around.{at, IsIdle, IsLater, idle_later}
+use Rattle.event_machine.proofs.Around.{at, at_alone, IsIdle, IsLater, idle_later}
 use Rattle.settling.proofs.Stages.{put_here, marks_here}
 use Rattle.settling.proofs.Ends.{Ends, IsUnread, requests_after, ends_read}
 use Rattle.settled.proofs.Saves.{saves_nothing, saves_full, saves_copy, chunk_read}
 use Rattle.settling.proofs.Resting.{rests_live, saved_snap, saved_chunk, saved_number}
 use Rattle.event_machine.proofs.Clears.{and_last}
 use Rattle.settling.proofs.Primed.{tried_of, resting_idle}
-use Rattle.settling.proofs.OriginWrites.{needs_same, next_same, copy_bytes, as_holding}
+use Rattle.settling.proofs.Starts.{needs_same, next_same, copy_bytes, as_holding}
 use Rattle.event_machine.proofs.Found.{split_at, none_that, served_nowhere}
 use Rattle.settling.proofs.Issued.{mine_of, issued, answered_here, settles_there}
 use Rattle.settling.proofs.Served.{snap_of, each_first, each_here, each_last, each_joined, served_settles}
@@ -83,7 +83,7 @@ module _ (sectors number n : ℕ) (range : Range) (bytes : List ℕ) where
       let v : Moving = at origin (done ++ h ∷ rest) (r ∷ []) a k in
       goes_to _ _ _ (issued origin (done ++ h ∷ rest) r a k idle refl)
       (ap (λ o. for_some o (λ x. on_store (Write bytes) (x.snap.chunk * place + range.first % x.snap.chunk) range.count (mine_of r) is_this x v) v) (here_that is_this done rest h before pass)
-      ∙ ap (answer (mine_of r) (place_reply h place)) (put_here origin done rest (r ∷ []) a k is_this h before pass (after_place h place))
+      ∙ ap (answer (mine_of r) (place_reply h place)) (put_here None origin done rest (r ∷ []) a k is_this h before pass (after_place h place))
       ∙ answered_here origin (done ++ after_place h place ∷ rest) r (place_reply h place) a k)
 
   -- a write whose snapshot was spoiled
@@ -168,13 +168,13 @@ module _ (sectors number n : ℕ) (range : Range) (bytes : List ℕ) where
           (by_place (Some place) on some) (place_goes origin done rest h place a k idle before pass)
 
       full_same : h.snap.live ≡ true → is_filled h ≡ is_full h.snap
-      full_same on = ap (λ x. nat_lt (length h.snap.store.bytes) (512 * (h.snap.chunk * (x + 1)))) (next_same sectors number range bytes a k h (here.live on))
+      full_same on = ap (λ x. nat_lt (length h.snap.store.bytes) (512 * (h.snap.chunk * (x + 1)))) (next_same sectors h (here.live on))
 
       lacks : h.snap.live ≡ true → place_of h.pairs c ≡ None → (not h.snap.live || has_chunk c h.snap) ≡ false
       lacks on none = rw (on, has_same None on none) refl
 
       lacks_copy : h.snap.live ≡ true → place_of h.pairs c ≡ None → needs_none c h ≡ false
-      lacks_copy on none = needs_same sectors number range bytes a k c h here ∙ lacks on none
+      lacks_copy on none = needs_same sectors c h here ∙ lacks on none
 
       -- one whose store is full
       write_full : h.snap.live ≡ true → place_of h.pairs c ≡ None → is_filled h ≡ true → WriteSettles (done ++ h ∷ rest)
@@ -185,8 +185,8 @@ module _ (sectors number n : ℕ) (range : Range) (bytes : List ℕ) where
           served_settles sectors n (write_snap (span_of range) bytes) origin origin done rest h (tried_of h) reply k _ v before pass all
           (record { tried = refl; copies = refl; marks = refl; live = λ live. absurd (true≢false (sym live)) }) whole
           (saved_is origin h.snap x (saves_full c origin h.snap (lacks on none) (sym (full_same on) ∙ filled)) ∙ saved_dead x refl)
-          (by_place None on none ∙ cond-false _ _ _ (lacks_copy on none) ∙ cond-true _ _ _ filled ∙ ap declined (put_here origin done rest [] a k is_this h before pass (spoiled h)))
-          (marks_here origin done rest [] (Some reply) k (spoiled h) (each_weaker IsIdle (λ (d : Held). d.untried ≡ false) done (λ d i. i.tried) idle_done) refl)
+          (by_place None on none ∙ cond-false _ _ _ (lacks_copy on none) ∙ cond-true _ _ _ filled ∙ ap declined (put_here None origin done rest [] a k is_this h before pass (spoiled h)))
+          (marks_here None origin done rest [] (Some reply) k (spoiled h) (each_weaker IsIdle (λ (d : Held). d.untried ≡ false) done (λ d i. i.tried) idle_done) refl)
 
       -- one that copies the chunk first
       unread : IsUnread (routed Waits ∷ [])
@@ -199,16 +199,16 @@ module _ (sectors number n : ℕ) (range : Range) (bytes : List ℕ) where
       saving = record { origin = met origin (chunk_read c origin h.snap); snap = saved_snap sectors c origin h h }
 
       abbrev CopyEnds : Type 0
-      CopyEnds = Ends done rest (routed Waits ∷ []) a (k + 1) (met origin (chunk_read c origin h.snap)) (at origin (done ++ with_copy (k + 1) c h ∷ rest) (routed Waits ∷ []) a (k + 1)) (h.pairs ++ q ∷ []) (stepped h.snap.chunk (next_place h.snap + 1)) (saved_snap sectors c origin h h)
+      CopyEnds = Ends None done rest (routed Waits ∷ []) a (k + 1) (met origin (chunk_read c origin h.snap)) (at origin (done ++ with_copy (k + 1) c h ∷ rest) (routed Waits ∷ []) a (k + 1)) (h.pairs ++ q ∷ []) (stepped h.snap.chunk (next_place h.snap + 1)) (saved_snap sectors c origin h h)
 
       copy_ends : h.snap.live ≡ true → place_of h.pairs c ≡ None → CopyEnds
       copy_ends on none =
           let kept : IsKept sectors h = here.live on in
           let low : least_in (copy_at Waiting) rest ≡ None = none_least (copy_at Waiting) rest (each_weaker IsIdle (λ d. copy_at Waiting d ≡ None) rest (λ d i. rw i.copies refl) idle_rest) in
-          subst (λ (w : Held). Ends done rest (routed Waits ∷ []) a (k + 1) (met origin (chunk_read c origin h.snap)) (at origin (done ++ w ∷ rest) (routed Waits ∷ []) a (k + 1)) (h.pairs ++ q ∷ []) (stepped h.snap.chunk (next_place h.snap + 1)) (saved_snap sectors c origin h h))
-          (sym (as_holding sectors number range bytes a k c (k + 1) h here kept))
-          (ends_read done rest (routed Waits ∷ []) a (k + 1) (k + 1) q h.pairs (stepped h.snap.chunk (next_place h.snap + 1)) idle_done (each_weaker IsIdle IsLater rest idle_later idle_rest) unread origin h.snap on kept.pairs
-          (copy_bytes sectors number range bytes a k origin h.snap c (next_place h.snap) whole) (ap (least (Some (k + 1))) low))
+          subst (λ (w : Held). Ends None done rest (routed Waits ∷ []) a (k + 1) (met origin (chunk_read c origin h.snap)) (at origin (done ++ w ∷ rest) (routed Waits ∷ []) a (k + 1)) (h.pairs ++ q ∷ []) (stepped h.snap.chunk (next_place h.snap + 1)) (saved_snap sectors c origin h h))
+          (sym (as_holding sectors c (k + 1) h here kept))
+          (ends_read None done rest (routed Waits ∷ []) a (k + 1) (k + 1) q h.pairs (stepped h.snap.chunk (next_place h.snap + 1)) idle_done (each_weaker IsIdle IsLater rest idle_later idle_rest) unread origin h.snap on kept.pairs
+          (copy_bytes sectors origin h.snap c (next_place h.snap) whole) (ap (least (Some (k + 1))) low))
 
       -- the snapshot once its copy came to its end
       module _ (on : h.snap.live ≡ true) (none : place_of h.pairs c ≡ None) (filled : is_filled h ≡ false) (e : CopyEnds) where
@@ -235,7 +235,7 @@ module _ (sectors number n : ℕ) (range : Range) (bytes : List ℕ) where
         copied_idle = each_joined IsIdle done rest e.held idle_done (resting_idle sectors e.held copied_rests) idle_rest
 
         copied_begun : write_begun (done ++ h ∷ rest) ≡ at origin (done ++ with_copy (k + 1) c h ∷ rest) (routed Waits ∷ []) a (k + 1)
-        copied_begun = by_place None on none ∙ cond-false _ _ _ (lacks_copy on none) ∙ cond-false _ _ _ filled ∙ ap (accepted number (snap_write_request n range bytes) Waits) (put_here origin done rest [] a (k + 1) is_this h before pass (with_copy (k + 1) c h))
+        copied_begun = by_place None on none ∙ cond-false _ _ _ (lacks_copy on none) ∙ cond-false _ _ _ filled ∙ ap (accepted number (snap_write_request n range bytes) Waits) (put_here None origin done rest [] a (k + 1) is_this h before pass (with_copy (k + 1) c h))
 
         copied_saved : write_snap (span_of range) bytes origin h.snap ≡ write_saved (span_of range) bytes saving
         copied_saved = saved_is origin h.snap saving (saves_copy c origin h.snap (lacks on none) has_room)
@@ -243,14 +243,14 @@ module _ (sectors number n : ℕ) (range : Range) (bytes : List ℕ) where
         abbrev copied_after : List Held
         copied_after = done ++ e.held ∷ rest
 
-        goes_routed : (route : Route) → requests_after copied_after e.held (routed Waits ∷ []) ≡ routed route ∷ [] → Goes (at origin (done ++ with_copy (k + 1) c h ∷ rest) (routed Waits ∷ []) a (k + 1)) (at (met origin (chunk_read c origin h.snap)) copied_after (routed route ∷ []) a (k + 1))
+        goes_routed : (route : Route) → requests_after None copied_after e.held (routed Waits ∷ []) ≡ routed route ∷ [] → Goes (at origin (done ++ with_copy (k + 1) c h ∷ rest) (routed Waits ∷ []) a (k + 1)) (at (met origin (chunk_read c origin h.snap)) copied_after (routed route ∷ []) a (k + 1))
         goes_routed route is = goes_to _ _ _ e.goes (ap (λ rs. at (met origin (chunk_read c origin h.snap)) copied_after rs a (k + 1)) is)
 
         -- it was spoiled
-        routed_refused : e.held.snap.live ≡ false → requests_after copied_after e.held (routed Waits ∷ []) ≡ routed Refused ∷ []
+        routed_refused : e.held.snap.live ≡ false → requests_after None copied_after e.held (routed Waits ∷ []) ≡ routed Refused ∷ []
         routed_refused out =
-            ap (λ (f : Going → Going). map (again copied_after) (map f (routed Waits ∷ []))) (cond-false _ _ _ out)
-            ∙ ap (λ b. again copied_after (routed (if b || false then Refused else Waits)) ∷ []) copied_this
+            ap (λ (f : Going → Going). map (again None copied_after) (map f (routed Waits ∷ []))) (cond-false _ _ _ out)
+            ∙ ap (λ b. again None copied_after (routed (if b || false then Refused else Waits)) ∷ []) copied_this
 
         copied_dead : e.held.snap.live ≡ false → WriteSettles (done ++ h ∷ rest)
         copied_dead out =
@@ -273,11 +273,11 @@ module _ (sectors number n : ℕ) (range : Range) (bytes : List ℕ) where
           this_again : (n == e.held.snap.number) ≡ true
           this_again = eq-eqb n e.held.snap.number (sym (eqb-true e.held.snap.number n copied_this))
 
-          routed_place : requests_after copied_after e.held (routed Waits ∷ []) ≡ routed (Store (next_place h.snap)) ∷ []
+          routed_place : requests_after None copied_after e.held (routed Waits ∷ []) ≡ routed (Store (next_place h.snap)) ∷ []
           routed_place =
-              ap (λ (f : Going → Going). map (again copied_after) (map f (routed Waits ∷ []))) (cond-true _ _ _ live)
-              ∙ ap (λ o. again copied_after (routed (placed_route_of e.held.snap.number (SnapWrite n) Waits o)) ∷ []) (published_is e.held.pairs e.held.marks (range.first / e.held.snap.chunk) (next_place h.snap) e.idle.marks copied_place)
-              ∙ ap (λ b. again copied_after (routed (if b then Store (next_place h.snap) else Waits)) ∷ []) this_again
+              ap (λ (f : Going → Going). map (again None copied_after) (map f (routed Waits ∷ []))) (cond-true _ _ _ live)
+              ∙ ap (λ o. again None copied_after (routed (placed_route_of e.held.snap.number (SnapWrite n) Waits o)) ∷ []) (published_is e.held.pairs e.held.marks (range.first / e.held.snap.chunk) (next_place h.snap) e.idle.marks copied_place)
+              ∙ ap (λ b. again None copied_after (routed (if b then Store (next_place h.snap) else Waits)) ∷ []) this_again
 
           copied_live : WriteSettles (done ++ h ∷ rest)
           copied_live =
@@ -316,6 +316,9 @@ module _ (sectors number n : ℕ) (range : Range) (bytes : List ℕ) where
 pub snap_write_settles : (sectors number n : ℕ) (range : Range) (bytes : List ℕ) (v : Moving) → IsAtRest sectors v → range.first < sectors → length bytes ≡ 512 * range.count → All (λ (h : Held). range.first + range.count ≤ h.snap.chunk * (range.first / h.snap.chunk) + h.snap.chunk) v.snaps →
     SettlesTo sectors (submitted number (snap_write_request n range bytes) v) (in_snap n (write_snap (span_of range) bytes) v.origin (map snap_of v.snaps))
 snap_write_settles sectors number n range bytes v rest inside len pieces =
-    subst (λ (rs : List Going). SettlesTo sectors (submitted number (snap_write_request n range bytes) (at v.origin v.snaps rs v.replied v.started)) (in_snap n (write_snap (span_of range) bytes) v.origin (map snap_of v.snaps))) (sym rest.requests)
+    let answer : Answered = in_snap n (write_snap (span_of range) bytes) v.origin (map snap_of v.snaps) in
+    let Settles : Moving → Type 0 = λ (w : Moving). SettlesTo sectors (submitted number (snap_write_request n range bytes) w) answer in
+    subst Settles (sym (at_alone v rest.alone))
+    (subst (λ (rs : List Going). Settles (at v.origin v.snaps rs v.replied v.started)) (sym rest.requests)
     (write_all sectors number n range bytes v.origin v.replied v.started rest.whole inside len v.snaps (each_from (IsResting sectors) v.snaps rest.snaps)
-    (each_from (λ (h : Held). range.first + range.count ≤ h.snap.chunk * (range.first / h.snap.chunk) + h.snap.chunk) v.snaps pieces))
+    (each_from (λ (h : Held). range.first + range.count ≤ h.snap.chunk * (range.first / h.snap.chunk) + h.snap.chunk) v.snaps pieces)))

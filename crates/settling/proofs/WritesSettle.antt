@@ -1,5 +1,5 @@
 -- A write of the origin, submitted to a volume at rest, settles to the big step.
-use Rattle.std.proofs.Common.{◌≡◌, ℕ, ◌+◌, ◌*◌, ◌<◌, ◌≤◌, false, List, [], ◌∷◌, ◌++◌, length, map, arith, ap, ◌∙◌, sym, inl, inr}
+use Rattle.std.proofs.Common.{◌≡◌, ℕ, ◌+◌, ◌*◌, ◌<◌, ◌≤◌, List, [], ◌∷◌, ◌++◌, length, map, None, arith, refl, ap, ◌∙◌, sym, inl, inr}
 use Rattle.std.proofs.lemmas.Bool.{cases_Bool, cond-true, cond-false}
 use Rattle.sector.specs.Bytes.{with_sectors}
 use Rattle.sector.specs.declared.range.Range.{Range}
@@ -20,10 +20,11 @@ use Rattle.event_machine.specs.Rest.{IsResting, IsAtRest}
 use Rattle.event_machine.specs.Settles.{SettlesTo}
 use Rattle.settled.proofs.Each.{Each, each_weaker, each_from}
 use Rattle.settling.proofs.Goes.{goes_on}
-use Rattle.event_machine.proofs.Around.{at, IsIdle}
+use Rattle.event_machine.proofs.Around.{at, at_alone, IsIdle}
 use Rattle.settling.proofs.Issued.{settles_there}
 use Rattle.settling.proofs.Primed.{resting_idle, refused_none}
-use Rattle.settling.proofs.OriginWrites.{snap_of, going, route_for, writing, tries_all, Finals, copies_all, issues}
+use Rattle.settling.proofs.SavesSettle.{snap_of, Finals, saves_settle}
+use Rattle.settling.proofs.OriginWrites.{going, route_for, held_write, write_routed, writing, issues}
 use Rattle.settled.proofs.SavedBytes.{save_all_bytes}
 
 -- a write of a device keeps its size
@@ -42,12 +43,13 @@ pub origin_write_settles : (sectors number : ℕ) (range : Range) (bytes : List 
 origin_write_settles sectors number range bytes v rest some fits len =
     let snaps : List Held = started_all range.first v.started v.snaps in
     let k : ℕ = started_by range.first v.started v.snaps in
-    let start : Moving = writing sectors number range bytes v.replied k v.origin snaps in
-    let going_as : List Going → Moving = λ (rs : List Going). at v.origin snaps (rs ++ going sectors number range bytes v.replied k (route_for sectors number range bytes v.replied k snaps) ∷ []) v.replied k in
+    let start : Moving = writing None sectors number range refl refl bytes v.replied k v.origin snaps in
+    let going_as : List Going → Moving = λ (rs : List Going). at v.origin snaps (rs ++ going None sectors number range refl refl bytes v.replied k (route_for None sectors number range refl refl bytes v.replied k snaps) ∷ []) v.replied k in
     let resting : Each (IsResting sectors) v.snaps = each_from (IsResting sectors) v.snaps rest.snaps in
     let whole = rest.whole in
     let inside : range.first < sectors = omega arith in
-    let saved : Finals sectors number range bytes v.replied k v.origin [] v.snaps v.started = copies_all sectors number range bytes v.replied k v.snaps v.origin [] v.started whole inside tt resting in
+    let saved : Finals None sectors range.first (held_write None sectors number range refl refl bytes v.replied k) (write_routed None sectors number range refl refl bytes v.replied k) v.replied k start v.origin [] v.snaps =
+    saves_settle None sectors range.first (held_write None sectors number range refl refl bytes v.replied k) (write_routed None sectors number range refl refl bytes v.replied k) v.replied k v.origin v.snaps v.started whole inside resting in
     let all : Volume = save_all range.first v.origin (map snap_of v.snaps) in
     let idle : Each IsIdle saved.finals = each_weaker (IsResting sectors) IsIdle saved.finals (resting_idle sectors) saved.rest in
     let same : length all.origin.bytes ≡ length v.origin.bytes = ap length (save_all_bytes range.first v.origin (map snap_of v.snaps)) in
@@ -55,7 +57,7 @@ origin_write_settles sectors number range bytes v rest some fits len =
     let after : Device = written_by all.origin (Writes range.first range.count) (with_sectors all.origin.bytes range.first bytes) in
     let reply : Reply = write_reply all.origin range.first range.count in
     let made : List Snap → Answered = λ (ss : List Snap). record { volume = record { origin = after; snaps = ss }; reply = reply } in
-    settles_there sectors (submitted number (write_request range bytes) v) start after saved.finals reply k _ (ap (λ (rs : List Going). going_as (refused_by range.first v.snaps rs)) rest.requests ∙ ap going_as (refused_none range.first v.snaps))
-    (goes_on start _ _ (tries_all sectors number range bytes v.replied k v.origin [] v.snaps v.started tt (each_weaker (IsResting sectors) (λ (d : Held). d.untried ≡ false) v.snaps (λ d r. r.tried) resting))
-    (goes_on _ _ _ saved.goes (issues sectors number range bytes v.replied k all.origin saved.finals idle saved.saved)))
+    settles_there sectors (submitted number (write_request range bytes) v) start after saved.finals reply k _
+    (ap (submitted number (write_request range bytes)) (at_alone v rest.alone) ∙ ap (λ (rs : List Going). going_as (refused_by range.first v.snaps rs)) rest.requests ∙ ap going_as (refused_none range.first v.snaps))
+    (goes_on start _ _ saved.goes (issues None sectors number range refl refl bytes v.replied k all.origin saved.finals idle saved.saved))
     (written_length all.origin range.first range.count bytes len room ∙ same ∙ whole) saved.rest (ap made (sym saved.same))
