@@ -18,7 +18,7 @@ use Rattle.volume_laws.specs.Held.{LiveHolds}
 use Rattle.volume_laws.specs.Steps.{IsSame, ReadsCopy, WritesCopy, ZeroesArea, Commits, Unmarks, StartsCopy, WritesPlace, SpoilsSnap, TriesMark, ChangesSnap, SpoilsOne, mark_of}
 use Rattle.volume_laws.specs.Waits.{IsSaving}
 use Rattle.volume_laws.specs.MergeDue.{DueMerge, last_of}
-use Rattle.volume_laws.specs.MergeWaits.{next_pairs, next_in, HaveChunk, IsSavedSoon, IsSavedIn, MergeGoes}
+use Rattle.volume_laws.specs.MergeWaits.{next_pairs, next_in, HaveChunk, IsSavedSoon, IsSavedIn, MergeSteady, MergeGoes}
 use Rattle.volume_laws.specs.MergeSteps.{FormsGroup, ReadsBack, WritesBack, FlushesBack, CommitsGroup, ReleasesGroup, ReadsArea, FailsMerge, Resumes, WritesStore, without_group}
 use Rattle.volume_laws.proofs.Lists.{All-remove}
 use Rattle.volume_laws.proofs.Committing.{published_more, fresh_marks}
@@ -165,6 +165,21 @@ goes_all snaps snaps' d keeps h = record {
   saved = All-weaker (IsSavedIn d.books.chunk d.books.sectors snaps) (IsSavedIn d.books.chunk d.books.sectors snaps') (λ q. all_saved_in snaps snaps' d.books.chunk d.books.sectors q keeps) (d.books.copied ++ d.books.released) h.saved;
 }
 
+-- a merge that goes on is steady, and one that is steady goes on where the copies of its next chunk are started
+pub goes_steady : (snaps : List SnapBooks) (d : DueMerge) → MergeGoes snaps d → MergeSteady snaps d
+goes_steady snaps d h = record { staged = h.staged; ending = h.ending; area = h.area; saved = h.saved }
+
+pub steady_goes : (snaps : List SnapBooks) (d : DueMerge) → MergeSteady snaps d → All (IsSavedSoon d.books.chunk snaps) (next_in d.books) → MergeGoes snaps d
+steady_goes snaps d h soon = record { staged = h.staged; ending = h.ending; area = h.area; next = soon; saved = h.saved }
+
+pub steady_all : (snaps snaps' : List SnapBooks) (d : DueMerge) → KeepsAll snaps snaps' → MergeSteady snaps d → MergeSteady snaps' d
+steady_all snaps snaps' d keeps h = record {
+  staged = h.staged;
+  ending = h.ending;
+  area = h.area;
+  saved = All-weaker (IsSavedIn d.books.chunk d.books.sectors snaps) (IsSavedIn d.books.chunk d.books.sectors snaps') (λ q. all_saved_in snaps snaps' d.books.chunk d.books.sectors q keeps) (d.books.copied ++ d.books.released) h.saved;
+}
+
 -- none changes, one changes, and changes one after another
 pub keeps_all_same : (snaps : List SnapBooks) → KeepsAll snaps snaps
 keeps_all_same snaps = record { len = refl; each = λ k d lt. same_saved (get_or snaps k d) }
@@ -251,11 +266,11 @@ last_pushed [] q = refl
 last_pushed (p ∷ []) q = refl
 last_pushed (p ∷ r ∷ rest) q = last_pushed (r ∷ rest) q
 
--- The merge's own events. MergeGroup, after the copies of its last chunk were started in the snapshots that lack it.
-pub goes_grouped : (snaps : List SnapBooks) (kept group : List Pair) (d d' : DueMerge) → FormsGroup kept group d d' → MergeGoes snaps d → All (IsSavedSoon d.books.chunk snaps) (next_in d'.books) → MergeGoes snaps d'
-goes_grouped snaps kept group d d' e h soon =
+-- The merge's own events. MergeGroup, before the copies of its last chunk are started in the snapshots that lack it.
+pub steady_grouped : (snaps : List SnapBooks) (kept group : List Pair) (d d' : DueMerge) → FormsGroup kept group d d' → MergeGoes snaps d → MergeSteady snaps d'
+steady_grouped snaps kept group d d' e h =
     let none = no_group d.books e.none in
-    subst (λ m. MergeGoes snaps (record d' { books = m })) (sym e.books) (record {
+    subst (λ m. MergeSteady snaps (record d' { books = m })) (sym e.books) (record {
       staged = record {
         one = omega (arith, ap length none.reading);
         read = λ flushed. absurd (false≢true (sym e.flushed ∙ flushed));
@@ -267,9 +282,13 @@ goes_grouped snaps kept group d d' e h soon =
       };
       ending = (kept, e.ends ∙ ap (λ x. kept ++ x) (sym (append-nil group)) ∙ sym (ap (λ x. kept ++ (group ++ (x ++ d.books.copied))) none.reading ∙ ap (λ x. kept ++ (group ++ x)) none.copied));
       area = h.area ∙ ap (λ n. n * (32 * d.books.chunk) + d.filled) (sym e.current) ∙ ap (λ n. d'.current * (32 * d.books.chunk) + n) (sym e.filled);
-      next = subst (λ m. All (IsSavedSoon d.books.chunk snaps) (next_in m)) e.books soon;
       saved = h.saved;
     })
+
+-- and after it
+pub goes_grouped : (snaps : List SnapBooks) (kept group : List Pair) (d d' : DueMerge) → FormsGroup kept group d d' → MergeGoes snaps d → All (IsSavedSoon d.books.chunk snaps) (next_in d'.books) → MergeGoes snaps d'
+goes_grouped snaps kept group d d' e h soon = steady_goes snaps d' (steady_grouped snaps kept group d d' e h)
+    (subst (λ n. All (IsSavedSoon n snaps) (next_in d'.books)) (sym (ap (λ (m : MergeBooks). m.chunk) e.books)) soon)
 
 -- MergeRead
 pub goes_read : (snaps : List SnapBooks) (rest : List Pair) (q : Pair) (bytes : List ℕ) (d d' : DueMerge) → ReadsBack rest q bytes d d' → MergeGoes snaps d → MergeGoes snaps d'
@@ -297,10 +316,10 @@ goes_read snaps rest q bytes d d' e h =
     waits : d.books.released ≢ [] → ⊥
     waits some = omega (arith, ap length (h.staged.over some), ap length e.last, length-append rest (q ∷ []))
 
--- MergeWrite: each live snapshot has published the chunk, and the copies of the next one were started
-pub goes_written : (snaps : List SnapBooks) (q : Pair) (d d' : DueMerge) → WritesBack q d d' → MergeGoes snaps d → IsSavedIn d.books.chunk d.books.sectors snaps q → All (IsSavedSoon d.books.chunk snaps) (next_in d'.books) → MergeGoes snaps d'
-goes_written snaps q d d' e h published soon =
-    subst (λ m. MergeGoes snaps (record d' { books = m })) (sym e.books) (record {
+-- MergeWrite: each live snapshot has published the chunk; before the copies of the next one are started
+pub steady_written : (snaps : List SnapBooks) (q : Pair) (d d' : DueMerge) → WritesBack q d d' → MergeGoes snaps d → IsSavedIn d.books.chunk d.books.sectors snaps q → MergeSteady snaps d'
+steady_written snaps q d d' e h published =
+    subst (λ m. MergeSteady snaps (record d' { books = m })) (sym e.books) (record {
       staged = record {
         one = omega arith;
         read = λ flushed. absurd (false≢true (sym e.flushed ∙ flushed));
@@ -312,12 +331,16 @@ goes_written snaps q d d' e h published soon =
       };
       ending = (h.ending.0, h.ending.1 ∙ ap (λ x. h.ending.0 ++ (d.books.waiting ++ (x ++ d.books.copied))) e.full);
       area = h.area ∙ ap (λ n. n * (32 * d.books.chunk) + d.filled) (sym e.current) ∙ ap (λ n. d'.current * (32 * d.books.chunk) + n) (sym e.filled);
-      next = subst (λ m. All (IsSavedSoon d.books.chunk snaps) (next_in m)) e.books soon;
       saved = All-cons (IsSavedIn d.books.chunk d.books.sectors snaps) q (d.books.copied ++ d.books.released) published h.saved;
     })
   where
     full : d.books.released ≢ [] → ⊥
     full some = omega (arith, ap length (h.staged.out some), ap length e.full)
+
+-- and after it
+pub goes_written : (snaps : List SnapBooks) (q : Pair) (d d' : DueMerge) → WritesBack q d d' → MergeGoes snaps d → IsSavedIn d.books.chunk d.books.sectors snaps q → All (IsSavedSoon d.books.chunk snaps) (next_in d'.books) → MergeGoes snaps d'
+goes_written snaps q d d' e h published soon = steady_goes snaps d' (steady_written snaps q d d' e h published)
+    (subst (λ n. All (IsSavedSoon n snaps) (next_in d'.books)) (sym (ap (λ (m : MergeBooks). m.chunk) e.books)) soon)
 
 -- MergeFlush
 pub goes_flushed : (snaps : List SnapBooks) (d d' : DueMerge) → FlushesBack d d' → MergeGoes snaps d → MergeGoes snaps d'

@@ -39,7 +39,14 @@ pub record IsStaged (d : DueMerge) : Type 0 where
   pub out : d.books.released ≢ [] → d.books.reading ≡ []
   pub none : d.failed ≡ true → group_of d.books ≡ []
 
--- A merge among the other snapshots. area: the pairs fill the areas below the current one, and the slots in use of that one.
+-- A merge, also while the copies of the chunk that it copies next are being started.
+pub record MergeSteady (snaps : List SnapBooks) (d : DueMerge) : Type 0 where
+  pub staged : IsStaged d
+  pub ending : (kept : List Pair) × (d.books.pairs ≡ kept ++ (d.books.waiting ++ (d.books.reading ++ d.books.copied)))
+  pub area : length d.books.pairs ≡ d.current * (32 * d.books.chunk) + d.filled
+  pub saved : All (IsSavedIn d.books.chunk d.books.sectors snaps) (d.books.copied ++ d.books.released)
+
+-- A merge among the other snapshots, where those copies are started. area: the pairs fill the areas below the current one, and the slots in use of that one.
 pub record MergeGoes (snaps : List SnapBooks) (d : DueMerge) : Type 0 where
   pub staged : IsStaged d
   pub ending : (kept : List Pair) × (d.books.pairs ≡ kept ++ (d.books.waiting ++ (d.books.reading ++ d.books.copied)))
