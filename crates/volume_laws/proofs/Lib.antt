@@ -49,3 +49,4 @@ pub mod MergeRooms
 pub mod MergeRoomEvents
 pub mod MergeRoomSteps
 pub mod Beside
+pub mod MergeStarts

@@ -14,9 +14,9 @@ use Rattle.pending.specs.declared.flights.Kind.TheVariants.{OriginRead, OriginWr
 use Rattle.pending.specs.declared.flights.Route.{Route}
 use Rattle.pending.specs.declared.flights.Route.TheVariants.{Store}
 use Rattle.volume_laws.specs.Books.{SnapBooks, MergeBooks, group_of}
-use Rattle.volume_laws.specs.Published.{is_clear}
+use Rattle.volume_laws.specs.Published.{IsSaved, is_clear}
 use Rattle.volume_laws.specs.MergeDue.{DueMerge, is_none, has_group, last_of, goes_to, writes_to, is_writing, is_using, is_readable, can_read, is_writable, can_write, is_copied, can_flush, can_commit_group, can_release, can_group, can_read_area, is_finished, is_merge_due, left_in_merge}
-use Rattle.volume_laws.specs.MergeWaits.{IsSavedIn, IsStaged, MergeGoes}
+use Rattle.volume_laws.specs.MergeWaits.{IsStaged, MergeGoes}
 use Rattle.volume_laws.proofs.Lists.{All-from_list_any}
 use Rattle.volume_laws.proofs.Clear.{clear_saved}
 use Rattle.volume_laws.proofs.MergeEvents.{NoWriteTo, GoesElsewhere}
@@ -107,7 +107,7 @@ read_test rs m e =
 pub record MayWrite (snaps : List SnapBooks) (q : Pair) (m : MergeBooks) : Type 0 where
   pub full : m.reading ≡ q ∷ []
   pub clear : is_clear snaps (m.chunk * q.old) ≡ true
-  pub published : IsSavedIn m.chunk snaps q
+  pub published : All (IsSaved (m.chunk * q.old)) snaps
 
 pub write_test : (snaps : List SnapBooks) (d : DueMerge) → IsStaged d → can_write snaps d.books ≡ true → (q : Pair) × MayWrite snaps q d.books
 write_test snaps d h e = at d.books.reading refl

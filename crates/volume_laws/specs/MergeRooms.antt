@@ -9,9 +9,9 @@ use Rattle.model.specs.Picture.{place_of}
 use Rattle.pending.specs.declared.copies.ChunkCopy.{ChunkCopy}
 use Rattle.pending.specs.declared.copies.Mark.{Mark}
 use Rattle.volume_laws.specs.Books.{SnapBooks}
+use Rattle.volume_laws.specs.Published.{IsSaved}
 use Rattle.volume_laws.specs.Steps.{StartsCopy}
 use Rattle.volume_laws.specs.Waits.{IsSaving}
-use Rattle.volume_laws.specs.MergeWaits.{IsSavedIn}
 
 -- A snapshot. kept_back: nodes that its requests may not take. spare: it has the buffer of a whole chunk. merging: the number
 -- of the one copy that the merge started, until that is published.
@@ -64,12 +64,12 @@ pub record KeepsBack (chunk : ℕ) (pairs : List Pair) (s : RoomSnap) : Type 0 w
 abbrev pub KeepBack : ℕ → List Pair → List RoomSnap → Type 0
 KeepBack chunk pairs snaps = All (λ s. s.books.live ≡ true → KeepsBack chunk pairs s) snaps
 
--- The pair that the merge takes up next: the live snapshots have published all later ones.
+-- The pair that the merge takes up next: the live snapshots have published their chunks of all later ones.
 pub record ComesNext (chunk : ℕ) (pairs : List Pair) (snaps : List SnapBooks) (q : Pair) : Type 0 where
   pub front : List Pair
   pub back : List Pair
   pub ends : pairs ≡ front ++ q ∷ back
-  pub saved : All (IsSavedIn chunk snaps) back
+  pub saved : All (λ r. All (IsSaved (chunk * r.old)) snaps) back
 
 -- a copy for the merge can be started without memory
 pub record CanMerge (s : RoomSnap) : Type 0 where
