@@ -12,3 +12,4 @@ pub mod Settles
 pub mod Requests
 pub mod Seen
 pub mod MergeSeen
+pub mod MergeSettles

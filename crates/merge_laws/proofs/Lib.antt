@@ -12,3 +12,4 @@ pub mod MergeFaultless
 pub mod MergeReads
 pub mod SettlesCopies
 pub mod SettlesGroups
+pub mod SettlesMerges

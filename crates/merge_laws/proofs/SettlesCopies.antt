@@ -1,6 +1,6 @@
 -- The chunks of a group, event by event: each is saved in the other snapshots, read from the merging store and written to the
 -- origin disk, from the last pair backwards. They leave what the big step says, and the first operation that fails ends it.
-use Rattle.std.proofs.Common.{◌≡◌, ◌⊎◌, inl, inr, ℕ, ◌+◌, ◌*◌, ◌/◌, ◌<◌, Bool, true, false, List, [], ◌∷◌, ◌++◌, length, map, Option, Some, None, refl, ap, ◌∙◌, sym, subst, append_assoc}
+use Rattle.std.proofs.Common.{◌≡◌, ◌⊎◌, inl, inr, ℕ, ◌+◌, ◌*◌, ◌/◌, ◌<◌, true, false, List, [], ◌∷◌, ◌++◌, length, map, Option, Some, refl, ap, ◌∙◌, sym, subst}
 use Rattle.std.proofs.lemmas.Bool.{cases_Bool, cond-true, cond-false}
 use Rattle.sector.specs.Bytes.{sectors_at, with_sectors}
 use Rattle.sector.specs.declared.pair.Pair.{Pair}
@@ -9,12 +9,11 @@ use Rattle.device.specs.declared.operation.Operation.TheVariants.{Reads, Writes}
 use Rattle.plain.specs.declared.request.Reply.{Reply}
 use Rattle.pending.specs.Copies.{count_of}
 use Rattle.volume_laws.specs.MergeDue.{last_of}
-use Rattle.settled.specs.Devices.{Device, answers, met, written_by}
+use Rattle.settled.specs.Devices.{answers, met, written_by}
 use Rattle.settled.specs.Pieces.{save_all}
 use Rattle.settled.specs.Snaps.{Snap, Volume}
-use Rattle.settled.specs.Merges.{Merging, pairs_in, stopped, going, with_store, with_origin, saved_first, read_then, write_disk, sectors_in, copy_back, copy_all}
-use Rattle.settled.specs.MergeShown.{IsMerging}
-use Rattle.event_machine.specs.Held.{Held, Going, MergeHeld, Moving, is_untried}
+use Rattle.settled.specs.Merges.{Merging, stopped, with_store, with_origin, saved_first, read_then, write_disk, sectors_in, copy_back}
+use Rattle.event_machine.specs.Held.{Held, MergeHeld, Moving, is_untried}
 use Rattle.event_machine.specs.Again.{is_saved, is_clear}
 use Rattle.event_machine.specs.MergeStepping.{start_next}
 use Rattle.event_machine.specs.Rest.{IsResting}
@@ -23,7 +22,7 @@ use Rattle.event_machine.proofs.Around.{at_with, IsIdle}
 use Rattle.event_machine.proofs.Clears.{clear_all}
 use Rattle.settled.proofs.Each.{Each, each_weaker}
 use Rattle.settled.proofs.SavedBytes.{save_all_bytes}
-use Rattle.settling.proofs.GoesAll.{GoesAll, goes_all, all_none, all_on, all_as}
+use Rattle.settling.proofs.GoesAll.{GoesAll, goes_all, all_on, all_as}
 use Rattle.settling.proofs.MergeStages.{grouped, ungrouped, last_is, chunk_read, chunk_lost, chunk_written, chunk_unwritten}
 use Rattle.settling.proofs.Primed.{resting_idle, refused_none}
 use Rattle.settling.proofs.SavesSettle.{snap_of, Finals, saves_settle, none_routed}

@@ -1,5 +1,5 @@
 -- Each event of a merge, where the snapshots are idle and no request is in flight: it is due, and what it does.
-use Rattle.std.proofs.Common.{◌≡◌, ◌≢◌, inl, inr, ℕ, ◌+◌, ◌-◌, ◌*◌, ◌<◌, Bool, true, false, List, [], ◌∷◌, ◌++◌, length, take, Option, Some, None, arith, refl, ap, ◌∙◌}
+use Rattle.std.proofs.Common.{◌≡◌, inl, inr, ℕ, ◌+◌, ◌-◌, ◌*◌, ◌<◌, Bool, true, false, List, [], ◌∷◌, ◌++◌, length, take, Option, Some, None, arith, refl, ap, ◌∙◌}
 use Rattle.std.specs.Prelude.{◌==◌, ◌&&◌, not, nat_lt}
 use Rattle.std.proofs.lemmas.Bool.{cases_eq, lt-ltb, ne_eqb, cond-true, cond-false}
 use Rattle.sector.specs.Bytes.{sectors_at, with_sectors}
@@ -16,7 +16,7 @@ use Rattle.settled.specs.Merges.{Merge, last_run, without_slots}
 use Rattle.event_machine.specs.Held.{Held, MergeHeld, Moving}
 use Rattle.event_machine.specs.Again.{is_clear}
 use Rattle.event_machine.specs.MergeDue.{in_area, is_free, can_group, can_read_area, can_read, is_readable, can_write, is_copied, can_flush, can_commit_group}
-use Rattle.event_machine.specs.MergeStepping.{start_next, without_last, read_chunk, write_chunk}
+use Rattle.event_machine.specs.MergeStepping.{start_next, without_last, read_chunk}
 use Rattle.event_machine.proofs.Around.{at_with, IsIdle}
 use Rattle.event_machine.proofs.Clears.{and_last}
 use Rattle.settled.proofs.Each.{Each}
