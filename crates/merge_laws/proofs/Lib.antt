@@ -13,3 +13,4 @@ pub mod MergeReads
 pub mod SettlesCopies
 pub mod SettlesGroups
 pub mod SettlesMerges
+pub mod SettlesParts

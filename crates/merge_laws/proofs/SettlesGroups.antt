@@ -123,8 +123,12 @@ module _ (sectors : ℕ) (a : Option Reply) (ps : List Pair) where
                 | inl wrote ↦ subst Ends (sym (cond-true _ _ _ wrote) ∙ cleared)
                     (inr (fine, reaches_to (merging_at a done (ungrouped done.merge pairs_left)) done refl (all_on _ _ _ (flushed m.volume.origin snaps a k idle g ps cs c ok) (committed flat snaps a k idle g ps cs c wrote))))
                 | inr unwritten ↦ subst Ends (sym (cond-false _ _ _ unwritten) ∙ cleared)
-                    (inl (refl, ap (pairs_of g.chunk) (cond-false _ _ _ unwritten), reaches_to (merging_at a (stopped after) (ungrouped (stopped after).merge ps)) (stopped after) refl
-                    (all_on _ _ _ (flushed m.volume.origin snaps a k idle g ps cs c ok) (uncommitted flat snaps a k idle g ps cs c unwritten))))
+                    (inl (
+                      refl,
+                      ap (pairs_of g.chunk) (cond-false _ _ _ unwritten),
+                      reaches_to (merging_at a (stopped after) (ungrouped (stopped after).merge ps)) (stopped after) refl
+                          (all_on _ _ _ (flushed m.volume.origin snaps a k idle g ps cs c ok) (uncommitted flat snaps a k idle g ps cs c unwritten)),
+                    ))
               ])
         ]
 
