@@ -50,3 +50,4 @@ pub mod MergeRoomEvents
 pub mod MergeRoomSteps
 pub mod Beside
 pub mod MergeStarts
+pub mod MergeRoomStarts

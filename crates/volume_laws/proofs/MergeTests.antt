@@ -1,5 +1,5 @@
 -- What the test of each event of a merge says.
-use Rattle.std.proofs.Common.{◌≡◌, ◌≢◌, inl, inr, ℕ, ◌+◌, ◌*◌, ◌<◌, Bool, true, false, List, [], ◌∷◌, ◌++◌, Option, Some, None, length, refl, sym, ◌∙◌, ap, arith, nat_eq, length-append, eq-eqb}
+use Rattle.std.proofs.Common.{◌≡◌, ◌≢◌, inl, inr, ℕ, ◌+◌, ◌-◌, ◌*◌, ◌<◌, ◌≤◌, Bool, true, false, List, [], ◌∷◌, ◌++◌, Option, Some, None, length, refl, sym, ◌∙◌, ap, arith, nat_eq, length-append, eq-eqb}
 use Rattle.std.specs.Prelude.{◌&&◌, not, nat_lt}
 use Rattle.std.specs.List.{All, list_any}
 use Rattle.std.proofs.lemmas.Bool.{cases_Bool, false≢true, ltb-true, eqb-true}
@@ -206,3 +206,29 @@ due_going snaps rs d (ZeroNext n) h e = absurd (false≢true e)
 due_going snaps rs d (WriteArea n) h e = absurd (false≢true e)
 due_going snaps rs d (Publish n) h e = absurd (false≢true e)
 due_going snaps rs d (WriteInvalid n) h e = absurd (false≢true e)
+
+-- Pairs are left where an event of a merge is due, but for the release of a committed group: so a merge that fails is not
+-- finished.
+pairs_count : (snaps : List SnapBooks) (d : DueMerge) → MergeGoes snaps d → length d.books.waiting + (length d.books.reading + length d.books.copied) ≤ length d.books.pairs
+pairs_count snaps d h =
+    let all : length d.books.pairs ≡ length h.ending.0 + length (d.books.waiting ++ (d.books.reading ++ d.books.copied)) = ap length h.ending.1 ∙ length-append h.ending.0 (d.books.waiting ++ (d.books.reading ++ d.books.copied)) in
+    omega (arith, all, length-append d.books.waiting (d.books.reading ++ d.books.copied), length-append d.books.reading d.books.copied)
+
+below_area : (current width : ℕ) → 0 < current → 0 < width → 0 < current * width
+below_area current width some wide = (let one : current ≡ current - 1 + 1 = omega arith in let more : (current - 1 + 1) * width ≡ (current - 1) * width + width = grind arith in omega (arith, ap (λ n. n * width) one, more, wide))
+
+pub due_some : (snaps : List SnapBooks) (rs : List Flight) (d : DueMerge) (e : Event) → MergeGoes snaps d → 0 < d.books.chunk → e ≢ MergeRelease → is_merge_due snaps rs d e ≡ true → 0 < length d.books.pairs
+due_some snaps rs d MergeRelease h chunk other e = absurd (other refl)
+due_some snaps rs d MergeCommit h chunk other e = omega (arith, pairs_count snaps d h, some_pairs d.books.copied (commit_test d e).0.some)
+due_some snaps rs d MergeFlush h chunk other e = omega (arith, pairs_count snaps d h, some_pairs d.books.copied (flush_test d e).0.some)
+due_some snaps rs d MergeWrite h chunk other e = (let (q, may) = write_test snaps d h.staged e in omega (arith, pairs_count snaps d h, ap length may.full))
+due_some snaps rs d MergeRead h chunk other e = (let (rest, q, may) = read_test rs d.books e in omega (arith, pairs_count snaps d h, ap length may.last, length-append rest (q ∷ [])))
+due_some snaps rs d MergeAreaRead h chunk other e = omega (arith, h.area, below_area d.current (32 * d.books.chunk) (area_test d e).before (omega (arith, chunk)))
+due_some snaps rs d MergeGroup h chunk other e = omega (arith, h.area, (group_test d e).some)
+due_some snaps rs d (Issue n) h chunk other e = absurd (false≢true e)
+due_some snaps rs d (CopyRead n) h chunk other e = absurd (false≢true e)
+due_some snaps rs d (CopyWrite n) h chunk other e = absurd (false≢true e)
+due_some snaps rs d (ZeroNext n) h chunk other e = absurd (false≢true e)
+due_some snaps rs d (WriteArea n) h chunk other e = absurd (false≢true e)
+due_some snaps rs d (Publish n) h chunk other e = absurd (false≢true e)
+due_some snaps rs d (WriteInvalid n) h chunk other e = absurd (false≢true e)
