@@ -14,3 +14,4 @@ pub mod SettlesCopies
 pub mod SettlesGroups
 pub mod SettlesMerges
 pub mod SettlesParts
+pub mod SettlesCommands

@@ -14,6 +14,7 @@ pub mod Served
 pub mod ReadsSettle
 pub mod PlaceRests
 pub mod SnapWritesSettle
+pub mod Ending
 pub mod Requests
 pub mod Running
 pub mod Shown
