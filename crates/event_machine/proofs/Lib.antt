@@ -4,3 +4,8 @@ pub mod Clears
 pub mod Found
 pub mod Tied
 pub mod Slots
+pub mod Alone
+pub mod MergeTied
+pub mod Grouped
+pub mod MergeMoves
+pub mod MergeCommands

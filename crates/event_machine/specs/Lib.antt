@@ -6,7 +6,9 @@ pub mod Submitting
 pub mod MergeDue
 pub mod MergeStepping
 pub mod Merging
+pub mod MergeRest
 pub mod Rest
 pub mod Settles
 pub mod Requests
 pub mod Seen
+pub mod MergeSeen

@@ -10,3 +10,5 @@ pub mod MergeLaws
 pub mod MergeCommands
 pub mod MergeFaultless
 pub mod MergeReads
+pub mod SettlesCopies
+pub mod SettlesGroups
