@@ -3,3 +3,4 @@ pub mod Around
 pub mod Clears
 pub mod Found
 pub mod Tied
+pub mod Slots

@@ -208,7 +208,7 @@ module _ (sectors number : ℕ) (range : Range) (bytes : List ℕ) (a : Option R
       let none : is_some (place_of h.pairs c) ≡ false = ap (λ ps. is_some (place_of ps c)) (sym kept.pairs) ∙ lacks in
       let unsaved : is_saved range.first start ≡ false = rw (on, none) refl in
       let e : Ends done rest (going Waits ∷ []) a k (met origin (chunk_read c origin s)) (at origin (done ++ start ∷ rest) (going Waits ∷ []) a k) (h.pairs ++ q ∷ []) nx (saved_snap sectors c origin h h) =
-      ends_read done rest (going Waits ∷ []) a k (m + 1) q h.pairs nx before (primed_later range.first (m + 1) snaps idle) (unread Waits) origin s on kept.pairs (copy_bytes origin s c (next_place s) whole)
+      ends_read done rest (going Waits ∷ []) a k (m + 1) q h.pairs nx before (primed_later range.first (m + 1) snaps idle) (unread Waits) origin s kept.order.1.some on kept.pairs (copy_bytes origin s c (next_place s) whole)
       (least_low (m + 1) (least_in (copy_at Waiting) rest) (primed_above range.first (m + 1) snaps idle)) in
       let low : s.chunk * c ≤ range.first = piece_low s.chunk range.first in
       let chunk : e.held.snap.chunk ≡ s.chunk = ap (λ (t : Snap). t.chunk) e.snap ∙ saved_chunk sectors c origin h h in

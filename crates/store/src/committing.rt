@@ -20,12 +20,12 @@ use metadata_area::Area;
 use std::mem::swap;
 
 impl<B: Block> Store<B> {
-    /// Whether the pair that is committed next fills the current area, so that the next area has to be zeroed first,
-    /// and it is not yet.
-    pub fn needs_next_area(&self) -> bool
-        ensures { IsTrue result ↔ ((self.now.state.filled + 1 ≡ 32 * self.now.state.chunk) × (self.now.state.zeroed ≡ false)) }
+    /// Whether so many pairs, if they are committed next, fill the current area, so that the next area has to be zeroed
+    /// first, and it is not yet.
+    pub fn needs_next_area(&self, count: u32) -> bool
+        ensures { IsTrue result ↔ ((self.now.state.filled + count ≡ 32 * self.now.state.chunk) × (self.now.state.zeroed ≡ false)) }
     {
-        self.state.filled + 1 == 32 * self.state.chunk && !self.state.zeroed
+        count == 32 * self.state.chunk - self.state.filled && !self.state.zeroed
     }
 
     /// Whether the area after the current one does not lie wholly inside the store.
