@@ -40,6 +40,7 @@ use Rattle.volume.proofs.MovedFound.{snap_first, copy_first, mark_first, mark_nu
 use Rattle.volume.proofs.MovedCopies.{copy_read_done, copy_read_fault, copy_write_done, copy_write_fault}
 use Rattle.volume.proofs.MovedStores.{write_area_done, write_area_fault, zero_next_done, zero_next_fault, zero_next_lacks}
 use Rattle.volume.proofs.MovedMarks.{write_invalid_is, publish_is}
+use Rattle.volume.proofs.Shown.{loud_others}
 
 and_left : (a b : Bool) → (a && b) ≡ true → a ≡ true
 and_left true b e = refl
@@ -60,11 +61,11 @@ all_at test (y ∷ ys) (suc k) x all within is = all_at test ys k x (and_right (
 
 module _ {B : Type 0} (contents : B → List ℕ) (layers : B → List Layer) (size : B → ℕ) (v : Volumed B) (h : IsWhole contents layers size v) where
   pub loud_origin : is_loud_in_all layers v ≡ true → is_loud (layers v.origin) ≡ true
-  loud_origin loud = and_left (is_loud (layers v.origin)) (list_all (λ (x : Kept B). is_loud (layers x.device)) v.snaps) loud
+  loud_origin loud = and_left (is_loud (layers v.origin)) (list_all (λ (x : Kept B). is_loud (layers x.device)) v.snaps) (loud_others contents layers size v loud)
 
   module _ (n k : ℕ) (s : Kept B) (within : k < length v.snaps) (is : s ≡ get_or v.snaps k s) where
     pub loud_store : is_loud_in_all layers v ≡ true → is_loud (layers s.device) ≡ true
-    loud_store loud = all_at (λ (x : Kept B). is_loud (layers x.device)) v.snaps k s (and_right (is_loud (layers v.origin)) (list_all (λ (x : Kept B). is_loud (layers x.device)) v.snaps) loud) within is
+    loud_store loud = all_at (λ (x : Kept B). is_loud (layers x.device)) v.snaps k s (and_right (is_loud (layers v.origin)) (list_all (λ (x : Kept B). is_loud (layers x.device)) v.snaps) (loud_others contents layers size v loud)) within is
 
     pub counts : IsCounted s
     counts = subst IsCounted (sym is) (h.counted k s within)

@@ -15,12 +15,12 @@ use Rattle.pending.specs.declared.copies.Stage.{Stage}
 use Rattle.pending.specs.declared.copies.Stage.TheVariants.{Waiting, Read}
 use Rattle.pending.specs.declared.copies.Mark.{Mark}
 use Rattle.pending.specs.declared.flights.Flight.{Flight}
-use Rattle.volume_laws.specs.Due.{DueSnap, least_of, copy_of, publishable_of, is_untried as is_untried_due, can_commit as can_commit_due, can_zero as can_zero_due, snap_number}
+use Rattle.volume_laws.specs.Due.{DueSnap, least_of, copy_of, publishable_of, is_untried as is_untried_due, can_commit as can_commit_due, can_zero as can_zero_due, snap_number, due_of}
 use Rattle.event_machine.specs.Held.{Held, number_of, is_untried}
 use Rattle.event_machine.specs.Due.{filled_of, batch_of, is_ready, needs_area, is_front_written, can_commit, can_zero, is_at, copy_at, number_of_copying, is_reading, is_publishable, publishable_in, is_issuable, number_of_going, least_in, chosen, due}
 use Rattle.event_machine.specs.Seen.{copying_of, going_of}
 use Rattle.snapshot.specs.Kept.{Kept, due_of_kept, batch_of as batch_in, needs_area as needs_area_of}
-use Rattle.volume.specs.Volumed.{Volumed, next_of}
+use Rattle.volume.specs.Volumed.{Volumed, dues_of}
 use Rattle.volume.specs.Whole.{IsCounted}
 use Rattle.volume.specs.Moved.{held_of, moving_of}
 use Rattle.volume.proofs.MovedLists.{any_seen}
@@ -115,7 +115,7 @@ module _ {B : Type 0} (contents : B → List ℕ) (layers : B → List Layer) wh
       ∙ ap (λ x. chosen a' b' c' d' x f g) pe ∙ ap (λ x. chosen a' b' c' d' e' x g) pf ∙ ap (λ x. chosen a' b' c' d' e' f' x) pg
 
   -- the event that is due first
-  pub due_is : (replied : Option Reply) (v : Volumed B) → All IsCounted v.snaps → due (moving_of contents layers replied v) ≡ next_of contents layers v
+  pub due_is : (replied : Option Reply) (v : Volumed B) → All IsCounted v.snaps → due (moving_of contents layers replied v) ≡ due_of (dues_of contents layers v) v.flights
   due_is replied v counted =
       let held : Kept B → Held = held_of contents layers in
       let dues : Kept B → DueSnap = due_of_kept contents layers in
