@@ -3,6 +3,7 @@ use Rattle.store.specs.Held.{pairs_pending, reserved}
 use Rattle.snapshot.specs.Held.{IsSnapshot}
 use Rattle.snapshot.specs.Kept.{batch_of, needs_area}
 use Rattle.snapshot.proofs.Copies.{ahead_zeroed, like_same, like_zeroed, needs_is, state_kept, state_same}
+use Rattle.snapshot.proofs.Spared.{spared_like}
 use Rattle.snapshot.proofs.Steps.{step_like}
 use Rattle.snapshot.proofs.snapshot.Snapshot.zero_next.Goals as goal
 use Rattle.snapshot.proofs.snapshot.Snapshot.zero_next.Goals.{in-Ok, in-Err}
@@ -19,7 +20,8 @@ invariant_of-self g c =
       | in-Ok w ↦ state_kept _ _ _ s.state t.state _ _ _ _ c.self.invariant.0 (like_zeroed s.state t.state w.in-Ok.ensures.zeroed) begun (ahead_zeroed c.self.inside.live s.state t.state copies w.in-Ok.ensures.zeroed some due)
       | in-Err w ↦ state_same _ _ _ s.state t.state _ _ _ _ c.self.invariant.0 w.in-Err.ensures.kept begun
     ] in
-    (kept, rw (ap reserved c.zero_next.ensures.exceptions) c.self.invariant.1)
+    let chunk : t.state.chunk ≡ s.state.chunk = elim c.match-zero_next.branch [ in-Ok w ↦ ap (λ x. x.chunk) w.in-Ok.ensures.zeroed | in-Err w ↦ ap (λ x. x.chunk) w.in-Err.ensures.kept ] in
+    (kept, rw (ap reserved c.zero_next.ensures.exceptions) c.self.invariant.1, spared_like s.state.chunk t.state.chunk c.self.inside.spare c.self.inside.merging copies chunk c.self.invariant.2)
 
 pub returns-clause-in_step : goal.returns-clause-in_step
 returns-clause-in_step g c =
