@@ -43,7 +43,6 @@ impl<B: Block> Store<B> {
         requires ready { self.old.state.left ≡ Nothing }
         requires part { self.old.state.filled < 32 * self.old.state.chunk }
         requires room { self.old.state.chunk * (area_place self.old.state.chunk (self.old.state.current + 1) + 1) ≤ self.old.state.size }
-
         ensures operation { IsOneOperation (Writes (self.old.state.chunk * area_place self.old.state.chunk (self.old.state.current + 1)) self.old.state.chunk) (is_ok result) (B.layers self.old.device) (B.layers self.new.device) (B.fault_count self.old.device) (B.fault_count self.new.device) (B.done_count self.old.device) (B.done_count self.new.device) }
         ensures written { OnOk result (IsTrue (is_loud (B.layers self.old.device)) → B.contents self.new.device ≡ with_sectors (B.contents self.old.device) (self.old.state.chunk * area_place self.old.state.chunk (self.old.state.current + 1)) (replicate (512 * self.old.state.chunk) 0)) }
         ensures same { OnErr result (B.contents self.new.device ≡ B.contents self.old.device) }
@@ -51,7 +50,6 @@ impl<B: Block> Store<B> {
         ensures durable { B.durable self.new.device ≡ B.durable self.old.device }
         ensures size { B.size self.new.device ≡ B.size self.old.device }
         ensures stops { self.old.state.valid ≡ true → IsTrue (is_loud (B.layers self.old.device)) → StopsWithin self.old.state.chunk self.old.state.origin self.old.state.size (committed self.old.exceptions) [] (B.contents self.old.device) (B.contents self.new.device) }
-
         ensures exceptions { self.new.exceptions ≡ self.old.exceptions }
         ensures places { self.new.places ≡ self.old.places }
         ensures zeroed { OnOk result (self.new.state ≡ record self.old.state { zeroed = true }) }
@@ -81,7 +79,6 @@ impl<B: Block> Store<B> {
         requires pending { count ≤ length (pending self.old.exceptions) }
         requires fits { self.old.state.filled + count ≤ 32 * self.old.state.chunk }
         requires next { self.old.state.filled + count ≡ 32 * self.old.state.chunk → self.old.state.zeroed ≡ true }
-
         ensures operation { IsOneOperation (Writes (self.old.state.chunk * area_place self.old.state.chunk self.old.state.current) self.old.state.chunk) (is_ok result) (B.layers self.old.device) (B.layers self.new.device) (B.fault_count self.old.device) (B.fault_count self.new.device) (B.done_count self.old.device) (B.done_count self.new.device) }
         ensures written { OnOk result (IsTrue (is_loud (B.layers self.old.device)) → B.contents self.new.device ≡ with_part (B.contents self.old.device) (slot_start self.old.state.chunk self.old.state.current self.old.state.filled) (pairs_bytes (pairs (take count (pending self.old.exceptions))))) }
         ensures same { OnErr result (B.contents self.new.device ≡ B.contents self.old.device) }
@@ -90,7 +87,6 @@ impl<B: Block> Store<B> {
         ensures durable { B.durable self.new.device ≡ B.durable self.old.device }
         ensures size { B.size self.new.device ≡ B.size self.old.device }
         ensures stops { self.old.state.valid ≡ true → IsTrue (is_loud (B.layers self.old.device)) → StopsWithin self.old.state.chunk self.old.state.origin self.old.state.size (committed self.old.exceptions) (pairs (take count (pending self.old.exceptions))) (B.contents self.old.device) (B.contents self.new.device) }
-
         ensures committed { OnOk result (committed self.new.exceptions ≡ committed self.old.exceptions ++ pairs (take count (pending self.old.exceptions))) }
         ensures pending { OnOk result (pending self.new.exceptions ≡ drop count (pending self.old.exceptions)) }
         ensures reserved { reserved self.new.exceptions ≡ reserved self.old.exceptions }

@@ -6,7 +6,7 @@ ghost use Rattle.model.specs.Places.{area_place, ChangesOnly};
 ghost use Rattle.store.specs.declared.state.Left.TheVariants.{FirstArea, HeaderChunk, Tail, Nothing};
 ghost use Rattle.store.specs.Operations.{IsOneOperation};
 ghost use Rattle.store.specs.Held.{committed};
-ghost use Rattle.store.specs.Stopping.{MayPrepare, StopsPreparing};
+ghost use Rattle.store.specs.Stopping.{StopsPreparing};
 ghost use Rattle.store.specs.Loading.{is_settled, is_begun, is_left, after_write, chunk_left, with_left};
 
 use crate::chunks::write_whole;
@@ -34,7 +34,6 @@ impl<B: Block> Store<B> {
         ensures loud { is_loud (B.layers self.new.device) ≡ is_loud (B.layers self.old.device) }
         ensures durable { B.durable self.new.device ≡ B.durable self.old.device }
         ensures stops { self.old.state.valid ≡ true → IsTrue (is_loud (B.layers self.old.device)) → StopsPreparing self.old.state.left self.old.state.chunk self.old.state.origin self.old.state.size (committed self.old.exceptions) (B.contents self.old.device) (B.contents self.new.device) }
-
         ensures exceptions { self.new.exceptions ≡ self.old.exceptions }
         ensures places { self.new.places ≡ self.old.places }
         ensures state { OnOk result (self.new.state ≡ record self.old.state { left = after_write self.old.state.left }) }
@@ -64,14 +63,12 @@ impl<B: Block> Store<B> {
         requires begun { is_begun left ≡ true }
         requires settled { is_settled left ≡ true }
         requires next { left ≡ after_write self.old.state.left }
-
         ensures operation { IsOneOperation (Writes (self.old.state.chunk * area_place self.old.state.chunk self.old.state.current) self.old.state.chunk) (is_ok result) (B.layers self.old.device) (B.layers self.new.device) (B.fault_count self.old.device) (B.fault_count self.new.device) (B.done_count self.old.device) (B.done_count self.new.device) }
         ensures written { OnOk result (IsTrue (is_loud (B.layers self.old.device)) → B.contents self.new.device ≡ with_left self.old.state.left self.old.state (B.contents self.old.device)) }
         ensures same { OnErr result (B.contents self.new.device ≡ B.contents self.old.device) }
         ensures only { ChangesOnly self.old.state.chunk (area_place self.old.state.chunk self.old.state.current) (B.contents self.old.device) (B.contents self.new.device) }
         ensures loud { is_loud (B.layers self.new.device) ≡ is_loud (B.layers self.old.device) }
         ensures durable { B.durable self.new.device ≡ B.durable self.old.device }
-
         ensures exceptions { self.new.exceptions ≡ self.old.exceptions }
         ensures places { self.new.places ≡ self.old.places }
         ensures state { OnOk result (self.new.state ≡ record self.old.state { left = left }) }
