@@ -1,6 +1,6 @@
 -- One snapshot's copy from any stage to its end: it is published, or the snapshot is spoiled and its mark is tried. What is
 -- left is what the big step says.
-use Rattle.std.proofs.Common.{◌≡◌, inl, inr, ℕ, ◌+◌, ◌*◌, ◌/◌, ◌%◌, Bool, true, false, List, [], ◌∷◌, ◌++◌, length, map, Option, Some, refl, ap, ◌∙◌, sym, subst}
+use Rattle.std.proofs.Common.{◌≡◌, inl, inr, ℕ, ◌+◌, ◌*◌, ◌/◌, ◌%◌, ◌<◌, Bool, true, false, List, [], ◌∷◌, ◌++◌, length, map, Option, None, Some, refl, ap, ◌∙◌, sym, subst}
 use Rattle.std.specs.Prelude.{◌==◌, ◌&&◌, not, if◌then◌else◌}
 use Rattle.std.specs.List.{list_any}
 use Rattle.std.proofs.lemmas.Bool.{cases_Bool, cond-true, cond-false, true≢false}
@@ -84,45 +84,45 @@ module _ (g : Option MergeHeld) (done rest : List Held) (rs : List Going) (a : O
         }
 
     -- a copy that is written, where its area can be
-    ends_area : (origin : Device) (s : Snap) (z : Bool) (bytes : List ℕ) → s.live ≡ true → ((((length ps + 1) % (32 * s.chunk)) == 0) && not z) ≡ false → (z && not (((length ps + 1) % (32 * s.chunk)) == 0)) ≡ false →
+    ends_area : (origin : Device) (s : Snap) (z : Bool) (bytes : List ℕ) → 0 < s.chunk → s.live ≡ true → ((((length ps + 1) % (32 * s.chunk)) == 0) && not z) ≡ false → (z && not (((length ps + 1) % (32 * s.chunk)) == 0)) ≡ false →
         Ends origin (at_with g origin (done ++ holding s ps nx z (copying n q Written bytes ∷ []) [] ∷ rest) rs a k) (ps ++ q ∷ []) nx (write_pair (length ps) q s)
-    ends_area origin s z bytes live ready unzeroed =
+    ends_area origin s z bytes some live ready unzeroed =
         let op : Operation = Writes (s.chunk * area_place s.chunk (length ps / (32 * s.chunk))) s.chunk in
         let now : Snap = record s { store = written_by s.store op (paired s.chunk s.store.bytes (length ps) q) } in
         let v : Moving = at_with g origin (done ++ holding s ps nx z (copying n q Written bytes ∷ []) [] ∷ rest) rs a k in
         elim (cases_Bool (answers s.store op)) [
           | inl ok ↦ ends_as origin v (ps ++ q ∷ []) nx now (write_pair (length ps) q s) (sym (cond-true _ _ _ ok))
-              (ends_after origin v _ (ps ++ q ∷ []) nx now (area_done g done rest a k s ps nx z n q before later origin rs bytes ready ok) (ends_published origin now (z && not (((length ps + 1) % (32 * s.chunk)) == 0)) live unzeroed))
+              (ends_after origin v _ (ps ++ q ∷ []) nx now (area_done g done rest a k s ps nx z n q before later origin rs bytes some ready ok) (ends_published origin now (z && not (((length ps + 1) % (32 * s.chunk)) == 0)) live unzeroed))
           | inr failed ↦ ends_as origin v (ps ++ q ∷ []) nx (spoilt now) (write_pair (length ps) q s) (sym (cond-false _ _ _ failed))
-              (ends_after origin v _ (ps ++ q ∷ []) nx (spoilt now) (area_failed g done rest a k s ps nx z n q before later origin rs bytes ready failed) (ends_spoiled origin (with_store (holding s ps nx z (copying n q Written bytes ∷ []) []) now.store) (ps ++ q ∷ []) nx before))
+              (ends_after origin v _ (ps ++ q ∷ []) nx (spoilt now) (area_failed g done rest a k s ps nx z n q before later origin rs bytes some ready failed) (ends_spoiled origin (with_store (holding s ps nx z (copying n q Written bytes ∷ []) []) now.store) (ps ++ q ∷ []) nx before))
         ]
 
     -- a copy that is written
-    ends_commit : (origin : Device) (s : Snap) (bytes : List ℕ) → s.live ≡ true → Ends origin (at_with g origin (done ++ holding s ps nx false (copying n q Written bytes ∷ []) [] ∷ rest) rs a k) (ps ++ q ∷ []) nx (commit (length ps) q s)
-    ends_commit origin s bytes live =
+    ends_commit : (origin : Device) (s : Snap) (bytes : List ℕ) → 0 < s.chunk → s.live ≡ true → Ends origin (at_with g origin (done ++ holding s ps nx false (copying n q Written bytes ∷ []) [] ∷ rest) rs a k) (ps ++ q ∷ []) nx (commit (length ps) q s)
+    ends_commit origin s bytes some live =
         let full : Bool = ((length ps + 1) % (32 * s.chunk)) == 0 in
         let v : Moving = at_with g origin (done ++ holding s ps nx false (copying n q Written bytes ∷ []) [] ∷ rest) rs a k in
         let next : ℕ = (length ps + 1) / (32 * s.chunk) in
         let op : Operation = Writes (s.chunk * area_place s.chunk next) s.chunk in
         let now : Snap = record s { store = written_by s.store op (zeroed s.chunk s.store.bytes next) } in
         elim (cases_Bool full) [
-          | inr part ↦ ends_as origin v (ps ++ q ∷ []) nx (write_pair (length ps) q s) (commit (length ps) q s) (sym (cond-false _ _ _ part)) (ends_area origin s false bytes live (rw part refl) refl)
+          | inr part ↦ ends_as origin v (ps ++ q ∷ []) nx (write_pair (length ps) q s) (commit (length ps) q s) (sym (cond-false _ _ _ part)) (ends_area origin s false bytes some live (rw part refl) refl)
           | inl fill ↦ elim (cases_Bool (lacks_area next s)) [
             | inl lacks ↦ ends_as origin v (ps ++ q ∷ []) nx (spoilt s) (commit (length ps) q s) (sym (cond-true _ _ _ fill ∙ cond-true _ _ _ lacks))
-                (ends_after origin v _ (ps ++ q ∷ []) nx (spoilt s) (zeros_lacking g done rest a k s ps nx false n q before later origin rs bytes fill refl lacks) (ends_spoiled origin (holding s ps nx false (copying n q Written bytes ∷ []) []) (ps ++ q ∷ []) nx before))
+                (ends_after origin v _ (ps ++ q ∷ []) nx (spoilt s) (zeros_lacking g done rest a k s ps nx false n q before later origin rs bytes some fill refl lacks) (ends_spoiled origin (holding s ps nx false (copying n q Written bytes ∷ []) []) (ps ++ q ∷ []) nx before))
             | inr room ↦ elim (cases_Bool (answers s.store op)) [
               | inl ok ↦ ends_as origin v (ps ++ q ∷ []) nx (write_pair (length ps) q now) (commit (length ps) q s) (sym (cond-true _ _ _ fill ∙ cond-false _ _ _ room ∙ cond-true _ _ _ ok))
-                  (ends_after origin v _ (ps ++ q ∷ []) nx (write_pair (length ps) q now) (zeros_done g done rest a k s ps nx false n q before later origin rs bytes fill refl room ok) (ends_area origin now true bytes live (rw fill refl) (rw fill refl)))
+                  (ends_after origin v _ (ps ++ q ∷ []) nx (write_pair (length ps) q now) (zeros_done g done rest a k s ps nx false n q before later origin rs bytes some fill refl room ok) (ends_area origin now true bytes some live (rw fill refl) (rw fill refl)))
               | inr failed ↦ ends_as origin v (ps ++ q ∷ []) nx (spoilt now) (commit (length ps) q s) (sym (cond-true _ _ _ fill ∙ cond-false _ _ _ room ∙ cond-false _ _ _ failed))
-                  (ends_after origin v _ (ps ++ q ∷ []) nx (spoilt now) (zeros_failed g done rest a k s ps nx false n q before later origin rs bytes fill refl room failed) (ends_spoiled origin (with_store (holding s ps nx false (copying n q Written bytes ∷ []) []) now.store) (ps ++ q ∷ []) nx before))
+                  (ends_after origin v _ (ps ++ q ∷ []) nx (spoilt now) (zeros_failed g done rest a k s ps nx false n q before later origin rs bytes some fill refl room failed) (ends_spoiled origin (with_store (holding s ps nx false (copying n q Written bytes ∷ []) []) now.store) (ps ++ q ∷ []) nx before))
             ]
           ]
         ]
 
     -- a copy that is read
-    ends_write : (origin : Device) (s : Snap) (bytes : List ℕ) → s.live ≡ true → pairs_of s.chunk s.store.bytes ≡ ps → with_sectors s.store.bytes (s.chunk * q.new) bytes ≡ copied s.chunk origin.bytes s.store.bytes q.old q.new →
+    ends_write : (origin : Device) (s : Snap) (bytes : List ℕ) → 0 < s.chunk → s.live ≡ true → pairs_of s.chunk s.store.bytes ≡ ps → with_sectors s.store.bytes (s.chunk * q.new) bytes ≡ copied s.chunk origin.bytes s.store.bytes q.old q.new →
         Ends origin (at_with g origin (done ++ holding s ps nx false (copying n q Read bytes ∷ []) [] ∷ rest) rs a k) (ps ++ q ∷ []) nx (copy origin.bytes q s)
-    ends_write origin s bytes live has same =
+    ends_write origin s bytes some live has same =
         let op : Operation = Writes (s.chunk * q.new) (count_of s.chunk (sectors_of origin) q.old) in
         let v : Moving = at_with g origin (done ++ holding s ps nx false (copying n q Read bytes ∷ []) [] ∷ rest) rs a k in
         let put : List ℕ → Snap = λ (b : List ℕ). record s { store = written_by s.store op b } in
@@ -131,23 +131,23 @@ module _ (g : Option MergeHeld) (done rest : List Held) (rs : List Going) (a : O
         elim (cases_Bool (answers s.store op)) [
           | inl ok ↦ ends_as origin v (ps ++ q ∷ []) nx (commit (length ps) q now) (copy origin.bytes q s)
               (ap (commit (length ps) q) here ∙ ap (λ x. commit (length x) q (put (copied s.chunk origin.bytes s.store.bytes q.old q.new))) (sym has) ∙ sym (cond-true _ _ _ ok))
-              (ends_after origin v _ (ps ++ q ∷ []) nx (commit (length ps) q now) (writes_done g done rest a k s ps nx false n q before later origin rs bytes ok) (ends_commit origin now bytes live))
+              (ends_after origin v _ (ps ++ q ∷ []) nx (commit (length ps) q now) (writes_done g done rest a k s ps nx false n q before later origin rs bytes ok) (ends_commit origin now bytes some live))
           | inr failed ↦ ends_as origin v (ps ++ q ∷ []) nx (spoilt now) (copy origin.bytes q s) (ap spoilt here ∙ sym (cond-false _ _ _ failed))
               (ends_after origin v _ (ps ++ q ∷ []) nx (spoilt now) (writes_failed g done rest a k s ps nx false n q before later origin rs bytes failed) (ends_spoiled origin (with_store (holding s ps nx false (copying n q Read bytes ∷ []) []) now.store) (ps ++ q ∷ []) nx before))
         ]
 
     -- a copy that waits: it is read from the origin disk
-    pub ends_read : (origin : Device) (s : Snap) → s.live ≡ true → pairs_of s.chunk s.store.bytes ≡ ps → with_sectors s.store.bytes (s.chunk * q.new) (sectors_at origin.bytes (s.chunk * q.old) (count_of s.chunk (sectors_of origin) q.old)) ≡ copied s.chunk origin.bytes s.store.bytes q.old q.new → least (Some n) (least_in (copy_at Waiting) rest) ≡ Some n →
+    pub ends_read : (origin : Device) (s : Snap) → 0 < s.chunk → s.live ≡ true → pairs_of s.chunk s.store.bytes ≡ ps → with_sectors s.store.bytes (s.chunk * q.new) (sectors_at origin.bytes (s.chunk * q.old) (count_of s.chunk (sectors_of origin) q.old)) ≡ copied s.chunk origin.bytes s.store.bytes q.old q.new → least (Some n) (least_in (copy_at Waiting) rest) ≡ Some n →
         (let op : Operation = Reads (s.chunk * q.old) (count_of s.chunk (sectors_of origin) q.old) in
         Ends (met origin op) (at_with g origin (done ++ holding s ps nx false (copying n q Waiting [] ∷ []) [] ∷ rest) rs a k) (ps ++ q ∷ []) nx (if answers origin op then copy origin.bytes q s else spoilt s))
-    ends_read origin s live has same low =
+    ends_read origin s some live has same low =
         let op : Operation = Reads (s.chunk * q.old) (count_of s.chunk (sectors_of origin) q.old) in
         let v : Moving = at_with g origin (done ++ holding s ps nx false (copying n q Waiting [] ∷ []) [] ∷ rest) rs a k in
         let bytes : List ℕ = sectors_at origin.bytes (s.chunk * q.old) (count_of s.chunk (sectors_of origin) q.old) in
         let target : Snap = if answers origin op then copy origin.bytes q s else spoilt s in
         elim (cases_Bool (answers origin op)) [
           | inl ok ↦ ends_as (met origin op) v (ps ++ q ∷ []) nx (copy origin.bytes q s) target (sym (cond-true _ _ _ ok))
-              (ends_after (met origin op) v _ (ps ++ q ∷ []) nx (copy origin.bytes q s) (reads_done g done rest a k s ps nx false n q before later origin rs low ok) (ends_write (met origin op) s bytes live has same))
+              (ends_after (met origin op) v _ (ps ++ q ∷ []) nx (copy origin.bytes q s) (reads_done g done rest a k s ps nx false n q before later origin rs low ok) (ends_write (met origin op) s bytes some live has same))
           | inr failed ↦ ends_as (met origin op) v (ps ++ q ∷ []) nx (spoilt s) target (sym (cond-false _ _ _ failed))
               (ends_after (met origin op) v _ (ps ++ q ∷ []) nx (spoilt s) (reads_failed g done rest a k s ps nx false n q before later origin rs low failed) (ends_spoiled (met origin op) (holding s ps nx false (copying n q Waiting [] ∷ []) []) (ps ++ q ∷ []) nx before))
         ]

@@ -129,7 +129,7 @@ module _ (g : Option MergeHeld) (sectors first : ℕ) (requests : List Held → 
       let unsaved : is_saved first start ≡ false = rw (on, none) refl in
       let rs : List Going = requests (done ++ start ∷ rest) in
       let e : Ends g done rest rs a k (met origin (chunk_read c origin s)) (at_with g origin (done ++ start ∷ rest) rs a k) (h.pairs ++ q ∷ []) nx (saved_snap sectors c origin h h) =
-      ends_read g done rest rs a k (m + 1) q h.pairs nx before (primed_later first (m + 1) snaps idle) (routed.unread (done ++ start ∷ rest)) origin s on kept.pairs (copy_bytes sectors origin s c (next_place s) whole)
+      ends_read g done rest rs a k (m + 1) q h.pairs nx before (primed_later first (m + 1) snaps idle) (routed.unread (done ++ start ∷ rest)) origin s kept.order.1.some on kept.pairs (copy_bytes sectors origin s c (next_place s) whole)
       (least_low (m + 1) (least_in (copy_at Waiting) rest) (primed_above first (m + 1) snaps idle)) in
       let low : s.chunk * c ≤ first = piece_low s.chunk first in
       let chunk : e.held.snap.chunk ≡ s.chunk = ap (λ (t : Snap). t.chunk) e.snap ∙ saved_chunk sectors c origin h h in

@@ -207,7 +207,7 @@ module _ (g : Option MergeHeld) (sectors number n : ℕ) (range : Range) (bytes 
           let low : least_in (copy_at Waiting) rest ≡ None = none_least (copy_at Waiting) rest (each_weaker IsIdle (λ d. copy_at Waiting d ≡ None) rest (λ d i. rw i.copies refl) idle_rest) in
           subst (λ (w : Held). Ends g done rest (routed Waits ∷ []) a (k + 1) (met origin (chunk_read c origin h.snap)) (at_with g origin (done ++ w ∷ rest) (routed Waits ∷ []) a (k + 1)) (h.pairs ++ q ∷ []) (stepped h.snap.chunk (next_place h.snap + 1)) (saved_snap sectors c origin h h))
           (sym (as_holding sectors c (k + 1) h here kept))
-          (ends_read g done rest (routed Waits ∷ []) a (k + 1) (k + 1) q h.pairs (stepped h.snap.chunk (next_place h.snap + 1)) idle_done (each_weaker IsIdle IsLater rest idle_later idle_rest) unread origin h.snap on kept.pairs
+          (ends_read g done rest (routed Waits ∷ []) a (k + 1) (k + 1) q h.pairs (stepped h.snap.chunk (next_place h.snap + 1)) idle_done (each_weaker IsIdle IsLater rest idle_later idle_rest) unread origin h.snap kept.order.1.some on kept.pairs
           (copy_bytes sectors origin h.snap c (next_place h.snap) whole) (ap (least (Some (k + 1))) low))
 
       -- the snapshot once its copy came to its end

@@ -1,16 +1,17 @@
 -- One snapshot's copy, event by event: each event is due where the snapshots before it are idle and those after it wait, and
 -- what it does.
-use Rattle.std.proofs.Common.{◌≡◌, ℕ, ◌+◌, ◌*◌, ◌/◌, ◌%◌, Bool, true, false, List, [], ◌∷◌, ◌++◌, length, map, Option, Some, refl, ap, ◌∙◌, eq-eqb}
-use Rattle.std.specs.Prelude.{◌==◌, ◌&&◌, not}
+use Rattle.std.proofs.Common.{◌≡◌, ℕ, ◌+◌, ◌*◌, ◌/◌, ◌%◌, ◌<◌, Bool, true, false, List, [], ◌∷◌, ◌++◌, length, map, drop, Option, Some, None, refl, ap, ◌∙◌, eq-eqb, arith, append-nil}
+use Rattle.std.specs.Prelude.{◌==◌, ◌&&◌, not, if◌then◌else◌}
 use Rattle.std.specs.List.{list_any}
 use Rattle.std.proofs.lemmas.Bool.{cond-true, cond-false}
-use Rattle.sector.specs.Bytes.{sectors_at, with_sectors}
+use Rattle.sector.specs.Bytes.{sectors_at, with_part, with_sectors}
 use Rattle.sector.specs.declared.pair.Pair.{Pair}
 use Rattle.device.specs.declared.operation.Operation.{Operation}
 use Rattle.device.specs.declared.operation.Operation.TheVariants.{Reads, Writes}
 use Rattle.plain.specs.declared.event.Event.TheVariants.{CopyRead, CopyWrite, ZeroNext, WriteArea, Publish, WriteInvalid}
 use Rattle.plain.specs.declared.request.Reply.{Reply}
 use Rattle.model.specs.Places.{area_place}
+use Rattle.model.specs.Slots.{pair_bytes}
 use Rattle.pending.specs.Copies.{count_of}
 use Rattle.pending.specs.declared.copies.Stage.{Stage}
 use Rattle.pending.specs.declared.copies.Stage.TheVariants.{Waiting, Read, Written}
@@ -21,12 +22,13 @@ use Rattle.settled.specs.Devices.{Device, sectors_of, answers, met, written_by}
 use Rattle.settled.specs.Snaps.{Snap}
 use Rattle.settled.specs.Saving.{lacks_area}
 use Rattle.event_machine.specs.Held.{Copying, Held, Going, MergeHeld, Moving, with_store, spoiled}
-use Rattle.event_machine.specs.Due.{can_commit, can_zero, copy_at, is_reading, is_publishable, least_in, due}
+use Rattle.event_machine.specs.Due.{batch_of, needs_area, can_commit, can_zero, copy_at, is_reading, is_publishable, least_in, due}
 use Rattle.event_machine.specs.Again.{again, placed, refused, rerouted}
-use Rattle.event_machine.specs.Stepping.{for_some, first_that, with_first, put, spoil, store_write, read_copy, write_copy, zero_next, commit_first, publish, mark_invalid, is_copy, on_copy, on_snap}
+use Rattle.event_machine.specs.Stepping.{for_some, first_that, with_first, put, spoil, store_write, read_copy, write_copy, zero_next, all_paired, commit, publish, mark_invalid, is_copy, on_copy, on_snap}
 use Rattle.event_machine.proofs.Lists.{same_number, here_that, here_with}
 use Rattle.settled.proofs.Each.{Each, each_weaker}
 use Rattle.settling.proofs.Goes.{Goes, goes_step}
+use Rattle.event_machine.proofs.Slots.{one_batch, one_last, one_fills, next_area}
 use Rattle.event_machine.proofs.Around.{at_with, IsIdle, IsLater, due_invalid, due_publish, due_area, due_zeros, due_write, due_read}
 
 -- a live snapshot with these copies and marks
@@ -166,36 +168,51 @@ module _ (g : Option MergeHeld) (done rest : List Held) (a : Option Reply) (k : 
   zero_op = Writes (s.chunk * area_place s.chunk area_next) s.chunk
 
   -- ZeroNext
-  module _ (origin : Device) (rs : List Going) (bytes : List ℕ) (full : fills ≡ true) (not_yet : z ≡ false) where
-    zero_test : Held → Bool
-    zero_test d = (d.snap.number == s.number) && can_zero d
+  module _ (origin : Device) (rs : List Going) (bytes : List ℕ) (some : 0 < s.chunk) (full : fills ≡ true) (not_yet : z ≡ false) where
+    needs_now : needs_area (with_stage Written bytes) ≡ true
+    needs_now = rw (one_fills (length ps) (32 * s.chunk) (omega (arith, some)), full, not_yet) refl
+
+    zero_here : can_zero (with_stage Written bytes) ≡ true
+    zero_here = needs_now
 
     zeros_due : due (at_with g origin (done ++ with_stage Written bytes ∷ rest) rs a k) ≡ Some (ZeroNext s.number)
-    zeros_due = due_zeros origin done rest (with_stage Written bytes) rs a k before later refl refl (rw (full, not_yet) refl) (rw (full, not_yet) refl)
+    zeros_due = due_zeros origin done rest (with_stage Written bytes) rs a k before later refl refl (ap not needs_now) zero_here
 
     zero_fails : Each (λ d. ((d.snap.number == s.number) && can_zero d) ≡ false) done
     zero_fails = each_weaker (λ (d : Held). can_zero d ≡ false) (λ d. ((d.snap.number == s.number) && can_zero d) ≡ false) done (λ d e. and_left (d.snap.number == s.number) (can_zero d) e) no_zero
 
     zero_passes : ((s.number == s.number) && can_zero (with_stage Written bytes)) ≡ true
-    zero_passes = same_number s.number _ ∙ rw (full, not_yet) refl
+    zero_passes = same_number s.number _ ∙ zero_here
+
+    -- with area a as the next one
+    abbrev zeroing : ℕ → Moving
+    zeroing x =
+        let v : Moving = at_with g origin (done ++ with_stage Written bytes ∷ rest) rs a k in
+        let test : Held → Bool = λ d. (d.snap.number == s.number) && can_zero d in
+        if lacks_area x s then spoil test (with_stage Written bytes) v
+        else store_write test (with_stage Written bytes) (Writes (s.chunk * area_place s.chunk x) s.chunk) (zeroed s.chunk s.store.bytes x) (λ after. record after { zeroed = true }) v
+
+    zeroes : on_snap (λ d. (d.snap.number == s.number) && can_zero d) zero_next (at_with g origin (done ++ with_stage Written bytes ∷ rest) rs a k) ≡ zeroing area_next
+    zeroes = on_this_snap g origin done rest rs a k (λ d. (d.snap.number == s.number) && can_zero d) (with_stage Written bytes) zero_fails zero_passes zero_next
+        ∙ ap zeroing (next_area (length ps) (32 * s.chunk) (omega (arith, some)) full)
 
     pub zeros_lacking : lacks_area area_next s ≡ true → Goes (at_with g origin (done ++ with_stage Written bytes ∷ rest) rs a k) (at_with g origin (done ++ spoiled (with_stage Written bytes) ∷ rest) (map (refused s.number) rs) a k)
     zeros_lacking lacks =
         goes_step _ _ (ZeroNext s.number) zeros_due
-        (on_this_snap g origin done rest rs a k (λ d. (d.snap.number == s.number) && can_zero d) (with_stage Written bytes) zero_fails zero_passes zero_next
+        (zeroes
         ∙ cond-true _ _ _ lacks ∙ spoil_here g origin done rest rs a k (λ d. (d.snap.number == s.number) && can_zero d) (with_stage Written bytes) zero_fails zero_passes (with_stage Written bytes))
 
     pub zeros_done : lacks_area area_next s ≡ false → answers s.store zero_op ≡ true → Goes (at_with g origin (done ++ with_stage Written bytes ∷ rest) rs a k) (at_with g origin (done ++ holding (store_after zero_op (zeroed s.chunk s.store.bytes area_next)) ps nx true (copying n q Written bytes ∷ []) [] ∷ rest) rs a k)
     zeros_done room ok =
         goes_step _ _ (ZeroNext s.number) zeros_due
-        (on_this_snap g origin done rest rs a k (λ d. (d.snap.number == s.number) && can_zero d) (with_stage Written bytes) zero_fails zero_passes zero_next
+        (zeroes
         ∙ cond-false _ _ _ room
         ∙ write_done g origin done rest rs a k (λ d. (d.snap.number == s.number) && can_zero d) (with_stage Written bytes) zero_fails zero_passes zero_op (zeroed s.chunk s.store.bytes area_next) (λ after. record after { zeroed = true }) ok)
 
     pub zeros_failed : lacks_area area_next s ≡ false → answers s.store zero_op ≡ false → Goes (at_with g origin (done ++ with_stage Written bytes ∷ rest) rs a k) (at_with g origin (done ++ spoiled (with_store (with_stage Written bytes) (written_by s.store zero_op (zeroed s.chunk s.store.bytes area_next))) ∷ rest) (map (refused s.number) rs) a k)
     zeros_failed room failed =
         goes_step _ _ (ZeroNext s.number) zeros_due
-        (on_this_snap g origin done rest rs a k (λ d. (d.snap.number == s.number) && can_zero d) (with_stage Written bytes) zero_fails zero_passes zero_next
+        (zeroes
         ∙ cond-false _ _ _ room
         ∙ write_failed g origin done rest rs a k (λ d. (d.snap.number == s.number) && can_zero d) (with_stage Written bytes) zero_fails zero_passes zero_op (zeroed s.chunk s.store.bytes area_next) (λ after. record after { zeroed = true }) failed)
 
@@ -206,15 +223,35 @@ module _ (g : Option MergeHeld) (done rest : List Held) (a : Option Reply) (k : 
   abbrev pub mark_here : Mark
   mark_here = record { number = n; chunk = q.old }
 
-  module _ (origin : Device) (rs : List Going) (bytes : List ℕ) (ready : (fills && not z) ≡ false) where
+  module _ (origin : Device) (rs : List Going) (bytes : List ℕ) (some : 0 < s.chunk) (ready : (fills && not z) ≡ false) where
+    commits_here : can_commit (with_stage Written bytes) ≡ true
+    commits_here = ap not (ap (λ b. b && not z) (one_fills (length ps) (32 * s.chunk) (omega (arith, some))) ∙ ready)
+
     area_due : due (at_with g origin (done ++ with_stage Written bytes ∷ rest) rs a k) ≡ Some (WriteArea s.number)
-    area_due = due_area origin done rest (with_stage Written bytes) rs a k before later refl refl (rw ready refl)
+    area_due = due_area origin done rest (with_stage Written bytes) rs a k before later refl refl commits_here
 
     area_fails : Each (λ d. ((d.snap.number == s.number) && can_commit d) ≡ false) done
     area_fails = each_weaker (λ (d : Held). can_commit d ≡ false) (λ d. ((d.snap.number == s.number) && can_commit d) ≡ false) done (λ d e. and_left (d.snap.number == s.number) (can_commit d) e) no_commit
 
     area_passes : ((s.number == s.number) && can_commit (with_stage Written bytes)) ≡ true
-    area_passes = same_number s.number _ ∙ rw ready refl
+    area_passes = same_number s.number _ ∙ commits_here
+
+    -- the copy with its pair in a slot that is the last of its area, or is not
+    abbrev committed_by : Bool → Held → Held
+    committed_by last after = record after { pairs = after.pairs ++ q ∷ []; copies = drop 1 after.copies; marks = after.marks ++ mark_here ∷ []; zeroed = after.zeroed && not last }
+
+    one_paired : all_paired s.chunk s.store.bytes (length ps) (q ∷ []) ≡ paired s.chunk s.store.bytes (length ps) q
+    one_paired = ap (with_part s.store.bytes (512 * (s.chunk * area_place s.chunk (length ps / (32 * s.chunk))) + 16 * (length ps % (32 * s.chunk)))) (append-nil (pair_bytes q))
+
+    commits : on_snap (λ d. (d.snap.number == s.number) && can_commit d) (λ test h. commit (batch_of h) test h) (at_with g origin (done ++ with_stage Written bytes ∷ rest) rs a k)
+        ≡ store_write (λ d. (d.snap.number == s.number) && can_commit d) (with_stage Written bytes) area_op (paired s.chunk s.store.bytes (length ps) q) (committed_by fills) (at_with g origin (done ++ with_stage Written bytes ∷ rest) rs a k)
+    commits =
+        let v : Moving = at_with g origin (done ++ with_stage Written bytes ∷ rest) rs a k in
+        let test : Held → Bool = λ d. (d.snap.number == s.number) && can_commit d in
+        on_this_snap g origin done rest rs a k test (with_stage Written bytes) area_fails area_passes (λ t h. commit (batch_of h) t h)
+        ∙ ap (λ c. commit c test (with_stage Written bytes) v) (one_batch (length ps) (32 * s.chunk) (omega (arith, some)))
+        ∙ ap (λ b. store_write test (with_stage Written bytes) area_op b (committed_by (length ps % (32 * s.chunk) + 1 == 32 * s.chunk)) v) one_paired
+        ∙ ap (λ b. store_write test (with_stage Written bytes) area_op (paired s.chunk s.store.bytes (length ps) q) (committed_by b) v) (one_last (length ps) (32 * s.chunk) (omega (arith, some)))
 
     abbrev pub committed_here : Held
     committed_here = holding (store_after area_op (paired s.chunk s.store.bytes (length ps) q)) (ps ++ q ∷ []) nx (z && not fills) [] (mark_here ∷ [])
@@ -222,16 +259,16 @@ module _ (g : Option MergeHeld) (done rest : List Held) (a : Option Reply) (k : 
     pub area_done : answers s.store area_op ≡ true → Goes (at_with g origin (done ++ with_stage Written bytes ∷ rest) rs a k) (at_with g origin (done ++ committed_here ∷ rest) rs a k)
     area_done ok =
         goes_step _ _ (WriteArea s.number) area_due
-        (on_this_snap g origin done rest rs a k (λ d. (d.snap.number == s.number) && can_commit d) (with_stage Written bytes) area_fails area_passes (λ test h. commit_first test h h.copies)
+        (commits
         ∙ write_done g origin done rest rs a k (λ d. (d.snap.number == s.number) && can_commit d) (with_stage Written bytes) area_fails area_passes area_op (paired s.chunk s.store.bytes (length ps) q)
-        (λ after. record after { pairs = after.pairs ++ q ∷ []; copies = []; marks = after.marks ++ mark_here ∷ []; zeroed = after.zeroed && not ((length ps + 1) % (32 * after.snap.chunk) == 0) }) ok)
+        (committed_by fills) ok)
 
     pub area_failed : answers s.store area_op ≡ false → Goes (at_with g origin (done ++ with_stage Written bytes ∷ rest) rs a k) (at_with g origin (done ++ spoiled (with_store (with_stage Written bytes) (written_by s.store area_op (paired s.chunk s.store.bytes (length ps) q))) ∷ rest) (map (refused s.number) rs) a k)
     area_failed failed =
         goes_step _ _ (WriteArea s.number) area_due
-        (on_this_snap g origin done rest rs a k (λ d. (d.snap.number == s.number) && can_commit d) (with_stage Written bytes) area_fails area_passes (λ test h. commit_first test h h.copies)
+        (commits
         ∙ write_failed g origin done rest rs a k (λ d. (d.snap.number == s.number) && can_commit d) (with_stage Written bytes) area_fails area_passes area_op (paired s.chunk s.store.bytes (length ps) q)
-        (λ after. record after { pairs = after.pairs ++ q ∷ []; copies = []; marks = after.marks ++ mark_here ∷ []; zeroed = after.zeroed && not ((length ps + 1) % (32 * after.snap.chunk) == 0) }) failed)
+        (committed_by fills) failed)
 
   -- Publish
   abbrev pub idle_here : Held

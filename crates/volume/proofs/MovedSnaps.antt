@@ -1,5 +1,5 @@
 -- What an event does that finds its snapshot: the parts that all events share.
-use Rattle.std.proofs.Common.{◌≡◌, ℕ, Bool, true, false, List, [], ◌∷◌, Option, set, map, refl, sym, ◌∙◌, ap}
+use Rattle.std.proofs.Common.{◌≡◌, ℕ, Bool, true, false, List, [], ◌∷◌, Option, None, set, map, refl, sym, ◌∙◌, ap}
 use Rattle.std.specs.Prelude.{if◌then◌else◌}
 use Rattle.device.specs.Layers.{Layer, layers_after}
 use Rattle.device.specs.declared.operation.Operation.{Operation}
