@@ -1,5 +1,5 @@
 -- Each call of a snapshot keeps its pairs counted.
-use Rattle.std.proofs.Common.{◌≡◌, ℕ, ◌+◌, ◌*◌, ◌<◌, Bool, true, false, List, [], ◌∷◌, ◌++◌, length, map, take, drop, set, refl, sym, ◌∙◌, ap, subst, arith, inl, inr, eq-eqb}
+use Rattle.std.proofs.Common.{◌≡◌, ℕ, ◌+◌, ◌*◌, ◌<◌, Bool, true, false, List, [], ◌∷◌, ◌++◌, length, map, take, drop, set, Option, refl, sym, ◌∙◌, ap, subst, arith, inl, inr, eq-eqb}
 use Rattle.std.specs.Prelude.{◌==◌, ◌-◌}
 use Rattle.std.proofs.lemmas.Bool.{cases_eq, false≢true}
 use Rattle.std.proofs.lemmas.List.{length-append}
@@ -14,7 +14,7 @@ use Rattle.store.specs.Stored.{after_commit}
 use Rattle.store.specs.declared.state.State.{State}
 use Rattle.volume_laws.specs.Steps.{mark_of}
 use Rattle.snapshot.specs.Calls.{StartsAt}
-use Rattle.snapshot.specs.Kept.{Kept}
+use Rattle.snapshot.specs.Kept.{Kept, spare_after}
 use Rattle.volume.specs.Whole.{IsCounted}
 use Rattle.volume.proofs.MovedLists.{if_true, if_false}
 use Rattle.volume.proofs.MovedDue.{unequal}
@@ -53,8 +53,8 @@ module _ {B : Type 0} (s : Kept B) (c : IsCounted s) where
   pub counted_zeroed : (d : B) → IsCounted (record s { device = d; state = record s.state { zeroed = true } })
   counted_zeroed d = record { some = c.some; count = c.count; fits = c.fits; idle = c.idle }
 
-  pub counted_marks : (ms : List Mark) → IsCounted (record s { marks = ms })
-  counted_marks ms = counted_same s (record s { marks = ms }) c refl refl refl (λ e. e)
+  pub counted_marks : (ms : List Mark) (merging : Option ℕ) → IsCounted (record s { marks = ms; merging = merging })
+  counted_marks ms merging = counted_same s (record s { marks = ms; merging = merging }) c refl refl refl (λ e. e)
 
   pub counted_tried : (d : B) (stale valid : Bool) → IsCounted (record s { device = d; untried = false; stale = stale; state = record s.state { valid = valid } })
   counted_tried d stale valid = record { some = c.some; count = c.count; fits = c.fits; idle = c.idle }
@@ -67,33 +67,33 @@ module _ {B : Type 0} (s : Kept B) (c : IsCounted s) where
   counted_started live next room begun copies = record { some = c.some; count = c.count; fits = c.fits; idle = λ e. absurd (false≢true (sym e ∙ live)) }
 
   -- one pair is committed in a live one
-  pub counted_committed : s.live ≡ true → (d : B) (begun : List Pair) (copies : List ChunkCopy) (marks : List Mark) (pair : Pair)
-      → IsCounted (record s { device = d; state = after_commit s.state 1; pairs = s.pairs ++ pair ∷ []; begun = begun; copies = copies; marks = marks })
-  counted_committed live d begun copies marks pair =
+  pub counted_committed : s.live ≡ true → (d : B) (begun : List Pair) (copies : List ChunkCopy) (marks : List Mark) (spare : Bool) (pair : Pair)
+      → IsCounted (record s { device = d; state = after_commit s.state 1; pairs = s.pairs ++ pair ∷ []; begun = begun; copies = copies; marks = marks; spare = spare })
+  counted_committed live d begun copies marks spare pair =
       let one : length (s.pairs ++ pair ∷ []) ≡ length s.pairs + 1 = length-append s.pairs (pair ∷ []) in
       let gone : s.live ≡ false → copies ≡ [] = λ e. absurd (false≢true (sym e ∙ live)) in
       elim (cases_eq (s.state.filled + 1) (32 * s.state.chunk)) [
         | inl full ↦
             (let t : State = record s.state { current = s.state.current + 1; filled = 0; zeroed = false } in
             let at : after_commit s.state 1 ≡ t = if_true (s.state.filled + 1 == 32 * s.state.chunk) t (record s.state { filled = s.state.filled + 1 }) (eq-eqb (s.state.filled + 1) (32 * s.state.chunk) full) in
-            subst (λ (x : State). IsCounted (record s { device = d; state = x; pairs = s.pairs ++ pair ∷ []; begun = begun; copies = copies; marks = marks })) (sym at)
+            subst (λ (x : State). IsCounted (record s { device = d; state = x; pairs = s.pairs ++ pair ∷ []; begun = begun; copies = copies; marks = marks; spare = spare })) (sym at)
             (record { some = c.some; count = one ∙ next_full s.state.current (32 * s.state.chunk) s.state.filled (length s.pairs) full c.count; fits = λ e. omega (arith, c.some); idle = gone }))
         | inr other ↦
             (let t : State = record s.state { filled = s.state.filled + 1 } in
             let at : after_commit s.state 1 ≡ t = if_false (s.state.filled + 1 == 32 * s.state.chunk) (record s.state { current = s.state.current + 1; filled = 0; zeroed = false }) t (unequal (s.state.filled + 1) (32 * s.state.chunk) other) in
-            subst (λ (x : State). IsCounted (record s { device = d; state = x; pairs = s.pairs ++ pair ∷ []; begun = begun; copies = copies; marks = marks })) (sym at)
+            subst (λ (x : State). IsCounted (record s { device = d; state = x; pairs = s.pairs ++ pair ∷ []; begun = begun; copies = copies; marks = marks; spare = spare })) (sym at)
             (record { some = c.some; count = one ∙ next_part s.state.current (32 * s.state.chunk) s.state.filled (length s.pairs) c.count; fits = λ e. omega (arith, c.fits live, other); idle = gone }))
       ]
 
   -- of its first copy
   pub counted_first : s.live ≡ true → (d : B) → front_written s.copies ≡ true → s.begun ≡ map pair_of s.copies
-      → IsCounted (record s { device = d; state = after_commit s.state 1; pairs = s.pairs ++ take 1 s.begun; begun = drop 1 s.begun; copies = drop 1 s.copies; marks = s.marks ++ map mark_of (take 1 s.copies) })
+      → IsCounted (record s { device = d; state = after_commit s.state 1; pairs = s.pairs ++ take 1 s.begun; begun = drop 1 s.begun; copies = drop 1 s.copies; marks = s.marks ++ map mark_of (take 1 s.copies); spare = spare_after 1 s })
   counted_first live d front begun =
       let some = front_some s.copies front in
       let marks : List Mark = s.marks ++ map mark_of (take 1 s.copies) in
       let taken : take 1 s.begun ≡ some.0.pair ∷ [] = ap (take 1) begun ∙ ap (λ (cs : List ChunkCopy). take 1 (map pair_of cs)) some.2 in
-      subst (λ (ps : List Pair). IsCounted (record s { device = d; state = after_commit s.state 1; pairs = s.pairs ++ ps; begun = drop 1 s.begun; copies = drop 1 s.copies; marks = marks })) (sym taken)
-      (counted_committed live d (drop 1 s.begun) (drop 1 s.copies) marks some.0.pair)
+      subst (λ (ps : List Pair). IsCounted (record s { device = d; state = after_commit s.state 1; pairs = s.pairs ++ ps; begun = drop 1 s.begun; copies = drop 1 s.copies; marks = marks; spare = spare_after 1 s })) (sym taken)
+      (counted_committed live d (drop 1 s.begun) (drop 1 s.copies) marks (spare_after 1 s) some.0.pair)
 
 -- a copy was started in a live one
 pub counted_begun : {B : Type 0} (contents : B → List ℕ) (layers : B → List Layer) (s t : Kept B) (p : ChunkCopy) → s.live ≡ true → StartsAt contents layers p s t → IsCounted s → IsCounted t

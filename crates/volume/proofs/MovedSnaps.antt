@@ -1,5 +1,5 @@
 -- What an event does that finds its snapshot: the parts that all events share.
-use Rattle.std.proofs.Common.{◌≡◌, ℕ, Bool, true, false, List, [], ◌∷◌, Option, set, map, refl, sym, ◌∙◌, ap}
+use Rattle.std.proofs.Common.{◌≡◌, ℕ, Bool, true, false, List, [], ◌∷◌, Option, None, set, map, refl, sym, ◌∙◌, ap}
 use Rattle.std.specs.Prelude.{if◌then◌else◌}
 use Rattle.device.specs.Layers.{Layer, layers_after}
 use Rattle.device.specs.declared.operation.Operation.{Operation}
@@ -23,7 +23,7 @@ changed v o k s flights = record v { origin = o; snaps = set v.snaps k s; flight
 
 -- a snapshot that is spoiled
 abbrev pub spoilt : {B : Type 0} → Kept B → Kept B
-spoilt s = record s { live = false; untried = true; state = record s.state { copying = false }; begun = []; copies = []; marks = [] }
+spoilt s = record s { live = false; untried = true; state = record s.state { copying = false }; begun = []; copies = []; marks = []; kept_back = 0; spare = false; merging = None }
 
 module _ {B : Type 0} (contents : B → List ℕ) (layers : B → List Layer) where
   -- the devices after an operation

@@ -31,7 +31,7 @@ use Rattle.event_machine.specs.Held.{Copying, Held, Moving, with_store}
 use Rattle.event_machine.specs.Due.{can_commit, can_zero}
 use Rattle.event_machine.specs.Stepping.{spoil, store_write, zero_next, commit_first, stepped}
 use Rattle.event_machine.specs.Seen.{copying_of}
-use Rattle.snapshot.specs.Kept.{Kept}
+use Rattle.snapshot.specs.Kept.{Kept, spare_after}
 use Rattle.volume.specs.Volumed.{Volumed}
 use Rattle.snapshots.specs.Finding.{is_committing, is_zeroing}
 use Rattle.volume.specs.Whole.{IsCounted}
@@ -140,7 +140,7 @@ module _ {B : Type 0} (contents : B → List ℕ) (layers : B → List Layer) (r
     -- the first copy is committed
     pub write_area_done : (s' : Kept B) → IsOneOperation op true (layers s.device) (layers d) faults faults' done done'
         → contents d ≡ with_part (contents s.device) (slot_start s.state.chunk s.state.current s.state.filled) (pairs_bytes (take 1 s.begun))
-        → s' ≡ record s { device = d; state = after_commit s.state 1; pairs = s.pairs ++ take 1 s.begun; begun = drop 1 s.begun; copies = drop 1 s.copies; marks = s.marks ++ map mark_of (take 1 s.copies) }
+        → s' ≡ record s { device = d; state = after_commit s.state 1; pairs = s.pairs ++ take 1 s.begun; begun = drop 1 s.begun; copies = drop 1 s.copies; marks = s.marks ++ map mark_of (take 1 s.copies); spare = spare_after 1 s }
         → stepped (WriteArea n) (moving_of contents layers replied v) ≡ moving_of contents layers replied (changed v v.origin k s' v.flights)
     write_area_done s' one new is =
         let h : Held = with_store (held_of contents layers s) (device_of contents layers d) in
