@@ -14,10 +14,10 @@ use Rattle.store.specs.declared.state.State.{State}
 pub record IsBuffered (chunk origin : ℕ) (p : ChunkCopy) : Type 0 where
   pub room : length p.buffer.items ≡ 512 * count_of chunk origin p.pair.old
 
--- while a snapshot is live and has so many copies, the area after the current one is zeroed only for one of them, whose
--- pair fills the current one
+-- while a snapshot is live and has so many copies, the area after the current one is zeroed only for some of them, whose
+-- pairs fill the current one
 abbrev pub IsAhead : Bool → State → ℕ → Type 0
-IsAhead live s copies = live ≡ true → s.zeroed ≡ true → (0 < copies) × (s.filled + 1 ≡ 32 * s.chunk)
+IsAhead live s copies = live ≡ true → s.zeroed ≡ true → (0 < copies) × (32 * s.chunk ≤ s.filled + copies)
 
 -- Its flags, its store's state, the pairs that the store began, its copies and its marks. A live one's store takes copies;
 -- a spoiled one has none, and a mark fails only where it was tried. The store is marked invalid once the mark was written.

@@ -1,11 +1,12 @@
 -- To be believed: `run`'s output, a volume's steps or its attach are said in these words.
 -- What callers see of one snapshot, and what that is as plain records. This project's own.
-use Rattle.std.specs.Prelude.{◌==◌, ◌&&◌, ◌||◌, not, ℕ, ◌+◌, ◌*◌, Bool, false, List, Option, Some, None, take, if◌then◌else◌}
+use Rattle.std.specs.Prelude.{◌==◌, ◌&&◌, ◌||◌, not, ℕ, ◌+◌, ◌-◌, ◌*◌, Bool, false, List, Option, Some, None, take, if◌then◌else◌}
 use Rattle.std.specs.List.{list_any}
 use Rattle.sector.specs.declared.pair.Pair.{Pair}
 use Rattle.device.specs.Layers.{Layer, is_loud}
 use Rattle.pending.specs.declared.copies.ChunkCopy.{ChunkCopy}
 use Rattle.pending.specs.declared.copies.Mark.{Mark}
+use Rattle.pending.specs.Due.{batch}
 use Rattle.store.specs.declared.state.State.{State}
 use Rattle.volume_laws.specs.Books.{SnapBooks}
 use Rattle.volume_laws.specs.Due.{DueSnap}
@@ -48,9 +49,13 @@ books_of contents layers s = record {
   marks = s.marks;
 }
 
--- whether the pair that is committed next fills the current area, and the next area is not zeroed yet
-abbrev pub needs_area : State → Bool
-needs_area s = (s.filled + 1 == 32 * s.chunk) && not s.zeroed
+-- how many of the first copies the next write of the area commits
+abbrev pub batch_of : State → List ChunkCopy → ℕ
+batch_of s copies = batch (32 * s.chunk - s.filled) copies
+
+-- whether the last of them fills the current area, and the next area is not zeroed yet
+abbrev pub needs_area : State → List ChunkCopy → Bool
+needs_area s copies = (s.filled + batch_of s copies == 32 * s.chunk) && not s.zeroed
 
 -- whether the copy that a merge started is one of these
 abbrev pub is_among : Option ℕ → List ChunkCopy → Bool
@@ -69,4 +74,4 @@ unpublished n (Some k) = if k == n then None else Some k
 
 -- what says which of its events are due
 abbrev pub due_of_kept : {B : Type 0} → (B → List ℕ) → (B → List Layer) → Kept B → DueSnap
-due_of_kept contents layers s = record { books = books_of contents layers s; needs = needs_area s.state; zeroed = s.state.zeroed }
+due_of_kept contents layers s = record { books = books_of contents layers s; needs = needs_area s.state s.copies; zeroed = s.state.zeroed }

@@ -22,12 +22,12 @@ use pending::{ChunkCopy, Mark};
 use plain::CopyId;
 
 impl<B: Block> Snapshot<B> {
-    /// Zeroes the area after the current one, for a copy whose pair fills that. At `Io` nothing changed but the device's
+    /// Zeroes the area after the current one, for copies whose pairs fill that. At `Io` nothing changed but the device's
     /// counts and layers.
     pub fn zero_next(&mut self) -> Result<(), Io>
         requires live { self.old.live ≡ true }
         requires some { 0 < length self.old.copies }
-        requires due { needs_area self.old.state ≡ true }
+        requires due { needs_area self.old.state self.old.copies ≡ true }
         requires inside { self.old.state.chunk * (area_place self.old.state.chunk (self.old.state.current + 1) + 1) ≤ self.old.state.size }
 
         ensures operation { IsOneOperation (Writes (self.old.state.chunk * area_place self.old.state.chunk (self.old.state.current + 1)) self.old.state.chunk) (is_ok result) (B.layers self.old.device) (B.layers self.new.device) (B.fault_count self.old.device) (B.fault_count self.new.device) (B.done_count self.old.device) (B.done_count self.new.device) }

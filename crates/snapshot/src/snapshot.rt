@@ -7,12 +7,12 @@ ghost use Rattle.model.specs.Picture.{place_of as place_in};
 ghost use Rattle.volume_laws.specs.Published.{is_published as is_published_in};
 ghost use Rattle.device.specs.Layers.{is_loud};
 ghost use Rattle.snapshot.specs.InStep.{IsInStep};
-ghost use Rattle.snapshot.specs.Kept.{is_among, needs_area};
+ghost use Rattle.snapshot.specs.Kept.{batch_of, is_among, needs_area};
 ghost use Rattle.snapshot.specs.Rest.{IsStill};
 
 use chunk_alloc::Usage;
 use device::Block;
-use pending::{ChunkCopy, Mark, is_marked};
+use pending::{ChunkCopy, Mark, batch, is_marked};
 use plain::{CopyId, SnapId};
 use sector::Chunk;
 use std::marker::Model;
@@ -147,12 +147,23 @@ impl<B: Block> Snapshot<B> {
         let _ = &self.store;
     }
 
-    /// Whether the pair that is committed next fills the current area, so that the next area has to be zeroed first, and
-    /// it is not yet.
-    pub fn needs_next_area(&self) -> bool
-        ensures { result ≡ needs_area self.now.state }
+    /// How many of the first copies the next write of the area commits: those that are written, up to the first that is
+    /// not, and up to the end of the area.
+    pub fn batch(&self) -> u32
+        ensures { result ≡ batch_of self.now.state self.now.copies }
     {
-        self.store.state.filled + 1 == 32 * self.store.state.chunk && !self.store.state.zeroed
+        batch(
+            self.copies.as_slice(),
+            32 * self.store.state.chunk - self.store.state.filled,
+        )
+    }
+
+    /// Whether the last pair that is committed next fills the current area, so that the next area has to be zeroed first,
+    /// and it is not yet.
+    pub fn needs_next_area(&self) -> bool
+        ensures { result ≡ needs_area self.now.state self.now.copies }
+    {
+        self.store.needs_next_area(self.batch())
     }
 
     /// Whether the area after the current one is zeroed.

@@ -1,4 +1,5 @@
-use Rattle.std.proofs.Common.{◌≡◌, ◌+◌, ◌-◌, ◌*◌, ◌<◌, ◌≤◌, length, take, arith, refl, ap, ◌∙◌, sym, subst, true, length-drop}
+use Rattle.std.proofs.Common.{◌≡◌, ◌+◌, ◌-◌, ◌*◌, ◌<◌, ◌≤◌, length, take, arith, refl, ap, ◌∙◌, sym, subst, true, length-drop, inl, inr}
+use Rattle.std.proofs.lemmas.Bool.{cases_lt}
 use Rattle.std.specs.List.{All}
 use Rattle.std.proofs.lemmas.List.{take-map}
 use Rattle.sector.specs.Bytes.{with_part}
@@ -25,12 +26,17 @@ invariant_of-self g c =
     let alive : c.self.inside.live ≡ true = ap (λ v. v.live) c.self.view_is ∙ c.requires.live in
     let few : c.args.count ≤ length copies = omega (arith, ap (λ v. length v.copies) c.self.view_is) in
     let fits : 1 < c.args.count → s.state.filled + c.args.count ≤ 32 * s.state.chunk = λ more. (let room = c.requires.fits more in omega (arith, room, ap (λ v. v.state.filled) c.self.view_is, ap (λ v. v.state.chunk) c.self.view_is)) in
+    let slot = s.front.next (c.self.invariant.0.copying alive) in
+    let room : s.state.filled + c.args.count ≤ 32 * s.state.chunk = elim (cases_lt 1 c.args.count) [
+      | inl more ↦ fits more
+      | inr one ↦ omega (arith, one, slot)
+    ] in
     let len : length c.mark_first.new.copies.items ≡ length copies - c.args.count = ap length c.mark_first.ensures.copies ∙ length-drop c.args.count copies in
     let more : length c.mark_first.new.marks.items ≡ length marks + c.args.count = ap length c.mark_first.ensures.marks ∙ marked_count c.args.count marks copies few in
     let has = c.self.invariant.1 in (
       rw c.mark_first.ensures.copies
           (copies_drop _ _ _ s.state t.state _ _ copies _ _ c.args.count alive c.self.invariant.0 (like_commit s.state t.state c.args.count e.state) (pairs_dropped c.args.count (pending s.exceptions) (pending t.exceptions) e.pending)
-          (ahead_commit c.self.inside.live s.state t.state (length copies) c.args.count e.state fits c.self.invariant.0.ahead)),
+          (ahead_commit c.self.inside.live s.state t.state (length copies) c.args.count e.state room few c.self.invariant.0.ahead)),
       record {
         for_pairs = omega (arith, c.write_area.ensures.reserved, has.for_pairs);
         counted = has.counted;
