@@ -76,12 +76,7 @@ pub fn push_slots(text: &mut Vec<u8>, slots: u64, pairs: &[Pair]) -> Result<(), 
 }
 
 /// Adds the line of a slot.
-fn push_slot_line(
-    text: &mut Vec<u8>,
-    slots: u64,
-    slot: u64,
-    pair: Pair,
-) -> Result<(), AllocError>
+fn push_slot_line(text: &mut Vec<u8>, slots: u64, slot: u64, pair: Pair) -> Result<(), AllocError>
     requires { 0 < slots }
     ensures { OnOk result (text.new.items ≡ text.old.items ++ slot_line slots slot pair) }
 {
