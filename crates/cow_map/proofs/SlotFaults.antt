@@ -12,7 +12,7 @@ pub faults_step : (chunk origin size : ℕ) (pairs : List Pair) (i : ℕ) (d : P
 faults_step chunk origin size pairs i d told lt all =
     append_assoc told (slot_faults chunk origin size (take i pairs) (get_or pairs i d)) (faults_after chunk origin size (take (i + 1) pairs) (drop (i + 1) pairs))
     ∙ ap (λ xs. told ++ xs) (sym (ap (λ xs. faults_after chunk origin size (take i pairs) xs) (drop_more pairs i d lt)
-        ∙ ap (λ xs. slot_faults chunk origin size (take i pairs) (get_or pairs i d) ++ faults_after chunk origin size xs (drop (i + 1) pairs)) (sym (take_more pairs i d lt))))
+    ∙ ap (λ xs. slot_faults chunk origin size (take i pairs) (get_or pairs i d) ++ faults_after chunk origin size xs (drop (i + 1) pairs)) (sym (take_more pairs i d lt))))
     ∙ all
 
 -- no slot is left
