@@ -28,8 +28,8 @@ use Rattle.settling.proofs.MergeStages.{ungrouped, area_read, area_lost}
 use Rattle.settling.proofs.Primed.{resting_idle}
 use Rattle.settling.proofs.SavesSettle.{snap_of}
 use Rattle.merge_laws.proofs.MergeEnds.{step_steps, merge_ends, merge_unseen}
-use Rattle.merge_laws.proofs.SettlesCopies.{Reaches, reaches_after}
-use Rattle.merge_laws.proofs.SettlesGroups.{free_at, group_settles}
+use Rattle.merge_settling.proofs.PairsSettle.{Reaches, reaches_after}
+use Rattle.merge_settling.proofs.GroupsSettle.{free_at, group_settles}
 
 module _ (sectors : ℕ) (a : Option Reply) where
   -- a volume with a merge goes on to one where that is done
