@@ -132,6 +132,7 @@ module _ {B : Type 0} (number : ℕ) (old new : Volumed B) (store : StoreDev B) 
           whole = settled.rest.whole;
           snaps = subst (All (IsResting (size old.origin))) (sym (map-remove (held_of contents layers) old.snaps out.place)) (All-remove (IsResting (size old.origin)) held out.place settled.rest.snaps);
           requests = settled.rest.requests;
+          alone = refl;
         });
       }
 

@@ -75,4 +75,5 @@ module _ {B : Type 0} (contents : B → List ℕ) (layers : B → List Layer) wh
     whole = whole.holds.whole;
     snaps = all_resting v.copies (size v.origin) (piece_of v.snaps) v.snaps small whole.snaps still done (and_second (is_loud (layers v.origin)) (list_all (λ (s : Kept B). is_loud (layers s.device)) v.snaps) (loud_others contents layers size v loud));
     requests = ap (λ fs. map going_of fs) none;
+    alone = refl;
   }

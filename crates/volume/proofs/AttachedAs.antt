@@ -179,6 +179,7 @@ module _ {B : Type 0} (contents : B → List ℕ) (layers : B → List Layer) wh
     whole = rest.whole;
     snaps = subst (All (IsResting sectors)) (sym (map_push (held_of contents layers) v.snaps s)) (All-push (IsResting sectors) (map (held_of contents layers) v.snaps) (held_of contents layers s) rest.snaps here);
     requests = rest.requests;
+    alone = refl;
   }
 
   -- the new one, over an origin of so many sectors

@@ -12,7 +12,7 @@ use Rattle.volume_laws.specs.Held.{RequestHolds}
 use Rattle.volume_laws.specs.Published.{chunk_of, is_clear, IsPublished}
 use Rattle.volume_laws.specs.Waits.{IsSaving, IsCopying}
 use Rattle.volume_laws.specs.Accepting.{IsPrepared, IsTakenIn}
-use Rattle.volume_laws.proofs.Accepted.{origin_read_taken, origin_write_taken, snap_read_taken, snap_write_held_taken, snap_write_placed_taken}
+use Rattle.volume_laws.proofs.AcceptedAlone.{origin_read_taken, origin_write_taken, snap_read_taken, snap_write_held_taken, snap_write_placed_taken}
 use Rattle.snapshot.specs.Kept.{Kept, books_of as snap_books}
 use Rattle.volume.specs.Volumed.{Volumed, books_of, piece_of}
 use Rattle.volume.specs.Whole.{IsWhole}

@@ -349,9 +349,10 @@ helds_rest sectors number f (h ∷ hs) all = elim (cases_Bool (h.snap.number == 
 ]
 
 pub dev_rests : (sectors : ℕ) (dev : Dev) (f : List Layer → List Layer) (v : Moving) → IsAtRest sectors v → IsAtRest sectors (dev_relayered dev f v)
-dev_rests sectors Origin f v rest = record { whole = rest.whole; snaps = rest.snaps; requests = rest.requests }
+dev_rests sectors Origin f v rest = record { whole = rest.whole; snaps = rest.snaps; requests = rest.requests; alone = rest.alone }
 dev_rests sectors (Snap number) f v rest = record {
   whole = rest.whole;
   snaps = all_from (IsResting sectors) (helds_relayered number f v.snaps) (helds_rest sectors number f v.snaps (each_from (IsResting sectors) v.snaps rest.snaps));
   requests = rest.requests;
+  alone = rest.alone;
 }

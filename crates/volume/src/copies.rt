@@ -20,7 +20,7 @@ use snapshots::{committing_at, find_copy, find_mark, route_placed, trying_at, ze
 /// Spoils a snapshot whose device failed, and refuses its requests.
 fn spoil<B: Block>(snap: &mut Snapshot<B>, flights: &mut Vec<Flight>)
     requires { snap.old.live ≡ true }
-    ensures fields { snap.new ≡ record snap.old { live = false; untried = true; state = record snap.old.state { copying = false }; begun = []; copies = []; marks = [] } }
+    ensures fields { snap.new ≡ record snap.old { live = false; untried = true; state = record snap.old.state { copying = false }; begun = []; copies = []; marks = []; kept_back = 0; spare = false; merging = None } }
     ensures spoils { SpoilsSnap (books_of B.contents B.layers snap.old) (books_of B.contents B.layers snap.new) }
     ensures flights { flights.new.items ≡ map (refused_of (snap.old.number ∷ [])) flights.old.items }
 {
@@ -100,7 +100,8 @@ impl<B: Block> Volume<B> {
         }
     }
 
-    /// Commits the first copy of a snapshot. Where that fails, the snapshot is spoiled.
+    /// Commits the first copies of a snapshot, those that are written, up to the first that is not and up to the end of the
+    /// area. Where that fails, the snapshot is spoiled.
     pub(crate) fn write_area(&mut self, number: SnapId) -> Result<Outcome, NotDue>
         ensures step { IfOk result (λ outcome. IsStepped B.contents B.layers B.size B.fault_count B.done_count (WriteArea number) outcome self.old self.new) }
         ensures exact { IfOk result (λ outcome. IsExact B.contents B.layers (WriteArea number) outcome self.old self.new) }
@@ -110,7 +111,8 @@ impl<B: Block> Volume<B> {
         match committing_at(&self.snaps, number) {
             Some(place) => {
                 let snap = &mut self.snaps[place];
-                match snap.write_area(1) {
+                let count = snap.batch();
+                match snap.write_area(count) {
                     Ok(()) => Ok(Outcome::Done),
                     Err(Io) => {
                         spoil(snap, &mut self.flights);

@@ -15,7 +15,7 @@ empty origin = record { origin = origin; snaps = []; merge = None; flights = [];
 empty_settled : {B : Type 0} (contents : B → List ℕ) (layers : B → List Layer) (size : B → ℕ) (origin : B) → length (contents origin) ≡ 512 * size origin → is_loud (layers origin) ≡ true → IsSettled contents layers size (rested_of (empty origin))
 empty_settled contents layers size origin whole loud = record {
   loud = ap (λ b. b && true) loud;
-  rest = record { whole = whole; snaps = All-nil (IsResting (size origin)); requests = refl };
+  rest = record { whole = whole; snaps = All-nil (IsResting (size origin)); requests = refl; alone = refl };
 }
 
 pub returns-in-Ok-clause-settled : goal.returns-in-Ok-clause-settled
