@@ -1,5 +1,5 @@
 -- The events after which held writes are routed again: a mark is taken away, and a spoiled store's mark is tried.
-use Rattle.std.proofs.Common.{◌≡◌, inl, inr, ℕ, zero, suc, ◌<◌, Bool, true, false, List, [], ◌∷◌, ◌++◌, Some, None, length, get_or, set, map, refl, sym, ◌∙◌, ap, arith, nat_eq, length-append, subst}
+use Rattle.std.proofs.Common.{◌≡◌, inl, inr, ℕ, zero, suc, ◌<◌, Bool, true, false, List, [], ◌∷◌, ◌++◌, Some, None, length, get_or, set, map, refl, sym, ◌∙◌, ap, arith, nat_eq, length-append, subst, Option}
 use Rattle.std.specs.Prelude.{not}
 use Rattle.std.specs.List.{list_any, position, remove}
 use Rattle.std.proofs.lemmas.Bool.{false≢true, eqb-true}
@@ -16,7 +16,7 @@ use Rattle.pending.specs.Kinds.{in_flight}
 use Rattle.pending.specs.Routes.{is_reading}
 use Rattle.pending.specs.declared.copies.Mark.{Mark}
 use Rattle.pending.specs.declared.flights.Flight.{Flight}
-use Rattle.volume_laws.specs.Books.{SnapBooks}
+use Rattle.volume_laws.specs.Books.{SnapBooks, MergeBooks}
 use Rattle.volume_laws.specs.Published.{is_clear}
 use Rattle.volume_laws.specs.Again.{again_of, placed_of, Reroutes, Places}
 use Rattle.volume_laws.specs.Steps.{ChangesSnap, Unmarks, TriesMark}
@@ -30,7 +30,7 @@ use Rattle.volume_laws.proofs.WaitingAgain.{waits_published, waits_tried}
 use Rattle.volume_laws.proofs.Left.{unmark_left, tried_left}
 use Rattle.volume_laws.proofs.Lists.{map-remove}
 use Rattle.snapshot.specs.Kept.{Kept, books_of as snap_books, due_of_kept, unpublished}
-use Rattle.volume.specs.Volumed.{Volumed, books_of}
+use Rattle.volume.specs.Volumed.{Volumed, books_of, merge_books}
 use Rattle.snapshots.specs.Numbers.{numbers_in}
 use Rattle.volume.specs.Whole.{IsWhole, IsCounted}
 use Rattle.snapshots.specs.Finding.{is_trying, is_mark_of}
@@ -40,12 +40,17 @@ use Rattle.volume.proofs.Counting.{counts_same, counts_store, store_within, live
 use Rattle.volume.proofs.CopyEvents.{both_left, both_right}
 use Rattle.volume.proofs.Good.{IsGood, Spoiling, Staying, silent_good}
 use Rattle.volume.proofs.MovedCounts.{counted_marks}
-use Rattle.volume.proofs.Alone.{alone_books}
+use Rattle.merge.specs.Merging.{Merging}
 
 -- the same requests are in flight
-again_flown : (clear : ℕ → Bool) (rs : List Flight) → map in_flight (map (again_of None clear) rs) ≡ map in_flight rs
-again_flown clear [] = refl
-again_flown clear (r ∷ rs) = ap (λ xs. in_flight r ∷ xs) (again_flown clear rs)
+again_flown : (merge : Option MergeBooks) (clear : ℕ → Bool) (rs : List Flight) → map in_flight (map (again_of merge clear) rs) ≡ map in_flight rs
+again_flown merge clear [] = refl
+again_flown merge clear (r ∷ rs) = ap (λ xs. in_flight r ∷ xs) (again_flown merge clear rs)
+
+-- whether what a merge writes is done decides no route
+again_loud : {B : Type 0} (contents : B → List ℕ) (layers : B → List Layer) (loud : Bool) (m : Option (Merging B)) (clear : ℕ → Bool) (rs : List Flight) → map (again_of (merge_books contents layers true m) clear) rs ≡ map (again_of (merge_books contents layers loud m) clear) rs
+again_loud contents layers loud None clear rs = refl
+again_loud contents layers loud (Some m) clear rs = refl
 
 placed_flown : (s : SnapBooks) (rs : List Flight) → map in_flight (map (placed_of s) rs) ≡ map in_flight rs
 placed_flown s [] = refl
@@ -94,10 +99,10 @@ module _ {B : Type 0} (contents : B → List ℕ) (layers : B → List Layer) (s
   clear = is_clear (map (snap_books contents layers) (set v.snaps k s'))
 
   abbrev again : List Flight → List Flight
-  again fs = map (again_of None clear) fs
+  again fs = map (again_of (merge_books contents layers true v.merge) clear) fs
 
   reroutes : (fs : List Flight) → Reroutes clear (books_of contents layers size (changed v v.origin k s' fs)) (books_of contents layers size (changed v v.origin k s' (again fs)))
-  reroutes fs = record { requests = ap (λ m. map (again_of m clear) fs) (sym (alone_books contents layers (is_loud (layers v.origin)) v.merge h.alone)); origin = refl; sectors = refl; loud = refl; snaps = refl; merge = refl }
+  reroutes fs = record { requests = again_loud contents layers (is_loud (layers v.origin)) v.merge clear fs; origin = refl; sectors = refl; loud = refl; snaps = refl; merge = refl }
 
   same_loud : (fs gs : List Flight) → IsLoud (books_of contents layers size (changed v v.origin k s' fs)) → IsLoud (books_of contents layers size (changed v v.origin k s' gs))
   same_loud fs gs l = record { origin = l.origin; snaps = l.snaps; merge = l.merge }
@@ -120,7 +125,7 @@ module _ {B : Type 0} (contents : B → List ℕ) (layers : B → List Layer) (s
           few = few_same s s' (ap (λ ms. map number_of_mark ms ++ map number_of_copy s'.copies) f.5 ∙ ap (λ cs. map number_of_mark s.marks ++ map number_of_copy cs) f.4) f.6;
           counted = counts;
         } in
-        silent_good contents layers size faults done v h (WriteInvalid number) outcome told still v.origin k s s' within is disk loud sized (again v.flights) (again_flown clear v.flights) stays
+        silent_good contents layers size faults done v h (WriteInvalid number) outcome told still v.origin k s s' within is disk loud sized (again v.flights) (again_flown (merge_books contents layers true v.merge) clear v.flights) stays
         (silent_then vb ub wb one two (loud_one k (snap_books contents layers s) (snap_books contents layers s') vb ub e_is loud))
         (waits_tried k (snap_books contents layers s) (snap_books contents layers s') vb ub wb h.waits e_is t (reroutes v.flights))
         (tried_left (due_of_kept contents layers s) (due_of_kept contents layers s') (both_right (nat_eq s.number number) s.untried found) f.2 (f.1 ∙ t.was) f.4 f.5)
@@ -172,7 +177,7 @@ module _ {B : Type 0} (contents : B → List ℕ) (layers : B → List Layer) (s
           few = few_less s s' fewer;
           counted = λ counts. subst IsCounted (sym f) (counted_marks s counts (remove s.marks j) (unpublished m.number s.merging));
         } in
-        silent_good contents layers size faults done v h (Publish number) Done (λ p q x. x) (λ xs ys e. e) v.origin k s s' within is disk loud (ap size device) (again placed) (again_flown clear placed ∙ placed_flown b v.flights) stays
+        silent_good contents layers size faults done v h (Publish number) Done (λ p q x. x) (λ xs ys e. e) v.origin k s s' within is disk loud (ap size device) (again placed) (again_flown (merge_books contents layers true v.merge) clear placed ∙ placed_flown b v.flights) stays
         (silent_then vb ub wb one (silent_then ub xb wb two three (same_loud v.flights placed)) (loud_one k a b vb ub e_is loud))
         (waits_published k j m a b vb ub xb wb h.waits e_is r places (reroutes placed))
         (unmark_left j m (due_of_kept contents layers s) (due_of_kept contents layers s') r (ap (λ (x : Kept B). x.state.zeroed) f))

@@ -1,8 +1,7 @@
 -- A volume of which nothing is merged.
-use Rattle.std.proofs.Common.{◌≡◌, ℕ, Bool, List, Option, None, sym, ◌∙◌, ap}
+use Rattle.std.proofs.Common.{◌≡◌, ℕ, Bool, List, Option, None, ap}
 use Rattle.device.specs.Layers.{Layer}
 use Rattle.plain.specs.declared.event.Event.{Event}
-use Rattle.pending.specs.declared.flights.Flight.{Flight}
 use Rattle.volume_laws.specs.Due.{due_of, is_due}
 use Rattle.merge.specs.Merging.{Merging}
 use Rattle.volume.specs.Volumed.{Volumed, dues_of, merge_books, merge_due, due_by, is_due_by, next_of, is_due_of, merge_shape, plain_of}

@@ -1,5 +1,5 @@
 -- A request of each kind is in flight: where it goes, and why it waits.
-use Rattle.std.proofs.Common.{◌≡◌, ℕ, ◌+◌, ◌<◌, true, false, List, Some, None, length, get_or, map, refl}
+use Rattle.std.proofs.Common.{◌≡◌, ℕ, ◌+◌, ◌<◌, true, false, List, Some, None, length, get_or, map}
 use Rattle.std.specs.List.{All}
 use Rattle.device.specs.Layers.{Layer, is_loud}
 use Rattle.model.specs.Picture.{place_of}

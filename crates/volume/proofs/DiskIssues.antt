@@ -1,5 +1,5 @@
 -- A request is issued at the origin disk.
-use Rattle.std.proofs.Common.{◌≡◌, ◌≢◌, ◌⊎◌, inl, inr, ℕ, ◌*◌, ◌<◌, true, List, ◌∷◌, Some, None, length, get_or, map, refl, sym, ◌∙◌, ap, subst, arith, nat_eq}
+use Rattle.std.proofs.Common.{◌≡◌, ◌≢◌, ◌⊎◌, inl, inr, ℕ, ◌*◌, ◌<◌, true, List, ◌∷◌, Some, length, get_or, map, refl, sym, ◌∙◌, ap, subst, arith, nat_eq}
 use Rattle.std.specs.Prelude.{◌&&◌}
 use Rattle.std.specs.List.{list_all, remove, position}
 use Rattle.std.proofs.lemmas.Bool.{cases_Bool, eqb-true}
@@ -26,8 +26,7 @@ use Rattle.volume_laws.specs.Waits.{WaitsHolds, Waits}
 use Rattle.volume_laws.specs.Outcomes.{IsReply}
 use Rattle.volume_laws.proofs.Requests.{found_holds}
 use Rattle.volume_laws.proofs.Waiting.{waits_out}
-use Rattle.volume_laws.proofs.Issuing.{io_read_event, io_write_event, read_disk_event, io_snap_read_event, snap_disk_event}
-use Rattle.volume_laws.proofs.IssuingWrites.{write_disk_event}
+use Rattle.volume_laws.proofs.Issuing.{io_read_event, io_write_event, io_snap_read_event, snap_disk_event}
 use Rattle.snapshot.specs.Kept.{Kept}
 use Rattle.volume.specs.Volumed.{Volumed, books_of, merge_books, is_loud_with}
 use Rattle.volume.specs.Whole.{IsWhole}
@@ -37,7 +36,7 @@ use Rattle.volume.specs.Flying.{Fits}
 use Rattle.volume.proofs.Changing.{snaps_fit}
 use Rattle.volume.proofs.Good.{IsGood}
 use Rattle.volume.proofs.IssueEvents.{reply_good, taken_out, fits_read, fits_write}
-use Rattle.volume.proofs.Alone.{alone_books}
+use Rattle.volume.proofs.MergeIssues.{any_read_disk, any_write_disk}
 use Rattle.volume.proofs.Counting.{counted_among, within_among}
 
 -- what a request is, by its device
@@ -92,10 +91,6 @@ module _ {B : Type 0} (contents : B → List ℕ) (layers : B → List Layer) (s
   disk_counted count more = ap (λ n. counts_with count v.merge (n ∷ map (λ (s : Kept B). count s.device) v.snaps)) more
       ∙ counted_among count v.merge 0 (count v.origin ∷ map (λ (s : Kept B). count s.device) v.snaps) (omega arith)
 
-  -- nothing is merged
-  none : vb.merge ≡ None
-  none = alone_books contents layers (is_loud (layers v.origin)) v.merge h.alone
-
   failed : faults o' ≡ next_count (faults v.origin) → (device : ℕ) × GoesTo number device v × FailsAlone faults device v issued
   failed more = (
     0,
@@ -116,7 +111,7 @@ module _ {B : Type 0} (contents : B → List ℕ) (layers : B → List Layer) (s
       where
         reply : IsReply number (Data bytes) vb wb
         reply = elim (read_kinds r.request.dev r.request.op op) [
-          | inl kind ↦ read_disk_event number place r vb wb h.holds (only same) bytes none kind read
+          | inl kind ↦ any_read_disk number place r vb wb h.holds (only same) kind bytes route read
           | inr k ↦ (let any = waiting.read_attached k.0 k.1 in
               snap_disk_event number place r vb wb h.holds (only same) any.0 any.1 any.2 (sym any.3) bytes (k.1 ∙ ap SnapRead (sym any.4)) route read)
         ]
@@ -149,7 +144,7 @@ module _ {B : Type 0} (contents : B → List ℕ) (layers : B → List Layer) (s
     pub disk_write : WritesDisk r.request.range.first r.request.range.count (contents v.origin) (contents o') → (is_loud (layers v.origin) ≡ true → contents o' ≡ with_sectors (contents v.origin) r.request.range.first bytes) → faults o' ≡ faults v.origin
         → IsGood contents layers size faults done (Issue number) (Replied number IsWritten) v issued
     disk_write disk written faulty = good IsWritten
-        (write_disk_event number place r bytes vb wb h.holds (record { out = out; op = op; snaps = refl; disk = disk; written = written }) none (is_origin bytes op) route)
+        (any_write_disk number place r vb wb h.holds bytes (record { out = out; op = op; snaps = refl; disk = disk; written = written }) (is_origin bytes op) route)
         (faultless faulty) (one_done counted) (fits_write r.request.op r.request.range bytes op)
 
     pub disk_write_io : contents o' ≡ contents v.origin → faults o' ≡ next_count (faults v.origin) → IsGood contents layers size faults done (Issue number) (Replied number (IsRefused Io)) v issued

@@ -14,6 +14,7 @@ pub mod AgainEvents
 pub mod Chunks
 pub mod Tried
 pub mod IssueEvents
+pub mod MergeIssues
 pub mod DiskIssues
 pub mod StoreIssues
 pub mod Issued

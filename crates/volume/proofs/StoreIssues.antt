@@ -1,5 +1,5 @@
 -- A request is issued at the store of its snapshot, or answered Invalid.
-use Rattle.std.proofs.Common.{◌≡◌, ◌≢◌, ◌⊎◌, inl, inr, ℕ, suc, ◌+◌, ◌*◌, ◌/◌, ◌%◌, ◌<◌, ◌≤◌, true, List, Some, None, length, get_or, set, map, refl, sym, ◌∙◌, ap, subst, arith, nat_eq, eq-eqb}
+use Rattle.std.proofs.Common.{◌≡◌, ◌≢◌, ◌⊎◌, inl, inr, ℕ, suc, ◌+◌, ◌*◌, ◌/◌, ◌%◌, ◌<◌, ◌≤◌, true, List, Some, length, get_or, set, map, refl, sym, ◌∙◌, ap, subst, arith, nat_eq, eq-eqb}
 use Rattle.std.specs.Prelude.{Any, sum_by}
 use Rattle.std.specs.List.{list_any, remove, position}
 use Rattle.std.proofs.lemmas.Bool.{cases_Bool, eqb-true}

@@ -1,5 +1,5 @@
 -- A spoiled snapshot's mark was tried: written, or failed.
-use Rattle.std.proofs.Common.{◌≡◌, ℕ, ◌<◌, Bool, true, false, List, None, length, get_or, set, map, refl, ◌∙◌, ap, sym, subst, arith}
+use Rattle.std.proofs.Common.{◌≡◌, ℕ, ◌<◌, Bool, true, false, List, length, get_or, set, map, refl, ◌∙◌, ap, sym, subst, arith}
 use Rattle.std.proofs.lemmas.List.{map-set, get_or-set_same, length-map}
 use Rattle.sector.specs.Bytes.{next_count}
 use Rattle.device.specs.Layers.{Layer, is_loud}
@@ -10,7 +10,7 @@ use Rattle.volume_laws.specs.Published.{is_clear}
 use Rattle.volume_laws.specs.Again.{again_of}
 use Rattle.volume_laws.specs.Steps.{TriesMark}
 use Rattle.snapshot.specs.Kept.{Kept, books_of as snap_books}
-use Rattle.volume.specs.Volumed.{Volumed}
+use Rattle.volume.specs.Volumed.{Volumed, merge_books}
 use Rattle.volume.specs.Whole.{IsWhole, IsCounted}
 use Rattle.snapshots.specs.Finding.{is_trying}
 use Rattle.volume.proofs.Changing.{changed}
@@ -23,7 +23,7 @@ module _ {B : Type 0} (contents : B → List ℕ) (layers : B → List Layer) (s
     (k : ℕ) (s s' : Kept B) (within : k < length v.snaps) (is : s ≡ get_or v.snaps k s) (found : is_trying number s ≡ true) (d : B) (stale : Bool) (f : s' ≡ record s { device = d; untried = false; stale = stale; state = record s.state { valid = stale } })
     (t : TriesMark (snap_books contents layers s) (snap_books contents layers s')) (loud : is_loud (layers d) ≡ is_loud (layers s.device)) (sized : size d ≡ size s.device) (counted : done d ≡ next_count (done s.device)) where
   abbrev flights : List Flight
-  flights = map (again_of None (is_clear (map (snap_books contents layers) (set v.snaps k s')))) v.flights
+  flights = map (again_of (merge_books contents layers true v.merge) (is_clear (map (snap_books contents layers) (set v.snaps k s')))) v.flights
 
   device : s'.device ≡ d
   device = ap (λ (x : Kept B). x.device) f

@@ -10,13 +10,12 @@ ghost use Rattle.volume.specs.Stepping.{IsStepped};
 ghost use Rattle.volume.specs.Exact.{IsExact};
 
 use crate::Volume;
+use crate::routing::route_again;
 use device::{Block, Io};
 use pending::{Flight, Stage, refuse};
 use plain::{CopyId, NotDue, Outcome, SnapId};
 use snapshot::Snapshot;
-use snapshots::{
-    committing_at, find_copy, find_mark, route_again, route_placed, trying_at, zeroing_at,
-};
+use snapshots::{committing_at, find_copy, find_mark, route_placed, trying_at, zeroing_at};
 
 /// Spoils a snapshot whose device failed, and refuses its requests.
 fn spoil<B: Block>(snap: &mut Snapshot<B>, flights: &mut Vec<Flight>)
@@ -138,7 +137,7 @@ impl<B: Block> Volume<B> {
                 let snap = &mut self.snaps[place];
                 snap.publish(index);
                 route_placed(snap, &mut self.flights);
-                route_again(&self.snaps, &mut self.flights);
+                route_again(&self.snaps, &self.merge, &mut self.flights);
                 Ok(Outcome::Done)
             }
             None => Err(NotDue),
@@ -158,11 +157,11 @@ impl<B: Block> Volume<B> {
                 let snap = &mut self.snaps[place];
                 match snap.write_invalid() {
                     Ok(()) => {
-                        route_again(&self.snaps, &mut self.flights);
+                        route_again(&self.snaps, &self.merge, &mut self.flights);
                         Ok(Outcome::Done)
                     }
                     Err(Io) => {
-                        route_again(&self.snaps, &mut self.flights);
+                        route_again(&self.snaps, &self.merge, &mut self.flights);
                         Ok(Outcome::Fault)
                     }
                 }

@@ -3,9 +3,9 @@
 //! failed, or answers the one request that it names.
 //!
 //! It stands on `snapshots` (the list of its snapshots: what is due of them, and which copies a write needs), on `snapshot`
-//! (each of them, with its store), on `pending` (copies, marks and requests in flight), on `volume_laws`
-//! (the laws of every event and of every request), and on `event_machine`. Words of its contracts are those
-//! of `plain` (the machine that all layers above see), `sector`, `device`, `chunk`, `model`, `cow_header`, `store`,
+//! (each of them, with its store), on `merge` (the one that is being merged), on `pending` (copies, marks and requests in
+//! flight), on `volume_laws` (the laws of every event and of every request), and on `event_machine`. Words of its contracts
+//! are those of `plain` (the machine that all layers above see), `sector`, `device`, `chunk`, `model`, `cow_header`, `store`,
 //! `chunk_alloc` and `settled`.
 //!
 //! It promises that its devices' own bytes stand for one plain machine, of which every call is a step, and of each event
@@ -27,6 +27,7 @@ mod messages;
 mod peeking;
 mod refusing;
 mod requests;
+mod routing;
 mod snap_requests;
 mod status;
 mod stores;

@@ -1,8 +1,8 @@
 -- What is found first is due first, and where nothing is, the volume is quiet.
-use Rattle.std.proofs.Common.{◌≡◌, ◌∙◌, sym, ap, map}
+use Rattle.std.proofs.Common.{◌∙◌, sym, ap, map}
 use Rattle.volume_laws.specs.Due.{due_of}
 use Rattle.snapshot.specs.Kept.{due_of_kept}
-use Rattle.volume.specs.Volumed.{Volumed, next_of}
+use Rattle.volume.specs.Volumed.{Volumed}
 use Rattle.volume.proofs.Alone.{next_alone}
 use Rattle.volume.proofs.Empty.{quiet_none}
 use Rattle.volume.proofs.MovedDue.{due_is}

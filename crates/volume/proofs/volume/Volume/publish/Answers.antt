@@ -1,5 +1,5 @@
 -- A committed copy is published.
-use Rattle.std.proofs.Common.{◌≡◌, ◌<◌, true, false, Some, refl, sym, ◌∙◌, ap, subst, length, arith, map, None, slice_set}
+use Rattle.std.proofs.Common.{◌≡◌, ◌<◌, true, false, Some, refl, sym, ◌∙◌, ap, subst, length, arith, map, slice_set}
 use Rattle.std.specs.List.{All, position, list_any}
 use Rattle.volume_laws.specs.Published.{is_clear}
 use Rattle.volume_laws.specs.Again.{again_of, placed_of}
@@ -11,6 +11,7 @@ use Rattle.volume.proofs.Chunks.{chunks_all, chunks_set}
 use Rattle.volume.proofs.AgainEvents.{published_good}
 use Rattle.volume.proofs.Exactly.{publish_exact}
 use Rattle.volume.proofs.volume.Volume.publish.Goals as goal
+use Rattle.volume.specs.Volumed.{merge_books}
 
 pub find_mark-requires : goal.find_mark-requires
 find_mark-requires g c =
@@ -63,9 +64,9 @@ invariant_of-self g c =
     let found : position (is_mark_of s v.flights.items c.args.number) s.marks ≡ Some j = mark_found c.args.number k j v.snaps.items c.deref.result.now v.flights.items c.deref-2.result.now s c.deref.ensures.value c.deref-2.ensures.value is (c.in-Some.ensures.found.1 s) in
     let m = mark_is c.args.number j v.flights.items s found in
     let good = published_good g.B.Block.contents g.B.Block.layers g.B.Block.size g.B.Block.fault_count g.B.Block.done_count _ c.self.invariant c.args.number k s c.publish.new.self within is j m.0 found (c.publish.ensures.fields m.0 m.1) (c.publish.ensures.publishes m.0 m.1) in
-    let flights : c.route_again.new.flights.items ≡ map (again_of None (is_clear (map (books_of g.B.Block.contents g.B.Block.layers) (slice_set v.snaps.items k c.publish.new.self)))) (map (placed_of (books_of g.B.Block.contents g.B.Block.layers c.publish.new.self)) v.flights.items) =
-    c.route_again.ensures ∙ ap (λ xs. map (again_of None (is_clear (map (books_of g.B.Block.contents g.B.Block.layers) xs))) c.route_placed.new.flights.items) c.deref-in-Some.ensures.value
-    ∙ ap (map (again_of None (is_clear (map (books_of g.B.Block.contents g.B.Block.layers) (slice_set v.snaps.items k c.publish.new.self))))) c.route_placed.ensures in
+    let flights : c.route_again.new.flights.items ≡ map (again_of (merge_books g.B.Block.contents g.B.Block.layers true v.merge) (is_clear (map (books_of g.B.Block.contents g.B.Block.layers) (slice_set v.snaps.items k c.publish.new.self)))) (map (placed_of (books_of g.B.Block.contents g.B.Block.layers c.publish.new.self)) v.flights.items) =
+    c.route_again.ensures ∙ ap (λ xs. map (again_of (merge_books g.B.Block.contents g.B.Block.layers true v.merge) (is_clear (map (books_of g.B.Block.contents g.B.Block.layers) xs))) c.route_placed.new.flights.items) c.deref-in-Some.ensures.value
+    ∙ ap (map (again_of (merge_books g.B.Block.contents g.B.Block.layers true v.merge) (is_clear (map (books_of g.B.Block.contents g.B.Block.layers) (slice_set v.snaps.items k c.publish.new.self))))) c.route_placed.ensures in
     rw flights good.whole
 
 pub returns-in-Some-clause-step : goal.returns-in-Some-clause-step
@@ -79,9 +80,9 @@ returns-in-Some-clause-step g c =
     let found : position (is_mark_of s v.flights.items c.args.number) s.marks ≡ Some j = mark_found c.args.number k j v.snaps.items c.deref.result.now v.flights.items c.deref-2.result.now s c.deref.ensures.value c.deref-2.ensures.value is (c.in-Some.ensures.found.1 s) in
     let m = mark_is c.args.number j v.flights.items s found in
     let good = published_good g.B.Block.contents g.B.Block.layers g.B.Block.size g.B.Block.fault_count g.B.Block.done_count _ c.self.invariant c.args.number k s c.publish.new.self within is j m.0 found (c.publish.ensures.fields m.0 m.1) (c.publish.ensures.publishes m.0 m.1) in
-    let flights : c.route_again.new.flights.items ≡ map (again_of None (is_clear (map (books_of g.B.Block.contents g.B.Block.layers) (slice_set v.snaps.items k c.publish.new.self)))) (map (placed_of (books_of g.B.Block.contents g.B.Block.layers c.publish.new.self)) v.flights.items) =
-    c.route_again.ensures ∙ ap (λ xs. map (again_of None (is_clear (map (books_of g.B.Block.contents g.B.Block.layers) xs))) c.route_placed.new.flights.items) c.deref-in-Some.ensures.value
-    ∙ ap (map (again_of None (is_clear (map (books_of g.B.Block.contents g.B.Block.layers) (slice_set v.snaps.items k c.publish.new.self))))) c.route_placed.ensures in
+    let flights : c.route_again.new.flights.items ≡ map (again_of (merge_books g.B.Block.contents g.B.Block.layers true v.merge) (is_clear (map (books_of g.B.Block.contents g.B.Block.layers) (slice_set v.snaps.items k c.publish.new.self)))) (map (placed_of (books_of g.B.Block.contents g.B.Block.layers c.publish.new.self)) v.flights.items) =
+    c.route_again.ensures ∙ ap (λ xs. map (again_of (merge_books g.B.Block.contents g.B.Block.layers true v.merge) (is_clear (map (books_of g.B.Block.contents g.B.Block.layers) xs))) c.route_placed.new.flights.items) c.deref-in-Some.ensures.value
+    ∙ ap (map (again_of (merge_books g.B.Block.contents g.B.Block.layers true v.merge) (is_clear (map (books_of g.B.Block.contents g.B.Block.layers) (slice_set v.snaps.items k c.publish.new.self))))) c.route_placed.ensures in
     rw (← c.self.view_is, flights) good.stepped
 
 pub returns-in-Some-clause-exact : goal.returns-in-Some-clause-exact
@@ -94,9 +95,9 @@ returns-in-Some-clause-exact g c =
     let is = c.index_mut-snap.ensures.value in
     let found : position (is_mark_of s v.flights.items c.args.number) s.marks ≡ Some j = mark_found c.args.number k j v.snaps.items c.deref.result.now v.flights.items c.deref-2.result.now s c.deref.ensures.value c.deref-2.ensures.value is (c.in-Some.ensures.found.1 s) in
     let m = mark_is c.args.number j v.flights.items s found in
-    let flights : c.route_again.new.flights.items ≡ map (again_of None (is_clear (map (books_of g.B.Block.contents g.B.Block.layers) (slice_set v.snaps.items k c.publish.new.self)))) (map (placed_of (books_of g.B.Block.contents g.B.Block.layers c.publish.new.self)) v.flights.items) =
-    c.route_again.ensures ∙ ap (λ xs. map (again_of None (is_clear (map (books_of g.B.Block.contents g.B.Block.layers) xs))) c.route_placed.new.flights.items) c.deref-in-Some.ensures.value
-    ∙ ap (map (again_of None (is_clear (map (books_of g.B.Block.contents g.B.Block.layers) (slice_set v.snaps.items k c.publish.new.self))))) c.route_placed.ensures in
+    let flights : c.route_again.new.flights.items ≡ map (again_of (merge_books g.B.Block.contents g.B.Block.layers true v.merge) (is_clear (map (books_of g.B.Block.contents g.B.Block.layers) (slice_set v.snaps.items k c.publish.new.self)))) (map (placed_of (books_of g.B.Block.contents g.B.Block.layers c.publish.new.self)) v.flights.items) =
+    c.route_again.ensures ∙ ap (λ xs. map (again_of (merge_books g.B.Block.contents g.B.Block.layers true v.merge) (is_clear (map (books_of g.B.Block.contents g.B.Block.layers) xs))) c.route_placed.new.flights.items) c.deref-in-Some.ensures.value
+    ∙ ap (map (again_of (merge_books g.B.Block.contents g.B.Block.layers true v.merge) (is_clear (map (books_of g.B.Block.contents g.B.Block.layers) (slice_set v.snaps.items k c.publish.new.self))))) c.route_placed.ensures in
     rw (← c.self.view_is) (publish_exact g.B.Block.contents g.B.Block.layers g.B.Block.size _ c.self.invariant c.args.number k s within c.index_mut-snap.ensures.value c.publish.new.self j m.0 c.route_again.new.flights.items found m.1 (c.publish.ensures.fields m.0 m.1) flights)
 
 pub returns-in-Some-clause-due : goal.returns-in-Some-clause-due

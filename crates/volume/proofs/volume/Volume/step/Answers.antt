@@ -1,5 +1,5 @@
 -- The event that is due first is due, and an event is due where one of snapshots and requests is.
-use Rattle.std.proofs.Common.{◌≡◌, ◌∙◌, sym, ap, map}
+use Rattle.std.proofs.Common.{◌∙◌, sym, ap, map}
 use Rattle.volume_laws.specs.Due.{is_due}
 use Rattle.volume_laws.proofs.Due.{due_is_due}
 use Rattle.snapshot.specs.Kept.{due_of_kept}

@@ -1,5 +1,5 @@
 -- A spoiled snapshot's mark is tried.
-use Rattle.std.proofs.Common.{◌≡◌, ◌<◌, true, false, refl, sym, ◌∙◌, ap, subst, length, arith, map, None, slice_set}
+use Rattle.std.proofs.Common.{◌≡◌, ◌<◌, true, false, refl, sym, ◌∙◌, ap, subst, length, arith, map, slice_set}
 use Rattle.std.specs.List.{All}
 use Rattle.volume_laws.specs.Published.{is_clear}
 use Rattle.volume_laws.specs.Again.{again_of}
@@ -10,6 +10,7 @@ use Rattle.volume.proofs.Chunks.{chunks_set}
 use Rattle.volume.proofs.Tried.{tried_done, tried_fault}
 use Rattle.volume.proofs.Exactly.{tried_exact, tried_fault_exact}
 use Rattle.volume.proofs.volume.Volume.write_invalid.Goals as goal
+use Rattle.volume.specs.Volumed.{merge_books}
 
 pub route_again-requires : goal.route_again-requires
 route_again-requires g c =
@@ -30,8 +31,8 @@ invariant_of-self g c =
     let is = c.index_mut-snap.ensures.value in
     let found : is_trying c.args.number s ≡ true = snap_found (is_trying c.args.number) k v.snaps.items c.deref.result.now s c.deref.ensures.value is (c.in-Some.ensures.found.1 s) in
     let good = tried_done g.B.Block.contents g.B.Block.layers g.B.Block.size g.B.Block.fault_count g.B.Block.done_count _ c.self.invariant c.args.number k s c.write_invalid.new.self within is found c.write_invalid.new.self.device false c.in-Ok.ensures.fields c.write_invalid.ensures.tries c.write_invalid.ensures.loud c.write_invalid.ensures.size c.in-Ok.ensures.operation.counted c.in-Ok.ensures.operation.faulty in
-    let flights : c.route_again.new.flights.items ≡ map (again_of None (is_clear (map (books_of g.B.Block.contents g.B.Block.layers) (slice_set v.snaps.items k c.write_invalid.new.self)))) v.flights.items =
-    c.route_again.ensures ∙ ap (λ xs. map (again_of None (is_clear (map (books_of g.B.Block.contents g.B.Block.layers) xs))) v.flights.items) c.deref-in-Ok.ensures.value in
+    let flights : c.route_again.new.flights.items ≡ map (again_of (merge_books g.B.Block.contents g.B.Block.layers true v.merge) (is_clear (map (books_of g.B.Block.contents g.B.Block.layers) (slice_set v.snaps.items k c.write_invalid.new.self)))) v.flights.items =
+    c.route_again.ensures ∙ ap (λ xs. map (again_of (merge_books g.B.Block.contents g.B.Block.layers true v.merge) (is_clear (map (books_of g.B.Block.contents g.B.Block.layers) xs))) v.flights.items) c.deref-in-Ok.ensures.value in
     rw flights good.whole
 
 pub route_again-requires-in-Err : goal.route_again-requires-in-Err
@@ -53,8 +54,8 @@ invariant_of-self-in-Err g c =
     let is = c.index_mut-snap.ensures.value in
     let found : is_trying c.args.number s ≡ true = snap_found (is_trying c.args.number) k v.snaps.items c.deref.result.now s c.deref.ensures.value is (c.in-Some.ensures.found.1 s) in
     let good = tried_fault g.B.Block.contents g.B.Block.layers g.B.Block.size g.B.Block.fault_count g.B.Block.done_count _ c.self.invariant c.args.number k s c.write_invalid.new.self within is found c.write_invalid.new.self.device true c.in-Err.ensures.fields c.write_invalid.ensures.tries c.write_invalid.ensures.loud c.write_invalid.ensures.size c.in-Err.ensures.operation.counted refl c.in-Err.ensures.operation.faulty in
-    let flights : c.route_again-in-Err.new.flights.items ≡ map (again_of None (is_clear (map (books_of g.B.Block.contents g.B.Block.layers) (slice_set v.snaps.items k c.write_invalid.new.self)))) v.flights.items =
-    c.route_again-in-Err.ensures ∙ ap (λ xs. map (again_of None (is_clear (map (books_of g.B.Block.contents g.B.Block.layers) xs))) v.flights.items) c.deref-in-Err.ensures.value in
+    let flights : c.route_again-in-Err.new.flights.items ≡ map (again_of (merge_books g.B.Block.contents g.B.Block.layers true v.merge) (is_clear (map (books_of g.B.Block.contents g.B.Block.layers) (slice_set v.snaps.items k c.write_invalid.new.self)))) v.flights.items =
+    c.route_again-in-Err.ensures ∙ ap (λ xs. map (again_of (merge_books g.B.Block.contents g.B.Block.layers true v.merge) (is_clear (map (books_of g.B.Block.contents g.B.Block.layers) xs))) v.flights.items) c.deref-in-Err.ensures.value in
     rw flights good.whole
 
 pub returns-in-Ok-clause-step : goal.returns-in-Ok-clause-step
@@ -66,8 +67,8 @@ returns-in-Ok-clause-step g c =
     let is = c.index_mut-snap.ensures.value in
     let found : is_trying c.args.number s ≡ true = snap_found (is_trying c.args.number) k v.snaps.items c.deref.result.now s c.deref.ensures.value is (c.in-Some.ensures.found.1 s) in
     let good = tried_done g.B.Block.contents g.B.Block.layers g.B.Block.size g.B.Block.fault_count g.B.Block.done_count _ c.self.invariant c.args.number k s c.write_invalid.new.self within is found c.write_invalid.new.self.device false c.in-Ok.ensures.fields c.write_invalid.ensures.tries c.write_invalid.ensures.loud c.write_invalid.ensures.size c.in-Ok.ensures.operation.counted c.in-Ok.ensures.operation.faulty in
-    let flights : c.route_again.new.flights.items ≡ map (again_of None (is_clear (map (books_of g.B.Block.contents g.B.Block.layers) (slice_set v.snaps.items k c.write_invalid.new.self)))) v.flights.items =
-    c.route_again.ensures ∙ ap (λ xs. map (again_of None (is_clear (map (books_of g.B.Block.contents g.B.Block.layers) xs))) v.flights.items) c.deref-in-Ok.ensures.value in
+    let flights : c.route_again.new.flights.items ≡ map (again_of (merge_books g.B.Block.contents g.B.Block.layers true v.merge) (is_clear (map (books_of g.B.Block.contents g.B.Block.layers) (slice_set v.snaps.items k c.write_invalid.new.self)))) v.flights.items =
+    c.route_again.ensures ∙ ap (λ xs. map (again_of (merge_books g.B.Block.contents g.B.Block.layers true v.merge) (is_clear (map (books_of g.B.Block.contents g.B.Block.layers) xs))) v.flights.items) c.deref-in-Ok.ensures.value in
     rw (← c.self.view_is, flights) good.stepped
 
 pub returns-in-Ok-clause-exact : goal.returns-in-Ok-clause-exact
@@ -78,8 +79,8 @@ returns-in-Ok-clause-exact g c =
     let within : k < length v.snaps.items = omega (arith, c.in-Some.ensures.found.0, ap length c.deref.ensures.value) in
     let is = c.index_mut-snap.ensures.value in
     let found : is_trying c.args.number s ≡ true = snap_found (is_trying c.args.number) k v.snaps.items c.deref.result.now s c.deref.ensures.value is (c.in-Some.ensures.found.1 s) in
-    let flights : c.route_again.new.flights.items ≡ map (again_of None (is_clear (map (books_of g.B.Block.contents g.B.Block.layers) (slice_set v.snaps.items k c.write_invalid.new.self)))) v.flights.items =
-    c.route_again.ensures ∙ ap (λ xs. map (again_of None (is_clear (map (books_of g.B.Block.contents g.B.Block.layers) xs))) v.flights.items) c.deref-in-Ok.ensures.value in
+    let flights : c.route_again.new.flights.items ≡ map (again_of (merge_books g.B.Block.contents g.B.Block.layers true v.merge) (is_clear (map (books_of g.B.Block.contents g.B.Block.layers) (slice_set v.snaps.items k c.write_invalid.new.self)))) v.flights.items =
+    c.route_again.ensures ∙ ap (λ xs. map (again_of (merge_books g.B.Block.contents g.B.Block.layers true v.merge) (is_clear (map (books_of g.B.Block.contents g.B.Block.layers) xs))) v.flights.items) c.deref-in-Ok.ensures.value in
     rw (← c.self.view_is) (tried_exact g.B.Block.contents g.B.Block.layers g.B.Block.size _ c.self.invariant c.args.number k s within c.index_mut-snap.ensures.value _ _ _ _ found c.write_invalid.new.self c.route_again.new.flights.items c.in-Ok.ensures.operation c.in-Ok.ensures.written c.in-Ok.ensures.fields flights)
 
 pub returns-in-Ok-clause-due : goal.returns-in-Ok-clause-due
@@ -101,8 +102,8 @@ returns-in-Err-clause-step g c =
     let is = c.index_mut-snap.ensures.value in
     let found : is_trying c.args.number s ≡ true = snap_found (is_trying c.args.number) k v.snaps.items c.deref.result.now s c.deref.ensures.value is (c.in-Some.ensures.found.1 s) in
     let good = tried_fault g.B.Block.contents g.B.Block.layers g.B.Block.size g.B.Block.fault_count g.B.Block.done_count _ c.self.invariant c.args.number k s c.write_invalid.new.self within is found c.write_invalid.new.self.device true c.in-Err.ensures.fields c.write_invalid.ensures.tries c.write_invalid.ensures.loud c.write_invalid.ensures.size c.in-Err.ensures.operation.counted refl c.in-Err.ensures.operation.faulty in
-    let flights : c.route_again-in-Err.new.flights.items ≡ map (again_of None (is_clear (map (books_of g.B.Block.contents g.B.Block.layers) (slice_set v.snaps.items k c.write_invalid.new.self)))) v.flights.items =
-    c.route_again-in-Err.ensures ∙ ap (λ xs. map (again_of None (is_clear (map (books_of g.B.Block.contents g.B.Block.layers) xs))) v.flights.items) c.deref-in-Err.ensures.value in
+    let flights : c.route_again-in-Err.new.flights.items ≡ map (again_of (merge_books g.B.Block.contents g.B.Block.layers true v.merge) (is_clear (map (books_of g.B.Block.contents g.B.Block.layers) (slice_set v.snaps.items k c.write_invalid.new.self)))) v.flights.items =
+    c.route_again-in-Err.ensures ∙ ap (λ xs. map (again_of (merge_books g.B.Block.contents g.B.Block.layers true v.merge) (is_clear (map (books_of g.B.Block.contents g.B.Block.layers) xs))) v.flights.items) c.deref-in-Err.ensures.value in
     rw (← c.self.view_is, flights) good.stepped
 
 pub returns-in-Err-clause-exact : goal.returns-in-Err-clause-exact
@@ -113,8 +114,8 @@ returns-in-Err-clause-exact g c =
     let within : k < length v.snaps.items = omega (arith, c.in-Some.ensures.found.0, ap length c.deref.ensures.value) in
     let is = c.index_mut-snap.ensures.value in
     let found : is_trying c.args.number s ≡ true = snap_found (is_trying c.args.number) k v.snaps.items c.deref.result.now s c.deref.ensures.value is (c.in-Some.ensures.found.1 s) in
-    let flights : c.route_again-in-Err.new.flights.items ≡ map (again_of None (is_clear (map (books_of g.B.Block.contents g.B.Block.layers) (slice_set v.snaps.items k c.write_invalid.new.self)))) v.flights.items =
-    c.route_again-in-Err.ensures ∙ ap (λ xs. map (again_of None (is_clear (map (books_of g.B.Block.contents g.B.Block.layers) xs))) v.flights.items) c.deref-in-Err.ensures.value in
+    let flights : c.route_again-in-Err.new.flights.items ≡ map (again_of (merge_books g.B.Block.contents g.B.Block.layers true v.merge) (is_clear (map (books_of g.B.Block.contents g.B.Block.layers) (slice_set v.snaps.items k c.write_invalid.new.self)))) v.flights.items =
+    c.route_again-in-Err.ensures ∙ ap (λ xs. map (again_of (merge_books g.B.Block.contents g.B.Block.layers true v.merge) (is_clear (map (books_of g.B.Block.contents g.B.Block.layers) xs))) v.flights.items) c.deref-in-Err.ensures.value in
     rw (← c.self.view_is) (tried_fault_exact g.B.Block.contents g.B.Block.layers g.B.Block.size _ c.self.invariant c.args.number k s within c.index_mut-snap.ensures.value _ _ _ _ found c.write_invalid.new.self c.route_again-in-Err.new.flights.items c.in-Err.ensures.operation c.in-Err.ensures.same c.in-Err.ensures.fields flights)
 
 pub returns-in-Err-clause-due : goal.returns-in-Err-clause-due

@@ -1,0 +1,77 @@
+// Held origin writes are routed again, by the snapshots and by the merge.
+ghost use Rattle.std.specs.Prelude.{◌≡◌, ◌<◌, ◌/◌, map, true};
+ghost use Rattle.std.specs.List.{All};
+ghost use Rattle.model.specs.Picture.{place_of as place_in};
+ghost use Rattle.pending.specs.Routes.{write_route_of};
+ghost use Rattle.volume_laws.specs.Again.{again_of, has_chunk, new_route};
+ghost use Rattle.volume_laws.specs.Published.{is_clear as is_clear_in};
+ghost use Rattle.snapshot.specs.Kept.{books_of};
+ghost use Rattle.merge.specs.Lists.{group_pairs};
+ghost use Rattle.volume.specs.Volumed.{merge_books};
+
+use device::Block;
+use merge::Merge;
+use pending::{Flight, Route, again_route, request_kind, write_route};
+use snapshot::Snapshot;
+use snapshots::is_clear;
+
+/// The route of an origin write at this sector beside a merge: none while its chunk is in the present group, and else the
+/// chunk's place on the merging store, if it has one there.
+fn route_beside<B: Block>(snaps: &[Snapshot<B>], merge: &Merge<B>, first: u64) -> Route
+    requires { All (λ s. 0 < s.state.chunk) snaps.now }
+    ensures { result ≡ write_route_of (has_chunk (group_pairs merge.now.group) (first / merge.now.state.chunk)) (place_in merge.now.pairs (first / merge.now.state.chunk)) (is_clear_in (map (books_of B.contents B.layers) snaps.now) first) }
+{
+    let chunk = first / merge.chunk() as u64;
+    write_route(
+        merge.in_group(chunk),
+        merge.place_of(chunk),
+        is_clear(snaps, first),
+    )
+}
+
+/// The route of an origin write.
+fn route_of<B: Block>(snaps: &[Snapshot<B>], merge: &Option<Merge<B>>, flight: &Flight) -> Route
+    requires { All (λ s. 0 < s.state.chunk) snaps.now }
+    ensures { result ≡ new_route (merge_books B.contents B.layers true merge.now) (is_clear_in (map (books_of B.contents B.layers) snaps.now)) flight.now }
+{
+    let first = flight.request.range.first;
+    match merge {
+        None => write_route(false, None, is_clear(snaps, first)),
+        Some(merge) => route_beside(snaps, merge, first),
+    }
+}
+
+/// The route of a request after held origin writes were routed again.
+fn again_for<B: Block>(snaps: &[Snapshot<B>], merge: &Option<Merge<B>>, flight: &Flight) -> Route
+    requires { All (λ s. 0 < s.state.chunk) snaps.now }
+    ensures { result ≡ (again_of (merge_books B.contents B.layers true merge.now) (is_clear_in (map (books_of B.contents B.layers) snaps.now)) flight.now).route }
+{
+    let new = route_of(snaps, merge, flight);
+    again_route(request_kind(&flight.request), flight.route, new)
+}
+
+/// Routes the held origin writes again: those that may go somewhere now go there.
+pub(crate) fn route_again<B: Block>(
+    snaps: &[Snapshot<B>],
+    merge: &Option<Merge<B>>,
+    flights: &mut Vec<Flight>,
+)
+    requires { All (λ s. 0 < s.state.chunk) snaps.now }
+    ensures { flights.new.items ≡ map (again_of (merge_books B.contents B.layers true merge.now) (is_clear_in (map (books_of B.contents B.layers) snaps.now))) flights.old.items }
+{
+    route_all_again(snaps, merge, flights);
+}
+
+/// The same, over a slice.
+fn route_all_again<B: Block>(
+    snaps: &[Snapshot<B>],
+    merge: &Option<Merge<B>>,
+    flights: &mut [Flight],
+)
+    requires { All (λ s. 0 < s.state.chunk) snaps.now }
+    ensures { flights.new ≡ map (again_of (merge_books B.contents B.layers true merge.now) (is_clear_in (map (books_of B.contents B.layers) snaps.now))) flights.old }
+{
+    for f in flights.iter_mut() {
+        f.route = again_for(snaps, merge, f);
+    }
+}
