@@ -29,6 +29,7 @@ pub mod Exactly
 pub mod ExactIssues
 pub mod Reaches
 pub mod Sums
+pub mod StartsLeft
 pub mod Leaves
 pub mod Attaches
 pub mod AttachedAs
