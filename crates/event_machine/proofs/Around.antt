@@ -1,19 +1,27 @@
 -- Which event is due first where one snapshot has a copy, a mark or a spoil, those before it are idle, and those after it
 -- have copies that wait at most.
-use Rattle.std.proofs.Common.{◌≡◌, ℕ, true, false, List, [], ◌∷◌, ◌++◌, Option, Some, None, refl}
+use Rattle.std.proofs.Common.{◌≡◌, ℕ, true, false, List, [], ◌∷◌, ◌++◌, Option, Some, None, refl, ap}
 use Rattle.plain.specs.declared.event.Event.TheVariants.{Issue, CopyRead, CopyWrite, ZeroNext, WriteArea, Publish, WriteInvalid}
 use Rattle.plain.specs.declared.request.Reply.{Reply}
 use Rattle.pending.specs.declared.copies.Stage.TheVariants.{Waiting, Read}
 use Rattle.pending.specs.Due.{first_by, least}
 use Rattle.settled.specs.Devices.{Device}
-use Rattle.event_machine.specs.Held.{Held, Going, Moving, number_of, is_untried}
+use Rattle.event_machine.specs.Held.{Held, Going, MergeHeld, Moving, number_of, is_untried}
 use Rattle.event_machine.specs.Due.{can_commit, can_zero, copy_at, publishable_in, is_issuable, number_of_going, least_in, chosen, due, is_front_written}
 use Rattle.settled.proofs.Each.{Each, each_weaker}
 use Rattle.event_machine.proofs.Lists.{here_by, none_by, nowhere_by, only_least, here_least, nowhere_least, none_least}
 
 -- a volume
+abbrev pub at_with : Option MergeHeld → Device → List Held → List Going → Option Reply → ℕ → Moving
+at_with merge origin snaps requests replied started = record { origin = origin; snaps = snaps; merge = merge; requests = requests; replied = replied; started = started }
+
+-- one without a merge; what is due of snapshots and requests is due beside any merge
 abbrev pub at : Device → List Held → List Going → Option Reply → ℕ → Moving
-at origin snaps requests replied started = record { origin = origin; snaps = snaps; requests = requests; replied = replied; started = started }
+at origin snaps requests replied started = at_with None origin snaps requests replied started
+
+-- one without a merge is that
+pub at_alone : (v : Moving) → v.merge ≡ None → v ≡ at v.origin v.snaps v.requests v.replied v.started
+at_alone v alone = ap (λ (merge : Option MergeHeld). let w : Moving = record v { merge = merge } in w) alone
 
 pub record IsIdle (h : Held) : Type 0 where
   pub tried : h.untried ≡ false

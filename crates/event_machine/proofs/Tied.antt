@@ -34,7 +34,7 @@ each_all : {X : Type 0} (P : X → Type 0) (xs : List X) → ((x : X) → P x) �
 each_all P [] all = tt
 each_all P (x ∷ xs) all = (all x, each_all P xs all)
 
-any_map : {X Y : Type 0} (f : X → Y) (test : Y → Bool) (xs : List X) → list_any test (map f xs) ≡ list_any (λ x. test (f x)) xs
+pub any_map : {X Y : Type 0} (f : X → Y) (test : Y → Bool) (xs : List X) → list_any test (map f xs) ≡ list_any (λ x. test (f x)) xs
 any_map f test [] = refl
 any_map f test (x ∷ xs) = ap (λ b. test (f x) || b) (any_map f test xs)
 
@@ -100,7 +100,7 @@ due_tied origin snaps fs a k needs =
     (first_by_map going_of is_issuable can_issue number_of_going number_of_flight fs (each_all (λ f. is_issuable (going_of f) ≡ can_issue f) fs (λ f. refl)) (λ f. refl))
 
 -- requests that are routed again are seen alike
-seen_alike : (g : Going → Going) (h : Flight → Flight) (fs : List Flight) → ((f : Flight) → g (going_of f) ≡ going_of (h f)) → map g (map going_of fs) ≡ map going_of (map h fs)
+pub seen_alike : (g : Going → Going) (h : Flight → Flight) (fs : List Flight) → ((f : Flight) → g (going_of f) ≡ going_of (h f)) → map g (map going_of fs) ≡ map going_of (map h fs)
 seen_alike g h [] same = refl
 seen_alike g h (f ∷ fs) same = ap (λ r. r ∷ map g (map going_of fs)) (same f) ∙ ap (λ rs. going_of (h f) ∷ rs) (seen_alike g h fs same)
 
@@ -121,8 +121,8 @@ untried_seen (s ∷ snaps) = ap (λ b. s.due.books.untried || b) (untried_seen s
 pub clear_seen : (first : ℕ) (snaps : List Seen) → is_clear (map held_of snaps) first ≡ is_clear_in (map (λ s. s.due.books) snaps) first
 clear_seen first snaps = ap (λ b. b && not (list_any is_untried (map held_of snaps))) (saved_seen first snaps) ∙ ap (λ b. list_all (is_saved_in first) (map (λ s. s.due.books) snaps) && not b) (untried_seen snaps)
 
-pub again_seen : (snaps : List Seen) (fs : List Flight) → map (again (map held_of snaps)) (map going_of fs) ≡ map going_of (map (again_of None (is_clear_in (map (λ s. s.due.books) snaps))) fs)
-again_seen snaps fs = seen_alike (again (map held_of snaps)) (again_of None (is_clear_in (map (λ s. s.due.books) snaps))) fs
+pub again_seen : (snaps : List Seen) (fs : List Flight) → map (again None (map held_of snaps)) (map going_of fs) ≡ map going_of (map (again_of None (is_clear_in (map (λ s. s.due.books) snaps))) fs)
+again_seen snaps fs = seen_alike (again None (map held_of snaps)) (again_of None (is_clear_in (map (λ s. s.due.books) snaps))) fs
     (λ f. ap (λ b. again_with f b) (clear_seen f.request.range.first snaps))
   where
     again_with : Flight → Bool → Going

@@ -1,11 +1,13 @@
--- How requests in flight are routed again, as `pending` has it.
-use Rattle.std.specs.Prelude.{◌&&◌, ◌||◌, not, ℕ, ◌/◌, Bool, false, List, [], ◌∷◌, None, map}
+-- How requests are routed, and those in flight routed again, as `pending` has it.
+use Rattle.std.specs.Prelude.{◌&&◌, ◌||◌, not, ℕ, ◌/◌, Bool, false, List, [], ◌∷◌, Option, Some, None, map}
 use Rattle.std.specs.List.{list_any, list_all}
+use Rattle.model.specs.Picture.{place_of}
 use Rattle.pending.specs.Kinds.{kind_of}
 use Rattle.pending.specs.Routes.{write_route_of, again_route_of, placed_route_of, refused_route_of}
+use Rattle.pending.specs.declared.flights.Route.{Route}
 use Rattle.volume_laws.specs.Published.{is_published}
-use Rattle.volume_laws.specs.Again.{published_place}
-use Rattle.event_machine.specs.Held.{Held, Going, Moving, is_untried}
+use Rattle.volume_laws.specs.Again.{has_chunk, published_place}
+use Rattle.event_machine.specs.Held.{Held, Going, MergeHeld, Moving, is_untried, group_in}
 
 -- the chunk of the origin's sector `first` is published in a snapshot, if that is live
 abbrev pub is_saved : ℕ → Held → Bool
@@ -15,9 +17,22 @@ is_saved first h = not h.snap.live || is_published h.pairs h.marks (first / h.sn
 abbrev pub is_clear : List Held → ℕ → Bool
 is_clear snaps first = list_all (is_saved first) snaps && not (list_any is_untried snaps)
 
+-- whether the chunk of the origin's sector `first` is in the present group, and its place on the merging store
+abbrev pub is_grouped : Option MergeHeld → ℕ → Bool
+is_grouped None first = false
+is_grouped (Some m) first = has_chunk (group_in m) (first / m.merge.chunk)
+
+abbrev pub merged_place : Option MergeHeld → ℕ → Option ℕ
+merged_place None first = None
+merged_place (Some m) first = place_of m.pairs (first / m.merge.chunk)
+
+-- the route of an origin write
+abbrev pub write_route : Option MergeHeld → List Held → ℕ → Route
+write_route merge snaps first = write_route_of (is_grouped merge first) (merged_place merge first) (is_clear snaps first)
+
 -- a held origin write
-abbrev pub again : List Held → Going → Going
-again snaps r = record r { route = again_route_of (kind_of r.request) r.route (write_route_of false None (is_clear snaps r.request.range.first)) }
+abbrev pub again : Option MergeHeld → List Held → Going → Going
+again merge snaps r = record r { route = again_route_of (kind_of r.request) r.route (write_route merge snaps r.request.range.first) }
 
 -- a held write of this snapshot
 abbrev pub placed : Held → Going → Going
@@ -28,4 +43,4 @@ abbrev pub refused : ℕ → Going → Going
 refused number r = record r { route = refused_route_of (number ∷ []) (kind_of r.request) r.route }
 
 abbrev pub rerouted : Moving → Moving
-rerouted v = record v { requests = map (again v.snaps) v.requests }
+rerouted v = record v { requests = map (again v.merge v.snaps) v.requests }

@@ -1,7 +1,7 @@
 -- Which event is due first, as `volume_laws` has it: marks of spoiled snapshots, then what frees held writes, then the
 -- copies' own steps, and requests last; in each kind the least number.
-use Rattle.std.specs.Prelude.{◌==◌, ◌&&◌, not, ℕ, ◌+◌, ◌*◌, ◌/◌, ◌%◌, Bool, false, List, [], ◌∷◌, length, Option, None}
-use Rattle.std.specs.List.{list_any}
+use Rattle.std.specs.Prelude.{◌==◌, ◌&&◌, not, ℕ, ◌+◌, ◌-◌, ◌*◌, ◌/◌, ◌%◌, min, Bool, false, List, [], ◌∷◌, length, Option, None}
+use Rattle.std.specs.List.{list_any, prefix_len}
 use Rattle.plain.specs.declared.event.Event.{Event}
 use Rattle.plain.specs.declared.event.Event.TheVariants.{Issue, CopyRead, CopyWrite, ZeroNext, WriteArea, Publish, WriteInvalid}
 use Rattle.pending.specs.declared.copies.Stage.{Stage}
@@ -13,13 +13,29 @@ use Rattle.pending.specs.Due.{first_by, least, is_stage, is_routed, number_of_ma
 use Rattle.volume_laws.specs.Due.{event_or}
 use Rattle.event_machine.specs.Held.{Copying, Held, Going, Moving, number_of, is_untried}
 
--- the pair that is committed next fills its area, and the next area is not zeroed yet
+-- a copy whose pair may be committed
+abbrev pub is_ready : Copying → Bool
+is_ready p = is_stage Written p.stage
+
+-- how many slots of the current area are in use
+abbrev pub filled_of : Held → ℕ
+filled_of h = length h.pairs % (32 * h.snap.chunk)
+
+-- how many of the first copies the next write of the area commits: those that are ready, up to the end of the area
+abbrev pub batch_of : Held → ℕ
+batch_of h = min (32 * h.snap.chunk - filled_of h) (prefix_len is_ready h.copies)
+
+-- the last of them fills the area
+abbrev pub fills_area : Held → Bool
+fills_area h = filled_of h + batch_of h == 32 * h.snap.chunk
+
+-- and the next area is not zeroed yet
 abbrev pub needs_area : Held → Bool
-needs_area h = ((length h.pairs + 1) % (32 * h.snap.chunk) == 0) && not h.zeroed
+needs_area h = fills_area h && not h.zeroed
 
 abbrev pub is_front_written : List Copying → Bool
 is_front_written [] = false
-is_front_written (p ∷ copies) = is_stage Written p.stage
+is_front_written (p ∷ copies) = is_ready p
 
 abbrev pub can_commit : Held → Bool
 can_commit h = is_front_written h.copies && not (needs_area h)

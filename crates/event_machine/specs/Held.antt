@@ -1,6 +1,6 @@
 -- To be believed: `run`'s output, a volume's steps or its attach are said in these words.
--- A volume with events: what it keeps of its snapshots, its copies and its requests beside its devices. No merge runs.
-use Rattle.std.specs.Prelude.{ℕ, Bool, false, true, List, [], Option}
+-- A volume with events: what it keeps of its snapshots, its copies, its merge and its requests beside its devices.
+use Rattle.std.specs.Prelude.{ℕ, Bool, false, true, List, [], ◌++◌, Option, Some}
 use Rattle.sector.specs.declared.pair.Pair.{Pair}
 use Rattle.plain.specs.declared.request.Request.{Request}
 use Rattle.plain.specs.declared.request.Reply.{Reply}
@@ -9,6 +9,7 @@ use Rattle.pending.specs.declared.copies.Mark.{Mark}
 use Rattle.pending.specs.declared.flights.Route.{Route}
 use Rattle.settled.specs.Devices.{Device}
 use Rattle.settled.specs.Snaps.{Snap}
+use Rattle.settled.specs.Merges.{Merge}
 
 -- a copy that is not committed: its number, its pair, how far it is, and the bytes that were read, none while it waits
 pub record Copying : Type 0 where
@@ -29,17 +30,31 @@ pub record Held : Type 0 where
   pub copies : List Copying
   pub marks : List Mark
 
+-- A merge, and what is in memory of it: its pairs, and its present group in four lists. waiting: their chunks are not yet
+-- read. reading: the one in the buffer, which has its bytes. copied: those on the origin disk. released: those whose slots
+-- are cleared. flushed: all chunks of the group are copied, and the origin was flushed since.
+pub record MergeHeld : Type 0 where
+  pub merge : Merge
+  pub pairs : List Pair
+  pub waiting : List Pair
+  pub reading : List Pair
+  pub buffer : List ℕ
+  pub copied : List Pair
+  pub released : List Pair
+  pub flushed : Bool
+
 -- a request in flight
 pub record Going : Type 0 where
   pub number : ℕ
   pub request : Request
   pub route : Route
 
--- The origin's device, the snapshots in order of attaching, the requests in flight, the last reply, and how many copies
--- were started.
+-- The origin's device, the snapshots in order of attaching, the merge, if one is begun, the requests in flight, the last
+-- reply, and how many copies were started.
 pub record Moving : Type 0 where
   pub origin : Device
   pub snaps : List Held
+  pub merge : Option MergeHeld
   pub requests : List Going
   pub replied : Option Reply
   pub started : ℕ
@@ -57,3 +72,15 @@ with_store h store = record h { snap = record h.snap { store = store } }
 -- the snapshot is spoiled: its copies are dropped
 abbrev pub spoiled : Held → Held
 spoiled h = record h { snap = record h.snap { live = false }; untried = true; copies = []; marks = [] }
+
+-- the present group of a merge
+abbrev pub group_in : MergeHeld → List Pair
+group_in m = m.waiting ++ (m.reading ++ (m.copied ++ m.released))
+
+-- the merge with another device for its store
+abbrev pub on_device : MergeHeld → Device → MergeHeld
+on_device m store = record m { merge = record m.merge { store = store } }
+
+-- the volume with this merge
+abbrev pub with_merge : MergeHeld → Moving → Moving
+with_merge m v = record v { merge = Some m }

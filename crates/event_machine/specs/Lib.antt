@@ -3,7 +3,13 @@ pub mod Due
 pub mod Again
 pub mod Stepping
 pub mod Submitting
+pub mod MergeDue
+pub mod MergeStepping
+pub mod Merging
+pub mod MergeRest
 pub mod Rest
 pub mod Settles
 pub mod Requests
 pub mod Seen
+pub mod MergeSeen
+pub mod MergeSettles

@@ -1,5 +1,5 @@
 -- A volume between two requests.
-use Rattle.std.specs.Prelude.{◌≡◌, ℕ, ◌*◌, true, false, [], length}
+use Rattle.std.specs.Prelude.{◌≡◌, ℕ, ◌*◌, true, false, [], length, None}
 use Rattle.std.specs.List.{All}
 use Rattle.model.specs.Pairs.{pairs_of}
 use Rattle.settled.specs.Saves.{next_of}
@@ -21,8 +21,9 @@ pub record IsResting (sectors : ℕ) (h : Held) : Type 0 where
   pub marks : h.marks ≡ []
   pub live : h.snap.live ≡ true → IsKept sectors h
 
--- a volume of so many sectors with no request in flight
+-- a volume of so many sectors with no request in flight, and no merge
 pub record IsAtRest (sectors : ℕ) (v : Moving) : Type 0 where
   pub whole : length v.origin.bytes ≡ 512 * sectors
   pub snaps : All (IsResting sectors) v.snaps
   pub requests : v.requests ≡ []
+  pub alone : v.merge ≡ None

@@ -1,6 +1,6 @@
 -- What a volume keeps, as `volume_laws` has it, seen as the machine of this crate: without the buffers of copies that wait
 -- and of reads in flight.
-use Rattle.std.specs.Prelude.{◌≡◌, ℕ, Bool, true, List, [], Option, Some, map, if◌then◌else◌}
+use Rattle.std.specs.Prelude.{◌≡◌, ℕ, Bool, true, List, [], Option, Some, None, map, if◌then◌else◌}
 use Rattle.device.specs.Layers.{Layer}
 use Rattle.plain.specs.declared.event.Outcome.{Outcome}
 use Rattle.plain.specs.declared.event.Outcome.TheVariants.{Done, Fault, Reply as Replied}
@@ -47,10 +47,10 @@ held_of s = record {
 abbrev pub due_in : Seen → DueSnap
 due_in s = s.due
 
--- a volume over its origin's device, with the reply that was last given and the count of the copies that were started
+-- a volume without a merge over its origin's device, with the reply that was last given and the count of the copies that were started
 abbrev pub moving_of : Device → List Seen → List Flight → Option Reply → ℕ → Moving
 moving_of origin snaps flights replied started =
-    record { origin = origin; snaps = map held_of snaps; requests = map going_of flights; replied = replied; started = started }
+    record { origin = origin; snaps = map held_of snaps; merge = None; requests = map going_of flights; replied = replied; started = started }
 
 -- the last reply after an event with this outcome
 abbrev pub replied_by : Outcome → Option Reply → Option Reply

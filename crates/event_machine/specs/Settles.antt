@@ -1,15 +1,25 @@
 -- A volume settles: the event that is due first is done, until none is due; and what it has settled to.
-use Rattle.std.specs.Prelude.{◌≡◌, ℕ, ◌+◌, zero, suc, Some, None, map}
+use Rattle.std.specs.Prelude.{◌≡◌, ℕ, ◌+◌, zero, suc, Option, Some, None, map}
+use Rattle.plain.specs.declared.event.Event.{Event}
 use Rattle.settled.specs.Pieces.{Answered}
 use Rattle.event_machine.specs.Held.{Held, Moving}
 use Rattle.event_machine.specs.Due.{due}
 use Rattle.event_machine.specs.Stepping.{for_some, stepped}
+use Rattle.event_machine.specs.MergeDue.{due_all}
+use Rattle.event_machine.specs.MergeStepping.{stepped_all}
 use Rattle.event_machine.specs.Rest.{IsAtRest}
 
--- after so many events at most
+-- after so many events at most, each chosen so, and each doing this
+abbrev pub settle_by : (Moving → Option Event) → (Event → Moving → Moving) → ℕ → Moving → Moving
+settle_by choose step zero v = v
+settle_by choose step (suc fuel) v = for_some (choose v) (λ event. settle_by choose step fuel (step event v)) v
+
+-- each the one that is due first of the snapshots and requests; and of the merge too
 abbrev pub settle : ℕ → Moving → Moving
-settle zero v = v
-settle (suc fuel) v = for_some (due v) (λ event. settle fuel (stepped event v)) v
+settle fuel v = settle_by due stepped fuel v
+
+abbrev pub settle_all : ℕ → Moving → Moving
+settle_all fuel v = settle_by due_all stepped_all fuel v
 
 -- A volume of so many sectors settles to this answer: after so many events, and after any more, nothing is due, it is at
 -- rest, its devices and its snapshots are those of the answer, and so is the reply.

@@ -1,8 +1,9 @@
 -- What each event does to the devices and to what is in memory: one table decision, or one operation of one device. This
 -- project's own; each step of a copy is one that the kernel's snapshot target does.
-use Rattle.std.specs.Prelude.{◌==◌, ◌&&◌, not, ℕ, ◌+◌, ◌*◌, ◌/◌, ◌%◌, Bool, true, false, List, [], ◌∷◌, ◌++◌, length, Option, Some, None, map, if◌then◌else◌}
-use Rattle.std.specs.List.{list_any}
-use Rattle.sector.specs.Bytes.{sectors_at, with_sectors}
+use Rattle.std.specs.Prelude.{◌==◌, ◌&&◌, not, ℕ, ◌+◌, ◌*◌, ◌/◌, ◌%◌, Bool, true, false, List, [], ◌∷◌, ◌++◌, length, take, drop, Option, Some, None, map, if◌then◌else◌}
+use Rattle.std.specs.List.{flat_map, list_any}
+use Rattle.sector.specs.Bytes.{sectors_at, with_part, with_sectors}
+use Rattle.sector.specs.declared.pair.Pair.{Pair}
 use Rattle.device.specs.declared.operation.Operation.{Operation}
 use Rattle.device.specs.declared.operation.Operation.TheVariants.{Reads, Writes}
 use Rattle.plain.specs.declared.event.Event.{Event}
@@ -15,17 +16,18 @@ use Rattle.plain.specs.declared.request.Reply.{Reply}
 use Rattle.plain.specs.declared.request.Reply.TheVariants.{Written as Done, Refused as Declined}
 use Rattle.plain.specs.declared.request.Failure.TheVariants.{Invalid, Io}
 use Rattle.model.specs.Places.{area_place}
+use Rattle.model.specs.Slots.{pair_bytes}
 use Rattle.pending.specs.Copies.{count_of}
 use Rattle.pending.specs.declared.copies.Stage.{Stage}
 use Rattle.pending.specs.declared.copies.Stage.TheVariants.{Waiting, Read, Written}
 use Rattle.pending.specs.declared.copies.Mark.{Mark}
 use Rattle.pending.specs.declared.flights.Route.{Route}
 use Rattle.pending.specs.declared.flights.Route.TheVariants.{Held as Waits, Origin, Store, Refused}
-use Rattle.settled.specs.Saves.{marked, paired, zeroed}
+use Rattle.settled.specs.Saves.{marked, zeroed}
 use Rattle.settled.specs.Devices.{Device, sectors_of, answers, met, written_by, read_reply}
 use Rattle.settled.specs.Saving.{lacks_area}
-use Rattle.event_machine.specs.Held.{Copying, Held, Going, Moving, with_store, spoiled}
-use Rattle.event_machine.specs.Due.{can_commit, can_zero, is_at, is_publishable, is_issuable}
+use Rattle.event_machine.specs.Held.{Copying, Held, Going, MergeHeld, Moving, with_store, spoiled, on_device, with_merge}
+use Rattle.event_machine.specs.Due.{filled_of, batch_of, can_commit, can_zero, is_at, is_publishable, is_issuable}
 use Rattle.event_machine.specs.Again.{placed, refused, rerouted}
 
 -- what is done with something, if it is there
@@ -78,18 +80,29 @@ write_copy test mine h p v =
 -- the area after the current one is zeroed; a store that lacks it is spoiled
 abbrev pub zero_next : (Held → Bool) → Held → Moving → Moving
 zero_next test h v =
-    let a : ℕ = (length h.pairs + 1) / (32 * h.snap.chunk) in
+    let a : ℕ = length h.pairs / (32 * h.snap.chunk) + 1 in
     if lacks_area a h.snap then spoil test h v
     else store_write test h (Writes (h.snap.chunk * area_place h.snap.chunk a) h.snap.chunk) (zeroed h.snap.chunk h.snap.store.bytes a) (λ after. record after { zeroed = true }) v
 
--- the first copy is committed
-abbrev pub commit_first : (Held → Bool) → Held → List Copying → Moving → Moving
-commit_first test h [] v = v
-commit_first test h (p ∷ copies) v =
+-- the pair of a copy, and the mark that it bears once it is committed
+abbrev pub pair_of : Copying → Pair
+pair_of p = p.pair
+
+abbrev pub mark_of : Copying → Mark
+mark_of p = record { number = p.number; chunk = p.pair.old }
+
+-- a store with these pairs in slot k and the next ones, all of one area
+abbrev pub all_paired : ℕ → List ℕ → ℕ → List Pair → List ℕ
+all_paired chunk store k pairs =
+    with_part store (512 * (chunk * area_place chunk (k / (32 * chunk))) + 16 * (k % (32 * chunk))) (flat_map pair_bytes pairs)
+
+-- so many of the first copies are committed, by one write of the area
+abbrev pub commit : ℕ → (Held → Bool) → Held → Moving → Moving
+commit count test h v =
     let k : ℕ = length h.pairs in
-    let mark : Mark = record { number = p.number; chunk = p.pair.old } in
-    store_write test h (Writes (h.snap.chunk * area_place h.snap.chunk (k / (32 * h.snap.chunk))) h.snap.chunk) (paired h.snap.chunk h.snap.store.bytes k p.pair)
-    (λ after. record after { pairs = after.pairs ++ p.pair ∷ []; copies = copies; marks = after.marks ++ mark ∷ []; zeroed = after.zeroed && not ((k + 1) % (32 * after.snap.chunk) == 0) }) v
+    let now : List Copying = take count h.copies in
+    store_write test h (Writes (h.snap.chunk * area_place h.snap.chunk (k / (32 * h.snap.chunk))) h.snap.chunk) (all_paired h.snap.chunk h.snap.store.bytes k (map pair_of now))
+    (λ after. record after { pairs = after.pairs ++ map pair_of now; copies = drop count after.copies; marks = after.marks ++ map mark_of now; zeroed = after.zeroed && not (filled_of h + count == 32 * h.snap.chunk) }) v
 
 -- a mark is taken away: held writes of the snapshot are routed again, and then those of the origin
 abbrev pub publish : (Held → Bool) → (Mark → Bool) → Held → Moving → Moving
@@ -124,9 +137,15 @@ on_store ReadOp first count mine test h v = answer mine (read_reply h.snap.store
 on_store (WriteOp bytes) first count mine test h v =
     answer mine (write_reply h.snap.store first count) (put test (with_store h (written_by h.snap.store (Writes first count) (with_sectors h.snap.store.bytes first bytes))) v)
 
--- of the chunk `place` of the store of a request's snapshot
+-- of the merging store
+abbrev pub on_merging : Op → ℕ → ℕ → (Going → Bool) → MergeHeld → Moving → Moving
+on_merging ReadOp first count mine m v = answer mine (read_reply m.merge.store first count) (with_merge (on_device m (met m.merge.store (Reads first count))) v)
+on_merging (WriteOp bytes) first count mine m v =
+    answer mine (write_reply m.merge.store first count) (with_merge (on_device m (written_by m.merge.store (Writes first count) (with_sectors m.merge.store.bytes first bytes))) v)
+
+-- of the chunk `place` of the merging store, or of the store of a request's snapshot
 abbrev pub on_place : Dev → Op → ℕ → ℕ → ℕ → (Going → Bool) → Moving → Moving
-on_place ToOrigin op place first count mine v = v
+on_place ToOrigin op place first count mine v = for_some v.merge (λ m. on_merging op (m.merge.chunk * place + first % m.merge.chunk) count mine m v) v
 on_place (ToSnap n) op place first count mine v =
     for_some (first_that (λ h. h.snap.number == n) v.snaps) (λ h. on_store op (h.snap.chunk * place + first % h.snap.chunk) count mine (λ k. k.snap.number == n) h v) v
 
@@ -151,12 +170,12 @@ on_copy stage n f v =
 abbrev pub on_snap : (Held → Bool) → ((Held → Bool) → Held → Moving → Moving) → Moving → Moving
 on_snap test f v = for_some (first_that test v.snaps) (λ h. f test h v) v
 
--- an event that is due; any other changes nothing
+-- an event of a snapshot or a request that is due; any other changes nothing
 abbrev pub stepped : Event → Moving → Moving
 stepped (WriteInvalid n) v = on_snap (λ h. (h.snap.number == n) && h.untried) mark_invalid v
 stepped (Publish n) v =
     on_snap (λ h. list_any (λ m. (m.number == n) && is_publishable v.requests h m) h.marks) (λ test h. publish test (λ m. m.number == n) h) v
-stepped (WriteArea n) v = on_snap (λ h. (h.snap.number == n) && can_commit h) (λ test h. commit_first test h h.copies) v
+stepped (WriteArea n) v = on_snap (λ h. (h.snap.number == n) && can_commit h) (λ test h. commit (batch_of h) test h) v
 stepped (ZeroNext n) v = on_snap (λ h. (h.snap.number == n) && can_zero h) zero_next v
 stepped (CopyWrite n) v = on_copy Read n write_copy v
 stepped (CopyRead n) v = on_copy Waiting n read_copy v

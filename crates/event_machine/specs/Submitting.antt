@@ -1,5 +1,5 @@
 -- A request is submitted: it is routed, and the copies that it waits for are started. This project's own.
-use Rattle.std.specs.Prelude.{◌==◌, ◌||◌, not, ℕ, ◌+◌, ◌*◌, ◌/◌, nat_lt, is_some, Bool, false, List, [], ◌∷◌, ◌++◌, length, map, Option, Some, None, if◌then◌else◌}
+use Rattle.std.specs.Prelude.{◌==◌, ◌||◌, not, ℕ, ◌+◌, ◌*◌, ◌/◌, nat_lt, is_some, Bool, List, [], ◌∷◌, ◌++◌, length, map, Option, Some, None, if◌then◌else◌}
 use Rattle.std.specs.List.{list_any}
 use Rattle.plain.specs.declared.request.Request.{Request}
 use Rattle.plain.specs.declared.request.Reply.TheVariants.{Refused as Declined}
@@ -7,15 +7,15 @@ use Rattle.plain.specs.declared.request.Failure.TheVariants.{Invalid}
 use Rattle.model.specs.NextPlace.{stepped as stepped_place}
 use Rattle.model.specs.Picture.{place_of}
 use Rattle.pending.specs.Kinds.{kind_of}
-use Rattle.pending.specs.Routes.{read_route_of, write_route_of}
+use Rattle.pending.specs.Routes.{read_route_of}
 use Rattle.pending.specs.declared.copies.Stage.TheVariants.{Waiting}
 use Rattle.pending.specs.declared.flights.Kind.{Kind}
 use Rattle.pending.specs.declared.flights.Kind.TheVariants.{OriginRead, OriginWrite, SnapRead, SnapWrite}
 use Rattle.pending.specs.declared.flights.Route.{Route}
-use Rattle.pending.specs.declared.flights.Route.TheVariants.{Held as Waits, Origin, Store}
+use Rattle.pending.specs.declared.flights.Route.TheVariants.{Held as Waits, Store}
 use Rattle.volume_laws.specs.Again.{published_place}
 use Rattle.event_machine.specs.Held.{Held, Going, Moving, spoiled}
-use Rattle.event_machine.specs.Again.{is_clear, refused}
+use Rattle.event_machine.specs.Again.{is_grouped, merged_place, write_route, refused}
 use Rattle.event_machine.specs.Stepping.{for_some, first_that, put, spoil}
 
 -- whether the next place is not wholly inside the store
@@ -62,12 +62,17 @@ accepted number request route v = record v { requests = v.requests ++ (record { 
 abbrev pub declined : Moving → Moving
 declined v = record v { replied = Some (Declined Invalid) }
 
+-- the copies of the chunk of the origin's sector `first` are started in all snapshots that lack it
+abbrev pub start_copies : ℕ → Moving → Moving
+start_copies first v =
+    record v { snaps = started_all first v.started v.snaps; requests = refused_by first v.snaps v.requests; started = started_by first v.started v.snaps }
+
+-- a write of the origin starts copies, but where its chunk is in the merge's group, or has a place on the merging store
 abbrev pub write_origin : ℕ → Request → Moving → Moving
 write_origin number request v =
     let first : ℕ = request.range.first in
-    let snaps : List Held = started_all first v.started v.snaps in
-    accepted number request (write_route_of false None (is_clear snaps first))
-    (record v { snaps = snaps; requests = refused_by first v.snaps v.requests; started = started_by first v.started v.snaps })
+    let w : Moving = if is_grouped v.merge first || is_some (merged_place v.merge first) then v else start_copies first v in
+    accepted number request (write_route w.merge w.snaps first) w
 
 abbrev pub read_snap : ℕ → Request → Held → Moving → Moving
 read_snap number request h v =
@@ -90,7 +95,7 @@ write_snap number request test h v =
     if h.snap.live then write_placed number request test h (published_place h.pairs h.marks (request.range.first / h.snap.chunk)) v else declined v
 
 abbrev pub submitted_as : Kind → ℕ → Request → Moving → Moving
-submitted_as OriginRead number request v = accepted number request Origin v
+submitted_as OriginRead number request v = accepted number request (read_route_of (merged_place v.merge request.range.first)) v
 submitted_as OriginWrite number request v = write_origin number request v
 submitted_as (SnapRead n) number request v = for_some (first_that (λ h. h.snap.number == n) v.snaps) (λ h. read_snap number request h v) (declined v)
 submitted_as (SnapWrite n) number request v =

@@ -151,7 +151,7 @@ still_under_way sectors g h chunk current store is =
 
 -- one pair
 module _ (sectors : ℕ) (front back : List Pair) (p : Pair) (m after : Merging) (is : IsMerging sectors m) (at : pairs_in m.merge ≡ front ++ p ∷ back) (copy : CopiesBack p m after) where
-  pair_inside : IsInside m.merge.chunk sectors is.merge.size p
+  pub pair_inside : IsInside m.merge.chunk sectors is.merge.size p
   pair_inside = All-head (IsInside m.merge.chunk sectors is.merge.size) p back (All-back (IsInside m.merge.chunk sectors is.merge.size) front (p ∷ back) (subst (All (IsInside m.merge.chunk sectors is.merge.size)) at is.merge.pairs.inside))
 
   pair_apart : All (IsApart p) back

@@ -35,24 +35,41 @@ group_ends g low =
       both ∙ omega arith,
     )
 
-pub group_steps : (sectors : ℕ) (m : Merging) → IsMerging sectors m → 0 < length (in_area m.merge) → StepsOn sectors m (merge_group m)
-group_steps sectors m is some =
-    let j : ℕ = kept_in m.merge in
+-- the slots of a group whose chunks are copied are cleared
+pub group_clears : (sectors : ℕ) (m : Merging) → IsMerging sectors m → 0 < length (in_area m.merge) → (let k : Merging = going flush (copy_all (group_of m.merge) m) in
+    CopiesAll sectors (group_of m.merge) m k × (k.merge.failed ≡ false → (kept : List Pair) × (pairs_in m.merge ≡ kept ++ group_of m.merge) × Clears sectors kept k (clear_slots (kept_in m.merge) (length (group_of m.merge)) k)))
+group_clears sectors m is some =
     let group : List Pair = group_of m.merge in
     let (kept, at, kept_len) = group_ends m.merge is.merge.low in
     let k : Merging = going flush (copy_all group m) in
     let ready : CopiesAll sectors group m k = flush_copies sectors group m (copy_all group m) (copies_all sectors kept group m is at) in
+    let filled : 0 < length group = run_filled (in_area m.merge) some in (
+      ready,
+      λ fine. (let holds = ready.unseen.holds in
+          let chunk : k.merge.chunk ≡ m.merge.chunk = ready.unseen.chunk in
+          let same : pairs_in k.merge ≡ kept ++ group = ap (λ n. pairs_of n k.merge.store.bytes) chunk ∙ ap (pairs_of m.merge.chunk) ready.store ∙ at in
+          let here : m.merge.current * (32 * m.merge.chunk) ≡ k.merge.current * (32 * k.merge.chunk) = ap (λ x. x * (32 * m.merge.chunk)) (sym ready.current) ∙ ap (λ x. k.merge.current * (32 * x)) (sym chunk) in (
+            kept,
+            at,
+            clears sectors (kept_in m.merge) (length group) kept group k holds same filled refl (kept_len ∙ omega arith)
+                (each_copied m.merge.chunk k.merge.chunk k.volume.origin.bytes m.merge.store.bytes k.merge.store.bytes group (sym chunk) (sym ready.store) (ready.copied fine)),
+          )),
+    )
+  where
+    each_copied : (n n' : ℕ) (disk b b' : List ℕ) (ps : List Pair) → n ≡ n' → b ≡ b' → Each (IsCopied n disk b) ps → Each (IsCopied n' disk b') ps
+    each_copied n n' disk b b' ps chunk store all = subst (λ (x : ℕ). Each (IsCopied x disk b') ps) chunk (subst (λ (x : List ℕ). Each (IsCopied n disk x) ps) store all)
+
+pub group_steps : (sectors : ℕ) (m : Merging) → IsMerging sectors m → 0 < length (in_area m.merge) → StepsOn sectors m (merge_group m)
+group_steps sectors m is some =
+    let j : ℕ = kept_in m.merge in
+    let group : List Pair = group_of m.merge in
+    let k : Merging = going flush (copy_all group m) in
+    let (ready, clear_by) = group_clears sectors m is some in
     let filled : 0 < length group = run_filled (in_area m.merge) some in
     elim (cases_Bool k.merge.failed) [
       | inl failed ↦ subst (StepsOn sectors m) (sym (cond-true _ _ _ failed)) (record { unseen = ready.unseen; less = λ fine. absurd (true≢false (sym failed ∙ fine)) })
       | inr fine ↦ (let e : merge_group m ≡ clear_slots j (length group) k = cond-false _ _ _ fine in
-          let holds = ready.unseen.holds in
-          let chunk : k.merge.chunk ≡ m.merge.chunk = ready.unseen.chunk in
-          let same : pairs_in k.merge ≡ kept ++ group = ap (λ n. pairs_of n k.merge.store.bytes) chunk ∙ ap (pairs_of m.merge.chunk) ready.store ∙ at in
-          let here : m.merge.current * (32 * m.merge.chunk) ≡ k.merge.current * (32 * k.merge.chunk) = ap (λ x. x * (32 * m.merge.chunk)) (sym ready.current) ∙ ap (λ x. k.merge.current * (32 * x)) (sym chunk) in
-          let clear : Clears sectors kept k (clear_slots j (length group) k) =
-          clears sectors j (length group) kept group k holds same filled refl (kept_len ∙ omega arith)
-          (each_copied m.merge.chunk k.merge.chunk k.volume.origin.bytes m.merge.store.bytes k.merge.store.bytes group (sym chunk) (sym ready.store) (ready.copied fine)) in
+          let (kept, at, clear) = clear_by fine in
           let all : length (pairs_in m.merge) ≡ length kept + length group = ap length at ∙ length-append kept group in
           let current : (clear_slots j (length group) k).merge.current ≡ m.merge.current = clear.current ∙ ready.current in
           subst (StepsOn sectors m) (sym e) (record {
@@ -60,9 +77,6 @@ group_steps sectors m is some =
             less = λ done. inl (let left = ap length (clear.pairs done) in omega arith);
           }))
     ]
-  where
-    each_copied : (n n' : ℕ) (disk b b' : List ℕ) (ps : List Pair) → n ≡ n' → b ≡ b' → Each (IsCopied n disk b) ps → Each (IsCopied n' disk b') ps
-    each_copied n n' disk b b' ps chunk store all = subst (λ (x : ℕ). Each (IsCopied x disk b') ps) chunk (subst (λ (x : List ℕ). Each (IsCopied n disk x) ps) store all)
 
 -- the area before an empty one
 pub area_steps : (sectors : ℕ) (m : Merging) → IsMerging sectors m → length (in_area m.merge) ≡ 0 → 0 < m.merge.current → StepsOn sectors m (read_before m)

@@ -48,7 +48,7 @@ finish_waits m some = cond-true _ _ _ (lt-ltb _ _ some)
 pub volume_well : (sectors : ℕ) (m : Merging) → IsMerging sectors m → IsVolume sectors m.merge.chunk m.volume
 volume_well sectors m is = record { whole = is.whole; snaps = is.snaps; chunks = is.chunks }
 
-snap_bytes : (n : ℕ) (op : Op) (piece : Span) (v : Volume) → (answered_by (ToSnap n) op piece v).volume.origin.bytes ≡ v.origin.bytes
+pub snap_bytes : (n : ℕ) (op : Op) (piece : Span) (v : Volume) → (answered_by (ToSnap n) op piece v).volume.origin.bytes ≡ v.origin.bytes
 snap_bytes n Read piece v = one_bytes n (read_snap piece) (λ origin s. (is_read piece origin s).bytes) v.origin v.snaps
 snap_bytes n (Write bytes) piece v = one_bytes n (write_snap piece bytes) (write_bytes piece bytes) v.origin v.snaps
 

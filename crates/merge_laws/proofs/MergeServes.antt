@@ -101,7 +101,7 @@ module _ (sectors n : ℕ) (piece : Span) (m : Merging) (is : IsMerging sectors 
         changes_only m.merge.chunk n (sector_in n piece m.merge) piece.count m.merge.store.bytes (with_sectors m.merge.store.bytes (sector_in n piece m.merge) bytes) (length-with_sectors m.merge.store.bytes (sector_in n piece m.merge) bytes room) (omega arith) (omega arith)
         (λ i out. byte_outside m.merge.store.bytes (sector_in n piece m.merge) bytes i room (elim out [ inl lo ↦ inl lo | inr hi ↦ inr (omega arith) ]))
 
-    over_pairs : pairs_of m.merge.chunk (with_sectors m.merge.store.bytes (sector_in n piece m.merge) bytes) ≡ pairs_in m.merge
+    pub over_pairs : pairs_of m.merge.chunk (with_sectors m.merge.store.bytes (sector_in n piece m.merge) bytes) ≡ pairs_in m.merge
     over_pairs = pairs-outside m.merge.chunk n m.merge.store.bytes (with_sectors m.merge.store.bytes (sector_in n piece m.merge) bytes) is.merge.some place_free over_only
 
     over_picture : picture m.merge.chunk m.volume.origin.bytes (with_sectors m.merge.store.bytes (sector_in n piece m.merge) bytes) ≡ with_sectors (shown_through m) piece.first bytes

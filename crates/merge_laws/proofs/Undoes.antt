@@ -42,7 +42,7 @@ abbrev pub at_rest : Snap → Held
 at_rest s = record { snap = s; untried = false; pairs = pairs_of s.chunk s.store.bytes; next = next_of s.chunk (pairs_of s.chunk s.store.bytes); zeroed = false; copies = []; marks = [] }
 
 abbrev pub volume_at_rest : Volume → Moving
-volume_at_rest v = record { origin = v.origin; snaps = map at_rest v.snaps; requests = []; replied = None; started = 0 }
+volume_at_rest v = record { origin = v.origin; snaps = map at_rest v.snaps; merge = None; requests = []; replied = None; started = 0 }
 
 snaps_of : (snaps : List Snap) → map (λ (h : Held). h.snap) (map at_rest snaps) ≡ snaps
 snaps_of [] = refl
@@ -73,6 +73,7 @@ answer_well sectors chunk a v is fit =
       whole = is.whole;
       snaps = all_from (IsResting sectors) (map at_rest v.snaps) (each_rests sectors v.snaps (each_from (IsWell sectors) v.snaps is.snaps));
       requests = refl;
+      alone = refl;
     } in
     let made : List Snap → Answered = λ (ss : List Snap). answered_by a.dev a.op a.piece (record { origin = v.origin; snaps = ss }) in
     let settles : SettlesTo sectors _ (made (map (λ (h : Held). h.snap) (map at_rest v.snaps))) = request_settles sectors 0 (record { dev = a.dev; op = a.op; range = range }) (volume_at_rest v) rest

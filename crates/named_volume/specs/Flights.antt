@@ -9,8 +9,7 @@ use Rattle.plain.specs.declared.event.Outcome.{Outcome}
 use Rattle.plain.specs.declared.request.Op.{Op}
 use Rattle.plain.specs.declared.request.Request.{Request}
 use Rattle.plain.specs.Legal.{IsLegalStep}
-use Rattle.volume_laws.specs.Due.{is_due}
-use Rattle.volume.specs.Volumed.{Volumed, dues_of, is_loud_in_all, piece_of, plain_of}
+use Rattle.volume.specs.Volumed.{Volumed, is_due_of, is_loud_in_all, piece_of, plain_of}
 use Rattle.volume.specs.Causes.{HasCause, IsOneAtMost}
 use Rattle.volume.specs.Exact.{IsExact}
 use Rattle.volume.specs.Leaving.{is_quiet_of}
@@ -49,7 +48,7 @@ IsNotStarted op refusal old new asks =
 
 -- an event that was due was done
 pub record IsEventDone (event : Event) (outcome : Outcome) (before after : Volumed Stack) : Type 0 where
-  pub due : is_due (dues_of stack_contents stack_layers before) before.flights event ≡ true
+  pub due : is_due_of stack_contents stack_layers before event ≡ true
   pub exact : IsExact stack_contents stack_layers event outcome before after
   pub legal : is_loud_in_all stack_layers before ≡ true → IsLegalStep (plain_of stack_contents stack_layers before) event outcome (plain_of stack_contents stack_layers after)
   pub cause : HasCause stack_faults event outcome before after
@@ -62,7 +61,7 @@ IsStepped event outcome old new = InEvents (IsEventDone event outcome) old new
 pub record IsNotDue (event : Event) (volume : Volume) : Type 0 where
   pub events : Volumed Stack
   pub behind : IsBehind events volume
-  pub not_due : is_due (dues_of stack_contents stack_layers events) events.flights event ≢ true
+  pub not_due : is_due_of stack_contents stack_layers events event ≢ true
 
 -- all that was due was done, up to where memory was refused
 abbrev pub IsSettledBy : List Replied → List Replied → Volume → Volume → Type 0

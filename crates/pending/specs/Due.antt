@@ -1,7 +1,7 @@
 -- To be believed: `run`'s output, a volume's steps or its attach are said in these words.
 -- What is due in a volume's lists: the first of a kind. The numbers in a list go up, so the first is the least.
 use Rattle.std.specs.Prelude.{not, ℕ, Bool, true, false, List, [], ◌∷◌, Option, Some, None, min, if◌then◌else◌}
-use Rattle.std.specs.List.{list_any}
+use Rattle.std.specs.List.{list_any, prefix_len}
 use Rattle.pending.specs.declared.copies.Stage.{Stage}
 use Rattle.pending.specs.declared.copies.Stage.TheVariants.{Waiting, Read, Written}
 use Rattle.pending.specs.declared.copies.ChunkCopy.{ChunkCopy}
@@ -45,10 +45,19 @@ number_of_mark mark = mark.number
 abbrev pub number_of_flight : Flight → ℕ
 number_of_flight f = f.number
 
--- whether the first copy is written
+-- a copy whose pair may be committed: it is written
+abbrev pub is_ready : ChunkCopy → Bool
+is_ready copy = is_stage Written copy.stage
+
+-- whether the first copy is
 abbrev pub front_written : List ChunkCopy → Bool
 front_written [] = false
-front_written (copy ∷ copies) = is_stage Written copy.stage
+front_written (copy ∷ copies) = is_ready copy
+
+-- how many of the first copies one write of an area commits that has so many empty slots: those that are ready, up to the
+-- first that is not, and up to the end of the area
+abbrev pub batch : ℕ → List ChunkCopy → ℕ
+batch slots copies = min slots (prefix_len is_ready copies)
 
 -- a request that goes somewhere
 abbrev pub is_routed : Route → Bool

@@ -1,7 +1,7 @@
 // What is due in these lists: the first element of a kind, which has the least number.
 ghost use Rattle.std.specs.Prelude.{◌≡◌, ◌==◌, ◌&&◌, ◌<◌, length};
 ghost use Rattle.std.specs.List.{list_any, position};
-ghost use Rattle.pending.specs.Due.{first_by, front_written as is_front_written, is_copy_at, is_issuable, is_publishable, is_routed as goes_somewhere, is_stage, least as lesser, number_of_copy, number_of_flight, number_of_mark};
+ghost use Rattle.pending.specs.Due.{batch as batch_of, first_by, front_written as is_front_written, is_copy_at, is_issuable, is_publishable, is_ready as can_be_committed, is_routed as goes_somewhere, is_stage, least as lesser, number_of_copy, number_of_flight, number_of_mark};
 
 use crate::copies::{ChunkCopy, Mark, Stage};
 use crate::flights::{Flight, Route};
@@ -59,14 +59,36 @@ pub fn copy_at(copies: &[ChunkCopy], stage: Stage, number: CopyId) -> Option<usi
         .position(|c| c.number == number && is_at(stage, c.stage))
 }
 
+/// Whether a copy's pair may be committed: it is written.
+pub fn is_ready(copy: &ChunkCopy) -> bool
+    ensures { result ≡ can_be_committed copy.now }
+{
+    is_at(Stage::Written, copy.stage)
+}
+
 /// Whether the first copy is written.
 pub fn front_written(copies: &[ChunkCopy]) -> bool
     ensures { result ≡ is_front_written copies.now }
 {
     match copies {
         [] => false,
-        [first, ..] => is_at(Stage::Written, first.stage),
+        [first, ..] => is_ready(first),
     }
+}
+
+/// How many of the first copies one write of an area commits that has so many empty slots: those that are written, up to
+/// the first that is not, and up to the end of the area.
+pub fn batch(copies: &[ChunkCopy], slots: u32) -> u32
+    ensures { result ≡ batch_of slots copies.now }
+{
+    let mut count = 0;
+    for copy in copies {
+        if count == slots || !is_ready(copy) {
+            return count;
+        }
+        count += 1;
+    }
+    count
 }
 
 /// The number of the first mark whose chunk no request reads from the origin disk.

@@ -10,8 +10,8 @@ mod routes;
 
 pub use copies::{ChunkCopy, MAX_COPIES, Mark, Stage, has_copy, is_marked, sectors_of};
 pub use due::{
-    copy_at, first_copy, first_publishable, first_routed, front_written, is_at, is_routed, least,
-    publishable_at,
+    batch, copy_at, first_copy, first_publishable, first_routed, front_written, is_at, is_ready,
+    is_routed, least, publishable_at,
 };
 pub use flights::{Flight, Kind, MAX_REQUESTS, Route, flight_at, request_kind};
 pub use routes::{

@@ -85,6 +85,7 @@ fn a_copy_frees_the_write_that_waits_for_it(rt: HostRuntime) -> Result<(), Fail>
     assert!(rt; !front_written(&copies));
     copies[0].stage = Stage::Written;
     assert!(rt; front_written(&copies));
+    assert_eq!(rt; (batch(&copies, 0), batch(&copies, 32)), (0, 1));
     assert_eq!(rt;
         (
             copy_at(&copies, Stage::Written, 1),

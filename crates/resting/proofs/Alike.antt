@@ -11,16 +11,17 @@ use Rattle.event_machine.specs.Requests.{volume_of}
 use Rattle.settled.specs.Moments.{relayered, store_relayered, all_relayered}
 use Rattle.event_machine.specs.Seen.{going_of}
 use Rattle.snapshot.specs.Kept.{Kept}
-use Rattle.volume.specs.Volumed.{Volumed, is_loud_in_all}
+use Rattle.volume.specs.Volumed.{Volumed, is_loud_in_all, is_loud_with}
 use Rattle.volume.specs.Moved.{held_of, moving_of}
 use Rattle.snapshots.specs.Numbers.{number_of_snap}
 use Rattle.volume.specs.Leaving.{is_done_of, is_quiet_of}
 use Rattle.volume.specs.Stepping.{KeepsAll}
 use Rattle.volume.specs.Layering.{held_relayered, moving_relayered}
-use Rattle.volume.proofs.Relayered.{IsSnapAlike, IsVolumeAlike, map_at}
+use Rattle.volume.proofs.Relayered.{IsSnapAlike, IsVolumeAlike, map_at, merge_loud_alike, merge_sized_alike, merged_alike}
 use Rattle.resting.specs.Rested.{rested_of, settled_of, IsSettled}
 use Rattle.resting.specs.Kept.{KeepsDevices}
 use Rattle.resting.proofs.Seen.{settled_same, devices_kept}
+use Rattle.volume.specs.Causes.{counts_with}
 
 list_all_map : {X Y : Type 0} (f : X → Y) (p : Y → Bool) (xs ys : List X) → map f xs ≡ map f ys → list_all (λ x. p (f x)) xs ≡ list_all (λ x. p (f x)) ys
 list_all_map f p [] [] e = refl
@@ -69,15 +70,18 @@ module _ {B : Type 0} (contents : B → List ℕ) (layers : B → List Layer) (s
 
     loud_alike : is_loud_in_all layers w ≡ is_loud_in_all layers v
     loud_alike =
-        ap (λ b. b && list_all (λ (s : Kept B). is_loud (layers s.device)) w.snaps) h.origin.loud
-        ∙ ap (λ b. is_loud (layers v.origin) && b) (list_all_map (λ (s : Kept B). is_loud (layers s.device)) (λ b. b) w.snaps v.snaps (kept_map (λ (s : Kept B). is_loud (layers s.device)) (λ s t k. k.store.loud)))
+        merge_loud_alike contents layers size (is_loud (layers w.origin) && list_all (λ (s : Kept B). is_loud (layers s.device)) w.snaps) v.merge w.merge h.merge
+        ∙ ap (λ b. is_loud_with layers v.merge (b && list_all (λ (s : Kept B). is_loud (layers s.device)) w.snaps)) h.origin.loud
+        ∙ ap (λ b. is_loud_with layers v.merge (is_loud (layers v.origin) && b)) (list_all_map (λ (s : Kept B). is_loud (layers s.device)) (λ b. b) w.snaps v.snaps (kept_map (λ (s : Kept B). is_loud (layers s.device)) (λ s t k. k.store.loud)))
 
     keeps_alike : KeepsAll size v w
     keeps_alike = record {
       attached = ap (λ (x : Volumed B). x.attached) h.becomes;
       numbers = kept_map number_of_snap (λ s t k. ap number_of_snap k.same);
       chunks = kept_map (λ (s : Kept B). s.state.chunk) (λ s t k. ap (λ (x : Kept B). x.state.chunk) k.same);
-      sizes = ap (λ n. n ∷ map (λ (s : Kept B). size s.device) w.snaps) h.origin.sectors ∙ ap (λ ns. size v.origin ∷ ns) (kept_map (λ (s : Kept B). size s.device) (λ s t k. k.store.sectors));
+      merged = merged_alike contents layers size v.merge w.merge h.merge;
+      sizes = merge_sized_alike contents layers size (size w.origin ∷ map (λ (s : Kept B). size s.device) w.snaps) v.merge w.merge h.merge
+          ∙ ap (λ n. counts_with size v.merge (n ∷ map (λ (s : Kept B). size s.device) w.snaps)) h.origin.sectors ∙ ap (λ ns. counts_with size v.merge (size v.origin ∷ ns)) (kept_map (λ (s : Kept B). size s.device) (λ s t k. k.store.sectors));
     }
 
     pub alike_kept : KeepsDevices layers size (rested_of v) (rested_of w)

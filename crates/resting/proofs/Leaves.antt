@@ -12,7 +12,7 @@ use Rattle.event_machine.specs.Rest.{IsResting, IsAtRest}
 use Rattle.snapshot.specs.Kept.{Kept}
 use Rattle.snapshot.specs.declared.opening.StoreDev.{StoreDev}
 use Rattle.volume_laws.proofs.Lists.{All-remove, map-remove}
-use Rattle.volume.specs.Volumed.{Volumed, is_loud_in_all}
+use Rattle.volume.specs.Volumed.{Volumed, is_loud_in_all, is_loud_with}
 use Rattle.volume.specs.Moved.{device_of, held_of, moving_of}
 use Rattle.snapshots.specs.Finding.{place_of_snap}
 use Rattle.volume.specs.Leaving.{is_done_of, is_quiet_of, leaving_refusal, detach_refusal, IsWithout}
@@ -22,6 +22,7 @@ use Rattle.resting.proofs.Seen.{loud_same, dev_found, dev_missing}
 use Rattle.sector.specs.declared.refusal.Refusal.{Refusal}
 use Rattle.sector.specs.declared.refusal.Refusal.TheVariants.{NoSuchDevice, NotQuiet}
 use Rattle.plain.specs.declared.request.Dev.TheVariants.{Snap as ToSnap}
+use Rattle.volume.proofs.Shown.{loud_others}
 
 module _ {B : Type 0} (number : ℕ) (d : Kept B) where
   -- the snapshot at the place that was found
@@ -119,16 +120,19 @@ module _ {B : Type 0} (number : ℕ) (old new : Volumed B) (store : StoreDev B) 
   -- what is left of a settled volume is settled
   pub left_settles : (contents : B → List ℕ) (layers : B → List Layer) (size : B → ℕ) → IsSettled contents layers size (rested_of old) → IsSettled contents layers size (rested_of new)
   left_settles contents layers size settled =
-      let all : (is_loud (layers old.origin) && list_all (λ (s : Kept B). is_loud (layers s.device)) old.snaps) ≡ true = sym (loud_same contents layers old) ∙ settled.loud in
+      let was_loud : is_loud_in_all layers old ≡ true = sym (loud_same contents layers old) ∙ settled.loud in
+      let all : (is_loud (layers old.origin) && list_all (λ (s : Kept B). is_loud (layers s.device)) old.snaps) ≡ true = loud_others contents layers size old was_loud in
       let held : List Held = map (held_of contents layers) old.snaps in
       record {
         loud = loud_same contents layers new ∙ ap (λ (v : Volumed B). is_loud_in_all layers v) out.becomes
-            ∙ ap (λ b. b && list_all (λ (s : Kept B). is_loud (layers s.device)) (remove old.snaps out.place)) (and_first (is_loud (layers old.origin)) (list_all (λ (s : Kept B). is_loud (layers s.device)) old.snaps) all)
-            ∙ all_without (λ (s : Kept B). is_loud (layers s.device)) old.snaps out.place (and_second (is_loud (layers old.origin)) (list_all (λ (s : Kept B). is_loud (layers s.device)) old.snaps) all);
+            ∙ ap (is_loud_with layers old.merge) (ap (λ b. b && list_all (λ (s : Kept B). is_loud (layers s.device)) (remove old.snaps out.place)) (and_first (is_loud (layers old.origin)) (list_all (λ (s : Kept B). is_loud (layers s.device)) old.snaps) all)
+            ∙ all_without (λ (s : Kept B). is_loud (layers s.device)) old.snaps out.place (and_second (is_loud (layers old.origin)) (list_all (λ (s : Kept B). is_loud (layers s.device)) old.snaps) all) ∙ sym all)
+            ∙ was_loud;
         rest = subst (λ (v : Volumed B). IsAtRest (size v.origin) (moving_of contents layers None v)) (sym out.becomes) (record {
           whole = settled.rest.whole;
           snaps = subst (All (IsResting (size old.origin))) (sym (map-remove (held_of contents layers) old.snaps out.place)) (All-remove (IsResting (size old.origin)) held out.place settled.rest.snaps);
           requests = settled.rest.requests;
+          alone = refl;
         });
       }
 

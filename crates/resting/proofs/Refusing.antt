@@ -7,7 +7,7 @@ use Rattle.sector.specs.declared.refusal.Refusal.TheVariants.{NoMemory, Invalid}
 use Rattle.device.specs.Layers.{Layer, is_loud}
 use Rattle.plain.specs.declared.request.Request.{Request}
 use Rattle.snapshot.specs.Kept.{Kept}
-use Rattle.volume.specs.Volumed.{Volumed, is_loud_in_all}
+use Rattle.volume.specs.Volumed.{Volumed, is_loud_in_all, is_loud_with}
 use Rattle.volume.specs.Leaving.{is_done_of, is_quiet_of}
 use Rattle.snapshots.specs.Starting.{unroomed}
 use Rattle.volume.specs.Submitting.{SameButRoom, IsRefusedAs}
@@ -31,7 +31,7 @@ room_quiet {B} old new same =
 
 pub room_loud : {B : Type 0} (layers : B → List Layer) (old new : Volumed B) → SameButRoom old new → is_loud_in_all layers new ≡ is_loud_in_all layers old
 room_loud {B} layers old new same =
-    ap (λ (v : Volumed B). is_loud_in_all layers v) same.becomes ∙ ap (λ b. is_loud (layers old.origin) && b) (all_roomed (λ s. is_loud (layers s.device)) new.snaps old.snaps same.roomed (λ s. refl))
+    ap (λ (v : Volumed B). is_loud_in_all layers v) same.becomes ∙ ap (λ b. is_loud_with layers old.merge (is_loud (layers old.origin) && b)) (all_roomed (λ s. is_loud (layers s.device)) new.snaps old.snaps same.roomed (λ s. refl))
 
 module _ {B : Type 0} (contents : B → List ℕ) (layers : B → List Layer) (size : B → ℕ) (request : Request) (refusal : Refusal) (old new : Volumed B) (refused : IsRefusedAs contents layers size request refusal old new) where
   -- refused for another reason than its snapshot: memory

@@ -1,5 +1,5 @@
 -- What callers see of a volume of events, and what its parts say of that.
-use Rattle.std.proofs.Common.{◌≡◌, ℕ, Bool, true, false, List, [], ◌∷◌, length, map, Option, Some, None, refl, ap, ◌∙◌, sym}
+use Rattle.std.proofs.Common.{◌≡◌, ℕ, Bool, true, false, List, [], ◌∷◌, length, map, Option, Some, None, refl, ap, ◌∙◌, sym, get_or}
 use Rattle.std.specs.Prelude.{◌==◌, ◌&&◌}
 use Rattle.std.specs.List.{list_all, list_any}
 use Rattle.std.proofs.lemmas.List.{length-map}
@@ -11,16 +11,17 @@ use Rattle.settled.specs.Snaps.{Snap, Volume}
 use Rattle.event_machine.specs.Held.{Held}
 use Rattle.event_machine.specs.Requests.{volume_of}
 use Rattle.snapshot.specs.Kept.{Kept}
-use Rattle.volume.specs.Volumed.{Volumed, is_loud_in_all, piece_of}
+use Rattle.volume.specs.Volumed.{Volumed, is_loud_in_all, piece_of, is_loud_with}
 use Rattle.volume.specs.Moved.{device_of, held_of, moving_of}
 use Rattle.snapshots.specs.Numbers.{number_of_snap}
-use Rattle.volume.specs.Causes.{counts_of}
+use Rattle.volume.specs.Causes.{counts_of, counts_with}
 use Rattle.snapshots.specs.Finding.{place_of_snap}
 use Rattle.snapshots.proofs.Finds.{any_of, position_none, position_any}
 use Rattle.volume.proofs.Relayered.{map_twice}
 use Rattle.resting.specs.Rested.{Attached, Rested, attached_of, rested_of, snap_of, settled_of, is_loud_in, has_number, has_dev, numbers_of, chunks_of, sizes_of}
 use Rattle.resting.specs.Kept.{KeepsDevices}
 use Rattle.volume.specs.Stepping.{KeepsAll}
+use Rattle.volume.proofs.Counting.{head_counted}
 
 all_of : {X Y : Type 0} (test : Y → Bool) (f : X → Y) (xs : List X) → list_all test (map f xs) ≡ list_all (λ x. test (f x)) xs
 all_of test f [] = refl
@@ -36,7 +37,7 @@ module _ {B : Type 0} (contents : B → List ℕ) (layers : B → List Layer) wh
   settled_same replied v = ap (λ (ss : List Snap). let w : Volume = record { origin = device_of contents layers v.origin; snaps = ss } in w) (snaps_same v.snaps)
 
   pub loud_same : (v : Volumed B) → is_loud_in layers (rested_of v) ≡ is_loud_in_all layers v
-  loud_same v = ap (λ b. is_loud (layers v.origin) && b) (all_of (λ (s : Attached B). is_loud (layers s.store)) attached_of v.snaps)
+  loud_same v = ap (λ b. is_loud_with layers v.merge (is_loud (layers v.origin) && b)) (all_of (λ (s : Attached B). is_loud (layers s.store)) attached_of v.snaps)
 
 module _ {B : Type 0} (size : B → ℕ) where
   numbers_same : (v : Volumed B) → numbers_of (rested_of v) ≡ map number_of_snap v.snaps
@@ -46,7 +47,7 @@ module _ {B : Type 0} (size : B → ℕ) where
   chunks_same v = map_twice attached_of (λ (s : Attached B). s.chunk) v.snaps
 
   sizes_same : (v : Volumed B) → sizes_of size (rested_of v) ≡ counts_of size v
-  sizes_same v = ap (λ (ns : List ℕ). size v.origin ∷ ns) (map_twice attached_of (λ (s : Attached B). size s.store) v.snaps)
+  sizes_same v = ap (λ (ns : List ℕ). counts_with size v.merge (size v.origin ∷ ns)) (map_twice attached_of (λ (s : Attached B). size s.store) v.snaps)
 
   -- events and requests keep the devices
   pub devices_kept : (layers : B → List Layer) (old new : Volumed B) → KeepsAll size old new → is_loud_in_all layers new ≡ is_loud_in_all layers old → KeepsDevices layers size (rested_of old) (rested_of new)
@@ -70,8 +71,9 @@ module _ {B : Type 0} (size : B → ℕ) where
 
   -- the origin has the sectors that it had
   pub size_kept : (layers : B → List Layer) (old new : Rested B) → KeepsDevices layers size old new → size new.origin ≡ size old.origin
-  unfolding head_or
-  size_kept layers old new h = ap (head_or 0) h.sizes
+  size_kept layers old new h =
+      sym (head_counted size new.events.merge (size new.origin) (map (λ (s : Attached B). size s.store) new.snaps)) ∙ ap (λ (ns : List ℕ). get_or ns 0 0) h.sizes
+      ∙ head_counted size old.events.merge (size old.origin) (map (λ (s : Attached B). size s.store) old.snaps)
 
   piece_by : (xs : List (Kept B)) → piece_of xs ≡ head_or 1024 (map (λ (s : Kept B). s.state.chunk) xs)
   unfolding head_or

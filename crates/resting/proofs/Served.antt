@@ -27,7 +27,7 @@ use Rattle.resting.proofs.Seen.{settled_same}
 
 -- rest does not speak of the last reply
 pub rest_any : (sectors : ℕ) (v : Moving) (replied : Option Reply) → IsAtRest sectors v → IsAtRest sectors (record v { replied = replied })
-rest_any sectors v replied rest = record { whole = rest.whole; snaps = rest.snaps; requests = rest.requests }
+rest_any sectors v replied rest = record { whole = rest.whole; snaps = rest.snaps; requests = rest.requests; alone = rest.alone }
 
 module _ {B : Type 0} (contents : B → List ℕ) (layers : B → List Layer) where
   in_chunks : (range : Range) (chunk : ℕ) (xs : List (Kept B)) → range.first + range.count ≤ chunk * (range.first / chunk) + chunk → All (λ (s : Kept B). s.state.chunk ≡ chunk) xs → All (IsInChunk range) (map (held_of contents layers) xs)

@@ -21,10 +21,10 @@ pub record RunsTo {B : Type 0} (contents : B → List ℕ) (layers : B → List 
   pub copies : new.copies ≡ old.copies
 
 pub keeps_none : {B : Type 0} (size : B → ℕ) (v : Volumed B) → KeepsAll size v v
-keeps_none size v = record { attached = refl; numbers = refl; chunks = refl; sizes = refl }
+keeps_none size v = record { attached = refl; numbers = refl; chunks = refl; merged = refl; sizes = refl }
 
 pub keeps_more : {B : Type 0} (size : B → ℕ) (u v w : Volumed B) → KeepsAll size u v → KeepsAll size v w → KeepsAll size u w
-keeps_more size u v w h k = record { attached = k.attached ∙ h.attached; numbers = k.numbers ∙ h.numbers; chunks = k.chunks ∙ h.chunks; sizes = k.sizes ∙ h.sizes }
+keeps_more size u v w h k = record { attached = k.attached ∙ h.attached; numbers = k.numbers ∙ h.numbers; chunks = k.chunks ∙ h.chunks; merged = k.merged ∙ h.merged; sizes = k.sizes ∙ h.sizes }
 
 module _ {B : Type 0} (contents : B → List ℕ) (layers : B → List Layer) (size : B → ℕ) where
   pub runs_none : (replied : Option Reply) (v : Volumed B) → RunsTo contents layers size replied replied v v

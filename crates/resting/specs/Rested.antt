@@ -7,7 +7,8 @@ use Rattle.plain.specs.declared.request.Dev.TheVariants.{Origin, Snap as ToSnap}
 use Rattle.event_machine.specs.Rest.{IsAtRest}
 use Rattle.settled.specs.Snaps.{Snap, Volume}
 use Rattle.snapshot.specs.Kept.{Kept}
-use Rattle.volume.specs.Volumed.{Volumed}
+use Rattle.volume.specs.Volumed.{Volumed, is_loud_with}
+use Rattle.volume.specs.Causes.{counts_with}
 use Rattle.volume.specs.Moved.{device_of, moving_of}
 
 -- A snapshot: its number, the sectors of its chunks, whether it is live, whether its store is stale, and its store's device.
@@ -45,7 +46,7 @@ settled_of contents layers v = record { origin = device_of contents layers v.ori
 
 -- whether a write that is answered by one of its devices is done
 abbrev pub is_loud_in : {B : Type 0} → (B → List Layer) → Rested B → Bool
-is_loud_in layers v = is_loud (layers v.origin) && list_all (λ s. is_loud (layers s.store)) v.snaps
+is_loud_in layers v = is_loud_with layers v.events.merge (is_loud (layers v.origin) && list_all (λ s. is_loud (layers s.store)) v.snaps)
 
 -- No device drops writes, and what is kept of each live snapshot is what its store's own bytes say. A new volume over a disk
 -- that drops no writes is settled, and each call leaves a settled volume settled, but for the attach of a store that drops
@@ -62,7 +63,8 @@ abbrev pub has_dev : {B : Type 0} → Dev → Rested B → Bool
 has_dev Origin v = true
 has_dev (ToSnap number) v = list_any (has_number number) v.snaps
 
--- what no command on a device changes: which snapshots there are, the sectors of their chunks, and of each device
+-- what no command on a device changes: which snapshots there are, the sectors of their chunks, and of each device, the
+-- merging store last
 abbrev pub numbers_of : {B : Type 0} → Rested B → List ℕ
 numbers_of v = map (λ s. s.number) v.snaps
 
@@ -70,7 +72,7 @@ abbrev pub chunks_of : {B : Type 0} → Rested B → List ℕ
 chunks_of v = map (λ s. s.chunk) v.snaps
 
 abbrev pub sizes_of : {B : Type 0} → (B → ℕ) → Rested B → List ℕ
-sizes_of size v = size v.origin ∷ map (λ s. size s.store) v.snaps
+sizes_of size v = counts_with size v.events.merge (size v.origin ∷ map (λ s. size s.store) v.snaps)
 
 -- the first snapshot with a number
 abbrev pub snap_at : {B : Type 0} → ℕ → List (Attached B) → Option (Attached B)

@@ -7,8 +7,7 @@ ghost use Rattle.plain.specs.declared.request.Reply.TheVariants.{Refused};
 ghost use Rattle.plain.specs.declared.request.Op.TheVariants.{Write};
 ghost use Rattle.plain.specs.Legal.{IsLegalStep};
 ghost use Rattle.event_machine.specs.Submitting.{submitted};
-ghost use Rattle.volume_laws.specs.Due.{is_due};
-ghost use Rattle.volume.specs.Volumed.{dues_of, is_loud_in_all, next_of, plain_of};
+ghost use Rattle.volume.specs.Volumed.{is_due_of, is_loud_in_all, next_of, plain_of};
 ghost use Rattle.volume.specs.Moved.{moving_of};
 ghost use Rattle.volume.specs.Exact.{IsExact};
 ghost use Rattle.volume.specs.Causes.{HasCause, IsOneAtMost};
@@ -64,7 +63,7 @@ fn begin<B: Block>(
 fn advance<B: Block>(volume: &mut Volume<B>, event: Event) -> Result<Outcome, NotDue>
     ensures legal { IfOk result (λ outcome. is_loud_in_all B.layers volume.old ≡ true → IsLegalStep (plain_of B.contents B.layers volume.old) event outcome (plain_of B.contents B.layers volume.new)) }
     ensures exact { IfOk result (λ outcome. IsExact B.contents B.layers event outcome volume.old volume.new) }
-    ensures due { is_ok result ≡ is_due (dues_of B.contents B.layers volume.old) volume.old.flights event }
+    ensures due { is_ok result ≡ is_due_of B.contents B.layers volume.old event }
     ensures first { next_of B.contents B.layers volume.old ≡ Some event → IsOk result }
     ensures cause { IfOk result (λ outcome. HasCause B.fault_count event outcome volume.old volume.new) }
     ensures one { OnOk result (IsOneAtMost B.done_count volume.old volume.new) }
@@ -120,7 +119,7 @@ impl<B: Block> Resting<B> {
     pub fn step(&mut self, event: Event) -> Result<Outcome, NotDue>
         ensures legal { IfOk result (λ outcome. is_loud_in_all B.layers self.old.events ≡ true → IsLegalStep (plain_of B.contents B.layers self.old.events) event outcome (plain_of B.contents B.layers self.new.events)) }
         ensures exact { IfOk result (λ outcome. IsExact B.contents B.layers event outcome self.old.events self.new.events) }
-        ensures due { is_ok result ≡ is_due (dues_of B.contents B.layers self.old.events) self.old.events.flights event }
+        ensures due { is_ok result ≡ is_due_of B.contents B.layers self.old.events event }
         ensures first { next_of B.contents B.layers self.old.events ≡ Some event → IsOk result }
         ensures cause { IfOk result (λ outcome. HasCause B.fault_count event outcome self.old.events self.new.events) }
         ensures one { OnOk result (IsOneAtMost B.done_count self.old.events self.new.events) }

@@ -1,5 +1,5 @@
 // A volume by whole commands, and what callers ask of it.
-ghost use Rattle.std.specs.Prelude.{◌≡◌, ◌+◌, ◌*◌, ◌<◌, ◌≤◌, true, [], length, IfErr, IfOk, OnOk, Ok, Err};
+ghost use Rattle.std.specs.Prelude.{◌≡◌, ◌+◌, ◌*◌, ◌<◌, ◌≤◌, true, [], length, IfErr, IfOk, OnOk, Ok, Err, None};
 ghost use Rattle.sector.specs.declared.refusal.Refusal.TheVariants.{NoMemory};
 ghost use Rattle.device.specs.Layers.{is_loud};
 ghost use Rattle.plain.specs.declared.request.Reply.TheVariants.{Data, Written};
@@ -39,7 +39,7 @@ impl<B: Block> Model for Resting<B> {
 impl<B: Block> Resting<B> {
     /// A volume over an origin disk, without snapshots. Where memory is refused, the disk is given back.
     pub fn new(alloc: Global, origin: B) -> Result<Resting<B>, (Refusal, B)>
-        ensures ok { IfOk result (λ v. v ≡ rested_of (record { origin = origin; snaps = []; flights = []; requests = 0; copies = 0; attached = 0 })) }
+        ensures ok { IfOk result (λ v. v ≡ rested_of (record { origin = origin; snaps = []; merge = None; flights = []; requests = 0; copies = 0; attached = 0 })) }
         ensures settled { IfOk result (λ v. is_loud (B.layers origin) ≡ true → IsSettled B.contents B.layers B.size v) }
         ensures err { IfErr result (λ e. e ≡ record { 0 = NoMemory; 1 = origin }) }
     {

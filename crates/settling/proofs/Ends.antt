@@ -1,6 +1,6 @@
 -- One snapshot's copy from any stage to its end: it is published, or the snapshot is spoiled and its mark is tried. What is
 -- left is what the big step says.
-use Rattle.std.proofs.Common.{◌≡◌, inl, inr, ℕ, ◌+◌, ◌*◌, ◌/◌, ◌%◌, Bool, true, false, List, [], ◌∷◌, ◌++◌, length, map, Option, Some, refl, ap, ◌∙◌, sym, subst}
+use Rattle.std.proofs.Common.{◌≡◌, inl, inr, ℕ, ◌+◌, ◌*◌, ◌/◌, ◌%◌, ◌<◌, Bool, true, false, List, [], ◌∷◌, ◌++◌, length, map, Option, None, Some, refl, ap, ◌∙◌, sym, subst}
 use Rattle.std.specs.Prelude.{◌==◌, ◌&&◌, not, if◌then◌else◌}
 use Rattle.std.specs.List.{list_any}
 use Rattle.std.proofs.lemmas.Bool.{cases_Bool, cond-true, cond-false, true≢false}
@@ -18,30 +18,30 @@ use Rattle.settled.specs.Saves.{copied, paired, zeroed}
 use Rattle.settled.specs.Devices.{Device, sectors_of, answers, met, written_by}
 use Rattle.settled.specs.Snaps.{Snap}
 use Rattle.settled.specs.Saving.{lacks_area, spoilt, write_pair, commit, copy}
-use Rattle.event_machine.specs.Held.{Held, Going, Moving, with_store, spoiled}
+use Rattle.event_machine.specs.Held.{Held, Going, MergeHeld, Moving, with_store, spoiled}
 use Rattle.event_machine.specs.Due.{copy_at, is_reading, least_in}
 use Rattle.event_machine.specs.Again.{again, placed, refused}
 use Rattle.settled.proofs.Each.{Each, each_weaker}
 use Rattle.settling.proofs.Goes.{Goes, goes_on}
-use Rattle.event_machine.proofs.Around.{at, IsIdle, IsLater}
+use Rattle.event_machine.proofs.Around.{at_with, IsIdle, IsLater}
 use Rattle.settling.proofs.Stages.{holding, copying, marks_here, reads_done, reads_failed, writes_done, writes_failed, zeros_lacking, zeros_done, zeros_failed, area_done, area_failed, publishes}
 
 -- the requests in flight once a snapshot's copy came to its end
-abbrev pub requests_after : List Held → Held → List Going → List Going
-requests_after snaps h rs = map (again snaps) (map (if h.snap.live then placed h else refused h.snap.number) rs)
+abbrev pub requests_after : Option MergeHeld → List Held → Held → List Going → List Going
+requests_after g snaps h rs = map (again g snaps) (map (if h.snap.live then placed h else refused h.snap.number) rs)
 
 -- no request reads a chunk from the origin disk for a snapshot
 abbrev pub IsUnread : List Going → Type 0
 IsUnread rs = (h : Held) (c : ℕ) → list_any (is_reading h c) rs ≡ false
 
-module _ (done rest : List Held) (rs : List Going) (a : Option Reply) (k : ℕ) where
+module _ (g : Option MergeHeld) (done rest : List Held) (rs : List Going) (a : Option Reply) (k : ℕ) where
   -- A volume goes on to one where that snapshot is idle, and is this one. While it is live it has these pairs and this next
   -- place, and the area after the current one is not zeroed.
   pub record Ends (origin : Device) (v : Moving) (ps : List Pair) (nx : ℕ) (target : Snap) : Type 0 where
     pub held : Held
     pub snap : held.snap ≡ target
     pub idle : IsIdle held
-    pub goes : Goes v (at origin (done ++ held ∷ rest) (requests_after (done ++ held ∷ rest) held rs) a k)
+    pub goes : Goes v (at_with g origin (done ++ held ∷ rest) (requests_after g (done ++ held ∷ rest) held rs) a k)
     pub pairs : held.snap.live ≡ true → held.pairs ≡ ps
     pub next : held.snap.live ≡ true → held.next ≡ nx
     pub zeroed : held.snap.live ≡ true → held.zeroed ≡ false
@@ -53,14 +53,14 @@ module _ (done rest : List Held) (rs : List Going) (a : Option Reply) (k : ℕ) 
   ends_as origin v ps nx t u same e = record { held = e.held; snap = e.snap ∙ same; idle = e.idle; goes = e.goes; pairs = e.pairs; next = e.next; zeroed = e.zeroed }
 
   -- a spoiled snapshot
-  pub ends_spoiled : (origin : Device) (h : Held) (ps : List Pair) (nx : ℕ) → Each IsIdle done → Ends origin (at origin (done ++ spoiled h ∷ rest) (map (refused h.snap.number) rs) a k) ps nx (spoilt h.snap)
+  pub ends_spoiled : (origin : Device) (h : Held) (ps : List Pair) (nx : ℕ) → Each IsIdle done → Ends origin (at_with g origin (done ++ spoiled h ∷ rest) (map (refused h.snap.number) rs) a k) ps nx (spoilt h.snap)
   ends_spoiled origin h ps nx before =
       let after : Held = record h { snap = spoilt h.snap; untried = false; copies = []; marks = [] } in
       record {
         held = after;
         snap = refl;
         idle = record { tried = refl; copies = refl; marks = refl };
-        goes = marks_here origin done rest (map (refused h.snap.number) rs) a k (spoiled h) (each_weaker IsIdle (λ (d : Held). d.untried ≡ false) done (λ d i. i.tried) before) refl;
+        goes = marks_here g origin done rest (map (refused h.snap.number) rs) a k (spoiled h) (each_weaker IsIdle (λ (d : Held). d.untried ≡ false) done (λ d i. i.tried) before) refl;
         pairs = λ live. absurd (true≢false (sym live));
         next = λ live. absurd (true≢false (sym live));
         zeroed = λ live. absurd (true≢false (sym live));
@@ -68,86 +68,86 @@ module _ (done rest : List Held) (rs : List Going) (a : Option Reply) (k : ℕ) 
 
   module _ (n : ℕ) (q : Pair) (ps : List Pair) (nx : ℕ) (before : Each IsIdle done) (later : Each IsLater rest) (unread : IsUnread rs) where
     -- a committed copy
-    ends_published : (origin : Device) (s : Snap) (z : Bool) → s.live ≡ true → z ≡ false → Ends origin (at origin (done ++ holding s (ps ++ q ∷ []) nx z [] ((record { number = n; chunk = q.old }) ∷ []) ∷ rest) rs a k) (ps ++ q ∷ []) nx s
+    ends_published : (origin : Device) (s : Snap) (z : Bool) → s.live ≡ true → z ≡ false → Ends origin (at_with g origin (done ++ holding s (ps ++ q ∷ []) nx z [] ((record { number = n; chunk = q.old }) ∷ []) ∷ rest) rs a k) (ps ++ q ∷ []) nx s
     ends_published origin s z live unzeroed =
         let now : Held = holding s (ps ++ q ∷ []) nx z [] [] in
-        let same : map (again (done ++ now ∷ rest)) (map (placed now) rs) ≡ requests_after (done ++ now ∷ rest) now rs = ap (λ f. map (again (done ++ now ∷ rest)) (map f rs)) (sym (cond-true _ _ _ live)) in
+        let same : map (again g (done ++ now ∷ rest)) (map (placed now) rs) ≡ requests_after g (done ++ now ∷ rest) now rs = ap (λ f. map (again g (done ++ now ∷ rest)) (map f rs)) (sym (cond-true _ _ _ live)) in
         record {
           held = now;
           snap = refl;
           idle = record { tried = refl; copies = refl; marks = refl };
-          goes = subst (λ (x : List Going). Goes (at origin (done ++ holding s (ps ++ q ∷ []) nx z [] ((record { number = n; chunk = q.old }) ∷ []) ∷ rest) rs a k) (at origin (done ++ now ∷ rest) x a k)) same
-              (publishes done rest a k s (ps ++ q ∷ []) nx z n q before later origin rs unread);
+          goes = subst (λ (x : List Going). Goes (at_with g origin (done ++ holding s (ps ++ q ∷ []) nx z [] ((record { number = n; chunk = q.old }) ∷ []) ∷ rest) rs a k) (at_with g origin (done ++ now ∷ rest) x a k)) same
+              (publishes g done rest a k s (ps ++ q ∷ []) nx z n q before later origin rs unread);
           pairs = λ on. refl;
           next = λ on. refl;
           zeroed = λ on. unzeroed;
         }
 
     -- a copy that is written, where its area can be
-    ends_area : (origin : Device) (s : Snap) (z : Bool) (bytes : List ℕ) → s.live ≡ true → ((((length ps + 1) % (32 * s.chunk)) == 0) && not z) ≡ false → (z && not (((length ps + 1) % (32 * s.chunk)) == 0)) ≡ false →
-        Ends origin (at origin (done ++ holding s ps nx z (copying n q Written bytes ∷ []) [] ∷ rest) rs a k) (ps ++ q ∷ []) nx (write_pair (length ps) q s)
-    ends_area origin s z bytes live ready unzeroed =
+    ends_area : (origin : Device) (s : Snap) (z : Bool) (bytes : List ℕ) → 0 < s.chunk → s.live ≡ true → ((((length ps + 1) % (32 * s.chunk)) == 0) && not z) ≡ false → (z && not (((length ps + 1) % (32 * s.chunk)) == 0)) ≡ false →
+        Ends origin (at_with g origin (done ++ holding s ps nx z (copying n q Written bytes ∷ []) [] ∷ rest) rs a k) (ps ++ q ∷ []) nx (write_pair (length ps) q s)
+    ends_area origin s z bytes some live ready unzeroed =
         let op : Operation = Writes (s.chunk * area_place s.chunk (length ps / (32 * s.chunk))) s.chunk in
         let now : Snap = record s { store = written_by s.store op (paired s.chunk s.store.bytes (length ps) q) } in
-        let v : Moving = at origin (done ++ holding s ps nx z (copying n q Written bytes ∷ []) [] ∷ rest) rs a k in
+        let v : Moving = at_with g origin (done ++ holding s ps nx z (copying n q Written bytes ∷ []) [] ∷ rest) rs a k in
         elim (cases_Bool (answers s.store op)) [
           | inl ok ↦ ends_as origin v (ps ++ q ∷ []) nx now (write_pair (length ps) q s) (sym (cond-true _ _ _ ok))
-              (ends_after origin v _ (ps ++ q ∷ []) nx now (area_done done rest a k s ps nx z n q before later origin rs bytes ready ok) (ends_published origin now (z && not (((length ps + 1) % (32 * s.chunk)) == 0)) live unzeroed))
+              (ends_after origin v _ (ps ++ q ∷ []) nx now (area_done g done rest a k s ps nx z n q before later origin rs bytes some ready ok) (ends_published origin now (z && not (((length ps + 1) % (32 * s.chunk)) == 0)) live unzeroed))
           | inr failed ↦ ends_as origin v (ps ++ q ∷ []) nx (spoilt now) (write_pair (length ps) q s) (sym (cond-false _ _ _ failed))
-              (ends_after origin v _ (ps ++ q ∷ []) nx (spoilt now) (area_failed done rest a k s ps nx z n q before later origin rs bytes ready failed) (ends_spoiled origin (with_store (holding s ps nx z (copying n q Written bytes ∷ []) []) now.store) (ps ++ q ∷ []) nx before))
+              (ends_after origin v _ (ps ++ q ∷ []) nx (spoilt now) (area_failed g done rest a k s ps nx z n q before later origin rs bytes some ready failed) (ends_spoiled origin (with_store (holding s ps nx z (copying n q Written bytes ∷ []) []) now.store) (ps ++ q ∷ []) nx before))
         ]
 
     -- a copy that is written
-    ends_commit : (origin : Device) (s : Snap) (bytes : List ℕ) → s.live ≡ true → Ends origin (at origin (done ++ holding s ps nx false (copying n q Written bytes ∷ []) [] ∷ rest) rs a k) (ps ++ q ∷ []) nx (commit (length ps) q s)
-    ends_commit origin s bytes live =
+    ends_commit : (origin : Device) (s : Snap) (bytes : List ℕ) → 0 < s.chunk → s.live ≡ true → Ends origin (at_with g origin (done ++ holding s ps nx false (copying n q Written bytes ∷ []) [] ∷ rest) rs a k) (ps ++ q ∷ []) nx (commit (length ps) q s)
+    ends_commit origin s bytes some live =
         let full : Bool = ((length ps + 1) % (32 * s.chunk)) == 0 in
-        let v : Moving = at origin (done ++ holding s ps nx false (copying n q Written bytes ∷ []) [] ∷ rest) rs a k in
+        let v : Moving = at_with g origin (done ++ holding s ps nx false (copying n q Written bytes ∷ []) [] ∷ rest) rs a k in
         let next : ℕ = (length ps + 1) / (32 * s.chunk) in
         let op : Operation = Writes (s.chunk * area_place s.chunk next) s.chunk in
         let now : Snap = record s { store = written_by s.store op (zeroed s.chunk s.store.bytes next) } in
         elim (cases_Bool full) [
-          | inr part ↦ ends_as origin v (ps ++ q ∷ []) nx (write_pair (length ps) q s) (commit (length ps) q s) (sym (cond-false _ _ _ part)) (ends_area origin s false bytes live (rw part refl) refl)
+          | inr part ↦ ends_as origin v (ps ++ q ∷ []) nx (write_pair (length ps) q s) (commit (length ps) q s) (sym (cond-false _ _ _ part)) (ends_area origin s false bytes some live (rw part refl) refl)
           | inl fill ↦ elim (cases_Bool (lacks_area next s)) [
             | inl lacks ↦ ends_as origin v (ps ++ q ∷ []) nx (spoilt s) (commit (length ps) q s) (sym (cond-true _ _ _ fill ∙ cond-true _ _ _ lacks))
-                (ends_after origin v _ (ps ++ q ∷ []) nx (spoilt s) (zeros_lacking done rest a k s ps nx false n q before later origin rs bytes fill refl lacks) (ends_spoiled origin (holding s ps nx false (copying n q Written bytes ∷ []) []) (ps ++ q ∷ []) nx before))
+                (ends_after origin v _ (ps ++ q ∷ []) nx (spoilt s) (zeros_lacking g done rest a k s ps nx false n q before later origin rs bytes some fill refl lacks) (ends_spoiled origin (holding s ps nx false (copying n q Written bytes ∷ []) []) (ps ++ q ∷ []) nx before))
             | inr room ↦ elim (cases_Bool (answers s.store op)) [
               | inl ok ↦ ends_as origin v (ps ++ q ∷ []) nx (write_pair (length ps) q now) (commit (length ps) q s) (sym (cond-true _ _ _ fill ∙ cond-false _ _ _ room ∙ cond-true _ _ _ ok))
-                  (ends_after origin v _ (ps ++ q ∷ []) nx (write_pair (length ps) q now) (zeros_done done rest a k s ps nx false n q before later origin rs bytes fill refl room ok) (ends_area origin now true bytes live (rw fill refl) (rw fill refl)))
+                  (ends_after origin v _ (ps ++ q ∷ []) nx (write_pair (length ps) q now) (zeros_done g done rest a k s ps nx false n q before later origin rs bytes some fill refl room ok) (ends_area origin now true bytes some live (rw fill refl) (rw fill refl)))
               | inr failed ↦ ends_as origin v (ps ++ q ∷ []) nx (spoilt now) (commit (length ps) q s) (sym (cond-true _ _ _ fill ∙ cond-false _ _ _ room ∙ cond-false _ _ _ failed))
-                  (ends_after origin v _ (ps ++ q ∷ []) nx (spoilt now) (zeros_failed done rest a k s ps nx false n q before later origin rs bytes fill refl room failed) (ends_spoiled origin (with_store (holding s ps nx false (copying n q Written bytes ∷ []) []) now.store) (ps ++ q ∷ []) nx before))
+                  (ends_after origin v _ (ps ++ q ∷ []) nx (spoilt now) (zeros_failed g done rest a k s ps nx false n q before later origin rs bytes some fill refl room failed) (ends_spoiled origin (with_store (holding s ps nx false (copying n q Written bytes ∷ []) []) now.store) (ps ++ q ∷ []) nx before))
             ]
           ]
         ]
 
     -- a copy that is read
-    ends_write : (origin : Device) (s : Snap) (bytes : List ℕ) → s.live ≡ true → pairs_of s.chunk s.store.bytes ≡ ps → with_sectors s.store.bytes (s.chunk * q.new) bytes ≡ copied s.chunk origin.bytes s.store.bytes q.old q.new →
-        Ends origin (at origin (done ++ holding s ps nx false (copying n q Read bytes ∷ []) [] ∷ rest) rs a k) (ps ++ q ∷ []) nx (copy origin.bytes q s)
-    ends_write origin s bytes live has same =
+    ends_write : (origin : Device) (s : Snap) (bytes : List ℕ) → 0 < s.chunk → s.live ≡ true → pairs_of s.chunk s.store.bytes ≡ ps → with_sectors s.store.bytes (s.chunk * q.new) bytes ≡ copied s.chunk origin.bytes s.store.bytes q.old q.new →
+        Ends origin (at_with g origin (done ++ holding s ps nx false (copying n q Read bytes ∷ []) [] ∷ rest) rs a k) (ps ++ q ∷ []) nx (copy origin.bytes q s)
+    ends_write origin s bytes some live has same =
         let op : Operation = Writes (s.chunk * q.new) (count_of s.chunk (sectors_of origin) q.old) in
-        let v : Moving = at origin (done ++ holding s ps nx false (copying n q Read bytes ∷ []) [] ∷ rest) rs a k in
+        let v : Moving = at_with g origin (done ++ holding s ps nx false (copying n q Read bytes ∷ []) [] ∷ rest) rs a k in
         let put : List ℕ → Snap = λ (b : List ℕ). record s { store = written_by s.store op b } in
         let now : Snap = put (with_sectors s.store.bytes (s.chunk * q.new) bytes) in
         let here : now ≡ put (copied s.chunk origin.bytes s.store.bytes q.old q.new) = ap put same in
         elim (cases_Bool (answers s.store op)) [
           | inl ok ↦ ends_as origin v (ps ++ q ∷ []) nx (commit (length ps) q now) (copy origin.bytes q s)
               (ap (commit (length ps) q) here ∙ ap (λ x. commit (length x) q (put (copied s.chunk origin.bytes s.store.bytes q.old q.new))) (sym has) ∙ sym (cond-true _ _ _ ok))
-              (ends_after origin v _ (ps ++ q ∷ []) nx (commit (length ps) q now) (writes_done done rest a k s ps nx false n q before later origin rs bytes ok) (ends_commit origin now bytes live))
+              (ends_after origin v _ (ps ++ q ∷ []) nx (commit (length ps) q now) (writes_done g done rest a k s ps nx false n q before later origin rs bytes ok) (ends_commit origin now bytes some live))
           | inr failed ↦ ends_as origin v (ps ++ q ∷ []) nx (spoilt now) (copy origin.bytes q s) (ap spoilt here ∙ sym (cond-false _ _ _ failed))
-              (ends_after origin v _ (ps ++ q ∷ []) nx (spoilt now) (writes_failed done rest a k s ps nx false n q before later origin rs bytes failed) (ends_spoiled origin (with_store (holding s ps nx false (copying n q Read bytes ∷ []) []) now.store) (ps ++ q ∷ []) nx before))
+              (ends_after origin v _ (ps ++ q ∷ []) nx (spoilt now) (writes_failed g done rest a k s ps nx false n q before later origin rs bytes failed) (ends_spoiled origin (with_store (holding s ps nx false (copying n q Read bytes ∷ []) []) now.store) (ps ++ q ∷ []) nx before))
         ]
 
     -- a copy that waits: it is read from the origin disk
-    pub ends_read : (origin : Device) (s : Snap) → s.live ≡ true → pairs_of s.chunk s.store.bytes ≡ ps → with_sectors s.store.bytes (s.chunk * q.new) (sectors_at origin.bytes (s.chunk * q.old) (count_of s.chunk (sectors_of origin) q.old)) ≡ copied s.chunk origin.bytes s.store.bytes q.old q.new → least (Some n) (least_in (copy_at Waiting) rest) ≡ Some n →
+    pub ends_read : (origin : Device) (s : Snap) → 0 < s.chunk → s.live ≡ true → pairs_of s.chunk s.store.bytes ≡ ps → with_sectors s.store.bytes (s.chunk * q.new) (sectors_at origin.bytes (s.chunk * q.old) (count_of s.chunk (sectors_of origin) q.old)) ≡ copied s.chunk origin.bytes s.store.bytes q.old q.new → least (Some n) (least_in (copy_at Waiting) rest) ≡ Some n →
         (let op : Operation = Reads (s.chunk * q.old) (count_of s.chunk (sectors_of origin) q.old) in
-        Ends (met origin op) (at origin (done ++ holding s ps nx false (copying n q Waiting [] ∷ []) [] ∷ rest) rs a k) (ps ++ q ∷ []) nx (if answers origin op then copy origin.bytes q s else spoilt s))
-    ends_read origin s live has same low =
+        Ends (met origin op) (at_with g origin (done ++ holding s ps nx false (copying n q Waiting [] ∷ []) [] ∷ rest) rs a k) (ps ++ q ∷ []) nx (if answers origin op then copy origin.bytes q s else spoilt s))
+    ends_read origin s some live has same low =
         let op : Operation = Reads (s.chunk * q.old) (count_of s.chunk (sectors_of origin) q.old) in
-        let v : Moving = at origin (done ++ holding s ps nx false (copying n q Waiting [] ∷ []) [] ∷ rest) rs a k in
+        let v : Moving = at_with g origin (done ++ holding s ps nx false (copying n q Waiting [] ∷ []) [] ∷ rest) rs a k in
         let bytes : List ℕ = sectors_at origin.bytes (s.chunk * q.old) (count_of s.chunk (sectors_of origin) q.old) in
         let target : Snap = if answers origin op then copy origin.bytes q s else spoilt s in
         elim (cases_Bool (answers origin op)) [
           | inl ok ↦ ends_as (met origin op) v (ps ++ q ∷ []) nx (copy origin.bytes q s) target (sym (cond-true _ _ _ ok))
-              (ends_after (met origin op) v _ (ps ++ q ∷ []) nx (copy origin.bytes q s) (reads_done done rest a k s ps nx false n q before later origin rs low ok) (ends_write (met origin op) s bytes live has same))
+              (ends_after (met origin op) v _ (ps ++ q ∷ []) nx (copy origin.bytes q s) (reads_done g done rest a k s ps nx false n q before later origin rs low ok) (ends_write (met origin op) s bytes some live has same))
           | inr failed ↦ ends_as (met origin op) v (ps ++ q ∷ []) nx (spoilt s) target (sym (cond-false _ _ _ failed))
-              (ends_after (met origin op) v _ (ps ++ q ∷ []) nx (spoilt s) (reads_failed done rest a k s ps nx false n q before later origin rs low failed) (ends_spoiled (met origin op) (holding s ps nx false (copying n q Waiting [] ∷ []) []) (ps ++ q ∷ []) nx before))
+              (ends_after (met origin op) v _ (ps ++ q ∷ []) nx (spoilt s) (reads_failed g done rest a k s ps nx false n q before later origin rs low failed) (ends_spoiled (met origin op) (holding s ps nx false (copying n q Waiting [] ∷ []) []) (ps ++ q ∷ []) nx before))
         ]

@@ -1,8 +1,12 @@
 pub mod Goes
+pub mod GoesAll
 pub mod Stages
 pub mod Ends
 pub mod Resting
 pub mod Primed
+pub mod Starts
+pub mod SavesSettle
+pub mod MergeStages
 pub mod OriginWrites
 pub mod Issued
 pub mod WritesSettle
@@ -10,6 +14,7 @@ pub mod Served
 pub mod ReadsSettle
 pub mod PlaceRests
 pub mod SnapWritesSettle
+pub mod Ending
 pub mod Requests
 pub mod Running
 pub mod Shown

@@ -24,4 +24,5 @@ ticked_rests sectors f v rest = record {
   whole = rest.whole;
   snaps = all_from (IsResting sectors) (map (λ h. with_store h (relayered f h.snap.store)) v.snaps) (all_rest sectors f v.snaps (each_from (IsResting sectors) v.snaps rest.snaps));
   requests = rest.requests;
+  alone = rest.alone;
 }

@@ -1,9 +1,8 @@
 -- Each request that is submitted to a volume at rest settles to its big step; and a volume settles to one thing alone.
-use Rattle.std.proofs.Common.{◌≡◌, ℕ, zero, suc, ◌+◌, ◌<◌, ◌≤◌, Option, Some, None, arith, refl, ap, ◌∙◌, sym}
+use Rattle.std.proofs.Common.{◌≡◌, ℕ, ◌+◌, ◌<◌, ◌≤◌, None, arith}
 use Rattle.std.specs.List.{All}
 use Rattle.sector.specs.declared.range.Range.{Range}
 use Rattle.chunk.specs.Pieces.{span_of}
-use Rattle.plain.specs.declared.event.Event.{Event}
 use Rattle.plain.specs.declared.request.Request.{Request}
 use Rattle.plain.specs.declared.request.Dev.{Dev}
 use Rattle.plain.specs.declared.request.Dev.TheVariants.{Origin, Snap}
@@ -12,12 +11,13 @@ use Rattle.plain.specs.declared.request.Op.TheVariants.{Read, Write}
 use Rattle.settled.specs.Pieces.{Answered}
 use Rattle.event_machine.specs.Held.{Moving}
 use Rattle.event_machine.specs.Due.{due}
-use Rattle.event_machine.specs.Stepping.{for_some, stepped}
+use Rattle.event_machine.specs.Stepping.{stepped}
 use Rattle.event_machine.specs.Submitting.{submitted}
 use Rattle.event_machine.specs.Rest.{IsAtRest}
 use Rattle.event_machine.specs.Settles.{settle, SettlesTo}
 use Rattle.event_machine.specs.Requests.{volume_of, IsInChunk, IsFit}
 use Rattle.settled.specs.Requests.{answered_by, answer_of, FitsRange}
+use Rattle.settling.proofs.Ending.{by_one}
 use Rattle.settling.proofs.WritesSettle.{origin_write_settles}
 use Rattle.settling.proofs.ReadsSettle.{origin_read_settles, snap_read_settles}
 use Rattle.settling.proofs.SnapWritesSettle.{snap_write_settles}
@@ -33,23 +33,6 @@ settles_by sectors number (Snap n) (Write data_written) range v rest some inside
 pub request_settles : (sectors number : ℕ) (request : Request) (v : Moving) → IsAtRest sectors v → IsFit sectors v.snaps request → SettlesTo sectors (submitted number request v) (answer_of request (volume_of v))
 request_settles sectors number request v rest fit = settles_by sectors number request.dev request.op request.range v rest fit.some fit.inside fit.bytes fit.chunks
 
--- where nothing is due, no event changes anything
-stays : (m : ℕ) (v : Moving) → due v ≡ None → settle m v ≡ v
-stays zero v quiet = refl
-stays (suc m) v quiet = ap (λ o. for_some o (λ e. settle m (stepped e v)) v) quiet
-
-more_by : (n m : ℕ) (v : Moving) (o : Option Event) → due v ≡ o → ((w : Moving) → settle (n + m) w ≡ settle m (settle n w)) → for_some (due v) (λ e. settle (n + m) (stepped e v)) v ≡ settle m (for_some (due v) (λ e. settle n (stepped e v)) v)
-more_by n m v None is more = ap (λ o. for_some o (λ e. settle (n + m) (stepped e v)) v) is ∙ sym (stays m v is) ∙ ap (λ o. settle m (for_some o (λ e. settle n (stepped e v)) v)) (sym is)
-more_by n m v (Some event) is more = ap (λ o. for_some o (λ e. settle (n + m) (stepped e v)) v) is ∙ more (stepped event v) ∙ ap (λ o. settle m (for_some o (λ e. settle n (stepped e v)) v)) (sym is)
-
-settle_more : (n m : ℕ) (v : Moving) → settle (n + m) v ≡ settle m (settle n v)
-settle_more zero m v = ap (λ k. settle k v) (omega arith)
-settle_more (suc n) m v =
-    let turn : suc n + m ≡ suc (n + m) = omega arith in
-    ap (λ k. settle k v) turn ∙ more_by n m v (due v) refl (settle_more n m)
-
 -- what it settles to, in however many events
 pub settles_one : (sectors fuel : ℕ) (u w : Moving) (answer : Answered) (to : SettlesTo sectors u answer) → settle fuel u ≡ w → due w ≡ None → w ≡ to.last
-settles_one sectors fuel u w answer to is quiet =
-    let turn : fuel + to.fuel ≡ to.fuel + fuel = omega arith in
-    sym (stays to.fuel w quiet) ∙ ap (settle to.fuel) (sym is) ∙ sym (settle_more fuel to.fuel u) ∙ ap (λ k. settle k u) turn ∙ to.ends fuel
+settles_one sectors fuel u w answer to is quiet = by_one due stepped fuel to.fuel u w to.last to.ends is quiet

@@ -23,7 +23,7 @@ use Rattle.settling.proofs.Requests.{request_settles, settles_one}
 use Rattle.settled.proofs.Chunks.{HasChunks, answer_keeps}
 
 -- the sectors of these pieces
-abbrev counts_of : List Span → ℕ
+abbrev pub counts_of : List Span → ℕ
 counts_of [] = 0
 counts_of (p ∷ pieces) = p.count + counts_of pieces
 
@@ -40,7 +40,7 @@ pub record FitsPiece (sectors chunk : ℕ) (piece : Span) : Type 0 where
   pub inside : piece.first + piece.count ≤ sectors
 
 module _ (sectors chunk : ℕ) (pos : 0 < chunk) where
-  fits_all : (range : Range) (snaps : List Held) → IsInOneChunk chunk (span_of range) → Each (HasChunks chunk) (map (λ (h : Held). h.snap) snaps) → Each (IsInChunk range) snaps
+  pub fits_all : (range : Range) (snaps : List Held) → IsInOneChunk chunk (span_of range) → Each (HasChunks chunk) (map (λ (h : Held). h.snap) snaps) → Each (IsInChunk range) snaps
   fits_all range [] one all = tt
   fits_all range (h ∷ snaps) one all =
       (subst (λ (x : ℕ). range.first + range.count ≤ x * (range.first / x) + x) (sym all.0) (piece_high chunk range.first range.count pos one.some one.one), fits_all range snaps one all.1)
@@ -78,7 +78,7 @@ module _ (sectors chunk : ℕ) (pos : 0 < chunk) where
       subst (λ (r : Reply). IsLeft sectors chunk w reply (go_on r here more)) left.replied
       (subst (λ (x : Moving). IsLeft sectors chunk x reply here) (sym goes.0) (subst (λ (r : Reply). IsLeft sectors chunk mid r here) (sym goes.1) left))
 
-  goes_as : (got : Reply) (A B E : Type 0) → (A → B) → GoesOn got A E → GoesOn got B E
+  pub goes_as : (got : Reply) (A B E : Type 0) → (A → B) → GoesOn got A E → GoesOn got B E
   goes_as (Data bytes) A B E f goes = f goes
   goes_as Written A B E f goes = f goes
   goes_as (Refused failure) A B E f goes = goes
@@ -110,14 +110,14 @@ module _ (sectors chunk : ℕ) (pos : 0 < chunk) where
       (subst (λ (x : Volume). IsLeft sectors chunk w reply (read_pieces dev pieces (before ++ bytes_in got) x)) left.volume (read_left pieces (number + 1) dev (before ++ bytes_in got) mid w reply left.rest left.chunks fits.1 more))) done.3)
 
   -- pieces that join to a span fit
-  fits_joined : (a b : ℕ) (pieces : List Span) → Join a b pieces → Each (IsInOneChunk chunk) pieces → b ≤ sectors → Each (FitsPiece sectors chunk) pieces
+  pub fits_joined : (a b : ℕ) (pieces : List Span) → Join a b pieces → Each (IsInOneChunk chunk) pieces → b ≤ sectors → Each (FitsPiece sectors chunk) pieces
   fits_joined a b [] join one inside = tt
   fits_joined a b (p ∷ pieces) join one inside =
       let le : a + p.count ≤ b = join_le (a + p.count) b pieces join.1 in
       let start : p.first ≡ a = join.0 in
       (record { one = one.0; inside = omega arith }, fits_joined (a + p.count) b pieces join.1 one.1 inside)
 
-  counts_joined : (a b : ℕ) (pieces : List Span) → Join a b pieces → a + counts_of pieces ≡ b
+  pub counts_joined : (a b : ℕ) (pieces : List Span) → Join a b pieces → a + counts_of pieces ≡ b
   counts_joined a b [] join = omega arith
   counts_joined a b (p ∷ pieces) join = let h = counts_joined (a + p.count) b pieces join.1 in omega arith
 

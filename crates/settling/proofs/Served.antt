@@ -1,18 +1,17 @@
 -- A request to one snapshot: what is left of the volume is what the big step leaves of that snapshot.
-use Rattle.std.proofs.Common.{◌≡◌, ℕ, ◌*◌, true, false, List, [], ◌∷◌, ◌++◌, length, map, Some, refl, ap, ◌∙◌, sym}
+use Rattle.std.proofs.Common.{◌≡◌, ℕ, ◌*◌, true, false, List, [], ◌∷◌, ◌++◌, length, map, Option, Some, refl, ap, ◌∙◌, sym}
 use Rattle.std.specs.Prelude.{◌==◌}
 use Rattle.plain.specs.declared.request.Reply.{Reply}
 use Rattle.settled.specs.Devices.{Device}
 use Rattle.settled.specs.Snaps.{Snap}
 use Rattle.settled.specs.Pieces.{Answered, Served, in_snap}
-use Rattle.event_machine.specs.Held.{Held, Moving}
+use Rattle.event_machine.specs.Held.{Held, MergeHeld, Moving}
 use Rattle.event_machine.specs.Rest.{IsResting}
-use Rattle.event_machine.specs.Settles.{SettlesTo}
 use Rattle.settled.proofs.Each.{Each}
 use Rattle.settling.proofs.Goes.{Goes}
-use Rattle.event_machine.proofs.Around.{at}
+use Rattle.event_machine.proofs.Around.{at_with}
 use Rattle.event_machine.proofs.Found.{served_here}
-use Rattle.settling.proofs.Issued.{settles_there}
+use Rattle.settling.proofs.Issued.{Serves, serves_there}
 
 abbrev pub snap_of : Held → Snap
 snap_of h = h.snap
@@ -38,12 +37,12 @@ module _ (P : Held → Type 0) where
   each_joined [] rest h before here later = (here, later)
   each_joined (d ∷ done) rest h before here later = (before.0, each_joined done rest h before.1 here later)
 
-pub served_settles : (sectors number : ℕ) (serve : Device → Snap → Served) (origin origin' : Device) (done rest : List Held) (h h' : Held) (reply : Reply) (k : ℕ) (u v : Moving) →
+pub served_by : (sectors : ℕ) (g : Option MergeHeld) (number : ℕ) (serve : Device → Snap → Served) (origin origin' : Device) (done rest : List Held) (h h' : Held) (reply : Reply) (k : ℕ) (u v : Moving) →
     Each (λ (d : Held). (d.snap.number == number) ≡ false) done → (h.snap.number == number) ≡ true → Each (IsResting sectors) (done ++ h ∷ rest) → IsResting sectors h' → length origin'.bytes ≡ 512 * sectors →
-    serve origin h.snap ≡ record { origin = origin'; snap = h'.snap; reply = reply } → u ≡ v → Goes v (at origin' (done ++ h' ∷ rest) [] (Some reply) k) → SettlesTo sectors u (in_snap number serve origin (map snap_of (done ++ h ∷ rest)))
-served_settles sectors number serve origin origin' done rest h h' reply k u v before pass all resting whole is begun goes =
+    serve origin h.snap ≡ record { origin = origin'; snap = h'.snap; reply = reply } → u ≡ v → Goes v (at_with g origin' (done ++ h' ∷ rest) [] (Some reply) k) → Serves sectors g u (in_snap number serve origin (map snap_of (done ++ h ∷ rest)))
+served_by sectors g number serve origin origin' done rest h h' reply k u v before pass all resting whole is begun goes =
     let made : Served → Answered = λ (a : Served). record { volume = record { origin = a.origin; snaps = map snap_of done ++ a.snap ∷ map snap_of rest }; reply = a.reply } in
     let put : List Snap → Answered = λ (ss : List Snap). record { volume = record { origin = origin'; snaps = ss }; reply = reply } in
-    settles_there sectors u v origin' (done ++ h' ∷ rest) reply k (in_snap number serve origin (map snap_of (done ++ h ∷ rest))) begun goes whole
+    serves_there sectors g u v origin' (done ++ h' ∷ rest) reply k (in_snap number serve origin (map snap_of (done ++ h ∷ rest))) begun goes whole
     (each_joined (IsResting sectors) done rest h' (each_first (IsResting sectors) done rest h all) resting (each_last (IsResting sectors) done rest h all))
     (served_here number serve origin done rest h before pass ∙ ap made is ∙ ap put (sym (map_split done rest h')))

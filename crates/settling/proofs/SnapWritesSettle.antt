@@ -30,8 +30,8 @@ use Rattle.volume_laws.specs.Again.{published_place}
 use Rattle.settled.specs.Devices.{Device, met, written_by}
 use Rattle.settled.specs.Snaps.{Snap}
 use Rattle.settled.specs.Saving.{Saving, spoilt, next_place, is_full, has_chunk, save}
-use Rattle.settled.specs.Pieces.{Served, write_snap, write_saved, write_place, in_snap}
-use Rattle.event_machine.specs.Held.{Held, Going, Moving, with_store, spoiled}
+use Rattle.settled.specs.Pieces.{Answered, Served, write_snap, write_saved, write_place, in_snap}
+use Rattle.event_machine.specs.Held.{Held, Going, MergeHeld, Moving, with_store, spoiled}
 use Rattle.event_machine.specs.Due.{copy_at, least_in}
 use Rattle.event_machine.specs.Again.{again}
 use Rattle.event_machine.specs.Stepping.{for_some, answer, on_store, write_reply}
@@ -41,24 +41,24 @@ use Rattle.event_machine.specs.Settles.{SettlesTo}
 use Rattle.settled.proofs.Each.{Each, each_weaker, each_from}
 use Rattle.event_machine.proofs.Lists.{here_that, none_least}
 use Rattle.settling.proofs.Goes.{Goes, goes_none, goes_on}
-use Rattle.event_machine.proofs.Around.{at, IsIdle, IsLater, idle_later}
+use Rattle.event_machine.proofs.Around.{at, at_with, at_alone, IsIdle, IsLater, idle_later}
 use Rattle.settling.proofs.Stages.{put_here, marks_here}
 use Rattle.settling.proofs.Ends.{Ends, IsUnread, requests_after, ends_read}
 use Rattle.settled.proofs.Saves.{saves_nothing, saves_full, saves_copy, chunk_read}
 use Rattle.settling.proofs.Resting.{rests_live, saved_snap, saved_chunk, saved_number}
 use Rattle.event_machine.proofs.Clears.{and_last}
 use Rattle.settling.proofs.Primed.{tried_of, resting_idle}
-use Rattle.settling.proofs.OriginWrites.{needs_same, next_same, copy_bytes, as_holding}
+use Rattle.settling.proofs.Starts.{needs_same, next_same, copy_bytes, as_holding}
 use Rattle.event_machine.proofs.Found.{split_at, none_that, served_nowhere}
-use Rattle.settling.proofs.Issued.{mine_of, issued, answered_here, settles_there}
-use Rattle.settling.proofs.Served.{snap_of, each_first, each_here, each_last, each_joined, served_settles}
+use Rattle.settling.proofs.Issued.{mine_of, issued, answered_here, Serves, serves_there, serves_settles}
+use Rattle.settling.proofs.Served.{snap_of, each_first, each_here, each_last, each_joined, served_by}
 use Rattle.settling.proofs.ReadsSettle.{goes_to}
 use Rattle.settling.proofs.PlaceRests.{place_rests}
 
 abbrev pub snap_write_request : ℕ → Range → List ℕ → Request
 snap_write_request n range bytes = record { dev = ToSnap n; op = Write bytes; range = range }
 
-module _ (sectors number n : ℕ) (range : Range) (bytes : List ℕ) where
+module _ (g : Option MergeHeld) (sectors number n : ℕ) (range : Range) (bytes : List ℕ) where
   abbrev routed : Route → Going
   routed route = record { number = number; request = snap_write_request n range bytes; route = route }
 
@@ -77,18 +77,18 @@ module _ (sectors number n : ℕ) (range : Range) (bytes : List ℕ) where
 
   -- a write that is routed to its chunk's place
   place_goes : (origin : Device) (done rest : List Held) (h : Held) (place : ℕ) (a : Option Reply) (k : ℕ) → Each IsIdle (done ++ h ∷ rest) → Each (λ d. is_this d ≡ false) done → is_this h ≡ true →
-      Goes (at origin (done ++ h ∷ rest) (routed (Store place) ∷ []) a k) (at origin (done ++ after_place h place ∷ rest) [] (Some (place_reply h place)) k)
+      Goes (at_with g origin (done ++ h ∷ rest) (routed (Store place) ∷ []) a k) (at_with g origin (done ++ after_place h place ∷ rest) [] (Some (place_reply h place)) k)
   place_goes origin done rest h place a k idle before pass =
       let r : Going = routed (Store place) in
-      let v : Moving = at origin (done ++ h ∷ rest) (r ∷ []) a k in
-      goes_to _ _ _ (issued origin (done ++ h ∷ rest) r a k idle refl)
+      let v : Moving = at_with g origin (done ++ h ∷ rest) (r ∷ []) a k in
+      goes_to _ _ _ (issued g origin (done ++ h ∷ rest) r a k idle refl)
       (ap (λ o. for_some o (λ x. on_store (Write bytes) (x.snap.chunk * place + range.first % x.snap.chunk) range.count (mine_of r) is_this x v) v) (here_that is_this done rest h before pass)
-      ∙ ap (answer (mine_of r) (place_reply h place)) (put_here origin done rest (r ∷ []) a k is_this h before pass (after_place h place))
-      ∙ answered_here origin (done ++ after_place h place ∷ rest) r (place_reply h place) a k)
+      ∙ ap (answer (mine_of r) (place_reply h place)) (put_here g origin done rest (r ∷ []) a k is_this h before pass (after_place h place))
+      ∙ answered_here g origin (done ++ after_place h place ∷ rest) r (place_reply h place) a k)
 
   -- a write whose snapshot was spoiled
-  refused_goes : (origin : Device) (snaps : List Held) (a : Option Reply) (k : ℕ) → Each IsIdle snaps → Goes (at origin snaps (routed Refused ∷ []) a k) (at origin snaps [] (Some (Declined Invalid)) k)
-  refused_goes origin snaps a k idle = goes_to _ _ _ (issued origin snaps (routed Refused) a k idle refl) (answered_here origin snaps (routed Refused) (Declined Invalid) a k)
+  refused_goes : (origin : Device) (snaps : List Held) (a : Option Reply) (k : ℕ) → Each IsIdle snaps → Goes (at_with g origin snaps (routed Refused ∷ []) a k) (at_with g origin snaps [] (Some (Declined Invalid)) k)
+  refused_goes origin snaps a k idle = goes_to _ _ _ (issued g origin snaps (routed Refused) a k idle refl) (answered_here g origin snaps (routed Refused) (Declined Invalid) a k)
 
   -- what the big step does of a write, by what saving the chunk leaves
   saved_is : (origin : Device) (s : Snap) (x : Saving) → save (range.first / s.chunk) origin s ≡ x → write_snap (span_of range) bytes origin s ≡ write_saved (span_of range) bytes x
@@ -106,15 +106,15 @@ module _ (sectors number n : ℕ) (range : Range) (bytes : List ℕ) where
 
   module _ (origin : Device) (a : Option Reply) (k : ℕ) (whole : length origin.bytes ≡ 512 * sectors) (inside : range.first < sectors) (len : length bytes ≡ 512 * range.count) where
     abbrev write_begun : List Held → Moving
-    write_begun snaps = submitted number (snap_write_request n range bytes) (at origin snaps [] a k)
+    write_begun snaps = submitted number (snap_write_request n range bytes) (at_with g origin snaps [] a k)
 
-    abbrev WriteSettles : List Held → Type 0
-    WriteSettles snaps = SettlesTo sectors (write_begun snaps) (in_snap n (write_snap (span_of range) bytes) origin (map snap_of snaps))
+    abbrev WriteServes : List Held → Type 0
+    WriteServes snaps = Serves sectors g (write_begun snaps) (in_snap n (write_snap (span_of range) bytes) origin (map snap_of snaps))
 
-    nowhere : (snaps : List Held) → Each (IsResting sectors) snaps → Each (λ h. is_this h ≡ false) snaps → WriteSettles snaps
+    nowhere : (snaps : List Held) → Each (IsResting sectors) snaps → Each (λ h. is_this h ≡ false) snaps → WriteServes snaps
     nowhere snaps rest none =
-        settles_there sectors (write_begun snaps) (at origin snaps [] (Some (Declined Invalid)) k) origin snaps (Declined Invalid) k _
-        (ap (λ o. for_some o (λ h. submit_write number (snap_write_request n range bytes) is_this h (at origin snaps [] a k)) (declined (at origin snaps [] a k))) (none_that is_this snaps none))
+        serves_there sectors g (write_begun snaps) (at_with g origin snaps [] (Some (Declined Invalid)) k) origin snaps (Declined Invalid) k _
+        (ap (λ o. for_some o (λ h. submit_write number (snap_write_request n range bytes) is_this h (at_with g origin snaps [] a k)) (declined (at_with g origin snaps [] a k))) (none_that is_this snaps none))
         (goes_none _) whole rest (served_nowhere n (write_snap (span_of range) bytes) origin snaps none)
 
     module _ (done rest : List Held) (h : Held) (all : Each (IsResting sectors) (done ++ h ∷ rest)) (before : Each (λ d. is_this d ≡ false) done) (pass : is_this h ≡ true) (piece : range.first + range.count ≤ h.snap.chunk * (range.first / h.snap.chunk) + h.snap.chunk) where
@@ -133,8 +133,8 @@ module _ (sectors number n : ℕ) (range : Range) (bytes : List ℕ) where
       idle_rest : Each IsIdle rest
       idle_rest = each_weaker (IsResting sectors) IsIdle rest (resting_idle sectors) (each_last (IsResting sectors) done rest h all)
 
-      begun : write_begun (done ++ h ∷ rest) ≡ submit_write number (snap_write_request n range bytes) is_this h (at origin (done ++ h ∷ rest) [] a k)
-      begun = ap (λ o. for_some o (λ x. submit_write number (snap_write_request n range bytes) is_this x (at origin (done ++ h ∷ rest) [] a k)) (declined (at origin (done ++ h ∷ rest) [] a k))) (here_that is_this done rest h before pass)
+      begun : write_begun (done ++ h ∷ rest) ≡ submit_write number (snap_write_request n range bytes) is_this h (at_with g origin (done ++ h ∷ rest) [] a k)
+      begun = ap (λ o. for_some o (λ x. submit_write number (snap_write_request n range bytes) is_this x (at_with g origin (done ++ h ∷ rest) [] a k)) (declined (at_with g origin (done ++ h ∷ rest) [] a k))) (here_that is_this done rest h before pass)
 
       if_some : (o : Option ℕ) → (if is_some o && not false then o else None) ≡ o
       if_some None = refl
@@ -145,48 +145,48 @@ module _ (sectors number n : ℕ) (range : Range) (bytes : List ℕ) where
       published_rest ps ms x none = ap (λ (m : List Mark). published_place ps m x) none ∙ if_some (place_of ps x)
 
       -- by the place of the chunk
-      by_place : (o : Option ℕ) → h.snap.live ≡ true → place_of h.pairs c ≡ o → write_begun (done ++ h ∷ rest) ≡ write_placed number (snap_write_request n range bytes) is_this h o (at origin (done ++ h ∷ rest) [] a k)
-      by_place o on is = begun ∙ cond-true _ _ _ on ∙ ap (λ x. write_placed number (snap_write_request n range bytes) is_this h x (at origin (done ++ h ∷ rest) [] a k)) (published_rest h.pairs h.marks c here.marks ∙ is)
+      by_place : (o : Option ℕ) → h.snap.live ≡ true → place_of h.pairs c ≡ o → write_begun (done ++ h ∷ rest) ≡ write_placed number (snap_write_request n range bytes) is_this h o (at_with g origin (done ++ h ∷ rest) [] a k)
+      by_place o on is = begun ∙ cond-true _ _ _ on ∙ ap (λ x. write_placed number (snap_write_request n range bytes) is_this h x (at_with g origin (done ++ h ∷ rest) [] a k)) (published_rest h.pairs h.marks c here.marks ∙ is)
 
       -- a snapshot that is not live
-      write_dead : h.snap.live ≡ false → WriteSettles (done ++ h ∷ rest)
+      write_dead : h.snap.live ≡ false → WriteServes (done ++ h ∷ rest)
       write_dead out =
           let x : Saving = record { origin = origin; snap = h.snap } in
-          served_settles sectors n (write_snap (span_of range) bytes) origin origin done rest h h (Declined Invalid) k _ (at origin (done ++ h ∷ rest) [] (Some (Declined Invalid)) k) before pass all here whole
+          served_by sectors g n (write_snap (span_of range) bytes) origin origin done rest h h (Declined Invalid) k _ (at_with g origin (done ++ h ∷ rest) [] (Some (Declined Invalid)) k) before pass all here whole
           (saved_is origin h.snap x (saves_nothing c origin h.snap (rw out refl)) ∙ saved_dead x out) (begun ∙ cond-false _ _ _ out) (goes_none _)
 
       has_same : (o : Option ℕ) → h.snap.live ≡ true → place_of h.pairs c ≡ o → has_chunk c h.snap ≡ is_some o
       has_same o on is = ap (λ ps. is_some (place_of ps c)) (here.live on).pairs ∙ ap is_some is
 
       -- one that has the chunk
-      write_stored : (place : ℕ) → h.snap.live ≡ true → place_of h.pairs c ≡ Some place → WriteSettles (done ++ h ∷ rest)
+      write_stored : (place : ℕ) → h.snap.live ≡ true → place_of h.pairs c ≡ Some place → WriteServes (done ++ h ∷ rest)
       write_stored place on some =
           let x : Saving = record { origin = origin; snap = h.snap } in
-          served_settles sectors n (write_snap (span_of range) bytes) origin origin done rest h (after_place h place) (place_reply h place) k _ (at origin (done ++ h ∷ rest) (routed (Store place) ∷ []) a k) before pass all
+          served_by sectors g n (write_snap (span_of range) bytes) origin origin done rest h (after_place h place) (place_reply h place) k _ (at_with g origin (done ++ h ∷ rest) (routed (Store place) ∷ []) a k) before pass all
           (place_rests sectors place range.first range.count bytes h here on some piece len) whole
           (saved_is origin h.snap x (saves_nothing c origin h.snap (rw (on, has_same (Some place) on some) refl)) ∙ saved_there x h place refl on (here.live on) some)
           (by_place (Some place) on some) (place_goes origin done rest h place a k idle before pass)
 
       full_same : h.snap.live ≡ true → is_filled h ≡ is_full h.snap
-      full_same on = ap (λ x. nat_lt (length h.snap.store.bytes) (512 * (h.snap.chunk * (x + 1)))) (next_same sectors number range bytes a k h (here.live on))
+      full_same on = ap (λ x. nat_lt (length h.snap.store.bytes) (512 * (h.snap.chunk * (x + 1)))) (next_same sectors h (here.live on))
 
       lacks : h.snap.live ≡ true → place_of h.pairs c ≡ None → (not h.snap.live || has_chunk c h.snap) ≡ false
       lacks on none = rw (on, has_same None on none) refl
 
       lacks_copy : h.snap.live ≡ true → place_of h.pairs c ≡ None → needs_none c h ≡ false
-      lacks_copy on none = needs_same sectors number range bytes a k c h here ∙ lacks on none
+      lacks_copy on none = needs_same sectors c h here ∙ lacks on none
 
       -- one whose store is full
-      write_full : h.snap.live ≡ true → place_of h.pairs c ≡ None → is_filled h ≡ true → WriteSettles (done ++ h ∷ rest)
+      write_full : h.snap.live ≡ true → place_of h.pairs c ≡ None → is_filled h ≡ true → WriteServes (done ++ h ∷ rest)
       write_full on none filled =
           let x : Saving = record { origin = origin; snap = spoilt h.snap } in
           let reply : Reply = Declined Invalid in
-          let v : Moving = at origin (done ++ spoiled h ∷ rest) [] (Some reply) k in
-          served_settles sectors n (write_snap (span_of range) bytes) origin origin done rest h (tried_of h) reply k _ v before pass all
+          let v : Moving = at_with g origin (done ++ spoiled h ∷ rest) [] (Some reply) k in
+          served_by sectors g n (write_snap (span_of range) bytes) origin origin done rest h (tried_of h) reply k _ v before pass all
           (record { tried = refl; copies = refl; marks = refl; live = λ live. absurd (true≢false (sym live)) }) whole
           (saved_is origin h.snap x (saves_full c origin h.snap (lacks on none) (sym (full_same on) ∙ filled)) ∙ saved_dead x refl)
-          (by_place None on none ∙ cond-false _ _ _ (lacks_copy on none) ∙ cond-true _ _ _ filled ∙ ap declined (put_here origin done rest [] a k is_this h before pass (spoiled h)))
-          (marks_here origin done rest [] (Some reply) k (spoiled h) (each_weaker IsIdle (λ (d : Held). d.untried ≡ false) done (λ d i. i.tried) idle_done) refl)
+          (by_place None on none ∙ cond-false _ _ _ (lacks_copy on none) ∙ cond-true _ _ _ filled ∙ ap declined (put_here g origin done rest [] a k is_this h before pass (spoiled h)))
+          (marks_here g origin done rest [] (Some reply) k (spoiled h) (each_weaker IsIdle (λ (d : Held). d.untried ≡ false) done (λ d i. i.tried) idle_done) refl)
 
       -- one that copies the chunk first
       unread : IsUnread (routed Waits ∷ [])
@@ -199,16 +199,16 @@ module _ (sectors number n : ℕ) (range : Range) (bytes : List ℕ) where
       saving = record { origin = met origin (chunk_read c origin h.snap); snap = saved_snap sectors c origin h h }
 
       abbrev CopyEnds : Type 0
-      CopyEnds = Ends done rest (routed Waits ∷ []) a (k + 1) (met origin (chunk_read c origin h.snap)) (at origin (done ++ with_copy (k + 1) c h ∷ rest) (routed Waits ∷ []) a (k + 1)) (h.pairs ++ q ∷ []) (stepped h.snap.chunk (next_place h.snap + 1)) (saved_snap sectors c origin h h)
+      CopyEnds = Ends g done rest (routed Waits ∷ []) a (k + 1) (met origin (chunk_read c origin h.snap)) (at_with g origin (done ++ with_copy (k + 1) c h ∷ rest) (routed Waits ∷ []) a (k + 1)) (h.pairs ++ q ∷ []) (stepped h.snap.chunk (next_place h.snap + 1)) (saved_snap sectors c origin h h)
 
       copy_ends : h.snap.live ≡ true → place_of h.pairs c ≡ None → CopyEnds
       copy_ends on none =
           let kept : IsKept sectors h = here.live on in
           let low : least_in (copy_at Waiting) rest ≡ None = none_least (copy_at Waiting) rest (each_weaker IsIdle (λ d. copy_at Waiting d ≡ None) rest (λ d i. rw i.copies refl) idle_rest) in
-          subst (λ (w : Held). Ends done rest (routed Waits ∷ []) a (k + 1) (met origin (chunk_read c origin h.snap)) (at origin (done ++ w ∷ rest) (routed Waits ∷ []) a (k + 1)) (h.pairs ++ q ∷ []) (stepped h.snap.chunk (next_place h.snap + 1)) (saved_snap sectors c origin h h))
-          (sym (as_holding sectors number range bytes a k c (k + 1) h here kept))
-          (ends_read done rest (routed Waits ∷ []) a (k + 1) (k + 1) q h.pairs (stepped h.snap.chunk (next_place h.snap + 1)) idle_done (each_weaker IsIdle IsLater rest idle_later idle_rest) unread origin h.snap on kept.pairs
-          (copy_bytes sectors number range bytes a k origin h.snap c (next_place h.snap) whole) (ap (least (Some (k + 1))) low))
+          subst (λ (w : Held). Ends g done rest (routed Waits ∷ []) a (k + 1) (met origin (chunk_read c origin h.snap)) (at_with g origin (done ++ w ∷ rest) (routed Waits ∷ []) a (k + 1)) (h.pairs ++ q ∷ []) (stepped h.snap.chunk (next_place h.snap + 1)) (saved_snap sectors c origin h h))
+          (sym (as_holding sectors c (k + 1) h here kept))
+          (ends_read g done rest (routed Waits ∷ []) a (k + 1) (k + 1) q h.pairs (stepped h.snap.chunk (next_place h.snap + 1)) idle_done (each_weaker IsIdle IsLater rest idle_later idle_rest) unread origin h.snap kept.order.1.some on kept.pairs
+          (copy_bytes sectors origin h.snap c (next_place h.snap) whole) (ap (least (Some (k + 1))) low))
 
       -- the snapshot once its copy came to its end
       module _ (on : h.snap.live ≡ true) (none : place_of h.pairs c ≡ None) (filled : is_filled h ≡ false) (e : CopyEnds) where
@@ -234,8 +234,8 @@ module _ (sectors number n : ℕ) (range : Range) (bytes : List ℕ) where
         copied_idle : Each IsIdle (done ++ e.held ∷ rest)
         copied_idle = each_joined IsIdle done rest e.held idle_done (resting_idle sectors e.held copied_rests) idle_rest
 
-        copied_begun : write_begun (done ++ h ∷ rest) ≡ at origin (done ++ with_copy (k + 1) c h ∷ rest) (routed Waits ∷ []) a (k + 1)
-        copied_begun = by_place None on none ∙ cond-false _ _ _ (lacks_copy on none) ∙ cond-false _ _ _ filled ∙ ap (accepted number (snap_write_request n range bytes) Waits) (put_here origin done rest [] a (k + 1) is_this h before pass (with_copy (k + 1) c h))
+        copied_begun : write_begun (done ++ h ∷ rest) ≡ at_with g origin (done ++ with_copy (k + 1) c h ∷ rest) (routed Waits ∷ []) a (k + 1)
+        copied_begun = by_place None on none ∙ cond-false _ _ _ (lacks_copy on none) ∙ cond-false _ _ _ filled ∙ ap (accepted number (snap_write_request n range bytes) Waits) (put_here g origin done rest [] a (k + 1) is_this h before pass (with_copy (k + 1) c h))
 
         copied_saved : write_snap (span_of range) bytes origin h.snap ≡ write_saved (span_of range) bytes saving
         copied_saved = saved_is origin h.snap saving (saves_copy c origin h.snap (lacks on none) has_room)
@@ -243,22 +243,22 @@ module _ (sectors number n : ℕ) (range : Range) (bytes : List ℕ) where
         abbrev copied_after : List Held
         copied_after = done ++ e.held ∷ rest
 
-        goes_routed : (route : Route) → requests_after copied_after e.held (routed Waits ∷ []) ≡ routed route ∷ [] → Goes (at origin (done ++ with_copy (k + 1) c h ∷ rest) (routed Waits ∷ []) a (k + 1)) (at (met origin (chunk_read c origin h.snap)) copied_after (routed route ∷ []) a (k + 1))
-        goes_routed route is = goes_to _ _ _ e.goes (ap (λ rs. at (met origin (chunk_read c origin h.snap)) copied_after rs a (k + 1)) is)
+        goes_routed : (route : Route) → requests_after g copied_after e.held (routed Waits ∷ []) ≡ routed route ∷ [] → Goes (at_with g origin (done ++ with_copy (k + 1) c h ∷ rest) (routed Waits ∷ []) a (k + 1)) (at_with g (met origin (chunk_read c origin h.snap)) copied_after (routed route ∷ []) a (k + 1))
+        goes_routed route is = goes_to _ _ _ e.goes (ap (λ rs. at_with g (met origin (chunk_read c origin h.snap)) copied_after rs a (k + 1)) is)
 
         -- it was spoiled
-        routed_refused : e.held.snap.live ≡ false → requests_after copied_after e.held (routed Waits ∷ []) ≡ routed Refused ∷ []
+        routed_refused : e.held.snap.live ≡ false → requests_after g copied_after e.held (routed Waits ∷ []) ≡ routed Refused ∷ []
         routed_refused out =
-            ap (λ (f : Going → Going). map (again copied_after) (map f (routed Waits ∷ []))) (cond-false _ _ _ out)
-            ∙ ap (λ b. again copied_after (routed (if b || false then Refused else Waits)) ∷ []) copied_this
+            ap (λ (f : Going → Going). map (again g copied_after) (map f (routed Waits ∷ []))) (cond-false _ _ _ out)
+            ∙ ap (λ b. again g copied_after (routed (if b || false then Refused else Waits)) ∷ []) copied_this
 
-        copied_dead : e.held.snap.live ≡ false → WriteSettles (done ++ h ∷ rest)
+        copied_dead : e.held.snap.live ≡ false → WriteServes (done ++ h ∷ rest)
         copied_dead out =
             let reply : Reply = Declined Invalid in
             let O : Device = met origin (chunk_read c origin h.snap) in
             let dead : saving.snap.live ≡ false = sym (ap (λ (t : Snap). t.live) e.snap) ∙ out in
             let with_snap : Snap → Served = λ (t : Snap). record { origin = O; snap = t; reply = reply } in
-            served_settles sectors n (write_snap (span_of range) bytes) origin O done rest h e.held reply (k + 1) _ _ before pass all copied_rests whole
+            served_by sectors g n (write_snap (span_of range) bytes) origin O done rest h e.held reply (k + 1) _ _ before pass all copied_rests whole
             (copied_saved ∙ saved_dead saving dead ∙ ap with_snap (sym e.snap)) copied_begun
             (goes_on _ _ _ (goes_routed Refused (routed_refused out)) (refused_goes O copied_after a (k + 1) copied_idle))
 
@@ -273,29 +273,29 @@ module _ (sectors number n : ℕ) (range : Range) (bytes : List ℕ) where
           this_again : (n == e.held.snap.number) ≡ true
           this_again = eq-eqb n e.held.snap.number (sym (eqb-true e.held.snap.number n copied_this))
 
-          routed_place : requests_after copied_after e.held (routed Waits ∷ []) ≡ routed (Store (next_place h.snap)) ∷ []
+          routed_place : requests_after g copied_after e.held (routed Waits ∷ []) ≡ routed (Store (next_place h.snap)) ∷ []
           routed_place =
-              ap (λ (f : Going → Going). map (again copied_after) (map f (routed Waits ∷ []))) (cond-true _ _ _ live)
-              ∙ ap (λ o. again copied_after (routed (placed_route_of e.held.snap.number (SnapWrite n) Waits o)) ∷ []) (published_is e.held.pairs e.held.marks (range.first / e.held.snap.chunk) (next_place h.snap) e.idle.marks copied_place)
-              ∙ ap (λ b. again copied_after (routed (if b then Store (next_place h.snap) else Waits)) ∷ []) this_again
+              ap (λ (f : Going → Going). map (again g copied_after) (map f (routed Waits ∷ []))) (cond-true _ _ _ live)
+              ∙ ap (λ o. again g copied_after (routed (placed_route_of e.held.snap.number (SnapWrite n) Waits o)) ∷ []) (published_is e.held.pairs e.held.marks (range.first / e.held.snap.chunk) (next_place h.snap) e.idle.marks copied_place)
+              ∙ ap (λ b. again g copied_after (routed (if b then Store (next_place h.snap) else Waits)) ∷ []) this_again
 
-          copied_live : WriteSettles (done ++ h ∷ rest)
+          copied_live : WriteServes (done ++ h ∷ rest)
           copied_live =
               let O : Device = met origin (chunk_read c origin h.snap) in
               let place : ℕ = next_place h.snap in
               let fits : range.first + range.count ≤ e.held.snap.chunk * (range.first / e.held.snap.chunk) + e.held.snap.chunk = subst (λ (x : ℕ). range.first + range.count ≤ x * (range.first / x) + x) (sym copied_chunk) piece in
-              served_settles sectors n (write_snap (span_of range) bytes) origin O done rest h (after_place e.held place) (place_reply e.held place) (k + 1) _ _ before pass all
+              served_by sectors g n (write_snap (span_of range) bytes) origin O done rest h (after_place e.held place) (place_reply e.held place) (k + 1) _ _ before pass all
               (place_rests sectors place range.first range.count bytes e.held copied_rests live copied_place fits len) whole
               (copied_saved ∙ saved_there saving e.held place e.snap live (copied_rests.live live) copied_place) copied_begun
               (goes_on _ _ _ (goes_routed (Store place) routed_place) (place_goes O done rest e.held place a (k + 1) copied_idle before copied_this))
 
-        copied_settles : WriteSettles (done ++ h ∷ rest)
+        copied_settles : WriteServes (done ++ h ∷ rest)
         copied_settles = elim (cases_Bool e.held.snap.live) [ inl live ↦ copied_live live | inr out ↦ copied_dead out ]
 
-      write_copied : h.snap.live ≡ true → place_of h.pairs c ≡ None → is_filled h ≡ false → WriteSettles (done ++ h ∷ rest)
+      write_copied : h.snap.live ≡ true → place_of h.pairs c ≡ None → is_filled h ≡ false → WriteServes (done ++ h ∷ rest)
       write_copied on none filled = copied_settles on none filled (copy_ends on none)
 
-      write_here : WriteSettles (done ++ h ∷ rest)
+      write_here : WriteServes (done ++ h ∷ rest)
       write_here = elim (cases_Bool h.snap.live) [
         | inr out ↦ write_dead out
         | inl on ↦ elim (option_cases (place_of h.pairs c)) [
@@ -304,10 +304,10 @@ module _ (sectors number n : ℕ) (range : Range) (bytes : List ℕ) where
         ]
       ]
 
-    write_all : (snaps : List Held) → Each (IsResting sectors) snaps → Each (λ h. range.first + range.count ≤ h.snap.chunk * (range.first / h.snap.chunk) + h.snap.chunk) snaps → WriteSettles snaps
-    write_all snaps rest pieces = elim (split_at is_this snaps) [
+    pub snap_write_serves : (snaps : List Held) → Each (IsResting sectors) snaps → Each (λ h. range.first + range.count ≤ h.snap.chunk * (range.first / h.snap.chunk) + h.snap.chunk) snaps → WriteServes snaps
+    snap_write_serves snaps rest pieces = elim (split_at is_this snaps) [
       | inl none ↦ nowhere snaps rest none
-      | inr s ↦ subst WriteSettles (sym s.is)
+      | inr s ↦ subst WriteServes (sym s.is)
           (write_here s.done s.rest s.here (subst (Each (IsResting sectors)) s.is rest) s.before s.pass
           (each_here (λ h. range.first + range.count ≤ h.snap.chunk * (range.first / h.snap.chunk) + h.snap.chunk) s.done s.rest s.here (subst (Each (λ h. range.first + range.count ≤ h.snap.chunk * (range.first / h.snap.chunk) + h.snap.chunk)) s.is pieces)))
     ]
@@ -316,6 +316,9 @@ module _ (sectors number n : ℕ) (range : Range) (bytes : List ℕ) where
 pub snap_write_settles : (sectors number n : ℕ) (range : Range) (bytes : List ℕ) (v : Moving) → IsAtRest sectors v → range.first < sectors → length bytes ≡ 512 * range.count → All (λ (h : Held). range.first + range.count ≤ h.snap.chunk * (range.first / h.snap.chunk) + h.snap.chunk) v.snaps →
     SettlesTo sectors (submitted number (snap_write_request n range bytes) v) (in_snap n (write_snap (span_of range) bytes) v.origin (map snap_of v.snaps))
 snap_write_settles sectors number n range bytes v rest inside len pieces =
-    subst (λ (rs : List Going). SettlesTo sectors (submitted number (snap_write_request n range bytes) (at v.origin v.snaps rs v.replied v.started)) (in_snap n (write_snap (span_of range) bytes) v.origin (map snap_of v.snaps))) (sym rest.requests)
-    (write_all sectors number n range bytes v.origin v.replied v.started rest.whole inside len v.snaps (each_from (IsResting sectors) v.snaps rest.snaps)
-    (each_from (λ (h : Held). range.first + range.count ≤ h.snap.chunk * (range.first / h.snap.chunk) + h.snap.chunk) v.snaps pieces))
+    let answer : Answered = in_snap n (write_snap (span_of range) bytes) v.origin (map snap_of v.snaps) in
+    let Settles : Moving → Type 0 = λ (w : Moving). SettlesTo sectors (submitted number (snap_write_request n range bytes) w) answer in
+    subst Settles (sym (at_alone v rest.alone))
+    (subst (λ (rs : List Going). Settles (at v.origin v.snaps rs v.replied v.started)) (sym rest.requests)
+    (serves_settles sectors _ answer (snap_write_serves None sectors number n range bytes v.origin v.replied v.started rest.whole inside len v.snaps (each_from (IsResting sectors) v.snaps rest.snaps)
+    (each_from (λ (h : Held). range.first + range.count ≤ h.snap.chunk * (range.first / h.snap.chunk) + h.snap.chunk) v.snaps pieces))))

@@ -1,16 +1,17 @@
 -- One snapshot's copy, event by event: each event is due where the snapshots before it are idle and those after it wait, and
 -- what it does.
-use Rattle.std.proofs.Common.{◌≡◌, ℕ, ◌+◌, ◌*◌, ◌/◌, ◌%◌, Bool, true, false, List, [], ◌∷◌, ◌++◌, length, map, Option, Some, refl, ap, ◌∙◌, eq-eqb}
-use Rattle.std.specs.Prelude.{◌==◌, ◌&&◌, not}
+use Rattle.std.proofs.Common.{◌≡◌, ℕ, ◌+◌, ◌*◌, ◌/◌, ◌%◌, ◌<◌, Bool, true, false, List, [], ◌∷◌, ◌++◌, length, map, drop, Option, Some, None, refl, ap, ◌∙◌, eq-eqb, arith, append-nil}
+use Rattle.std.specs.Prelude.{◌==◌, ◌&&◌, not, if◌then◌else◌}
 use Rattle.std.specs.List.{list_any}
 use Rattle.std.proofs.lemmas.Bool.{cond-true, cond-false}
-use Rattle.sector.specs.Bytes.{sectors_at, with_sectors}
+use Rattle.sector.specs.Bytes.{sectors_at, with_part, with_sectors}
 use Rattle.sector.specs.declared.pair.Pair.{Pair}
 use Rattle.device.specs.declared.operation.Operation.{Operation}
 use Rattle.device.specs.declared.operation.Operation.TheVariants.{Reads, Writes}
 use Rattle.plain.specs.declared.event.Event.TheVariants.{CopyRead, CopyWrite, ZeroNext, WriteArea, Publish, WriteInvalid}
 use Rattle.plain.specs.declared.request.Reply.{Reply}
 use Rattle.model.specs.Places.{area_place}
+use Rattle.model.specs.Slots.{pair_bytes}
 use Rattle.pending.specs.Copies.{count_of}
 use Rattle.pending.specs.declared.copies.Stage.{Stage}
 use Rattle.pending.specs.declared.copies.Stage.TheVariants.{Waiting, Read, Written}
@@ -20,14 +21,15 @@ use Rattle.settled.specs.Saves.{marked, paired, zeroed}
 use Rattle.settled.specs.Devices.{Device, sectors_of, answers, met, written_by}
 use Rattle.settled.specs.Snaps.{Snap}
 use Rattle.settled.specs.Saving.{lacks_area}
-use Rattle.event_machine.specs.Held.{Copying, Held, Going, Moving, with_store, spoiled}
-use Rattle.event_machine.specs.Due.{can_commit, can_zero, copy_at, is_reading, is_publishable, least_in, due}
+use Rattle.event_machine.specs.Held.{Copying, Held, Going, MergeHeld, Moving, with_store, spoiled}
+use Rattle.event_machine.specs.Due.{batch_of, needs_area, can_commit, can_zero, copy_at, is_reading, is_publishable, least_in, due}
 use Rattle.event_machine.specs.Again.{again, placed, refused, rerouted}
-use Rattle.event_machine.specs.Stepping.{for_some, first_that, with_first, put, spoil, store_write, read_copy, write_copy, zero_next, commit_first, publish, mark_invalid, is_copy, on_copy, on_snap}
+use Rattle.event_machine.specs.Stepping.{for_some, first_that, with_first, put, spoil, store_write, read_copy, write_copy, zero_next, all_paired, commit, publish, mark_invalid, is_copy, on_copy, on_snap}
 use Rattle.event_machine.proofs.Lists.{same_number, here_that, here_with}
 use Rattle.settled.proofs.Each.{Each, each_weaker}
 use Rattle.settling.proofs.Goes.{Goes, goes_step}
-use Rattle.event_machine.proofs.Around.{at, IsIdle, IsLater, due_invalid, due_publish, due_area, due_zeros, due_write, due_read}
+use Rattle.event_machine.proofs.Slots.{one_batch, one_last, one_fills, next_area}
+use Rattle.event_machine.proofs.Around.{at_with, IsIdle, IsLater, due_invalid, due_publish, due_area, due_zeros, due_write, due_read}
 
 -- a live snapshot with these copies and marks
 abbrev pub holding : Snap → List Pair → ℕ → Bool → List Copying → List Mark → Held
@@ -37,34 +39,34 @@ holding s pairs next zeroed copies marks = record { snap = s; untried = false; p
 abbrev pub copying : ℕ → Pair → Stage → List ℕ → Copying
 copying n pair stage bytes = record { number = n; pair = pair; stage = stage; bytes = bytes }
 
-module _ (origin : Device) (done rest : List Held) (rs : List Going) (a : Option Reply) (k : ℕ) where
+module _ (g : Option MergeHeld) (origin : Device) (done rest : List Held) (rs : List Going) (a : Option Reply) (k : ℕ) where
   module _ (test : Held → Bool) (h : Held) (before : Each (λ d. test d ≡ false) done) (pass : test h ≡ true) where
     -- a snapshot that is changed
-    pub put_here : (w : Held) → put test w (at origin (done ++ h ∷ rest) rs a k) ≡ at origin (done ++ w ∷ rest) rs a k
-    put_here w = ap (λ xs. at origin xs rs a k) (here_with test w done rest h before pass)
+    pub put_here : (w : Held) → put test w (at_with g origin (done ++ h ∷ rest) rs a k) ≡ at_with g origin (done ++ w ∷ rest) rs a k
+    put_here w = ap (λ xs. at_with g origin xs rs a k) (here_with test w done rest h before pass)
 
-    pub spoil_here : (w : Held) → spoil test w (at origin (done ++ h ∷ rest) rs a k) ≡ at origin (done ++ spoiled w ∷ rest) (map (refused w.snap.number) rs) a k
-    spoil_here w = ap (λ xs. at origin xs (map (refused w.snap.number) rs) a k) (here_with test (spoiled w) done rest h before pass)
+    pub spoil_here : (w : Held) → spoil test w (at_with g origin (done ++ h ∷ rest) rs a k) ≡ at_with g origin (done ++ spoiled w ∷ rest) (map (refused w.snap.number) rs) a k
+    spoil_here w = ap (λ xs. at_with g origin xs (map (refused w.snap.number) rs) a k) (here_with test (spoiled w) done rest h before pass)
 
-    pub write_done : (op : Operation) (bytes : List ℕ) (next : Held → Held) → answers h.snap.store op ≡ true → store_write test h op bytes next (at origin (done ++ h ∷ rest) rs a k) ≡ at origin (done ++ next (with_store h (written_by h.snap.store op bytes)) ∷ rest) rs a k
+    pub write_done : (op : Operation) (bytes : List ℕ) (next : Held → Held) → answers h.snap.store op ≡ true → store_write test h op bytes next (at_with g origin (done ++ h ∷ rest) rs a k) ≡ at_with g origin (done ++ next (with_store h (written_by h.snap.store op bytes)) ∷ rest) rs a k
     write_done op bytes next ok = cond-true _ _ _ ok ∙ put_here (next (with_store h (written_by h.snap.store op bytes)))
 
-    pub write_failed : (op : Operation) (bytes : List ℕ) (next : Held → Held) → answers h.snap.store op ≡ false → store_write test h op bytes next (at origin (done ++ h ∷ rest) rs a k) ≡ at origin (done ++ spoiled (with_store h (written_by h.snap.store op bytes)) ∷ rest) (map (refused h.snap.number) rs) a k
+    pub write_failed : (op : Operation) (bytes : List ℕ) (next : Held → Held) → answers h.snap.store op ≡ false → store_write test h op bytes next (at_with g origin (done ++ h ∷ rest) rs a k) ≡ at_with g origin (done ++ spoiled (with_store h (written_by h.snap.store op bytes)) ∷ rest) (map (refused h.snap.number) rs) a k
     write_failed op bytes next failed = cond-false _ _ _ failed ∙ spoil_here (with_store h (written_by h.snap.store op bytes))
 
-    pub on_this_snap : (f : (Held → Bool) → Held → Moving → Moving) → on_snap test f (at origin (done ++ h ∷ rest) rs a k) ≡ f test h (at origin (done ++ h ∷ rest) rs a k)
-    on_this_snap f = ap (λ o. for_some o (λ x. f test x (at origin (done ++ h ∷ rest) rs a k)) (at origin (done ++ h ∷ rest) rs a k)) (here_that test done rest h before pass)
+    pub on_this_snap : (f : (Held → Bool) → Held → Moving → Moving) → on_snap test f (at_with g origin (done ++ h ∷ rest) rs a k) ≡ f test h (at_with g origin (done ++ h ∷ rest) rs a k)
+    on_this_snap f = ap (λ o. for_some o (λ x. f test x (at_with g origin (done ++ h ∷ rest) rs a k)) (at_with g origin (done ++ h ∷ rest) rs a k)) (here_that test done rest h before pass)
 
   -- the mark of a spoiled snapshot
   pub marks_here : (h : Held) → Each (λ d. d.untried ≡ false) done → h.untried ≡ true → (let after : Held = record h { snap = record h.snap { store = written_by h.snap.store (Writes 0 h.snap.chunk) (marked h.snap.chunk h.snap.store.bytes); stale = not (answers h.snap.store (Writes 0 h.snap.chunk)) }; untried = false } in
-      Goes (at origin (done ++ h ∷ rest) rs a k) (at origin (done ++ after ∷ rest) (map (again (done ++ after ∷ rest)) rs) a k))
+      Goes (at_with g origin (done ++ h ∷ rest) rs a k) (at_with g origin (done ++ after ∷ rest) (map (again g (done ++ after ∷ rest)) rs) a k))
   marks_here h before is =
       let test : Held → Bool = λ d. (d.snap.number == h.snap.number) && d.untried in
       let fails : Each (λ d. test d ≡ false) done = each_weaker (λ (d : Held). d.untried ≡ false) (λ d. test d ≡ false) done (λ d e. and_no (d.snap.number == h.snap.number) d.untried e) before in
       let pass : test h ≡ true = same_number h.snap.number h.untried ∙ is in
       let after : Held = record h { snap = record h.snap { store = written_by h.snap.store (Writes 0 h.snap.chunk) (marked h.snap.chunk h.snap.store.bytes); stale = not (answers h.snap.store (Writes 0 h.snap.chunk)) }; untried = false } in
       goes_step _ _ (WriteInvalid h.snap.number) (due_invalid origin done rest h rs a k before is)
-      (on_this_snap test h fails pass mark_invalid ∙ ap (λ xs. at origin xs (map (again xs) rs) a k) (here_with test after done rest h fails pass))
+      (on_this_snap test h fails pass mark_invalid ∙ ap (λ xs. at_with g origin xs (map (again g xs) rs) a k) (here_with test after done rest h fails pass))
     where
       and_no : (x y : Bool) → y ≡ false → (x && y) ≡ false
       and_no true y e = e
@@ -77,7 +79,7 @@ is_mine stage n q bytes same = same_number n (is_stage stage stage) ∙ same
 has_mine : (stage : Stage) (n : ℕ) (q : Pair) (bytes : List ℕ) → is_stage stage stage ≡ true → list_any (is_copy stage n) (copying n q stage bytes ∷ []) ≡ true
 has_mine stage n q bytes same = rw (is_mine stage n q bytes same) refl
 
-module _ (done rest : List Held) (a : Option Reply) (k : ℕ) (s : Snap) (ps : List Pair) (nx : ℕ) (z : Bool) (n : ℕ) (q : Pair) (before : Each IsIdle done) (later : Each IsLater rest) where
+module _ (g : Option MergeHeld) (done rest : List Held) (a : Option Reply) (k : ℕ) (s : Snap) (ps : List Pair) (nx : ℕ) (z : Bool) (n : ℕ) (q : Pair) (before : Each IsIdle done) (later : Each IsLater rest) where
   -- the snapshot with its copy at a stage
   abbrev pub with_stage : Stage → List ℕ → Held
   with_stage stage bytes = holding s ps nx z (copying n q stage bytes ∷ []) []
@@ -86,9 +88,9 @@ module _ (done rest : List Held) (a : Option Reply) (k : ℕ) (s : Snap) (ps : L
   no_copy stage = each_weaker IsIdle (λ d. list_any (is_copy stage n) d.copies ≡ false) done (λ d i. rw i.copies refl) before
 
   on_this_copy : (stage : Stage) (bytes : List ℕ) → is_stage stage stage ≡ true → (origin : Device) (rs : List Going) (f : (Held → Bool) → (Copying → Bool) → Held → Copying → Moving → Moving) →
-      on_copy stage n f (at origin (done ++ with_stage stage bytes ∷ rest) rs a k) ≡ f (λ d. list_any (is_copy stage n) d.copies) (is_copy stage n) (with_stage stage bytes) (copying n q stage bytes) (at origin (done ++ with_stage stage bytes ∷ rest) rs a k)
+      on_copy stage n f (at_with g origin (done ++ with_stage stage bytes ∷ rest) rs a k) ≡ f (λ d. list_any (is_copy stage n) d.copies) (is_copy stage n) (with_stage stage bytes) (copying n q stage bytes) (at_with g origin (done ++ with_stage stage bytes ∷ rest) rs a k)
   on_this_copy stage bytes same origin rs f =
-      let v : Moving = at origin (done ++ with_stage stage bytes ∷ rest) rs a k in
+      let v : Moving = at_with g origin (done ++ with_stage stage bytes ∷ rest) rs a k in
       let test : Held → Bool = λ d. list_any (is_copy stage n) d.copies in
       ap (λ o. for_some o (λ h. for_some (first_that (is_copy stage n) h.copies) (λ p. f test (is_copy stage n) h p v) v) v) (here_that test done rest (with_stage stage bytes) (no_copy stage) (has_mine stage n q bytes same))
       ∙ ap (λ o. for_some o (λ p. f test (is_copy stage n) (with_stage stage bytes) p v) v) (cond-true _ _ _ (is_mine stage n q bytes same))
@@ -103,20 +105,20 @@ module _ (done rest : List Held) (a : Option Reply) (k : ℕ) (s : Snap) (ps : L
   waits_later = record { tried = refl; marks = refl; front = refl; read = refl }
 
   -- CopyRead
-  pub reads_done : (origin : Device) (rs : List Going) → least (Some n) (least_in (copy_at Waiting) rest) ≡ Some n → answers origin (read_op origin) ≡ true → Goes (at origin (done ++ with_stage Waiting [] ∷ rest) rs a k) (at (met origin (read_op origin)) (done ++ with_stage Read (bytes_read origin) ∷ rest) rs a k)
+  pub reads_done : (origin : Device) (rs : List Going) → least (Some n) (least_in (copy_at Waiting) rest) ≡ Some n → answers origin (read_op origin) ≡ true → Goes (at_with g origin (done ++ with_stage Waiting [] ∷ rest) rs a k) (at_with g (met origin (read_op origin)) (done ++ with_stage Read (bytes_read origin) ∷ rest) rs a k)
   reads_done origin rs low ok =
       let test : Held → Bool = λ d. list_any (is_copy Waiting n) d.copies in
       goes_step _ _ (CopyRead n) (due_read origin done rest (with_stage Waiting []) rs a k before later n waits_later refl low)
       (on_this_copy Waiting [] refl origin rs read_copy ∙ cond-true _ _ _ ok
-      ∙ ap (λ cs. put test (holding s ps nx z cs []) (at (met origin (read_op origin)) (done ++ with_stage Waiting [] ∷ rest) rs a k)) (cond-true _ _ _ (is_mine Waiting n q [] refl))
-      ∙ put_here (met origin (read_op origin)) done rest rs a k test (with_stage Waiting []) (no_copy Waiting) (has_mine Waiting n q [] refl) (with_stage Read (bytes_read origin)))
+      ∙ ap (λ cs. put test (holding s ps nx z cs []) (at_with g (met origin (read_op origin)) (done ++ with_stage Waiting [] ∷ rest) rs a k)) (cond-true _ _ _ (is_mine Waiting n q [] refl))
+      ∙ put_here g (met origin (read_op origin)) done rest rs a k test (with_stage Waiting []) (no_copy Waiting) (has_mine Waiting n q [] refl) (with_stage Read (bytes_read origin)))
 
-  pub reads_failed : (origin : Device) (rs : List Going) → least (Some n) (least_in (copy_at Waiting) rest) ≡ Some n → answers origin (read_op origin) ≡ false → Goes (at origin (done ++ with_stage Waiting [] ∷ rest) rs a k) (at (met origin (read_op origin)) (done ++ spoiled (with_stage Waiting []) ∷ rest) (map (refused s.number) rs) a k)
+  pub reads_failed : (origin : Device) (rs : List Going) → least (Some n) (least_in (copy_at Waiting) rest) ≡ Some n → answers origin (read_op origin) ≡ false → Goes (at_with g origin (done ++ with_stage Waiting [] ∷ rest) rs a k) (at_with g (met origin (read_op origin)) (done ++ spoiled (with_stage Waiting []) ∷ rest) (map (refused s.number) rs) a k)
   reads_failed origin rs low failed =
       let test : Held → Bool = λ d. list_any (is_copy Waiting n) d.copies in
       goes_step _ _ (CopyRead n) (due_read origin done rest (with_stage Waiting []) rs a k before later n waits_later refl low)
       (on_this_copy Waiting [] refl origin rs read_copy ∙ cond-false _ _ _ failed
-      ∙ spoil_here (met origin (read_op origin)) done rest rs a k test (with_stage Waiting []) (no_copy Waiting) (has_mine Waiting n q [] refl) (with_stage Waiting []))
+      ∙ spoil_here g (met origin (read_op origin)) done rest rs a k test (with_stage Waiting []) (no_copy Waiting) (has_mine Waiting n q [] refl) (with_stage Waiting []))
 
   -- CopyWrite
   abbrev pub write_op : Device → Operation
@@ -126,23 +128,23 @@ module _ (done rest : List Held) (a : Option Reply) (k : ℕ) (s : Snap) (ps : L
   store_after op bytes = record s { store = written_by s.store op bytes }
 
   pub writes_done : (origin : Device) (rs : List Going) (bytes : List ℕ) → answers s.store (write_op origin) ≡ true →
-      Goes (at origin (done ++ with_stage Read bytes ∷ rest) rs a k) (at origin (done ++ holding (store_after (write_op origin) (with_sectors s.store.bytes (s.chunk * q.new) bytes)) ps nx z (copying n q Written bytes ∷ []) [] ∷ rest) rs a k)
+      Goes (at_with g origin (done ++ with_stage Read bytes ∷ rest) rs a k) (at_with g origin (done ++ holding (store_after (write_op origin) (with_sectors s.store.bytes (s.chunk * q.new) bytes)) ps nx z (copying n q Written bytes ∷ []) [] ∷ rest) rs a k)
   writes_done origin rs bytes ok =
       let test : Held → Bool = λ d. list_any (is_copy Read n) d.copies in
       let now : Snap = store_after (write_op origin) (with_sectors s.store.bytes (s.chunk * q.new) bytes) in
       goes_step _ _ (CopyWrite n) (due_write origin done rest (with_stage Read bytes) rs a k before later n refl refl refl refl)
       (on_this_copy Read bytes refl origin rs write_copy
-      ∙ write_done origin done rest rs a k test (with_stage Read bytes) (no_copy Read) (has_mine Read n q bytes refl) (write_op origin) (with_sectors s.store.bytes (s.chunk * q.new) bytes)
+      ∙ write_done g origin done rest rs a k test (with_stage Read bytes) (no_copy Read) (has_mine Read n q bytes refl) (write_op origin) (with_sectors s.store.bytes (s.chunk * q.new) bytes)
       (λ after. record after { copies = with_first (is_copy Read n) (copying n q Written bytes) after.copies }) ok
-      ∙ ap (λ cs. at origin (done ++ holding now ps nx z cs [] ∷ rest) rs a k) (cond-true _ _ _ (is_mine Read n q bytes refl)))
+      ∙ ap (λ cs. at_with g origin (done ++ holding now ps nx z cs [] ∷ rest) rs a k) (cond-true _ _ _ (is_mine Read n q bytes refl)))
 
   pub writes_failed : (origin : Device) (rs : List Going) (bytes : List ℕ) → answers s.store (write_op origin) ≡ false →
-      Goes (at origin (done ++ with_stage Read bytes ∷ rest) rs a k) (at origin (done ++ spoiled (with_store (with_stage Read bytes) (written_by s.store (write_op origin) (with_sectors s.store.bytes (s.chunk * q.new) bytes))) ∷ rest) (map (refused s.number) rs) a k)
+      Goes (at_with g origin (done ++ with_stage Read bytes ∷ rest) rs a k) (at_with g origin (done ++ spoiled (with_store (with_stage Read bytes) (written_by s.store (write_op origin) (with_sectors s.store.bytes (s.chunk * q.new) bytes))) ∷ rest) (map (refused s.number) rs) a k)
   writes_failed origin rs bytes failed =
       let test : Held → Bool = λ d. list_any (is_copy Read n) d.copies in
       goes_step _ _ (CopyWrite n) (due_write origin done rest (with_stage Read bytes) rs a k before later n refl refl refl refl)
       (on_this_copy Read bytes refl origin rs write_copy
-      ∙ write_failed origin done rest rs a k test (with_stage Read bytes) (no_copy Read) (has_mine Read n q bytes refl) (write_op origin) (with_sectors s.store.bytes (s.chunk * q.new) bytes)
+      ∙ write_failed g origin done rest rs a k test (with_stage Read bytes) (no_copy Read) (has_mine Read n q bytes refl) (write_op origin) (with_sectors s.store.bytes (s.chunk * q.new) bytes)
       (λ after. record after { copies = with_first (is_copy Read n) (copying n q Written bytes) after.copies }) failed)
 
   -- whether the pair fills its area
@@ -166,38 +168,53 @@ module _ (done rest : List Held) (a : Option Reply) (k : ℕ) (s : Snap) (ps : L
   zero_op = Writes (s.chunk * area_place s.chunk area_next) s.chunk
 
   -- ZeroNext
-  module _ (origin : Device) (rs : List Going) (bytes : List ℕ) (full : fills ≡ true) (not_yet : z ≡ false) where
-    zero_test : Held → Bool
-    zero_test d = (d.snap.number == s.number) && can_zero d
+  module _ (origin : Device) (rs : List Going) (bytes : List ℕ) (some : 0 < s.chunk) (full : fills ≡ true) (not_yet : z ≡ false) where
+    needs_now : needs_area (with_stage Written bytes) ≡ true
+    needs_now = rw (one_fills (length ps) (32 * s.chunk) (omega (arith, some)), full, not_yet) refl
 
-    zeros_due : due (at origin (done ++ with_stage Written bytes ∷ rest) rs a k) ≡ Some (ZeroNext s.number)
-    zeros_due = due_zeros origin done rest (with_stage Written bytes) rs a k before later refl refl (rw (full, not_yet) refl) (rw (full, not_yet) refl)
+    zero_here : can_zero (with_stage Written bytes) ≡ true
+    zero_here = needs_now
+
+    zeros_due : due (at_with g origin (done ++ with_stage Written bytes ∷ rest) rs a k) ≡ Some (ZeroNext s.number)
+    zeros_due = due_zeros origin done rest (with_stage Written bytes) rs a k before later refl refl (ap not needs_now) zero_here
 
     zero_fails : Each (λ d. ((d.snap.number == s.number) && can_zero d) ≡ false) done
     zero_fails = each_weaker (λ (d : Held). can_zero d ≡ false) (λ d. ((d.snap.number == s.number) && can_zero d) ≡ false) done (λ d e. and_left (d.snap.number == s.number) (can_zero d) e) no_zero
 
     zero_passes : ((s.number == s.number) && can_zero (with_stage Written bytes)) ≡ true
-    zero_passes = same_number s.number _ ∙ rw (full, not_yet) refl
+    zero_passes = same_number s.number _ ∙ zero_here
 
-    pub zeros_lacking : lacks_area area_next s ≡ true → Goes (at origin (done ++ with_stage Written bytes ∷ rest) rs a k) (at origin (done ++ spoiled (with_stage Written bytes) ∷ rest) (map (refused s.number) rs) a k)
+    -- with area a as the next one
+    abbrev zeroing : ℕ → Moving
+    zeroing x =
+        let v : Moving = at_with g origin (done ++ with_stage Written bytes ∷ rest) rs a k in
+        let test : Held → Bool = λ d. (d.snap.number == s.number) && can_zero d in
+        if lacks_area x s then spoil test (with_stage Written bytes) v
+        else store_write test (with_stage Written bytes) (Writes (s.chunk * area_place s.chunk x) s.chunk) (zeroed s.chunk s.store.bytes x) (λ after. record after { zeroed = true }) v
+
+    zeroes : on_snap (λ d. (d.snap.number == s.number) && can_zero d) zero_next (at_with g origin (done ++ with_stage Written bytes ∷ rest) rs a k) ≡ zeroing area_next
+    zeroes = on_this_snap g origin done rest rs a k (λ d. (d.snap.number == s.number) && can_zero d) (with_stage Written bytes) zero_fails zero_passes zero_next
+        ∙ ap zeroing (next_area (length ps) (32 * s.chunk) (omega (arith, some)) full)
+
+    pub zeros_lacking : lacks_area area_next s ≡ true → Goes (at_with g origin (done ++ with_stage Written bytes ∷ rest) rs a k) (at_with g origin (done ++ spoiled (with_stage Written bytes) ∷ rest) (map (refused s.number) rs) a k)
     zeros_lacking lacks =
         goes_step _ _ (ZeroNext s.number) zeros_due
-        (on_this_snap origin done rest rs a k (λ d. (d.snap.number == s.number) && can_zero d) (with_stage Written bytes) zero_fails zero_passes zero_next
-        ∙ cond-true _ _ _ lacks ∙ spoil_here origin done rest rs a k (λ d. (d.snap.number == s.number) && can_zero d) (with_stage Written bytes) zero_fails zero_passes (with_stage Written bytes))
+        (zeroes
+        ∙ cond-true _ _ _ lacks ∙ spoil_here g origin done rest rs a k (λ d. (d.snap.number == s.number) && can_zero d) (with_stage Written bytes) zero_fails zero_passes (with_stage Written bytes))
 
-    pub zeros_done : lacks_area area_next s ≡ false → answers s.store zero_op ≡ true → Goes (at origin (done ++ with_stage Written bytes ∷ rest) rs a k) (at origin (done ++ holding (store_after zero_op (zeroed s.chunk s.store.bytes area_next)) ps nx true (copying n q Written bytes ∷ []) [] ∷ rest) rs a k)
+    pub zeros_done : lacks_area area_next s ≡ false → answers s.store zero_op ≡ true → Goes (at_with g origin (done ++ with_stage Written bytes ∷ rest) rs a k) (at_with g origin (done ++ holding (store_after zero_op (zeroed s.chunk s.store.bytes area_next)) ps nx true (copying n q Written bytes ∷ []) [] ∷ rest) rs a k)
     zeros_done room ok =
         goes_step _ _ (ZeroNext s.number) zeros_due
-        (on_this_snap origin done rest rs a k (λ d. (d.snap.number == s.number) && can_zero d) (with_stage Written bytes) zero_fails zero_passes zero_next
+        (zeroes
         ∙ cond-false _ _ _ room
-        ∙ write_done origin done rest rs a k (λ d. (d.snap.number == s.number) && can_zero d) (with_stage Written bytes) zero_fails zero_passes zero_op (zeroed s.chunk s.store.bytes area_next) (λ after. record after { zeroed = true }) ok)
+        ∙ write_done g origin done rest rs a k (λ d. (d.snap.number == s.number) && can_zero d) (with_stage Written bytes) zero_fails zero_passes zero_op (zeroed s.chunk s.store.bytes area_next) (λ after. record after { zeroed = true }) ok)
 
-    pub zeros_failed : lacks_area area_next s ≡ false → answers s.store zero_op ≡ false → Goes (at origin (done ++ with_stage Written bytes ∷ rest) rs a k) (at origin (done ++ spoiled (with_store (with_stage Written bytes) (written_by s.store zero_op (zeroed s.chunk s.store.bytes area_next))) ∷ rest) (map (refused s.number) rs) a k)
+    pub zeros_failed : lacks_area area_next s ≡ false → answers s.store zero_op ≡ false → Goes (at_with g origin (done ++ with_stage Written bytes ∷ rest) rs a k) (at_with g origin (done ++ spoiled (with_store (with_stage Written bytes) (written_by s.store zero_op (zeroed s.chunk s.store.bytes area_next))) ∷ rest) (map (refused s.number) rs) a k)
     zeros_failed room failed =
         goes_step _ _ (ZeroNext s.number) zeros_due
-        (on_this_snap origin done rest rs a k (λ d. (d.snap.number == s.number) && can_zero d) (with_stage Written bytes) zero_fails zero_passes zero_next
+        (zeroes
         ∙ cond-false _ _ _ room
-        ∙ write_failed origin done rest rs a k (λ d. (d.snap.number == s.number) && can_zero d) (with_stage Written bytes) zero_fails zero_passes zero_op (zeroed s.chunk s.store.bytes area_next) (λ after. record after { zeroed = true }) failed)
+        ∙ write_failed g origin done rest rs a k (λ d. (d.snap.number == s.number) && can_zero d) (with_stage Written bytes) zero_fails zero_passes zero_op (zeroed s.chunk s.store.bytes area_next) (λ after. record after { zeroed = true }) failed)
 
   -- WriteArea
   abbrev pub area_op : Operation
@@ -206,39 +223,59 @@ module _ (done rest : List Held) (a : Option Reply) (k : ℕ) (s : Snap) (ps : L
   abbrev pub mark_here : Mark
   mark_here = record { number = n; chunk = q.old }
 
-  module _ (origin : Device) (rs : List Going) (bytes : List ℕ) (ready : (fills && not z) ≡ false) where
-    area_due : due (at origin (done ++ with_stage Written bytes ∷ rest) rs a k) ≡ Some (WriteArea s.number)
-    area_due = due_area origin done rest (with_stage Written bytes) rs a k before later refl refl (rw ready refl)
+  module _ (origin : Device) (rs : List Going) (bytes : List ℕ) (some : 0 < s.chunk) (ready : (fills && not z) ≡ false) where
+    commits_here : can_commit (with_stage Written bytes) ≡ true
+    commits_here = ap not (ap (λ b. b && not z) (one_fills (length ps) (32 * s.chunk) (omega (arith, some))) ∙ ready)
+
+    area_due : due (at_with g origin (done ++ with_stage Written bytes ∷ rest) rs a k) ≡ Some (WriteArea s.number)
+    area_due = due_area origin done rest (with_stage Written bytes) rs a k before later refl refl commits_here
 
     area_fails : Each (λ d. ((d.snap.number == s.number) && can_commit d) ≡ false) done
     area_fails = each_weaker (λ (d : Held). can_commit d ≡ false) (λ d. ((d.snap.number == s.number) && can_commit d) ≡ false) done (λ d e. and_left (d.snap.number == s.number) (can_commit d) e) no_commit
 
     area_passes : ((s.number == s.number) && can_commit (with_stage Written bytes)) ≡ true
-    area_passes = same_number s.number _ ∙ rw ready refl
+    area_passes = same_number s.number _ ∙ commits_here
+
+    -- the copy with its pair in a slot that is the last of its area, or is not
+    abbrev committed_by : Bool → Held → Held
+    committed_by last after = record after { pairs = after.pairs ++ q ∷ []; copies = drop 1 after.copies; marks = after.marks ++ mark_here ∷ []; zeroed = after.zeroed && not last }
+
+    one_paired : all_paired s.chunk s.store.bytes (length ps) (q ∷ []) ≡ paired s.chunk s.store.bytes (length ps) q
+    one_paired = ap (with_part s.store.bytes (512 * (s.chunk * area_place s.chunk (length ps / (32 * s.chunk))) + 16 * (length ps % (32 * s.chunk)))) (append-nil (pair_bytes q))
+
+    commits : on_snap (λ d. (d.snap.number == s.number) && can_commit d) (λ test h. commit (batch_of h) test h) (at_with g origin (done ++ with_stage Written bytes ∷ rest) rs a k)
+        ≡ store_write (λ d. (d.snap.number == s.number) && can_commit d) (with_stage Written bytes) area_op (paired s.chunk s.store.bytes (length ps) q) (committed_by fills) (at_with g origin (done ++ with_stage Written bytes ∷ rest) rs a k)
+    commits =
+        let v : Moving = at_with g origin (done ++ with_stage Written bytes ∷ rest) rs a k in
+        let test : Held → Bool = λ d. (d.snap.number == s.number) && can_commit d in
+        on_this_snap g origin done rest rs a k test (with_stage Written bytes) area_fails area_passes (λ t h. commit (batch_of h) t h)
+        ∙ ap (λ c. commit c test (with_stage Written bytes) v) (one_batch (length ps) (32 * s.chunk) (omega (arith, some)))
+        ∙ ap (λ b. store_write test (with_stage Written bytes) area_op b (committed_by (length ps % (32 * s.chunk) + 1 == 32 * s.chunk)) v) one_paired
+        ∙ ap (λ b. store_write test (with_stage Written bytes) area_op (paired s.chunk s.store.bytes (length ps) q) (committed_by b) v) (one_last (length ps) (32 * s.chunk) (omega (arith, some)))
 
     abbrev pub committed_here : Held
     committed_here = holding (store_after area_op (paired s.chunk s.store.bytes (length ps) q)) (ps ++ q ∷ []) nx (z && not fills) [] (mark_here ∷ [])
 
-    pub area_done : answers s.store area_op ≡ true → Goes (at origin (done ++ with_stage Written bytes ∷ rest) rs a k) (at origin (done ++ committed_here ∷ rest) rs a k)
+    pub area_done : answers s.store area_op ≡ true → Goes (at_with g origin (done ++ with_stage Written bytes ∷ rest) rs a k) (at_with g origin (done ++ committed_here ∷ rest) rs a k)
     area_done ok =
         goes_step _ _ (WriteArea s.number) area_due
-        (on_this_snap origin done rest rs a k (λ d. (d.snap.number == s.number) && can_commit d) (with_stage Written bytes) area_fails area_passes (λ test h. commit_first test h h.copies)
-        ∙ write_done origin done rest rs a k (λ d. (d.snap.number == s.number) && can_commit d) (with_stage Written bytes) area_fails area_passes area_op (paired s.chunk s.store.bytes (length ps) q)
-        (λ after. record after { pairs = after.pairs ++ q ∷ []; copies = []; marks = after.marks ++ mark_here ∷ []; zeroed = after.zeroed && not ((length ps + 1) % (32 * after.snap.chunk) == 0) }) ok)
+        (commits
+        ∙ write_done g origin done rest rs a k (λ d. (d.snap.number == s.number) && can_commit d) (with_stage Written bytes) area_fails area_passes area_op (paired s.chunk s.store.bytes (length ps) q)
+        (committed_by fills) ok)
 
-    pub area_failed : answers s.store area_op ≡ false → Goes (at origin (done ++ with_stage Written bytes ∷ rest) rs a k) (at origin (done ++ spoiled (with_store (with_stage Written bytes) (written_by s.store area_op (paired s.chunk s.store.bytes (length ps) q))) ∷ rest) (map (refused s.number) rs) a k)
+    pub area_failed : answers s.store area_op ≡ false → Goes (at_with g origin (done ++ with_stage Written bytes ∷ rest) rs a k) (at_with g origin (done ++ spoiled (with_store (with_stage Written bytes) (written_by s.store area_op (paired s.chunk s.store.bytes (length ps) q))) ∷ rest) (map (refused s.number) rs) a k)
     area_failed failed =
         goes_step _ _ (WriteArea s.number) area_due
-        (on_this_snap origin done rest rs a k (λ d. (d.snap.number == s.number) && can_commit d) (with_stage Written bytes) area_fails area_passes (λ test h. commit_first test h h.copies)
-        ∙ write_failed origin done rest rs a k (λ d. (d.snap.number == s.number) && can_commit d) (with_stage Written bytes) area_fails area_passes area_op (paired s.chunk s.store.bytes (length ps) q)
-        (λ after. record after { pairs = after.pairs ++ q ∷ []; copies = []; marks = after.marks ++ mark_here ∷ []; zeroed = after.zeroed && not ((length ps + 1) % (32 * after.snap.chunk) == 0) }) failed)
+        (commits
+        ∙ write_failed g origin done rest rs a k (λ d. (d.snap.number == s.number) && can_commit d) (with_stage Written bytes) area_fails area_passes area_op (paired s.chunk s.store.bytes (length ps) q)
+        (committed_by fills) failed)
 
   -- Publish
   abbrev pub idle_here : Held
   idle_here = holding s ps nx z [] []
 
   pub publishes : (origin : Device) (rs : List Going) → ((h : Held) (c : ℕ) → list_any (is_reading h c) rs ≡ false) →
-      Goes (at origin (done ++ holding s ps nx z [] (mark_here ∷ []) ∷ rest) rs a k) (at origin (done ++ idle_here ∷ rest) (map (again (done ++ idle_here ∷ rest)) (map (placed idle_here) rs)) a k)
+      Goes (at_with g origin (done ++ holding s ps nx z [] (mark_here ∷ []) ∷ rest) rs a k) (at_with g origin (done ++ idle_here ∷ rest) (map (again g (done ++ idle_here ∷ rest)) (map (placed idle_here) rs)) a k)
   publishes origin rs unread =
       let h : Held = holding s ps nx z [] (mark_here ∷ []) in
       let free : is_publishable rs h mark_here ≡ true = rw (unread h q.old) refl in
@@ -246,6 +283,6 @@ module _ (done rest : List Held) (a : Option Reply) (k : ℕ) (s : Snap) (ps : L
       let fails : Each (λ d. test d ≡ false) done = each_weaker IsIdle (λ d. test d ≡ false) done (λ d i. rw i.marks refl) before in
       let pass : test h ≡ true = rw (same_number n (is_publishable rs h mark_here), free) refl in
       goes_step _ _ (Publish n) (due_publish origin done rest h rs a k before later n refl (cond-true _ _ _ free))
-      (on_this_snap origin done rest rs a k test h fails pass (λ t g. publish t (λ m. m.number == n) g)
-      ∙ ap (λ ms. rerouted (at origin (with_first test (holding s ps nx z [] ms) (done ++ h ∷ rest)) (map (placed (holding s ps nx z [] ms)) rs) a k)) (cond-true _ _ _ (eq-eqb n n refl))
-      ∙ ap (λ xs. at origin xs (map (again xs) (map (placed idle_here) rs)) a k) (here_with test idle_here done rest h fails pass))
+      (on_this_snap g origin done rest rs a k test h fails pass (λ t g. publish t (λ m. m.number == n) g)
+      ∙ ap (λ ms. rerouted (at_with g origin (with_first test (holding s ps nx z [] ms) (done ++ h ∷ rest)) (map (placed (holding s ps nx z [] ms)) rs) a k)) (cond-true _ _ _ (eq-eqb n n refl))
+      ∙ ap (λ xs. at_with g origin xs (map (again g xs) (map (placed idle_here) rs)) a k) (here_with test idle_here done rest h fails pass))

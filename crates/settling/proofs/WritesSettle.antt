@@ -1,5 +1,6 @@
 -- A write of the origin, submitted to a volume at rest, settles to the big step.
-use Rattle.std.proofs.Common.{◌≡◌, ℕ, ◌+◌, ◌*◌, ◌<◌, ◌≤◌, false, List, [], ◌∷◌, ◌++◌, length, map, arith, ap, ◌∙◌, sym, inl, inr}
+use Rattle.std.proofs.Common.{◌≡◌, ℕ, ◌+◌, ◌*◌, ◌<◌, ◌≤◌, Bool, false, List, [], length, map, Option, None, arith, refl, ap, ◌∙◌, sym, subst, inl, inr}
+use Rattle.std.specs.Prelude.{◌||◌, is_some, if◌then◌else◌}
 use Rattle.std.proofs.lemmas.Bool.{cases_Bool, cond-true, cond-false}
 use Rattle.sector.specs.Bytes.{with_sectors}
 use Rattle.sector.specs.declared.range.Range.{Range}
@@ -13,17 +14,19 @@ use Rattle.plain.specs.declared.request.Reply.{Reply}
 use Rattle.settled.specs.Devices.{Device, answers, written_by}
 use Rattle.settled.specs.Snaps.{Snap, Volume}
 use Rattle.settled.specs.Pieces.{Answered, save_all, write_origin}
-use Rattle.event_machine.specs.Held.{Held, Going, Moving}
+use Rattle.event_machine.specs.Held.{Held, Going, MergeHeld, Moving}
+use Rattle.event_machine.specs.Again.{is_grouped, merged_place, write_route}
 use Rattle.event_machine.specs.Stepping.{write_reply}
-use Rattle.event_machine.specs.Submitting.{started_all, started_by, refused_by, submitted}
+use Rattle.event_machine.specs.Submitting.{started_all, started_by, start_copies, accepted, submitted}
 use Rattle.event_machine.specs.Rest.{IsResting, IsAtRest}
 use Rattle.event_machine.specs.Settles.{SettlesTo}
 use Rattle.settled.proofs.Each.{Each, each_weaker, each_from}
 use Rattle.settling.proofs.Goes.{goes_on}
-use Rattle.event_machine.proofs.Around.{at, IsIdle}
-use Rattle.settling.proofs.Issued.{settles_there}
+use Rattle.event_machine.proofs.Around.{at, at_with, at_alone, IsIdle}
+use Rattle.settling.proofs.Issued.{Serves, serves_there, serves_settles}
 use Rattle.settling.proofs.Primed.{resting_idle, refused_none}
-use Rattle.settling.proofs.OriginWrites.{snap_of, going, route_for, writing, tries_all, Finals, copies_all, issues}
+use Rattle.settling.proofs.SavesSettle.{snap_of, AreRouted, Finals, saves_settle}
+use Rattle.settling.proofs.OriginWrites.{held_write, write_routed, writing, issues}
 use Rattle.settled.proofs.SavedBytes.{save_all_bytes}
 
 -- a write of a device keeps its size
@@ -37,25 +40,41 @@ written_length device first count bytes len fits = elim (cases_Bool (answers dev
 abbrev pub write_request : Range → List ℕ → Request
 write_request range bytes = record { dev = ToOrigin; op = Write bytes; range = range }
 
+-- beside a merge whose group and pairs do not have its chunk
+module _ (g : Option MergeHeld) (sectors number : ℕ) (range : Range) (ungrouped : is_grouped g range.first ≡ false) (unplaced : merged_place g range.first ≡ None) (bytes : List ℕ) (a : Option Reply) where
+  -- it starts copies
+  write_begins : (origin : Device) (snaps : List Held) (k : ℕ) → submitted number (write_request range bytes) (at_with g origin snaps [] a k) ≡ writing g sectors number range ungrouped unplaced bytes a (started_by range.first k snaps) origin (started_all range.first k snaps)
+  write_begins origin snaps k =
+      let v : Moving = at_with g origin snaps [] a k in
+      let starts : Bool → Moving = λ (b : Bool). let w : Moving = if b then v else start_copies range.first v in accepted number (write_request range bytes) (write_route w.merge w.snaps range.first) w in
+      ap (λ b. starts (b || is_some (merged_place g range.first))) ungrouped ∙ ap (λ o. starts (is_some o)) unplaced
+      ∙ ap (λ rs. accepted number (write_request range bytes) (write_route g (started_all range.first k snaps) range.first) (at_with g origin (started_all range.first k snaps) rs a (started_by range.first k snaps))) (refused_none range.first snaps)
+
+  pub origin_write_serves : (origin : Device) (snaps : List Held) (k : ℕ) → length origin.bytes ≡ 512 * sectors → Each (IsResting sectors) snaps → 0 < range.count → range.first + range.count ≤ sectors → length bytes ≡ 512 * range.count →
+      Serves sectors g (submitted number (write_request range bytes) (at_with g origin snaps [] a k)) (write_origin (span_of range) bytes (record { origin = origin; snaps = map snap_of snaps }))
+  origin_write_serves origin snaps k whole resting some fits len =
+      let k' : ℕ = started_by range.first k snaps in
+      let held : List Held → List Going = held_write g sectors number range ungrouped unplaced bytes a k' in
+      let routed : AreRouted g range.first held = write_routed g sectors number range ungrouped unplaced bytes a k' in
+      let start : Moving = writing g sectors number range ungrouped unplaced bytes a k' origin (started_all range.first k snaps) in
+      let inside : range.first < sectors = omega arith in
+      let saved : Finals g sectors range.first held routed a k' start origin [] snaps = saves_settle g sectors range.first held routed a k' origin snaps k whole inside resting in
+      let all : Volume = save_all range.first origin (map snap_of snaps) in
+      let idle : Each IsIdle saved.finals = each_weaker (IsResting sectors) IsIdle saved.finals (resting_idle sectors) saved.rest in
+      let same : length all.origin.bytes ≡ length origin.bytes = ap length (save_all_bytes range.first origin (map snap_of snaps)) in
+      let room : 512 * (range.first + range.count) ≤ length all.origin.bytes = omega arith in
+      let after : Device = written_by all.origin (Writes range.first range.count) (with_sectors all.origin.bytes range.first bytes) in
+      let reply : Reply = write_reply all.origin range.first range.count in
+      let made : List Snap → Answered = λ (ss : List Snap). record { volume = record { origin = after; snaps = ss }; reply = reply } in
+      serves_there sectors g (submitted number (write_request range bytes) (at_with g origin snaps [] a k)) start after saved.finals reply k' _ (write_begins origin snaps k)
+      (goes_on start _ _ saved.goes (issues g sectors number range ungrouped unplaced bytes a k' all.origin saved.finals idle saved.saved))
+      (written_length all.origin range.first range.count bytes len room ∙ same ∙ whole) saved.rest (ap made (sym saved.same))
+
 pub origin_write_settles : (sectors number : ℕ) (range : Range) (bytes : List ℕ) (v : Moving) → IsAtRest sectors v → 0 < range.count → range.first + range.count ≤ sectors → length bytes ≡ 512 * range.count →
     SettlesTo sectors (submitted number (write_request range bytes) v) (write_origin (span_of range) bytes (record { origin = v.origin; snaps = map (λ (h : Held). h.snap) v.snaps }))
 origin_write_settles sectors number range bytes v rest some fits len =
-    let snaps : List Held = started_all range.first v.started v.snaps in
-    let k : ℕ = started_by range.first v.started v.snaps in
-    let start : Moving = writing sectors number range bytes v.replied k v.origin snaps in
-    let going_as : List Going → Moving = λ (rs : List Going). at v.origin snaps (rs ++ going sectors number range bytes v.replied k (route_for sectors number range bytes v.replied k snaps) ∷ []) v.replied k in
-    let resting : Each (IsResting sectors) v.snaps = each_from (IsResting sectors) v.snaps rest.snaps in
-    let whole = rest.whole in
-    let inside : range.first < sectors = omega arith in
-    let saved : Finals sectors number range bytes v.replied k v.origin [] v.snaps v.started = copies_all sectors number range bytes v.replied k v.snaps v.origin [] v.started whole inside tt resting in
-    let all : Volume = save_all range.first v.origin (map snap_of v.snaps) in
-    let idle : Each IsIdle saved.finals = each_weaker (IsResting sectors) IsIdle saved.finals (resting_idle sectors) saved.rest in
-    let same : length all.origin.bytes ≡ length v.origin.bytes = ap length (save_all_bytes range.first v.origin (map snap_of v.snaps)) in
-    let room : 512 * (range.first + range.count) ≤ length all.origin.bytes = omega arith in
-    let after : Device = written_by all.origin (Writes range.first range.count) (with_sectors all.origin.bytes range.first bytes) in
-    let reply : Reply = write_reply all.origin range.first range.count in
-    let made : List Snap → Answered = λ (ss : List Snap). record { volume = record { origin = after; snaps = ss }; reply = reply } in
-    settles_there sectors (submitted number (write_request range bytes) v) start after saved.finals reply k _ (ap (λ (rs : List Going). going_as (refused_by range.first v.snaps rs)) rest.requests ∙ ap going_as (refused_none range.first v.snaps))
-    (goes_on start _ _ (tries_all sectors number range bytes v.replied k v.origin [] v.snaps v.started tt (each_weaker (IsResting sectors) (λ (d : Held). d.untried ≡ false) v.snaps (λ d r. r.tried) resting))
-    (goes_on _ _ _ saved.goes (issues sectors number range bytes v.replied k all.origin saved.finals idle saved.saved)))
-    (written_length all.origin range.first range.count bytes len room ∙ same ∙ whole) saved.rest (ap made (sym saved.same))
+    let answer : Answered = write_origin (span_of range) bytes (record { origin = v.origin; snaps = map snap_of v.snaps }) in
+    let Settles : Moving → Type 0 = λ (w : Moving). SettlesTo sectors (submitted number (write_request range bytes) w) answer in
+    subst Settles (sym (at_alone v rest.alone))
+    (subst (λ (rs : List Going). Settles (at v.origin v.snaps rs v.replied v.started)) (sym rest.requests)
+    (serves_settles sectors _ answer (origin_write_serves None sectors number range refl refl bytes v.replied v.origin v.snaps v.started rest.whole (each_from (IsResting sectors) v.snaps rest.snaps) some fits len)))

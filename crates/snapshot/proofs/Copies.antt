@@ -10,12 +10,13 @@ use Rattle.sector.specs.declared.pair.Pair.{Pair}
 use Rattle.model.specs.Pairs.{IsInside}
 use Rattle.model.specs.Picture.{place_of}
 use Rattle.pending.specs.Copies.{count_of, pair_of}
+use Rattle.pending.proofs.Batches.{batch_few}
 use Rattle.pending.specs.declared.copies.ChunkCopy.{ChunkCopy}
 use Rattle.pending.specs.declared.copies.Mark.{Mark}
 use Rattle.store.specs.declared.state.State.{State}
 use Rattle.store.specs.Stored.{after_commit}
 use Rattle.volume_laws.proofs.Lists.{All-back, All-from_list_any}
-use Rattle.snapshot.specs.Kept.{needs_area}
+use Rattle.snapshot.specs.Kept.{batch_of, needs_area}
 use Rattle.snapshot.specs.Held.{IsBuffered, IsAhead, IsSnapshot}
 
 -- the buffer of a copy
@@ -46,7 +47,7 @@ copy_set live untried stale s begun copies marks k p q h lt is same len = record
       (record { room = len ∙ buffered s.chunk s.origin copies k p h.buffers lt is ∙ ap (λ (x : Pair). 512 * count_of s.chunk s.origin x.old) (sym same) }) h.buffers;
   idle = λ dead. let none : length copies ≡ 0 = ap length (h.idle dead) in absurd (omega arith);
   unmarked = h.unmarked;
-  ahead = λ alive zeroed. (rw length-set (h.ahead alive zeroed).0, (h.ahead alive zeroed).1);
+  ahead = λ alive zeroed. rw length-set (h.ahead alive zeroed);
 }
 
 -- a store's state that changes nothing of what a snapshot keeps
@@ -75,40 +76,34 @@ like_commit s t count is = subst (IsLike s) (sym is) (like_committed s count (s.
 pub ahead_same : (live : Bool) (s t : State) (n : ℕ) → t ≡ s → IsAhead live s n → IsAhead live t n
 ahead_same live s t n is h = subst (λ (x : State). IsAhead live x n) (sym is) h
 
--- the pair that is committed next fills the current area
-pub needs_is : (s : State) → needs_area s ≡ true → s.filled + 1 ≡ 32 * s.chunk
-needs_is s is = eqb-true (s.filled + 1) (32 * s.chunk) (and_first (s.filled + 1 == 32 * s.chunk) (not s.zeroed) is)
+-- the last pair that is committed next fills the current area
+pub needs_is : (s : State) (copies : List ChunkCopy) → needs_area s copies ≡ true → s.filled + batch_of s copies ≡ 32 * s.chunk
+needs_is s copies is = eqb-true (s.filled + batch_of s copies) (32 * s.chunk) (and_first (s.filled + batch_of s copies == 32 * s.chunk) (not s.zeroed) is)
   where
     and_first : (a b : Bool) → (a && b) ≡ true → a ≡ true
     and_first true b h = refl
     and_first false b h = h
 
--- it is zeroed for the first copy
-pub ahead_zeroed : (live : Bool) (s t : State) (n : ℕ) → t ≡ record s { zeroed = true } → 0 < n → s.filled + 1 ≡ 32 * s.chunk → IsAhead live t n
-ahead_zeroed live s t n is some due =
-    subst (λ (x : State). IsAhead live x n) (sym is) (λ alive zeroed. (some, due))
+-- it is zeroed for the first copies
+pub ahead_zeroed : (live : Bool) (s t : State) (copies : List ChunkCopy) → t ≡ record s { zeroed = true } → 0 < length copies → s.filled + batch_of s copies ≡ 32 * s.chunk → IsAhead live t (length copies)
+ahead_zeroed live s t copies is some due =
+    subst (λ (x : State). IsAhead live x (length copies)) (sym is) (λ alive zeroed. (some, omega (arith, due, batch_few (32 * s.chunk - s.filled) copies)))
 
--- it is used up where the first copies are committed
-ahead_committed : (live : Bool) (s : State) (n count : ℕ) (b : Bool) → s.filled + count == 32 * s.chunk ≡ b → (1 < count → s.filled + count ≤ 32 * s.chunk) → IsAhead live s n → IsAhead live (after_commit s count) (n - count)
-ahead_committed live s n count true is fits h =
+-- it is used up where the first copies fill the current area
+ahead_committed : (live : Bool) (s : State) (n count : ℕ) (b : Bool) → s.filled + count == 32 * s.chunk ≡ b → s.filled + count ≤ 32 * s.chunk → count ≤ n → IsAhead live s n → IsAhead live (after_commit s count) (n - count)
+ahead_committed live s n count true is fits few h =
     subst (λ (x : State). IsAhead live x (n - count)) (sym (cond-true _ _ _ is)) (λ alive zeroed. absurd (true≢false (sym zeroed)))
-ahead_committed live s n count false is fits h =
+ahead_committed live s n count false is fits few h =
     subst (λ (x : State). IsAhead live x (n - count)) (sym (cond-false _ _ _ is)) (λ alive zeroed.
-    let e = h alive zeroed in
-    let some = e.0 in
-    let fills = e.1 in
-    let other : s.filled + count ≡ 32 * s.chunk → ⊥ = λ same. true≢false (sym (eq-eqb _ _ same) ∙ is) in
-    elim (cases_eq count 0) [
-      | inl none ↦ (omega (arith, none, some), omega (arith, none, fills))
-      | inr any ↦ elim (cases_eq count 1) [
-        | inl one ↦ absurd (other (omega (arith, one, fills)))
-        | inr more ↦ (let below = fits (omega (arith, any, more)) in absurd (omega (arith, below, fills, any, more)))
-      ]
+    let fills = (h alive zeroed).1 in
+    elim (cases_eq (s.filled + count) (32 * s.chunk)) [
+      | inl same ↦ absurd (true≢false (sym (eq-eqb _ _ same) ∙ is))
+      | inr below ↦ (omega (arith, fits, fills, below, few), omega (arith, fills, few))
     ])
 
-pub ahead_commit : (live : Bool) (s t : State) (n count : ℕ) → t ≡ after_commit s count → (1 < count → s.filled + count ≤ 32 * s.chunk) → IsAhead live s n → IsAhead live t (n - count)
-ahead_commit live s t n count is fits h =
-    subst (λ (x : State). IsAhead live x (n - count)) (sym is) (ahead_committed live s n count (s.filled + count == 32 * s.chunk) refl fits h)
+pub ahead_commit : (live : Bool) (s t : State) (n count : ℕ) → t ≡ after_commit s count → s.filled + count ≤ 32 * s.chunk → count ≤ n → IsAhead live s n → IsAhead live t (n - count)
+ahead_commit live s t n count is fits few h =
+    subst (λ (x : State). IsAhead live x (n - count)) (sym is) (ahead_committed live s n count (s.filled + count == 32 * s.chunk) refl fits few h)
 
 -- the store's state changes, and the copies stay
 pub state_kept : (live untried stale : Bool) (s t : State) (begun begun' : List Pair) (copies : List ChunkCopy) (marks : List Mark) → IsSnapshot live untried stale s begun copies marks → IsLike s t → begun' ≡ begun → IsAhead live t (length copies) → IsSnapshot live untried stale t begun' copies marks
@@ -164,7 +159,7 @@ copies_push live untried stale s begun begun' copies marks p alive h is room = r
   buffers = All-push (IsBuffered s.chunk s.origin) copies p h.buffers (record { room = room });
   idle = λ dead. absurd (true≢false (sym alive ∙ dead));
   unmarked = λ dead. absurd (true≢false (sym alive ∙ dead));
-  ahead = λ _ zeroed. (let more = length-append copies (p ∷ []) in omega (arith, more), (h.ahead alive zeroed).1);
+  ahead = λ _ zeroed. (let more = length-append copies (p ∷ []) in omega (arith, more), (let old = (h.ahead alive zeroed).1 in let more = length-append copies (p ∷ []) in omega (arith, old, more)));
 }
 
 -- a chunk without a copy is no begun pair's

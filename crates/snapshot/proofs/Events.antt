@@ -1,5 +1,5 @@
 -- Events of a snapshot, from what its fields are afterwards.
-use Rattle.std.proofs.Common.{◌≡◌, ℕ, ◌+◌, ◌-◌, ◌*◌, ◌<◌, ◌≤◌, true, List, [], ◌∷◌, ◌++◌, length, get_or, set, take, drop, map, arith, refl, ap, ◌∙◌, sym, subst, length-append, length-take}
+use Rattle.std.proofs.Common.{◌≡◌, Bool, ℕ, ◌+◌, ◌-◌, ◌*◌, ◌<◌, ◌≤◌, true, false, Some, List, [], ◌∷◌, ◌++◌, length, get_or, set, take, drop, map, arith, refl, ap, ◌∙◌, sym, subst, length-append, length-take}
 use Rattle.std.specs.List.{All}
 use Rattle.std.proofs.lemmas.List.{take-map, length-map}
 use Rattle.sector.specs.Bytes.{sectors_at, with_sectors}
@@ -17,8 +17,8 @@ use Rattle.exception_arena.specs.Pending.{pairs, pair_of}
 use Rattle.store.specs.declared.state.State.{State}
 use Rattle.volume_laws.specs.Held.{StoreHolds}
 use Rattle.volume_laws.specs.Steps.{Commits, mark_of}
-use Rattle.snapshot.specs.Kept.{Kept, books_of}
-use Rattle.snapshot.specs.Calls.{GoesTo, ReadsAt, WritesAt, StartsAt}
+use Rattle.snapshot.specs.Kept.{Kept, books_of, spare_after}
+use Rattle.snapshot.specs.Calls.{GoesTo, ReadsAt, WritesAt, StartsAt, StartsMerging}
 use Rattle.snapshot.proofs.Copies.{IsLike}
 
 -- a copy is read
@@ -77,18 +77,37 @@ starts_at contents layers p v w is stage room text = subst (StartsAt contents la
   };
 })
 
+-- a copy is started for a merge
+pub starts_merging : {B : Type 0} (contents : B → List ℕ) (layers : B → List Layer) (p : ChunkCopy) (v w : Kept B)
+    → w ≡ record v { next = stepped v.state.chunk (v.next + 1); begun = v.begun ++ p.pair ∷ []; copies = v.copies ++ p ∷ []; kept_back = v.kept_back - 1; spare = false; merging = Some p.number } → p.stage ≡ Waiting
+    → length p.buffer.items ≡ 512 * count_of v.state.chunk v.state.origin p.pair.old → StoreHolds v.state.chunk v.state.origin v.state.size (contents v.device) (v.pairs ++ (v.begun ++ p.pair ∷ [])) → StartsMerging contents layers p v w
+starts_merging contents layers p v w is stage room text = subst (StartsMerging contents layers p v) (sym is) (record {
+  fields = refl;
+  event = record {
+    same = record { number = refl; live = refl; untried = refl; loud = refl; chunk = refl; sectors = refl; size = refl };
+    pairs = refl;
+    store = refl;
+    begun = refl;
+    copies = refl;
+    marks = refl;
+    stage = stage;
+    room = room;
+    text = text;
+  };
+})
+
 -- what a commit makes of a snapshot
 abbrev pub committed_as : {B : Type 0} → ℕ → B → State → Kept B → Kept B
-committed_as count d t v = record v { device = d; state = t; pairs = v.pairs ++ take count v.begun; begun = drop count v.begun; copies = drop count v.copies; marks = v.marks ++ map mark_of (take count v.copies) }
+committed_as count d t v = record v { device = d; state = t; pairs = v.pairs ++ take count v.begun; begun = drop count v.begun; copies = drop count v.copies; marks = v.marks ++ map mark_of (take count v.copies); spare = spare_after count v }
 
 -- its fields, from the store's
-pub commit_fields : {B : Type 0} (count : ℕ) (d : B) (t t' : State) (v : Kept B) (pending : List Begun) (ps bs : List Pair) (cs : List ChunkCopy) (ms : List Mark) → v.begun ≡ pairs pending → t' ≡ t → ps ≡ v.pairs ++ pairs (take count pending) → bs ≡ drop count (pairs pending)
-    → cs ≡ drop count v.copies → ms ≡ v.marks ++ map mark_of (take count v.copies)
-    → (let k : Kept B = record v { device = d; state = t'; pairs = ps; begun = bs; copies = cs; marks = ms } in k) ≡ committed_as count d t v
-commit_fields count d t t' v pending ps bs cs ms begun state committed dropped copies marks =
+pub commit_fields : {B : Type 0} (count : ℕ) (d : B) (t t' : State) (v : Kept B) (pending : List Begun) (ps bs : List Pair) (cs : List ChunkCopy) (ms : List Mark) (b : Bool) → v.begun ≡ pairs pending → t' ≡ t → ps ≡ v.pairs ++ pairs (take count pending) → bs ≡ drop count (pairs pending)
+    → cs ≡ drop count v.copies → ms ≡ v.marks ++ map mark_of (take count v.copies) → b ≡ spare_after count v
+    → (let k : Kept B = record v { device = d; state = t'; pairs = ps; begun = bs; copies = cs; marks = ms; spare = b } in k) ≡ committed_as count d t v
+commit_fields count d t t' v pending ps bs cs ms b begun state committed dropped copies marks spare =
     let first : ps ≡ v.pairs ++ take count v.begun = committed ∙ ap (λ x. v.pairs ++ x) (sym (take-map pair_of count pending) ∙ ap (take count) (sym begun)) in
     let rest : bs ≡ drop count v.begun = dropped ∙ ap (drop count) (sym begun) in
-    rw (state, first, rest, copies, marks) refl
+    rw (state, first, rest, copies, marks, spare) refl
 
 -- the first copies are committed
 pub commits_at : {B : Type 0} (contents : B → List ℕ) (layers : B → List Layer) (count : ℕ) (v w : Kept B) (d : B) (t : State) → w ≡ committed_as count d t v → IsLike v.state t → count ≤ length v.copies → All (λ p. p.stage ≡ Written) (take count v.copies)

@@ -5,3 +5,4 @@ pub mod Events
 pub mod Openings
 pub mod Tries
 pub mod Rests
+pub mod Spared

@@ -100,11 +100,11 @@ opened_copying line origin size bytes s ps (inr w) = w.rest.3
 
 -- a snapshot over an opened store whose load is written
 pub opened_is : {B : Type 0} (contents : B → List ℕ) (layers : B → List Layer) (number line origin size : ℕ) (device dev : B) (loaded st : State) (next : ℕ) (pairs : List Pair) (s : Kept B)
-    → s ≡ record { number = number; live = true; untried = false; stale = false; device = dev; state = st; next = next; pairs = pairs; begun = []; copies = []; marks = []; room = 0 }
+    → s ≡ record { number = number; live = true; untried = false; stale = false; device = dev; state = st; next = next; pairs = pairs; begun = []; copies = []; marks = []; room = 0; kept_back = 0; spare = false; merging = None }
     → st ≡ record loaded { left = Nothing } → IsOpenedAs line origin size (contents device) loaded pairs → IsNextPlace st.chunk (map new_of pairs) next
     → (is_loud (layers device) ≡ true → contents dev ≡ prepared loaded.left loaded (contents device)) → IsOpened contents layers number line origin size device s
 opened_is {B} contents layers number line origin size device dev loaded st next pairs s fields state opened place bytes =
-    let kept : State → Kept B = λ t. record { number = number; live = true; untried = false; stale = false; device = dev; state = t; next = next; pairs = pairs; begun = []; copies = []; marks = []; room = 0 } in
+    let kept : State → Kept B = λ t. record { number = number; live = true; untried = false; stale = false; device = dev; state = t; next = next; pairs = pairs; begun = []; copies = []; marks = []; room = 0; kept_back = 0; spare = false; merging = None } in
     subst (IsOpened contents layers number line origin size device) (sym fields) (record {
       loaded = loaded;
       opened = opened;

@@ -1,5 +1,5 @@
 -- What a call does to a copy of a snapshot, beside what it does to the snapshot's books. This project's own.
-use Rattle.std.specs.Prelude.{◌≡◌, ℕ, ◌+◌, ◌-◌, ◌*◌, List, [], ◌∷◌, ◌++◌, slice_index_or, slice_set}
+use Rattle.std.specs.Prelude.{◌≡◌, ℕ, ◌+◌, ◌-◌, ◌*◌, false, List, [], ◌∷◌, ◌++◌, Some, slice_index_or, slice_set}
 use Rattle.std.specs.Global.{Vec}
 use Rattle.sector.specs.Bytes.{sectors_at}
 use Rattle.device.specs.Layers.{Layer}
@@ -43,4 +43,9 @@ started number chunk place buffer = record { number = number; pair = record { ol
 -- copy p is started: it is the last, its pair is the last that the store began, and the next place is past its own
 pub record StartsAt {B : Type 0} (contents : B → List ℕ) (layers : B → List Layer) (p : ChunkCopy) (v w : Kept B) : Type 0 where
   pub fields : w ≡ record v { next = stepped v.state.chunk (v.next + 1); begun = v.begun ++ p.pair ∷ []; copies = v.copies ++ p ∷ []; room = v.room - 1 }
+  pub event : StartsCopy p (books_of contents layers v) (books_of contents layers w)
+
+-- and for a merge: with the buffer that is kept for that, in one of the places that are kept back
+pub record StartsMerging {B : Type 0} (contents : B → List ℕ) (layers : B → List Layer) (p : ChunkCopy) (v w : Kept B) : Type 0 where
+  pub fields : w ≡ record v { next = stepped v.state.chunk (v.next + 1); begun = v.begun ++ p.pair ∷ []; copies = v.copies ++ p ∷ []; kept_back = v.kept_back - 1; spare = false; merging = Some p.number }
   pub event : StartsCopy p (books_of contents layers v) (books_of contents layers w)

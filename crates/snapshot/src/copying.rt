@@ -1,5 +1,5 @@
 // One copy is read from the origin disk, and written to its place.
-ghost use Rattle.std.specs.Prelude.{◌≡◌, ℕ, ◌+◌, ◌*◌, ◌<◌, ◌≤◌, length, slice_index_or, is_ok, OnOk, OnErr, true};
+ghost use Rattle.std.specs.Prelude.{◌≡◌, ℕ, ◌+◌, ◌*◌, ◌<◌, ◌≤◌, length, slice_index_or, is_ok, OnOk, OnErr, true, vec_capacity};
 ghost use Rattle.sector.specs.Bytes.{sectors_at, with_sectors};
 ghost use Rattle.device.specs.declared.operation.Operation.TheVariants.{Reads, Writes};
 ghost use Rattle.device.specs.Layers.{is_loud};
@@ -87,6 +87,7 @@ fn fill<B: Block>(origin: &mut B, chunk: u32, copy: &mut ChunkCopy) -> Result<()
     ensures size { B.size origin.new ≡ B.size origin.old }
 
     ensures room { length copy.new.buffer.items ≡ length copy.old.buffer.items }
+    ensures capacity { vec_capacity copy.new.buffer ≡ vec_capacity copy.old.buffer }
     ensures read { OnOk result (GoesTo Read (sectors_at (B.contents origin.old) (chunk * copy.old.pair.old) (count_of chunk (B.size origin.old) copy.old.pair.old)) copy.old copy.new) }
     ensures kept { OnErr result (GoesTo copy.old.stage copy.old.buffer.items copy.old copy.new) }
 {

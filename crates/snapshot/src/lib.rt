@@ -4,12 +4,14 @@
 //! It stands on `store`, which keeps the pairs on the device, and on `pending`, whose lists it holds. It promises of each
 //! event the relation between the snapshot before and after that `volume_laws` has laws for, the one operation of its
 //! device, and every field of what contracts see. A device that fails changes nothing but that device's counts and layers;
-//! what becomes of the snapshot then, its volume decides. No event takes memory: `reserve` does, before a copy starts.
+//! what becomes of the snapshot then, its volume decides. No event takes memory: `reserve` does, before a copy starts, and
+//! `keep_back`, before a merge begins.
 #![tactic(auto)]
 
 mod committing;
 mod copying;
 mod layering;
+mod merging;
 mod opening;
 mod placing;
 mod snapshot;

@@ -1,5 +1,5 @@
 // A snapshot, and what callers ask of it.
-ghost use Rattle.std.specs.Prelude.{◌≡◌, ◌==◌, ◌&&◌, not, ℕ, ◌+◌, ◌*◌, ◌<◌, ◌≤◌, length, MatchBool, true};
+ghost use Rattle.std.specs.Prelude.{◌≡◌, ◌==◌, ◌&&◌, not, ℕ, ◌+◌, ◌*◌, ◌<◌, ◌≤◌, length, MatchBool, Some, true, false};
 ghost use Rattle.chunk.specs.Sizes.{is_chunk};
 ghost use Rattle.model.specs.NextPlace.{IsFull, LacksArea};
 ghost use Rattle.model.specs.Places.{area_place};
@@ -7,19 +7,19 @@ ghost use Rattle.model.specs.Picture.{place_of as place_in};
 ghost use Rattle.volume_laws.specs.Published.{is_published as is_published_in};
 ghost use Rattle.device.specs.Layers.{is_loud};
 ghost use Rattle.snapshot.specs.InStep.{IsInStep};
-ghost use Rattle.snapshot.specs.Kept.{needs_area};
+ghost use Rattle.snapshot.specs.Kept.{batch_of, is_among, needs_area};
 ghost use Rattle.snapshot.specs.Rest.{IsStill};
 
 use chunk_alloc::Usage;
 use device::Block;
-use pending::{ChunkCopy, Mark, is_marked};
-use plain::SnapId;
+use pending::{ChunkCopy, Mark, batch, is_marked};
+use plain::{CopyId, SnapId};
 use sector::Chunk;
 use std::marker::Model;
 use store::Store;
 
 /// One snapshot of a volume. Contracts see its number, its flags, the device of its store with the store's state, its
-/// pairs, its copies, its marks, and for how many copies it has room.
+/// pairs, its copies, its marks, for how many copies it has room, and what it keeps for a merge.
 #[derive(Drop)]
 pub struct Snapshot<B: Block> {
     pub(crate) number: SnapId,
@@ -32,6 +32,14 @@ pub struct Snapshot<B: Block> {
     pub(crate) copies: Vec<ChunkCopy>,
     pub(crate) marks: Vec<Mark>,
     pub(crate) room: usize,
+    /// For how many copies of a merge it has room, which requests do not take.
+    pub(crate) kept_back: usize,
+    /// How much of such room a merge left.
+    pub(crate) left: usize,
+    /// A chunk of room, for the next copy that a merge starts.
+    pub(crate) spare: Option<Vec<u8>>,
+    /// The copy that a merge started, until it is published.
+    pub(crate) merging: Option<CopyId>,
 }
 
 impl<B: Block> Model for Snapshot<B> {
@@ -40,12 +48,13 @@ impl<B: Block> Model for Snapshot<B> {
     ghost Value = { Kept B };
 
     ghost use Rattle.std.specs.Prelude.{length, vec_capacity};
+    ghost use Rattle.std.specs.Option.{is_some};
     ghost use Rattle.store.specs.Held.{committed, pairs_pending, reserved};
-    ghost use Rattle.snapshot.specs.Held.{IsSnapshot, HasRoom};
+    ghost use Rattle.snapshot.specs.Held.{IsSnapshot, HasRoom, IsSpared};
 
-    ghost view = { λ s. record { number = s.number; live = s.live; untried = s.untried; stale = s.stale; device = s.store.device; state = s.store.state; next = s.store.places.next; pairs = committed s.store.exceptions; begun = pairs_pending s.store.exceptions; copies = s.copies.items; marks = s.marks.items; room = s.room } };
+    ghost view = { λ s. record { number = s.number; live = s.live; untried = s.untried; stale = s.stale; device = s.store.device; state = s.store.state; next = s.store.places.next; pairs = committed s.store.exceptions; begun = pairs_pending s.store.exceptions; copies = s.copies.items; marks = s.marks.items; room = s.room; kept_back = s.kept_back; spare = is_some s.spare; merging = s.merging } };
 
-    ghost invariant = { λ s. IsSnapshot s.live s.untried s.stale s.store.state (pairs_pending s.store.exceptions) s.copies.items s.marks.items × HasRoom s.room (reserved s.store.exceptions) (length s.copies.items) (length s.marks.items) (vec_capacity s.copies) (vec_capacity s.marks) };
+    ghost invariant = { λ s. IsSnapshot s.live s.untried s.stale s.store.state (pairs_pending s.store.exceptions) s.copies.items s.marks.items × HasRoom s.room s.kept_back s.left (reserved s.store.exceptions) (length s.copies.items) (length s.marks.items) (vec_capacity s.copies) (vec_capacity s.marks) (is_some s.spare) s.merging × IsSpared s.store.state.chunk s.spare s.merging s.copies.items };
 }
 
 impl<B: Block> Snapshot<B> {
@@ -138,12 +147,23 @@ impl<B: Block> Snapshot<B> {
         let _ = &self.store;
     }
 
-    /// Whether the pair that is committed next fills the current area, so that the next area has to be zeroed first, and
-    /// it is not yet.
-    pub fn needs_next_area(&self) -> bool
-        ensures { result ≡ needs_area self.now.state }
+    /// How many of the first copies the next write of the area commits: those that are written, up to the first that is
+    /// not, and up to the end of the area.
+    pub fn batch(&self) -> u32
+        ensures { result ≡ batch_of self.now.state self.now.copies }
     {
-        self.store.state.filled + 1 == 32 * self.store.state.chunk && !self.store.state.zeroed
+        batch(
+            self.copies.as_slice(),
+            32 * self.store.state.chunk - self.store.state.filled,
+        )
+    }
+
+    /// Whether the last pair that is committed next fills the current area, so that the next area has to be zeroed first,
+    /// and it is not yet.
+    pub fn needs_next_area(&self) -> bool
+        ensures { result ≡ needs_area self.now.state self.now.copies }
+    {
+        self.store.needs_next_area(self.batch())
     }
 
     /// Whether the area after the current one is zeroed.
@@ -172,6 +192,15 @@ impl<B: Block> Snapshot<B> {
         ensures { MatchBool result (0 < self.now.room) (self.now.room ≡ 0) }
     {
         0 < self.room
+    }
+
+    /// The number of the copy that a merge started, until that is published. It is one of the copies that are not committed,
+    /// where the buffer for a merge's next copy is not there.
+    pub fn merging(&self) -> Option<CopyId>
+        ensures is { result ≡ self.now.merging }
+        ensures copied { (n : ℕ) → result ≡ Some n → self.now.spare ≡ false → is_among result self.now.copies ≡ true }
+    {
+        self.merging
     }
 
     /// The chunk of the store with the committed copy of a chunk of the origin.

@@ -1,5 +1,5 @@
 // A snapshot is spoiled, and its store's header is marked invalid.
-ghost use Rattle.std.specs.Prelude.{◌≡◌, ℕ, ◌*◌, [], not, is_ok, OnOk, OnErr, IsTrue, true, false};
+ghost use Rattle.std.specs.Prelude.{◌≡◌, ℕ, ◌*◌, [], not, is_ok, OnOk, OnErr, IsTrue, None, true, false};
 ghost use Rattle.sector.specs.Bytes.{with_sectors};
 ghost use Rattle.device.specs.declared.operation.Operation.TheVariants.{Writes};
 ghost use Rattle.device.specs.Layers.{is_loud};
@@ -18,7 +18,7 @@ impl<B: Block> Snapshot<B> {
     /// marked invalid.
     pub fn spoil(&mut self)
         requires live { self.old.live ≡ true }
-        ensures fields { self.new ≡ record self.old { live = false; untried = true; state = record self.old.state { copying = false }; begun = []; copies = []; marks = [] } }
+        ensures fields { self.new ≡ record self.old { live = false; untried = true; state = record self.old.state { copying = false }; begun = []; copies = []; marks = []; kept_back = 0; spare = false; merging = None } }
         ensures spoils { SpoilsSnap (books_of B.contents B.layers self.old) (books_of B.contents B.layers self.new) }
         ensures in_step { IsInStep B.contents B.layers B.size self.new }
     {
@@ -27,6 +27,10 @@ impl<B: Block> Snapshot<B> {
         self.store.drop_copies();
         self.copies.clear();
         self.marks.clear();
+        self.left += self.kept_back;
+        self.kept_back = 0;
+        self.spare = None;
+        self.merging = None;
     }
 
     /// Marks the header of a spoiled snapshot's store invalid. It is tried once: at `Io` the store is stale, and nothing

@@ -1,5 +1,5 @@
 // A snapshot begins over its store, and ends; room is made for a copy, and a copy is started.
-ghost use Rattle.std.specs.Prelude.{◌≡◌, ◌==◌, ℕ, ◌+◌, ◌-◌, ◌*◌, ◌<◌, ◌≤◌, List, [], ◌∷◌, ◌++◌, length, max, OnOk, OnErr, IfErr, IsOk, MatchBool, None, true, false};
+ghost use Rattle.std.specs.Prelude.{◌≡◌, ◌==◌, ℕ, ◌+◌, ◌-◌, ◌*◌, ◌<◌, ◌≤◌, List, [], ◌∷◌, ◌++◌, length, max, OnOk, OnErr, IfErr, IsOk, MatchBool, None, vec_capacity, true, false};
 ghost use Rattle.std.specs.List.{list_any};
 ghost use Rattle.sector.specs.declared.refusal.Refusal.TheVariants.{NoMemory};
 ghost use Rattle.chunk.specs.Sizes.{is_chunk};
@@ -15,7 +15,7 @@ ghost use Rattle.snapshot.specs.Calls.{StartsAt, started};
 
 use crate::Snapshot;
 use device::Block;
-use pending::{ChunkCopy, Stage};
+use pending::{ChunkCopy, Mark, Stage};
 use plain::{CopyId, SnapId};
 use sector::{Chunk, Refusal};
 use std::alloc::Global;
@@ -31,7 +31,7 @@ impl<B: Block> Snapshot<B> {
         requires idle { length (pending_of store.exceptions) ≡ 0 }
         requires valid { store.state.valid ≡ true }
         requires unreserved { reserved store.exceptions ≡ 0 }
-        ensures fields { result ≡ record { number = number; live = true; untried = false; stale = false; device = store.device; state = store.state; next = store.places.next; pairs = committed store.exceptions; begun = []; copies = []; marks = []; room = 0 } }
+        ensures fields { result ≡ record { number = number; live = true; untried = false; stale = false; device = store.device; state = store.state; next = store.places.next; pairs = committed store.exceptions; begun = []; copies = []; marks = []; room = 0; kept_back = 0; spare = false; merging = None } }
         ensures new { (origin : List ℕ) → length origin ≡ 512 * store.state.origin → IsNewSnap origin (books_of B.contents B.layers result) }
         ensures counted { length result.pairs ≡ result.state.current * (32 * result.state.chunk) + result.state.filled }
         ensures unfilled { result.state.filled < 32 * result.state.chunk }
@@ -46,6 +46,10 @@ impl<B: Block> Snapshot<B> {
             copies: Vec::new(alloc),
             marks: Vec::new(alloc),
             room: 0,
+            kept_back: 0,
+            left: 0,
+            spare: None,
+            merging: None,
         }
     }
 
@@ -62,6 +66,10 @@ impl<B: Block> Snapshot<B> {
             copies: _,
             marks: _,
             room: _,
+            kept_back: _,
+            left: _,
+            spare: _,
+            merging: _,
         } = self;
         store.into_device()
     }
@@ -76,15 +84,10 @@ impl<B: Block> Snapshot<B> {
         if 0 < self.room {
             return Ok(());
         }
-        let Ok(()) = self.copies.reserve(1) else {
-            return Err(Refusal::NoMemory);
-        };
-        let Some(count) = self.copies.len().checked_add(1) else {
-            return Err(Refusal::NoMemory);
-        };
-        let Ok(()) = self.marks.reserve(count) else {
-            return Err(Refusal::NoMemory);
-        };
+        match reserve_slots(&mut self.copies, &mut self.marks, 2) {
+            Ok(()) => {}
+            Err(refusal) => return Err(refusal),
+        }
         match self.store.reserve(1) {
             Ok(()) => {
                 self.room = 1;
@@ -119,5 +122,31 @@ impl<B: Block> Snapshot<B> {
             buffer,
         });
         true
+    }
+}
+
+/// Makes room in both lists for so many more copies. Where that is refused the lists may have more room.
+pub(crate) fn reserve_slots(
+    copies: &mut Vec<ChunkCopy>,
+    marks: &mut Vec<Mark>,
+    count: usize,
+) -> Result<(), Refusal>
+    ensures copies { copies.new.items ≡ copies.old.items }
+    ensures marks { marks.new.items ≡ marks.old.items }
+    ensures copies_kept { vec_capacity copies.old ≤ vec_capacity copies.new }
+    ensures marks_kept { vec_capacity marks.old ≤ vec_capacity marks.new }
+    ensures for_copies { OnOk result (length copies.new.items + count ≤ vec_capacity copies.new) }
+    ensures for_marks { OnOk result (length marks.new.items + (length copies.new.items + count) ≤ vec_capacity marks.new) }
+    ensures refusal { IfErr result (λ e. e ≡ NoMemory) }
+{
+    let Ok(()) = copies.reserve(count) else {
+        return Err(Refusal::NoMemory);
+    };
+    let Some(all) = copies.len().checked_add(count) else {
+        return Err(Refusal::NoMemory);
+    };
+    match marks.reserve(all) {
+        Ok(()) => Ok(()),
+        Err(_) => Err(Refusal::NoMemory),
     }
 }

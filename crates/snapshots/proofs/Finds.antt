@@ -1,8 +1,8 @@
 -- What a search finds, and what is so where it finds nothing.
 use Rattle.std.proofs.Common.{◌≡◌, ℕ, suc, ◌+◌, ◌<◌, Bool, true, false, List, [], ◌∷◌, Some, None, length, get_or, map, drop, nat_lt, refl, sym, ◌∙◌, ap, inl, inr, arith, cond, ◌≤◌}
-use Rattle.std.specs.Prelude.{◌||◌}
+use Rattle.std.specs.Prelude.{◌==◌, ◌&&◌, ◌||◌}
 use Rattle.std.specs.List.{list_any, position, position_or_len}
-use Rattle.std.proofs.lemmas.Bool.{cases_Bool, cases_lt, false≢true}
+use Rattle.std.proofs.lemmas.Bool.{cases_Bool, cases_lt, eqb-true, false≢true}
 use Rattle.std.proofs.lemmas.List.{drop_more}
 use Rattle.std.proofs.lemmas.List.Folds.{list_any-from_Any}
 
@@ -62,3 +62,14 @@ any_passes test xs k x within is passes = list_any-from_Any test xs (k, x, withi
 pub any_of : {X Y : Type 0} (test : Y → Bool) (f : X → Y) (xs : List X) → list_any test (map f xs) ≡ list_any (λ x. test (f x)) xs
 any_of test f [] = refl
 any_of test f (x ∷ xs) = ap (λ b. test (f x) || b) (any_of test f xs)
+
+-- one of two tests fails: the second, or that of a number
+pub second_fails : (a b : Bool) → b ≡ false → (a && b) ≡ false
+second_fails true b fails = fails
+second_fails false b fails = refl
+
+pub number_fails : (m n : ℕ) (b : Bool) → (m ≡ n → ⊥) → ((m == n) && b) ≡ false
+number_fails m n b other = elim (cases_Bool (m == n)) [
+  | inl same ↦ absurd (other (eqb-true m n same))
+  | inr fails ↦ ap (λ a. a && b) fails
+]

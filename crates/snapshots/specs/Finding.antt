@@ -30,10 +30,10 @@ has_mark_at flights number s = list_any (is_mark_of s flights number) s.marks
 abbrev pub is_trying : {B : Type 0} → ℕ → Kept B → Bool
 is_trying number s = (s.number == number) && s.untried
 
--- where its first copy can be committed
+-- where its first copies can be committed
 abbrev pub is_committing : {B : Type 0} → ℕ → Kept B → Bool
-is_committing number s = (s.number == number) && (front_written s.copies && not (needs_area s.state))
+is_committing number s = (s.number == number) && (front_written s.copies && not (needs_area s.state s.copies))
 
--- where it needs its next area zeroed for its first copy
+-- where it needs its next area zeroed for its first copies
 abbrev pub is_zeroing : {B : Type 0} → ℕ → Kept B → Bool
-is_zeroing number s = (s.number == number) && (front_written s.copies && needs_area s.state)
+is_zeroing number s = (s.number == number) && (front_written s.copies && needs_area s.state s.copies)

@@ -1,7 +1,7 @@
 -- Which copies a write needs, and what starting them does to the snapshots of a volume, one after another. That a write never
 -- starts a copy that is under way is this project's own rule; that a full store makes its snapshot invalid is the kernel's,
 -- of its admin-guide page on snapshots.
-use Rattle.std.specs.Prelude.{◌≡◌, ◌==◌, ◌&&◌, not, nat_lt, ℕ, ◌+◌, ◌*◌, ◌<◌, Bool, true, false, List, [], ◌∷◌, length, map, filter, MatchBool, slice_index_or}
+use Rattle.std.specs.Prelude.{◌≡◌, ◌==◌, ◌&&◌, not, nat_lt, ℕ, ◌+◌, ◌*◌, ◌<◌, Bool, true, false, List, [], ◌∷◌, length, map, filter, None, MatchBool, slice_index_or}
 use Rattle.std.specs.List.{list_any}
 use Rattle.std.specs.Option.{is_some}
 use Rattle.std.specs.Global.{Vec}
@@ -32,7 +32,7 @@ overflows c s = lacks c s && is_full_of s
 
 -- a snapshot that was spoiled
 abbrev pub spoilt_of : {B : Type 0} → Kept B → Kept B
-spoilt_of s = record s { live = false; untried = true; state = record s.state { copying = false }; begun = []; copies = []; marks = [] }
+spoilt_of s = record s { live = false; untried = true; state = record s.state { copying = false }; begun = []; copies = []; marks = []; kept_back = 0; spare = false; merging = None }
 
 -- a snapshot, but for the room that it has for copies
 abbrev pub unroomed : {B : Type 0} → Kept B → Kept B

@@ -10,14 +10,14 @@ use pending::{Flight, Stage, first_copy, first_publishable, first_routed, front_
 use plain::{CopyId, Event, SnapId};
 use snapshot::Snapshot;
 
-/// Whether a snapshot's first copy can be committed: it is written, and the area of its pair can be.
+/// Whether a snapshot's first copies can be committed: the first is written, and the area of their pairs can be.
 pub(crate) fn can_commit<B: Block>(snap: &Snapshot<B>) -> bool
     ensures { result ≡ can_be_committed (due_of_kept B.contents B.layers snap.now) }
 {
     front_written(snap.copies()) && !snap.needs_next_area()
 }
 
-/// Whether a snapshot needs its next area zeroed for its first copy, which is written.
+/// Whether a snapshot needs its next area zeroed for its first copies, which are written.
 pub(crate) fn can_zero<B: Block>(snap: &Snapshot<B>) -> bool
     ensures { result ≡ can_be_zeroed (due_of_kept B.contents B.layers snap.now) }
 {

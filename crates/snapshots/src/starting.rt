@@ -121,14 +121,27 @@ pub fn save_in_all<B: Block>(
     given
 }
 
-/// How many copies are not published: at most 256.
+/// How many copies of a snapshot are not published, those aside that a merge started: at most 256.
+fn waiting_count<B: Block>(snap: &Snapshot<B>) -> usize
+    requires { count_in snap.now ≤ 256 }
+    ensures { result ≡ count_in snap.now }
+{
+    let count = snap.marks().len() + snap.copies().len();
+    if snap.merging().is_some() {
+        count.saturating_sub(1)
+    } else {
+        count
+    }
+}
+
+/// How many copies of all snapshots are not published, those aside that a merge started: at most 256.
 pub fn pending_count<B: Block>(snaps: &[Snapshot<B>]) -> usize
     requires { sum_by count_in snaps.now ≤ 256 }
     ensures { result ≡ sum_by count_in snaps.now }
 {
     let mut count = 0;
     for snap in snaps {
-        count += snap.marks().len() + snap.copies().len();
+        count += waiting_count(snap);
     }
     count
 }

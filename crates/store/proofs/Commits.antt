@@ -46,7 +46,7 @@ front_more count ps qs s area x is put n below ready = record {
 }
 
 -- the pairs of the bytes after a commit
-pairs-more : (ps qs : List Pair) (s : State) (area x old new : List ℕ) → IsFront ps s area → IsStored old ps s area → IsPut area s.filled qs x → s.left ≡ Nothing → s.filled + length qs ≤ 32 * s.chunk → (s.filled + length qs ≡ 32 * s.chunk → s.zeroed ≡ true) → ((i : ℕ) (d : Pair) → i < length qs → (get_or qs i d).new ≢ 0) → length old ≡ 512 * s.size → new ≡ with_sectors old (s.chunk * area_place s.chunk s.current) x → pairs_of s.chunk new ≡ ps ++ qs
+pub pairs-more : (ps qs : List Pair) (s : State) (area x old new : List ℕ) → IsFront ps s area → IsStored old ps s area → IsPut area s.filled qs x → s.left ≡ Nothing → s.filled + length qs ≤ 32 * s.chunk → (s.filled + length qs ≡ 32 * s.chunk → s.zeroed ≡ true) → ((i : ℕ) (d : Pair) → i < length qs → (get_or qs i d).new ≢ 0) → length old ≡ 512 * s.size → new ≡ with_sectors old (s.chunk * area_place s.chunk s.current) x → pairs_of s.chunk new ≡ ps ++ qs
 pairs-more ps qs s area x old new is stored put ready fits zeroed valid whole written =
     let long : length x ≡ 512 * s.chunk = put.len ∙ is.whole in
     let only = chunk_only s.size s.chunk (area_place s.chunk s.current) old new x whole long is.place written in

@@ -13,4 +13,5 @@ pub mod Messages
 pub mod Opened
 pub mod Parts
 pub mod Pending
+pub mod Stops
 pub mod Writes

@@ -8,5 +8,6 @@ pub mod Opening
 pub mod Operations
 pub mod Reading
 pub mod Slots
+pub mod Stopping
 pub mod Stored
 pub mod Layering

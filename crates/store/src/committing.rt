@@ -1,5 +1,5 @@
 // Pairs are committed: they are written into the current area, after the next one is zeroed where they fill it.
-ghost use Rattle.std.specs.Prelude.{◌≡◌, ◌⊎◌, ℕ, ◌+◌, ◌*◌, ◌<◌, ◌≤◌, ◌↔◌, ◌++◌, List, length, take, drop, replicate, is_ok, OnOk, OnErr, IsTrue, true, false};
+ghost use Rattle.std.specs.Prelude.{◌≡◌, ◌⊎◌, ℕ, ◌+◌, ◌*◌, ◌<◌, ◌≤◌, ◌↔◌, ◌++◌, List, [], length, take, drop, replicate, is_ok, OnOk, OnErr, IsTrue, true, false};
 ghost use Rattle.sector.specs.Bytes.{with_part, with_sectors};
 ghost use Rattle.device.specs.declared.operation.Operation.TheVariants.{Writes};
 ghost use Rattle.device.specs.Layers.{is_loud};
@@ -10,6 +10,7 @@ ghost use Rattle.exception_arena.specs.Pending.{pairs};
 ghost use Rattle.store.specs.Held.{committed, pending, reserved};
 ghost use Rattle.store.specs.Slots.{IsPut, pairs_bytes, slot_start};
 ghost use Rattle.store.specs.Stored.{after_commit};
+ghost use Rattle.store.specs.Stopping.{StopsWithin};
 ghost use Rattle.store.specs.Operations.{IsOneOperation};
 
 use crate::Store;
@@ -20,12 +21,12 @@ use metadata_area::Area;
 use std::mem::swap;
 
 impl<B: Block> Store<B> {
-    /// Whether the pair that is committed next fills the current area, so that the next area has to be zeroed first,
-    /// and it is not yet.
-    pub fn needs_next_area(&self) -> bool
-        ensures { IsTrue result ↔ ((self.now.state.filled + 1 ≡ 32 * self.now.state.chunk) × (self.now.state.zeroed ≡ false)) }
+    /// Whether so many pairs, if they are committed next, fill the current area, so that the next area has to be zeroed
+    /// first, and it is not yet.
+    pub fn needs_next_area(&self, count: u32) -> bool
+        ensures { IsTrue result ↔ ((self.now.state.filled + count ≡ 32 * self.now.state.chunk) × (self.now.state.zeroed ≡ false)) }
     {
-        self.state.filled + 1 == 32 * self.state.chunk && !self.state.zeroed
+        count == 32 * self.state.chunk - self.state.filled && !self.state.zeroed
     }
 
     /// Whether the area after the current one does not lie wholly inside the store.
@@ -37,19 +38,18 @@ impl<B: Block> Store<B> {
                 * ((self.state.current + 1) * (32 * self.state.chunk as u64 + 1) + 2)
     }
 
-    /// Zeroes the area after the current one.
+    /// Zeroes the area after the current one. Whatever a stop within it leaves is loaded again with the same pairs.
     pub fn zero_next(&mut self) -> Result<(), Io>
         requires ready { self.old.state.left ≡ Nothing }
         requires part { self.old.state.filled < 32 * self.old.state.chunk }
         requires room { self.old.state.chunk * (area_place self.old.state.chunk (self.old.state.current + 1) + 1) ≤ self.old.state.size }
-
         ensures operation { IsOneOperation (Writes (self.old.state.chunk * area_place self.old.state.chunk (self.old.state.current + 1)) self.old.state.chunk) (is_ok result) (B.layers self.old.device) (B.layers self.new.device) (B.fault_count self.old.device) (B.fault_count self.new.device) (B.done_count self.old.device) (B.done_count self.new.device) }
         ensures written { OnOk result (IsTrue (is_loud (B.layers self.old.device)) → B.contents self.new.device ≡ with_sectors (B.contents self.old.device) (self.old.state.chunk * area_place self.old.state.chunk (self.old.state.current + 1)) (replicate (512 * self.old.state.chunk) 0)) }
         ensures same { OnErr result (B.contents self.new.device ≡ B.contents self.old.device) }
         ensures only { ChangesOnly self.old.state.chunk (area_place self.old.state.chunk (self.old.state.current + 1)) (B.contents self.old.device) (B.contents self.new.device) }
         ensures durable { B.durable self.new.device ≡ B.durable self.old.device }
         ensures size { B.size self.new.device ≡ B.size self.old.device }
-
+        ensures stops { self.old.state.valid ≡ true → IsTrue (is_loud (B.layers self.old.device)) → StopsWithin self.old.state.chunk self.old.state.origin self.old.state.size (committed self.old.exceptions) [] (B.contents self.old.device) (B.contents self.new.device) }
         ensures exceptions { self.new.exceptions ≡ self.old.exceptions }
         ensures places { self.new.places ≡ self.old.places }
         ensures zeroed { OnOk result (self.new.state ≡ record self.old.state { zeroed = true }) }
@@ -72,13 +72,13 @@ impl<B: Block> Store<B> {
     }
 
     /// Commits the pairs of the copies that began first, so many of them: they are written into the current area, from its
-    /// first empty slot on. Where they fill it the next area, which is zeroed, becomes the current one.
+    /// first empty slot on. Where they fill it the next area, which is zeroed, becomes the current one. Whatever a stop
+    /// within it leaves is loaded again, with the pairs that were there and the first few of these.
     pub fn write_area(&mut self, count: u32) -> Result<(), Io>
         requires ready { self.old.state.left ≡ Nothing }
         requires pending { count ≤ length (pending self.old.exceptions) }
         requires fits { self.old.state.filled + count ≤ 32 * self.old.state.chunk }
         requires next { self.old.state.filled + count ≡ 32 * self.old.state.chunk → self.old.state.zeroed ≡ true }
-
         ensures operation { IsOneOperation (Writes (self.old.state.chunk * area_place self.old.state.chunk self.old.state.current) self.old.state.chunk) (is_ok result) (B.layers self.old.device) (B.layers self.new.device) (B.fault_count self.old.device) (B.fault_count self.new.device) (B.done_count self.old.device) (B.done_count self.new.device) }
         ensures written { OnOk result (IsTrue (is_loud (B.layers self.old.device)) → B.contents self.new.device ≡ with_part (B.contents self.old.device) (slot_start self.old.state.chunk self.old.state.current self.old.state.filled) (pairs_bytes (pairs (take count (pending self.old.exceptions))))) }
         ensures same { OnErr result (B.contents self.new.device ≡ B.contents self.old.device) }
@@ -86,7 +86,7 @@ impl<B: Block> Store<B> {
         ensures loud { is_loud (B.layers self.new.device) ≡ is_loud (B.layers self.old.device) }
         ensures durable { B.durable self.new.device ≡ B.durable self.old.device }
         ensures size { B.size self.new.device ≡ B.size self.old.device }
-
+        ensures stops { self.old.state.valid ≡ true → IsTrue (is_loud (B.layers self.old.device)) → StopsWithin self.old.state.chunk self.old.state.origin self.old.state.size (committed self.old.exceptions) (pairs (take count (pending self.old.exceptions))) (B.contents self.old.device) (B.contents self.new.device) }
         ensures committed { OnOk result (committed self.new.exceptions ≡ committed self.old.exceptions ++ pairs (take count (pending self.old.exceptions))) }
         ensures pending { OnOk result (pending self.new.exceptions ≡ drop count (pending self.old.exceptions)) }
         ensures reserved { reserved self.new.exceptions ≡ reserved self.old.exceptions }

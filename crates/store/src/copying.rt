@@ -11,7 +11,9 @@ ghost use Rattle.model.specs.Picture.{place_of};
 ghost use Rattle.exception_arena.specs.Pending.{begun_under};
 ghost use Rattle.exception_arena.specs.declared.begun.Begun.{Begun};
 ghost use Rattle.store.specs.Held.{committed, pending, pairs_pending, reserved};
+ghost use Rattle.store.specs.declared.state.Left.TheVariants.{Nothing};
 ghost use Rattle.store.specs.Operations.{IsOneOperation};
+ghost use Rattle.store.specs.Stopping.{StopsWithin};
 
 use crate::Store;
 use crate::chunks::{read_part, write_part};
@@ -85,7 +87,7 @@ impl<B: Block> Store<B> {
     }
 
     /// Writes so many sectors of a chunk that is no area's, from one of its sectors on: of a copy, or of a chunk whose
-    /// copy stands there.
+    /// copy stands there. Whatever a stop within it leaves is loaded again with the same pairs.
     pub fn write_chunk(
         &mut self,
         place: Chunk,
@@ -107,6 +109,7 @@ impl<B: Block> Store<B> {
         ensures loud { is_loud (B.layers self.new.device) ≡ is_loud (B.layers self.old.device) }
         ensures durable { B.durable self.new.device ≡ B.durable self.old.device }
         ensures size { B.size self.new.device ≡ B.size self.old.device }
+        ensures stops { self.old.state.left ≡ Nothing → self.old.state.valid ≡ true → IsTrue (is_loud (B.layers self.old.device)) → StopsWithin self.old.state.chunk self.old.state.origin self.old.state.size (committed self.old.exceptions) [] (B.contents self.old.device) (B.contents self.new.device) }
 
         ensures exceptions { self.new.exceptions ≡ self.old.exceptions }
         ensures places { self.new.places ≡ self.old.places }

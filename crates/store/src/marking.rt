@@ -6,7 +6,9 @@ ghost use Rattle.device.specs.Layers.{is_loud};
 ghost use Rattle.model.specs.Places.{ChangesOnly};
 ghost use Rattle.cow_header.specs.HeaderText.{header_bytes};
 ghost use Rattle.store.specs.declared.state.Left.TheVariants.{HeaderChunk, Nothing};
+ghost use Rattle.store.specs.Held.{committed};
 ghost use Rattle.store.specs.Operations.{IsOneOperation};
+ghost use Rattle.store.specs.Stopping.{StopsMarking};
 
 use crate::chunks::write_whole;
 use crate::{Left, Store};
@@ -16,17 +18,16 @@ use metadata_area::Area;
 
 impl<B: Block> Store<B> {
     /// Writes the header with the mark that the store is invalid, the rest of its chunk zero. No load accepts the store
-    /// afterwards.
+    /// afterwards; whatever a stop within it leaves is loaded again with the same pairs, or is refused as invalid.
     pub fn write_invalid(&mut self) -> Result<(), Io>
         requires ready { self.old.state.left ≡ Nothing }
-
         ensures operation { IsOneOperation (Writes 0 self.old.state.chunk) (is_ok result) (B.layers self.old.device) (B.layers self.new.device) (B.fault_count self.old.device) (B.fault_count self.new.device) (B.done_count self.old.device) (B.done_count self.new.device) }
         ensures written { OnOk result (IsTrue (is_loud (B.layers self.old.device)) → B.contents self.new.device ≡ with_sectors (B.contents self.old.device) 0 (header_bytes (512 * self.old.state.chunk) false self.old.state.chunk)) }
         ensures same { OnErr result (B.contents self.new.device ≡ B.contents self.old.device) }
         ensures only { ChangesOnly self.old.state.chunk 0 (B.contents self.old.device) (B.contents self.new.device) }
         ensures durable { B.durable self.new.device ≡ B.durable self.old.device }
         ensures size { B.size self.new.device ≡ B.size self.old.device }
-
+        ensures stops { self.old.state.valid ≡ true → IsTrue (is_loud (B.layers self.old.device)) → StopsMarking self.old.state.chunk self.old.state.origin self.old.state.size (committed self.old.exceptions) (B.contents self.old.device) (B.contents self.new.device) }
         ensures exceptions { self.new.exceptions ≡ self.old.exceptions }
         ensures places { self.new.places ≡ self.old.places }
         ensures state { OnOk result (self.new.state ≡ record self.old.state { valid = false }) }
@@ -44,7 +45,6 @@ impl<B: Block> Store<B> {
     /// Writes the header of a fresh store whose area 0 is zeroed, after which no write of its load is left.
     pub(crate) fn write_valid(&mut self) -> Result<(), Io>
         requires begun { self.old.state.left ≡ HeaderChunk }
-
         ensures operation { IsOneOperation (Writes 0 self.old.state.chunk) (is_ok result) (B.layers self.old.device) (B.layers self.new.device) (B.fault_count self.old.device) (B.fault_count self.new.device) (B.done_count self.old.device) (B.done_count self.new.device) }
         ensures loud { is_loud (B.layers self.new.device) ≡ is_loud (B.layers self.old.device) }
         ensures written { OnOk result (IsTrue (is_loud (B.layers self.old.device)) → B.contents self.new.device ≡ with_sectors (B.contents self.old.device) 0 (header_bytes (512 * self.old.state.chunk) true self.old.state.chunk)) }
@@ -52,7 +52,6 @@ impl<B: Block> Store<B> {
         ensures only { ChangesOnly self.old.state.chunk 0 (B.contents self.old.device) (B.contents self.new.device) }
         ensures durable { B.durable self.new.device ≡ B.durable self.old.device }
         ensures size { B.size self.new.device ≡ B.size self.old.device }
-
         ensures exceptions { self.new.exceptions ≡ self.old.exceptions }
         ensures places { self.new.places ≡ self.old.places }
         ensures state { OnOk result (self.new.state ≡ record self.old.state { left = Nothing }) }

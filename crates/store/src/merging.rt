@@ -1,5 +1,5 @@
 // A merge takes pairs away, from the last backwards, and the areas that become empty with them.
-ghost use Rattle.std.specs.Prelude.{◌≡◌, ◌⊎◌, ℕ, ◌+◌, ◌-◌, ◌*◌, ◌<◌, ◌≤◌, List, length, take, replicate, slice_index_or, is_ok, OnOk, OnErr, IsTrue, true, false};
+ghost use Rattle.std.specs.Prelude.{◌≡◌, ◌⊎◌, ℕ, ◌+◌, ◌-◌, ◌*◌, ◌<◌, ◌≤◌, List, length, take, drop, replicate, slice_index_or, is_ok, OnOk, OnErr, IsTrue, true, false};
 ghost use Rattle.sector.specs.Bytes.{with_part};
 ghost use Rattle.sector.specs.declared.pair.Pair.{Pair};
 ghost use Rattle.device.specs.declared.operation.Operation.TheVariants.{Reads, Writes};
@@ -9,6 +9,7 @@ ghost use Rattle.store.specs.declared.state.Left.TheVariants.{Nothing};
 ghost use Rattle.store.specs.Held.{committed, pending, reserved};
 ghost use Rattle.store.specs.Operations.{IsOneOperation};
 ghost use Rattle.store.specs.Slots.{slot_start};
+ghost use Rattle.store.specs.Stopping.{StopsWithin};
 
 use crate::Store;
 use crate::chunks::{read_area, write_whole};
@@ -21,21 +22,21 @@ use std::mem::swap;
 impl<B: Block> Store<B> {
     /// Takes the last pairs away, so many of the current area, whose old chunks fall by one from `old`, that of the last
     /// pair: their slots are zeroed on the store. From then on no copy starts, and the status counts the places up to the
-    /// pairs that are left.
+    /// pairs that are left. Whatever a stop within it leaves is loaded again, with the pairs that are left and the first few
+    /// of those that go.
     pub fn merge_commit(&mut self, old: Chunk, count: u32) -> Result<(), Io>
         requires ready { self.old.state.left ≡ Nothing }
         requires idle { length (pending self.old.exceptions) ≡ 0 }
         requires some { 0 < count }
         requires fits { count ≤ self.old.state.filled }
         requires falling { (i : ℕ) (d : Pair) → i < count → (slice_index_or (committed self.old.exceptions) (length (committed self.old.exceptions) - (i + 1)) d).old + i ≡ old }
-
         ensures operation { IsOneOperation (Writes (self.old.state.chunk * area_place self.old.state.chunk self.old.state.current) self.old.state.chunk) (is_ok result) (B.layers self.old.device) (B.layers self.new.device) (B.fault_count self.old.device) (B.fault_count self.new.device) (B.done_count self.old.device) (B.done_count self.new.device) }
         ensures written { OnOk result (IsTrue (is_loud (B.layers self.old.device)) → B.contents self.new.device ≡ with_part (B.contents self.old.device) (slot_start self.old.state.chunk self.old.state.current (self.old.state.filled - count)) (replicate (16 * count) 0)) }
         ensures same { OnErr result (B.contents self.new.device ≡ B.contents self.old.device) }
         ensures only { ChangesOnly self.old.state.chunk (area_place self.old.state.chunk self.old.state.current) (B.contents self.old.device) (B.contents self.new.device) }
         ensures loud { is_loud (B.layers self.new.device) ≡ is_loud (B.layers self.old.device) }
         ensures durable { B.durable self.new.device ≡ B.durable self.old.device }
-
+        ensures stops { self.old.state.valid ≡ true → IsTrue (is_loud (B.layers self.old.device)) → StopsWithin self.old.state.chunk self.old.state.origin self.old.state.size (take (length (committed self.old.exceptions) - count) (committed self.old.exceptions)) (drop (length (committed self.old.exceptions) - count) (committed self.old.exceptions)) (B.contents self.old.device) (B.contents self.new.device) }
         ensures committed { OnOk result (committed self.new.exceptions ≡ take (length (committed self.old.exceptions) - count) (committed self.old.exceptions)) }
         ensures pending { pending self.new.exceptions ≡ pending self.old.exceptions }
         ensures reserved { reserved self.new.exceptions ≡ reserved self.old.exceptions }
@@ -70,12 +71,10 @@ impl<B: Block> Store<B> {
         requires ready { self.old.state.left ≡ Nothing }
         requires empty { self.old.state.filled ≡ 0 }
         requires before { 0 < self.old.state.current }
-
         ensures operation { IsOneOperation (Reads (self.old.state.chunk * area_place self.old.state.chunk (self.old.state.current - 1)) self.old.state.chunk) (is_ok result) (B.layers self.old.device) (B.layers self.new.device) (B.fault_count self.old.device) (B.fault_count self.new.device) (B.done_count self.old.device) (B.done_count self.new.device) }
         ensures same { B.contents self.new.device ≡ B.contents self.old.device }
         ensures loud { is_loud (B.layers self.new.device) ≡ is_loud (B.layers self.old.device) }
         ensures durable { B.durable self.new.device ≡ B.durable self.old.device }
-
         ensures exceptions { self.new.exceptions ≡ self.old.exceptions }
         ensures places { self.new.places ≡ self.old.places }
         ensures state { OnOk result (self.new.state ≡ record self.old.state { current = self.old.state.current - 1; filled = 32 * self.old.state.chunk; zeroed = false; copying = false }) }

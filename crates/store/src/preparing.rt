@@ -5,6 +5,8 @@ ghost use Rattle.device.specs.Layers.{is_loud};
 ghost use Rattle.model.specs.Places.{area_place, ChangesOnly};
 ghost use Rattle.store.specs.declared.state.Left.TheVariants.{FirstArea, HeaderChunk, Tail, Nothing};
 ghost use Rattle.store.specs.Operations.{IsOneOperation};
+ghost use Rattle.store.specs.Held.{committed};
+ghost use Rattle.store.specs.Stopping.{StopsPreparing};
 ghost use Rattle.store.specs.Loading.{is_settled, is_begun, is_left, after_write, chunk_left, with_left};
 
 use crate::chunks::write_whole;
@@ -21,7 +23,8 @@ impl<B: Block> Store<B> {
 
     /// Does the next of the load's writes, and tells whether one is left. A fresh store's area 0 is zeroed, and then its
     /// header is written; a written store's current area is written with its tail zero, where its tail is not zero.
-    /// Where no write is left nothing is done.
+    /// Where no write is left nothing is done. Whatever a stop within it leaves is fresh while the store is, and is loaded
+    /// again with its pairs afterwards.
     pub fn prepare(&mut self) -> Result<bool, Io>
         ensures operation { is_left self.old.state.left ≡ true → IsOneOperation (Writes (self.old.state.chunk * chunk_left self.old.state.left self.old.state) self.old.state.chunk) (is_ok result) (B.layers self.old.device) (B.layers self.new.device) (B.fault_count self.old.device) (B.fault_count self.new.device) (B.done_count self.old.device) (B.done_count self.new.device) }
         ensures idle { self.old.state.left ≡ Nothing → (result ≡ Ok false) × (self.new.device ≡ self.old.device) }
@@ -30,7 +33,7 @@ impl<B: Block> Store<B> {
         ensures only { ChangesOnly self.old.state.chunk (chunk_left self.old.state.left self.old.state) (B.contents self.old.device) (B.contents self.new.device) }
         ensures loud { is_loud (B.layers self.new.device) ≡ is_loud (B.layers self.old.device) }
         ensures durable { B.durable self.new.device ≡ B.durable self.old.device }
-
+        ensures stops { self.old.state.valid ≡ true → IsTrue (is_loud (B.layers self.old.device)) → StopsPreparing self.old.state.left self.old.state.chunk self.old.state.origin self.old.state.size (committed self.old.exceptions) (B.contents self.old.device) (B.contents self.new.device) }
         ensures exceptions { self.new.exceptions ≡ self.old.exceptions }
         ensures places { self.new.places ≡ self.old.places }
         ensures state { OnOk result (self.new.state ≡ record self.old.state { left = after_write self.old.state.left }) }
@@ -60,14 +63,12 @@ impl<B: Block> Store<B> {
         requires begun { is_begun left ≡ true }
         requires settled { is_settled left ≡ true }
         requires next { left ≡ after_write self.old.state.left }
-
         ensures operation { IsOneOperation (Writes (self.old.state.chunk * area_place self.old.state.chunk self.old.state.current) self.old.state.chunk) (is_ok result) (B.layers self.old.device) (B.layers self.new.device) (B.fault_count self.old.device) (B.fault_count self.new.device) (B.done_count self.old.device) (B.done_count self.new.device) }
         ensures written { OnOk result (IsTrue (is_loud (B.layers self.old.device)) → B.contents self.new.device ≡ with_left self.old.state.left self.old.state (B.contents self.old.device)) }
         ensures same { OnErr result (B.contents self.new.device ≡ B.contents self.old.device) }
         ensures only { ChangesOnly self.old.state.chunk (area_place self.old.state.chunk self.old.state.current) (B.contents self.old.device) (B.contents self.new.device) }
         ensures loud { is_loud (B.layers self.new.device) ≡ is_loud (B.layers self.old.device) }
         ensures durable { B.durable self.new.device ≡ B.durable self.old.device }
-
         ensures exceptions { self.new.exceptions ≡ self.old.exceptions }
         ensures places { self.new.places ≡ self.old.places }
         ensures state { OnOk result (self.new.state ≡ record self.old.state { left = left }) }

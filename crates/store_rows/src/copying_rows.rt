@@ -38,7 +38,7 @@ pub fn save(
 fn make_room(rt: &impl Abort, store: &mut Store<MemDisk>) -> Result<(), Fail>
     ensures { store.new.exceptions ≡ store.old.exceptions }
 {
-    if store.needs_next_area() {
+    if store.needs_next_area(1) {
         assert!(rt; store.is_ready() && !store.lacks_next_area());
         assert!(rt; store.state.filled < 32 && store.state.chunk == 1);
         store.zero_next()?;

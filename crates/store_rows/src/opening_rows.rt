@@ -52,7 +52,7 @@ fn a_store_that_is_loaded_gives_its_pairs(rt: HostRuntime) -> Result<(), Fail> {
         (10, 64, 2),
         "the kernel's"
     );
-    assert!(rt; !store.is_full() && !store.needs_next_area() && !store.lacks_next_area());
+    assert!(rt; !store.is_full() && !store.needs_next_area(1) && !store.lacks_next_area());
     assert!(rt; store.is_ready());
     store.write_invalid()?;
     store.flush()?;

@@ -40,6 +40,7 @@ use Rattle.volume.proofs.CopyEvents.{both_left, both_right}
 use Rattle.volume.proofs.Good.{IsGood, Spoiling, Staying, silent_good}
 use Rattle.volume.proofs.StartsLeft.{left_same, left_spoilt}
 use Rattle.volume.proofs.MovedCounts.{counted_marks}
+use Rattle.volume.proofs.Alone.{alone_books}
 
 -- the same requests are in flight
 again_flown : (clear : ℕ → Bool) (rs : List Flight) → map in_flight (map (again_of None clear) rs) ≡ map in_flight rs
@@ -96,7 +97,7 @@ module _ {B : Type 0} (contents : B → List ℕ) (layers : B → List Layer) (s
   again fs = map (again_of None clear) fs
 
   reroutes : (fs : List Flight) → Reroutes clear (books_of contents layers size (changed v v.origin k s' fs)) (books_of contents layers size (changed v v.origin k s' (again fs)))
-  reroutes fs = record { requests = refl; origin = refl; sectors = refl; loud = refl; snaps = refl; merge = refl }
+  reroutes fs = record { requests = ap (λ m. map (again_of m clear) fs) (sym (alone_books contents layers (is_loud (layers v.origin)) v.merge h.alone)); origin = refl; sectors = refl; loud = refl; snaps = refl; merge = refl }
 
   same_loud : (fs gs : List Flight) → IsLoud (books_of contents layers size (changed v v.origin k s' fs)) → IsLoud (books_of contents layers size (changed v v.origin k s' gs))
   same_loud fs gs l = record { origin = l.origin; snaps = l.snaps; merge = l.merge }

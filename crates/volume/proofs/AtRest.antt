@@ -15,6 +15,7 @@ use Rattle.volume.specs.Volumed.{Volumed, is_loud_in_all, piece_of}
 use Rattle.volume.specs.Whole.{IsAttached, IsWhole}
 use Rattle.volume.specs.Moved.{held_of, moving_of}
 use Rattle.volume.specs.Leaving.{IsStillOn, is_done_of}
+use Rattle.volume.proofs.Shown.{loud_others}
 
 and_first : (a b : Bool) → (a && b) ≡ true → a ≡ true
 and_first true b h = refl
@@ -72,6 +73,7 @@ module _ {B : Type 0} (contents : B → List ℕ) (layers : B → List Layer) wh
   pub rests : (size : B → ℕ) (v : Volumed B) (replied : Option Reply) → IsWhole contents layers size v → size v.origin ≤ 16_777_216 → v.flights ≡ [] → list_all is_done_of v.snaps ≡ true → All (IsStillOn contents layers) v.snaps → is_loud_in_all layers v ≡ true → IsAtRest (size v.origin) (moving_of contents layers replied v)
   rests size v replied whole small none done still loud = record {
     whole = whole.holds.whole;
-    snaps = all_resting v.copies (size v.origin) (piece_of v.snaps) v.snaps small whole.snaps still done (and_second (is_loud (layers v.origin)) (list_all (λ (s : Kept B). is_loud (layers s.device)) v.snaps) loud);
+    snaps = all_resting v.copies (size v.origin) (piece_of v.snaps) v.snaps small whole.snaps still done (and_second (is_loud (layers v.origin)) (list_all (λ (s : Kept B). is_loud (layers s.device)) v.snaps) (loud_others contents layers size v loud));
     requests = ap (λ fs. map going_of fs) none;
+    alone = refl;
   }

@@ -28,11 +28,12 @@ use Rattle.snapshot.specs.Opened.{IsOpened}
 use Rattle.snapshot.specs.Opening.{IsOpenedAs}
 use Rattle.store.specs.declared.state.State.{State}
 use Rattle.store.specs.Stored.{new_of}
-use Rattle.volume.specs.Volumed.{Volumed, piece_of, is_loud_in_all}
+use Rattle.volume.specs.Volumed.{Volumed, piece_of, is_loud_in_all, is_loud_with}
 use Rattle.volume.specs.Moved.{device_of, held_of, moving_of}
 use Rattle.volume.specs.Whole.{IsAttached}
 use Rattle.volume.specs.Taking.{taking_refusal, wanted_of}
 use Rattle.volume.specs.Attached.{store_of, volume_in, IsAttachedAs}
+use Rattle.volume.proofs.Shown.{one_loud}
 
 -- both limits
 neither : (a b c d : Bool) → a ≡ not c → b ≡ not d → (a && b) ≡ not (c || d)
@@ -178,6 +179,7 @@ module _ {B : Type 0} (contents : B → List ℕ) (layers : B → List Layer) wh
     whole = rest.whole;
     snaps = subst (All (IsResting sectors)) (sym (map_push (held_of contents layers) v.snaps s)) (All-push (IsResting sectors) (map (held_of contents layers) v.snaps) (held_of contents layers s) rest.snaps here);
     requests = rest.requests;
+    alone = refl;
   }
 
   -- the new one, over an origin of so many sectors
@@ -234,8 +236,9 @@ module _ {B : Type 0} (contents : B → List ℕ) (layers : B → List Layer) wh
   pub loud_taken : (v : Volumed B) (number : ℕ) (s : Kept B) → is_loud_in_all layers (taken v number s) ≡ (is_loud_in_all layers v && is_loud (layers s.device))
   loud_taken v number s =
       let loud : Kept B → Bool = λ (t : Kept B). is_loud (layers t.device) in
-      ap (λ b. is_loud (layers v.origin) && b) (list_all-append (λ (t : Kept B). is_loud (layers t.device)) v.snaps (s ∷ []))
-      ∙ regrouped (is_loud (layers v.origin)) (list_all (λ (t : Kept B). is_loud (layers t.device)) v.snaps) (is_loud (layers s.device))
+      ap (is_loud_with layers v.merge) (ap (λ b. is_loud (layers v.origin) && b) (list_all-append (λ (t : Kept B). is_loud (layers t.device)) v.snaps (s ∷ []))
+      ∙ regrouped (is_loud (layers v.origin)) (list_all (λ (t : Kept B). is_loud (layers t.device)) v.snaps) (is_loud (layers s.device)))
+      ∙ one_loud layers v.merge (is_loud (layers v.origin) && list_all (λ (t : Kept B). is_loud (layers t.device)) v.snaps) (is_loud (layers s.device))
     where
       regrouped : (a b c : Bool) → (a && (b && (c && true))) ≡ ((a && b) && c)
       regrouped true true true = refl

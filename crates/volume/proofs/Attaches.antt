@@ -82,6 +82,7 @@ module _ {B : Type 0} (contents : B → List ℕ) (layers : B → List Layer) (s
   whole_taken room small origin wanted idle counts =
       let all_numbers : AreNumbers v.copies (numbers_in s) = subst (AreNumbers v.copies) (sym idle) (record { given = All-nil (λ n. n ≤ v.copies); ascending = λ i j d lt within. absurd (omega (arith, within)) }) in
       record {
+        alone = h.alone;
         holds = (attach_event (snap_books contents layers s) (books_of contents layers size v) (books_of contents layers size taken) h.holds attaches new).0;
         waits = waits_none (books_of contents layers size taken) none;
         snaps = attached_push v.copies (size v.origin) v.snaps s wanted h.snaps (record { origin = origin; chunk_is = refl; some = new.text.some; numbers = all_numbers });

@@ -82,6 +82,7 @@ module _ {B : Type 0} (contents : B → List ℕ) (layers : B → List Layer) (s
       let at : count_in (get_or v.snaps k s) ≡ count_in s = ap count_in (sym is) in
       let one : count_in s' ≡ count_in s + 1 = ap length numbers ∙ length-append (numbers_in s) ((v.copies + 1) ∷ []) in
       record {
+        alone = h.alone;
         holds = holds;
         waits = waits;
         snaps = subst (λ n. All (IsAttached (v.copies + 1) (size v.origin) n) (set v.snaps k s')) (sym piece) (All-set (IsAttached (v.copies + 1) (size v.origin) (piece_of v.snaps)) v.snaps k s' mine all);

@@ -17,7 +17,7 @@ use Rattle.volume_laws.specs.Whole.{Holds}
 use Rattle.volume_laws.specs.Waits.{Waits}
 use Rattle.volume_laws.proofs.Left.{one_left}
 use Rattle.snapshot.specs.Kept.{Kept, books_of as snap_books, due_of_kept}
-use Rattle.volume.specs.Volumed.{Volumed, books_of, piece_of, is_loud_in_all, left_in_all}
+use Rattle.volume.specs.Volumed.{Volumed, books_of, piece_of, is_loud_in_all, left_in_all, merge_books, dues_of, is_loud_with}
 use Rattle.snapshots.specs.Numbers.{number_of_snap, numbers_in, count_in}
 use Rattle.volume.specs.Whole.{AreNumbers, SharesNone, IsAttached, IsWhole, IsCounted, starts_left}
 use Rattle.volume.proofs.Lists.{all_pairs_set, list_all_set, IsFewer, fewer_all, fewer_pairs, fewer_length}
@@ -87,7 +87,7 @@ module _ {B : Type 0} (contents : B → List ℕ) (layers : B → List Layer) (s
     origin = same.bytes;
     sectors = same.sectors;
     loud = same.loud;
-    merge = refl;
+    merge = ap (λ l. merge_books contents layers l v.merge) same.loud;
     requests = refl;
   }
 
@@ -101,7 +101,7 @@ module _ {B : Type 0} (contents : B → List ℕ) (layers : B → List Layer) (s
     origin = same.bytes;
     sectors = same.sectors;
     loud = same.loud;
-    merge = refl;
+    merge = ap (λ l. merge_books contents layers l v.merge) same.loud;
     requests = refl;
   }
 
@@ -144,6 +144,7 @@ module _ {B : Type 0} (contents : B → List ℕ) (layers : B → List Layer) (s
   whole_changed flights h same stays numbers holds waits =
       let fit = snaps_changed h same stays in
       record {
+        alone = h.alone;
         holds = holds;
         waits = waits;
         snaps = fit.snaps;
@@ -162,10 +163,10 @@ module _ {B : Type 0} (contents : B → List ℕ) (layers : B → List Layer) (s
   lower_changed flights same less =
       let due = due_of_kept contents layers in
       let e = one_left (map due v.snaps) k (due s) (due s') v.flights (omega (arith, within, length-map v.snaps due)) (ap due is ∙ sym (get_or-map due v.snaps k s (due s) within)) less in
-      let at : left_in_all contents layers (changed v o' k s' flights) ≡ left_of (set (map due v.snaps) k (due s')) v.flights =
+      let at : left_of (dues_of contents layers (changed v o' k s' flights)) flights ≡ left_of (set (map due v.snaps) k (due s')) v.flights =
       ap (λ xs. sum_by left_in xs + length flights) (map-set due v.snaps k s') ∙ ap (λ n. sum_by left_in (set (map due v.snaps) k (due s')) + n) same in
       omega (arith, e, at)
 
   pub loud_changed : (flights : List Flight) → SameDisk contents layers size v.origin o' → is_loud (layers s'.device) ≡ is_loud (layers s.device) → is_loud_in_all layers (changed v o' k s' flights) ≡ is_loud_in_all layers v
-  loud_changed flights same loud = ap (λ b. b && list_all (λ x. is_loud (layers x.device)) (set v.snaps k s')) same.loud
-      ∙ ap (λ b. is_loud (layers v.origin) && b) (list_all_set (λ x. is_loud (layers x.device)) v.snaps k s s' within is loud)
+  loud_changed flights same loud = ap (is_loud_with layers v.merge) (ap (λ b. b && list_all (λ x. is_loud (layers x.device)) (set v.snaps k s')) same.loud
+      ∙ ap (λ b. is_loud (layers v.origin) && b) (list_all_set (λ x. is_loud (layers x.device)) v.snaps k s s' within is loud))

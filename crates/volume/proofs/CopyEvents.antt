@@ -28,7 +28,7 @@ use Rattle.snapshots.specs.Numbers.{numbers_in}
 use Rattle.volume.specs.Whole.{IsWhole, IsCounted}
 use Rattle.snapshots.specs.Finding.{is_copy_of}
 use Rattle.volume.proofs.Changing.{SameDisk, StaysAttached, changed, books_within, books_is, changes}
-use Rattle.volume.proofs.Counting.{counts_same, counts_origin, counts_store, store_within, lives_same, lives_spoiled, lived}
+use Rattle.volume.proofs.Counting.{counts_same, counts_origin, counts_store, store_within, lives_same, lives_spoiled, lived, origin_within}
 use Rattle.snapshots.proofs.Finds.{position_within, position_any}
 use Rattle.volume.proofs.Good.{IsGood, SpoiltTo, silent_good, spoilt_good}
 use Rattle.volume.proofs.StartsLeft.{left_same}
@@ -117,7 +117,7 @@ module _ {B : Type 0} (contents : B → List ℕ) (layers : B → List Layer) (s
         (waits_changed k (sb s) (sb s') (books_of contents layers size v) (books_of contents layers size w) h.waits e_is (copy_read_keeps (contents v.origin) j p q (sb s) (sb s') r))
         (copy_read_left (contents v.origin) j p q (due_of_kept contents layers s) (due_of_kept contents layers s') r (copy_stage Waiting number s.copies j found p r.copy.was) (ap (λ (x : Kept B). x.state.zeroed) f))
         (record { counts = counts_same v o' k s s' v.flights within is faults faulty (ap faults device); lives = lives_same v o' k s s' v.flights within is (ap (λ (x : Kept B). x.live) f) })
-        (inr (0, omega arith, counts_origin v o' k s s' v.flights within is done counted (ap done device)))
+        (inr (0, origin_within v o' k s s' v.flights within is done, counts_origin v o' k s s' v.flights within is done counted (ap done device)))
 
     pub write_good : position (is_copy_of Read number) s.copies ≡ Some j → WritesAt contents layers j p q s s' → is_loud (layers s'.device) ≡ is_loud (layers s.device) → size s'.device ≡ size s.device → faults o' ≡ faults v.origin → done o' ≡ done v.origin
         → faults s'.device ≡ faults s.device → done s'.device ≡ next_count (done s.device) → IsGood contents layers size faults done (CopyWrite number) Done v (changed v o' k s' v.flights)
@@ -155,7 +155,7 @@ module _ {B : Type 0} (contents : B → List ℕ) (layers : B → List Layer) (s
         mine = copy_mine Waiting number s.copies j found;
         spoils = record { counts = counts_origin v o' k s s' flights within is faults faulty (ap faults device); was = lived v o' k s s' flights within is live; lives = lives_spoiled v o' k s s' flights within is t.live };
       })
-      (inr (0, omega arith, counts_origin v o' k s s' flights within is done counted (ap done device)))
+      (inr (0, origin_within v o' k s s' flights within is done, counts_origin v o' k s s' flights within is done counted (ap done device)))
 
   -- the snapshot's store failed
   pub write_fault : position (is_copy_of Read number) s.copies ≡ Some j → SpoiltTo s s' → is_loud (layers s'.device) ≡ is_loud (layers s.device) → size s'.device ≡ size s.device → faults o' ≡ faults v.origin → done o' ≡ done v.origin

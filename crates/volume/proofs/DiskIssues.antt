@@ -29,14 +29,16 @@ use Rattle.volume_laws.proofs.Waiting.{waits_out}
 use Rattle.volume_laws.proofs.Issuing.{io_read_event, io_write_event, read_disk_event, io_snap_read_event, snap_disk_event}
 use Rattle.volume_laws.proofs.IssuingWrites.{write_disk_event}
 use Rattle.snapshot.specs.Kept.{Kept}
-use Rattle.volume.specs.Volumed.{Volumed, books_of}
+use Rattle.volume.specs.Volumed.{Volumed, books_of, merge_books, is_loud_with}
 use Rattle.volume.specs.Whole.{IsWhole}
-use Rattle.volume.specs.Causes.{HasReplied, IsFaultless, FailsAlone, GoesTo, IsOneAtMost}
+use Rattle.volume.specs.Causes.{HasReplied, IsFaultless, FailsAlone, GoesTo, IsOneAtMost, counts_of, counts_with, counted}
 use Rattle.snapshots.proofs.Finds.{position_within}
 use Rattle.volume.specs.Flying.{Fits}
 use Rattle.volume.proofs.Changing.{snaps_fit}
 use Rattle.volume.proofs.Good.{IsGood}
 use Rattle.volume.proofs.IssueEvents.{reply_good, taken_out, fits_read, fits_write}
+use Rattle.volume.proofs.Alone.{alone_books}
+use Rattle.volume.proofs.Counting.{counted_among, within_among}
 
 -- what a request is, by its device
 pub read_kinds : (dev : Dev) (op : Op) → op ≡ Read → (kind_at dev op ≡ OriginRead) ⊎ ((n : ℕ) × (kind_at dev op ≡ SnapRead n))
@@ -66,34 +68,43 @@ module _ {B : Type 0} (contents : B → List ℕ) (layers : B → List Layer) (s
   in_list = position_within (λ (f : Flight). nat_eq f.number number) v.flights place found
 
   out : TakesOut number place r vb wb
-  out = record { found = found; was = was; requests = refl; sectors = same_size; loud = same_loud; merge = refl }
+  out = record { found = found; was = was; requests = refl; sectors = same_size; loud = same_loud; merge = ap (λ l. merge_books contents layers l v.merge) same_loud }
 
   waits : Waits wb
-  waits = waits_out place vb wb h.waits in_list refl refl refl
+  waits = waits_out place vb wb h.waits in_list refl refl (ap (λ l. merge_books contents layers l v.merge) same_loud)
 
-  waiting : WaitsHolds None vb.snaps r
-  waiting = found_holds (WaitsHolds None vb.snaps) number place r vb wb out h.waits.held
+  waiting : WaitsHolds vb.merge vb.snaps r
+  waiting = found_holds (WaitsHolds vb.merge vb.snaps) number place r vb wb out h.waits.held
 
   mine : r.number ≡ number
   mine = (let p = position-Some (λ (f : Flight). nat_eq f.number number) v.flights place r found in eqb-true r.number number (ap (λ (f : Flight). nat_eq f.number number) was ∙ p.1))
 
   good : (reply : Reply) → IsReply number reply vb wb → HasReplied faults number reply v issued → IsOneAtMost done v issued → Fits r.request.op r.request.range reply → IsGood contents layers size faults done (Issue number) (Replied number reply) v issued
-  good reply answered cause one fits = reply_good contents layers size faults done v issued h number place reply in_list refl refl refl refl (snaps_fit contents layers size v (size o') h same_size) refl
-      (ap (λ b. b && list_all (λ (s : Kept B). is_loud (layers s.device)) v.snaps) same_loud)
-      (record { attached = refl; numbers = refl; chunks = refl; sizes = ap (λ n. n ∷ map (λ (s : Kept B). size s.device) v.snaps) same_size }) answered waits cause one (taken_out number place reply r vb wb out fits)
+  good reply answered cause one fits = reply_good contents layers size faults done v issued h number place reply in_list refl refl refl refl refl (snaps_fit contents layers size v (size o') h same_size) refl
+      (ap (λ b. is_loud_with layers v.merge (b && list_all (λ (s : Kept B). is_loud (layers s.device)) v.snaps)) same_loud)
+      (record { attached = refl; numbers = refl; chunks = refl; merged = refl; sizes = ap (λ n. counts_with size v.merge (n ∷ map (λ (s : Kept B). size s.device) v.snaps)) same_size }) answered waits cause one (taken_out number place reply r vb wb out fits)
 
   faultless : faults o' ≡ faults v.origin → IsFaultless faults v issued
-  faultless same = record { counts = ap (λ n. n ∷ map (λ (s : Kept B). faults s.device) v.snaps) same; lives = refl }
+  faultless same = record { counts = ap (λ n. counts_with faults v.merge (n ∷ map (λ (s : Kept B). faults s.device) v.snaps)) same; lives = refl }
+
+  -- the origin disk counted
+  disk_counted : (count : B → ℕ) → count o' ≡ next_count (count v.origin) → counts_of count issued ≡ counted 0 (counts_of count v)
+  disk_counted count more = ap (λ n. counts_with count v.merge (n ∷ map (λ (s : Kept B). count s.device) v.snaps)) more
+      ∙ counted_among count v.merge 0 (count v.origin ∷ map (λ (s : Kept B). count s.device) v.snaps) (omega arith)
+
+  -- nothing is merged
+  none : vb.merge ≡ None
+  none = alone_books contents layers (is_loud (layers v.origin)) v.merge h.alone
 
   failed : faults o' ≡ next_count (faults v.origin) → (device : ℕ) × GoesTo number device v × FailsAlone faults device v issued
   failed more = (
     0,
     record { place = place; flight = r; within = in_list; is = was; mine = mine; route = inl (route, refl) },
-    record { counts = ap (λ n. n ∷ map (λ (s : Kept B). faults s.device) v.snaps) more; lives = refl },
+    record { counts = disk_counted faults more; lives = refl },
   )
 
   one_done : done o' ≡ next_count (done v.origin) → IsOneAtMost done v issued
-  one_done more = inr (0, omega arith, ap (λ n. n ∷ map (λ (s : Kept B). done s.device) v.snaps) more)
+  one_done more = inr (0, within_among done v.merge 0 (done v.origin ∷ map (λ (s : Kept B). done s.device) v.snaps) (omega arith), disk_counted done more)
 
   only : contents o' ≡ contents v.origin → OnlyTakesOut number place r vb wb
   only same = record { out = out; origin = same; snaps = refl }
@@ -105,7 +116,7 @@ module _ {B : Type 0} (contents : B → List ℕ) (layers : B → List Layer) (s
       where
         reply : IsReply number (Data bytes) vb wb
         reply = elim (read_kinds r.request.dev r.request.op op) [
-          | inl kind ↦ read_disk_event number place r vb wb h.holds (only same) bytes refl kind read
+          | inl kind ↦ read_disk_event number place r vb wb h.holds (only same) bytes none kind read
           | inr k ↦ (let any = waiting.read_attached k.0 k.1 in
               snap_disk_event number place r vb wb h.holds (only same) any.0 any.1 any.2 (sym any.3) bytes (k.1 ∙ ap SnapRead (sym any.4)) route read)
         ]
@@ -138,7 +149,7 @@ module _ {B : Type 0} (contents : B → List ℕ) (layers : B → List Layer) (s
     pub disk_write : WritesDisk r.request.range.first r.request.range.count (contents v.origin) (contents o') → (is_loud (layers v.origin) ≡ true → contents o' ≡ with_sectors (contents v.origin) r.request.range.first bytes) → faults o' ≡ faults v.origin
         → IsGood contents layers size faults done (Issue number) (Replied number IsWritten) v issued
     disk_write disk written faulty = good IsWritten
-        (write_disk_event number place r bytes vb wb h.holds (record { out = out; op = op; snaps = refl; disk = disk; written = written }) refl (is_origin bytes op) route)
+        (write_disk_event number place r bytes vb wb h.holds (record { out = out; op = op; snaps = refl; disk = disk; written = written }) none (is_origin bytes op) route)
         (faultless faulty) (one_done counted) (fits_write r.request.op r.request.range bytes op)
 
     pub disk_write_io : contents o' ≡ contents v.origin → faults o' ≡ next_count (faults v.origin) → IsGood contents layers size faults done (Issue number) (Replied number (IsRefused Io)) v issued

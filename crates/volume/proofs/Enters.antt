@@ -45,6 +45,7 @@ module _ {B : Type 0} (contents : B → List ℕ) (layers : B → List Layer) (s
 
   pub whole_entered : (which : List ℕ) (v0 : Volumed B) → length u.flights < 64 → IsTakenIn which f.number f.request (books_of contents layers size v0) (books_of contents layers size entered) → IsWhole contents layers size entered
   whole_entered which v0 room t = record {
+    alone = h.alone;
     holds = t.holds;
     waits = t.waits;
     snaps = h.snaps;

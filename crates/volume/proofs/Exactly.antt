@@ -27,7 +27,7 @@ use Rattle.volume_laws.specs.Again.{again_of, placed_of}
 use Rattle.volume_laws.specs.Held.{LiveHolds, SnapHolds}
 use Rattle.volume_laws.specs.Published.{is_clear as is_clear_in}
 use Rattle.volume_laws.specs.Steps.{mark_of}
-use Rattle.snapshot.specs.Kept.{Kept, books_of as snap_books, needs_area}
+use Rattle.snapshot.specs.Kept.{Kept, books_of as snap_books, batch_of, needs_area}
 use Rattle.snapshot.specs.Calls.{ReadsAt, StaysAt, WritesAt}
 use Rattle.volume.specs.Volumed.{Volumed, is_loud_in_all}
 use Rattle.volume.specs.Whole.{IsWhole, IsCounted}
@@ -37,10 +37,10 @@ use Rattle.volume.proofs.MovedLists.{IsFirst, first_position}
 use Rattle.volume.proofs.MovedDue.{front_lives}
 use Rattle.volume.proofs.MovedSnaps.{changed, spoilt}
 use Rattle.volume.proofs.MovedFound.{snap_first, copy_first, mark_first, mark_number}
-use Rattle.volume.proofs.MovedCounts.{front_some}
 use Rattle.volume.proofs.MovedCopies.{copy_read_done, copy_read_fault, copy_write_done, copy_write_fault}
 use Rattle.volume.proofs.MovedStores.{write_area_done, write_area_fault, zero_next_done, zero_next_fault, zero_next_lacks}
 use Rattle.volume.proofs.MovedMarks.{write_invalid_is, publish_is}
+use Rattle.volume.proofs.Shown.{loud_others}
 
 and_left : (a b : Bool) → (a && b) ≡ true → a ≡ true
 and_left true b e = refl
@@ -61,11 +61,11 @@ all_at test (y ∷ ys) (suc k) x all within is = all_at test ys k x (and_right (
 
 module _ {B : Type 0} (contents : B → List ℕ) (layers : B → List Layer) (size : B → ℕ) (v : Volumed B) (h : IsWhole contents layers size v) where
   pub loud_origin : is_loud_in_all layers v ≡ true → is_loud (layers v.origin) ≡ true
-  loud_origin loud = and_left (is_loud (layers v.origin)) (list_all (λ (x : Kept B). is_loud (layers x.device)) v.snaps) loud
+  loud_origin loud = and_left (is_loud (layers v.origin)) (list_all (λ (x : Kept B). is_loud (layers x.device)) v.snaps) (loud_others contents layers size v loud)
 
   module _ (n k : ℕ) (s : Kept B) (within : k < length v.snaps) (is : s ≡ get_or v.snaps k s) where
     pub loud_store : is_loud_in_all layers v ≡ true → is_loud (layers s.device) ≡ true
-    loud_store loud = all_at (λ (x : Kept B). is_loud (layers x.device)) v.snaps k s (and_right (is_loud (layers v.origin)) (list_all (λ (x : Kept B). is_loud (layers x.device)) v.snaps) loud) within is
+    loud_store loud = all_at (λ (x : Kept B). is_loud (layers x.device)) v.snaps k s (and_right (is_loud (layers v.origin)) (list_all (λ (x : Kept B). is_loud (layers x.device)) v.snaps) (loud_others contents layers size v loud)) within is
 
     pub counts : IsCounted s
     counts = subst IsCounted (sym is) (h.counted k s within)
@@ -118,18 +118,14 @@ module _ {B : Type 0} (contents : B → List ℕ) (layers : B → List Layer) (s
 
       -- ZeroNext
       zeroing_told : (x : Kept B) → is_zeroing n x ≡ true → x.number ≡ n
-      zeroing_told x e = eqb-true x.number n (and_left (x.number == n) (front_written x.copies && needs_area x.state) e)
+      zeroing_told x e = eqb-true x.number n (and_left (x.number == n) (front_written x.copies && needs_area x.state x.copies) e)
 
       module _ (found : is_zeroing n s ≡ true) where
         zeroing_first : IsFirst (is_zeroing n) k s v.snaps
         zeroing_first = snap_first contents layers size v h n k s within is (is_zeroing n) zeroing_told found
 
         pub zeroing_live : s.live ≡ true
-        zeroing_live = front_lives contents layers s counts (and_left (front_written s.copies) (needs_area s.state) (and_right (s.number == n) (front_written s.copies && needs_area s.state) found))
-
-        zeroing_full : s.state.filled + 1 ≡ 32 * s.state.chunk
-        zeroing_full = eqb-true (s.state.filled + 1) (32 * s.state.chunk) (and_left (s.state.filled + 1 == 32 * s.state.chunk) (not s.state.zeroed)
-            (and_right (front_written s.copies) (needs_area s.state) (and_right (s.number == n) (front_written s.copies && needs_area s.state) found)))
+        zeroing_live = front_lives contents layers s counts (and_left (front_written s.copies) (needs_area s.state s.copies) (and_right (s.number == n) (front_written s.copies && needs_area s.state s.copies) found))
 
         zeroing_sized : length (contents s.device) ≡ 512 * s.state.size
         zeroing_sized = (holds_live zeroing_live).text.whole
@@ -139,65 +135,52 @@ module _ {B : Type 0} (contents : B → List ℕ) (layers : B → List Layer) (s
             → (is_loud (layers s.device) ≡ true → contents s'.device ≡ with_sectors (contents s.device) (s.state.chunk * area_place s.state.chunk (s.state.current + 1)) (replicate (512 * s.state.chunk) 0))
             → s' ≡ record s { device = s'.device; state = record s.state { zeroed = true } } → IsExact contents layers (ZeroNext n) Done v (changed v v.origin k s' v.flights)
         zero_exact s' inside one written fields = record {
-          step = λ loud replied. zero_next_done contents layers replied v h.counted n k s zeroing_first counts zeroing_live zeroing_full zeroing_sized faults faults' done done' s'.device s' inside one (written (loud_store loud)) fields;
+          step = λ loud replied. zero_next_done contents layers replied v h.counted n k s zeroing_first counts zeroing_live zeroing_sized faults faults' done done' s'.device s' inside one (written (loud_store loud)) fields;
         }
 
         pub zero_fault_exact : (s1 s' : Kept B) → s.state.chunk * (area_place s.state.chunk (s.state.current + 1) + 1) ≤ s.state.size
             → IsOneOperation (Writes (s.state.chunk * area_place s.state.chunk (s.state.current + 1)) s.state.chunk) false (layers s.device) (layers s1.device) faults faults' done done'
             → contents s1.device ≡ contents s.device → s1 ≡ record s { device = s1.device } → s' ≡ spoilt s1 → IsExact contents layers (ZeroNext n) Fault v (changed v v.origin k s' (map (refused_of (s.number ∷ [])) v.flights))
         zero_fault_exact s1 s' inside one same kept gone = record {
-          step = λ loud replied. zero_next_fault contents layers replied v h.counted n k s zeroing_first counts zeroing_live zeroing_full zeroing_sized faults faults' done done' s1.device s1 s' inside one same kept gone;
+          step = λ loud replied. zero_next_fault contents layers replied v h.counted n k s zeroing_first counts zeroing_live zeroing_sized faults faults' done done' s1.device s1 s' inside one same kept gone;
         }
 
         pub zero_lacks_exact : (s' : Kept B) → LacksArea s.state.chunk s.state.size (s.state.current + 1) → s' ≡ spoilt s → IsExact contents layers (ZeroNext n) Done v (changed v v.origin k s' (map (refused_of (s.number ∷ [])) v.flights))
         zero_lacks_exact s' short gone = record {
-          step = λ loud replied. zero_next_lacks contents layers replied v h.counted n k s zeroing_first counts zeroing_live zeroing_full zeroing_sized faults faults' done done' s.device s' short gone;
+          step = λ loud replied. zero_next_lacks contents layers replied v h.counted n k s zeroing_first counts zeroing_live zeroing_sized faults faults' done done' s.device s' short gone;
         }
 
       -- WriteArea
       committing_told : (x : Kept B) → is_committing n x ≡ true → x.number ≡ n
-      committing_told x e = eqb-true x.number n (and_left (x.number == n) (front_written x.copies && not (needs_area x.state)) e)
+      committing_told x e = eqb-true x.number n (and_left (x.number == n) (front_written x.copies && not (needs_area x.state x.copies)) e)
 
       module _ (found : is_committing n s ≡ true) where
         committing_first : IsFirst (is_committing n) k s v.snaps
         committing_first = snap_first contents layers size v h n k s within is (is_committing n) committing_told found
 
         front : front_written s.copies ≡ true
-        front = and_left (front_written s.copies) (not (needs_area s.state)) (and_right (s.number == n) (front_written s.copies && not (needs_area s.state)) found)
+        front = and_left (front_written s.copies) (not (needs_area s.state s.copies)) (and_right (s.number == n) (front_written s.copies && not (needs_area s.state s.copies)) found)
 
         pub committing_live : s.live ≡ true
         committing_live = front_lives contents layers s counts front
 
-        -- the copy that is committed
-        abbrev copy : ChunkCopy
-        copy = (front_some s.copies front).0
+        agree : s.begun ≡ map pair_of s.copies
+        agree = (holds_live committing_live).agree
 
-        abbrev others : List ChunkCopy
-        others = (front_some s.copies front).1
+        module _ (count : ℕ) (batched : count ≡ batch_of s.state s.copies) where
+          pub area_exact : (s' : Kept B) → IsOneOperation (Writes (s.state.chunk * area_place s.state.chunk s.state.current) s.state.chunk) true (layers s.device) (layers s'.device) faults faults' done done'
+              → (is_loud (layers s.device) ≡ true → contents s'.device ≡ with_part (contents s.device) (slot_start s.state.chunk s.state.current s.state.filled) (pairs_bytes (take count s.begun)))
+              → s' ≡ record s { device = s'.device; state = after_commit s.state count; pairs = s.pairs ++ take count s.begun; begun = drop count s.begun; copies = drop count s.copies; marks = s.marks ++ map mark_of (take count s.copies) }
+              → IsExact contents layers (WriteArea n) Done v (changed v v.origin k s' v.flights)
+          area_exact s' one written fields = record {
+            step = λ loud replied. write_area_done contents layers replied v h.counted n k s committing_first counts committing_live count batched agree faults faults' done done' s'.device s' one (written (loud_store loud)) fields;
+          }
 
-        copies_is : s.copies ≡ copy ∷ others
-        copies_is = (front_some s.copies front).2
-
-        begun_is : s.begun ≡ copy.pair ∷ map pair_of others
-        begun_is = (holds_live committing_live).agree ∙ ap (map pair_of) copies_is
-
-        pub area_exact : (s' : Kept B) → IsOneOperation (Writes (s.state.chunk * area_place s.state.chunk s.state.current) s.state.chunk) true (layers s.device) (layers s'.device) faults faults' done done'
-            → (is_loud (layers s.device) ≡ true → contents s'.device ≡ with_part (contents s.device) (slot_start s.state.chunk s.state.current s.state.filled) (pairs_bytes (take 1 s.begun)))
-            → s' ≡ record s { device = s'.device; state = after_commit s.state 1; pairs = s.pairs ++ take 1 s.begun; begun = drop 1 s.begun; copies = drop 1 s.copies; marks = s.marks ++ map mark_of (take 1 s.copies) }
-            → IsExact contents layers (WriteArea n) Done v (changed v v.origin k s' v.flights)
-        area_exact s' one written fields =
-            let marks : List Mark = s.marks ++ map mark_of (take 1 s.copies) in
-            let at : s' ≡ record s { device = s'.device; state = after_commit s.state 1; pairs = s.pairs ++ copy.pair ∷ []; begun = drop 1 s.begun; copies = drop 1 s.copies; marks = marks } =
-            fields ∙ ap (λ (b : List Pair). record s { device = s'.device; state = after_commit s.state 1; pairs = s.pairs ++ take 1 b; begun = drop 1 s.begun; copies = drop 1 s.copies; marks = marks }) begun_is in
-            record {
-              step = λ loud replied. write_area_done contents layers replied v h.counted n k s committing_first counts committing_live copy others copies_is begun_is faults faults' done done' s'.device s' one (written (loud_store loud)) fields;
-            }
-
-        pub area_fault_exact : (s1 s' : Kept B) → IsOneOperation (Writes (s.state.chunk * area_place s.state.chunk s.state.current) s.state.chunk) false (layers s.device) (layers s1.device) faults faults' done done'
-            → contents s1.device ≡ contents s.device → s1 ≡ record s { device = s1.device } → s' ≡ spoilt s1 → IsExact contents layers (WriteArea n) Fault v (changed v v.origin k s' (map (refused_of (s.number ∷ [])) v.flights))
-        area_fault_exact s1 s' one same kept gone = record {
-          step = λ loud replied. write_area_fault contents layers replied v h.counted n k s committing_first counts committing_live copy others copies_is begun_is faults faults' done done' s1.device s1 s' one same kept gone;
-        }
+          pub area_fault_exact : (s1 s' : Kept B) → IsOneOperation (Writes (s.state.chunk * area_place s.state.chunk s.state.current) s.state.chunk) false (layers s.device) (layers s1.device) faults faults' done done'
+              → contents s1.device ≡ contents s.device → s1 ≡ record s { device = s1.device } → s' ≡ spoilt s1 → IsExact contents layers (WriteArea n) Fault v (changed v v.origin k s' (map (refused_of (s.number ∷ [])) v.flights))
+          area_fault_exact s1 s' one same kept gone = record {
+            step = λ loud replied. write_area_fault contents layers replied v h.counted n k s committing_first counts committing_live count batched agree faults faults' done done' s1.device s1 s' one same kept gone;
+          }
 
       -- WriteInvalid
       module _ (found : is_trying n s ≡ true) where

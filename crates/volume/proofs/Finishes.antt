@@ -22,7 +22,7 @@ use Rattle.volume_laws.specs.Whole.{plain_of as plain_books}
 use Rattle.volume_laws.specs.Accepting.{IsTakenIn}
 use Rattle.volume_laws.proofs.Preparing.{prepared_none, saving_none}
 use Rattle.snapshot.specs.Kept.{Kept, books_of as snap_books}
-use Rattle.volume.specs.Volumed.{Volumed, books_of, piece_of, plain_of, is_loud_in_all}
+use Rattle.volume.specs.Volumed.{Volumed, books_of, piece_of, plain_of, is_loud_in_all, is_loud_with}
 use Rattle.snapshots.specs.Numbers.{count_in}
 use Rattle.volume.specs.Whole.{IsWhole}
 use Rattle.snapshots.specs.Starting.{unroomed, starts, overflows, overflowing, IsSavedIn, AreSavedIn}
@@ -91,7 +91,7 @@ module _ {B : Type 0} (contents : B → List ℕ) (layers : B → List Layer) (s
       ∙ sym (shown contents layers size v)
 
   pub loud_roomed : is_loud_in_all layers (record v { snaps = snaps }) ≡ is_loud_in_all layers v
-  loud_roomed = ap (λ b. is_loud (layers v.origin) && b)
+  loud_roomed = ap (λ b. is_loud_with layers v.merge (is_loud (layers v.origin) && b))
       (sym (unseen_all (λ s. is_loud (layers s.device)) snaps (λ s. refl)) ∙ ap (list_all (λ s. is_loud (layers s.device))) e ∙ unseen_all (λ s. is_loud (layers s.device)) v.snaps (λ s. refl))
 
 module _ {B : Type 0} (contents : B → List ℕ) (layers : B → List Layer) (size : B → ℕ) (v : Volumed B) (h : IsWhole contents layers size v) (before after : List (Kept B)) (e : map unroomed before ≡ map unroomed v.snaps) (m : ℕ) (gs : List Flight) (f : Flight)
@@ -158,7 +158,7 @@ module _ {B : Type 0} (contents : B → List ℕ) (layers : B → List Layer) (s
     origin = refl;
     given = sym number;
     fresh = fresh_plain contents layers size v f h number;
-    loud = ap (λ b. is_loud (layers v.origin) && b) (saved_loud contents layers (f.request.range.first / piece_of v.snaps) before after v.copies m v.flights gs at) ∙ loud_roomed contents layers size v before e;
+    loud = ap (λ b. is_loud_with layers v.merge (is_loud (layers v.origin) && b)) (saved_loud contents layers (f.request.range.first / piece_of v.snaps) before after v.copies m v.flights gs at) ∙ loud_roomed contents layers size v before e;
     legal = λ loud.
         (let c = f.request.range.first / piece_of v.snaps in
         subst (λ (ns : List ℕ). IsSubmitted ns (plain_of contents layers v) f.number f.request (plain_of contents layers written))
@@ -172,7 +172,7 @@ module _ {B : Type 0} (contents : B → List ℕ) (layers : B → List Layer) (s
         ∙ sym (ap (λ (q : Kind). lives_after q c v.snaps) kind));
     flown = entered_flown v.flights gs f done.prepared.requests;
     exact = λ replied. origin_write_is contents layers replied f.number f.request f refl refl v written (f.request.range.first / piece_of v.snaps) m before after gs kind e sized at route refl;
-    kept = keeps_saved contents layers v written (f.request.range.first / piece_of v.snaps) v.copies m before v.flights gs refl refl e at;
+    kept = keeps_saved contents layers v written (f.request.range.first / piece_of v.snaps) v.copies m before v.flights gs refl refl refl e at;
   }
 
 -- a list that was written back through a slice

@@ -12,7 +12,8 @@ use Rattle.snapshot.specs.Kept.{Kept}
 use Rattle.snapshot.specs.Calls.{StartsAt, started}
 use Rattle.volume.specs.Volumed.{Volumed}
 use Rattle.snapshots.specs.Numbers.{number_of_snap}
-use Rattle.volume.specs.Stepping.{KeepsAll, KeepsDevices}
+use Rattle.volume.specs.Causes.{counts_with}
+use Rattle.volume.specs.Stepping.{KeepsAll, KeepsDevices, merged_of}
 use Rattle.snapshots.specs.Starting.{unroomed, starts, overflows, spoilt_of, IsSavedIn, AreSavedIn}
 use Rattle.volume.specs.Submitting.{entered_of, SameButRoom, IsFoundFull, IsRefusedAs}
 use Rattle.snapshots.proofs.Roomed.{roomed}
@@ -30,7 +31,9 @@ keeps_all size v w k = record {
   attached = k.attached;
   numbers = k.numbers;
   chunks = k.chunks;
-  sizes = ap (λ d. size d ∷ map (λ (s : Kept _). size s.device) w.snaps) k.origin ∙ ap (λ ns. size v.origin ∷ ns) (sizes_of size w.snaps v.snaps k.devices);
+  merged = ap merged_of k.merge;
+  sizes = ap (λ m. counts_with size m (size w.origin ∷ map (λ (s : Kept _). size s.device) w.snaps)) k.merge
+      ∙ ap (counts_with size v.merge) (ap (λ d. size d ∷ map (λ (s : Kept _). size s.device) w.snaps) k.origin ∙ ap (λ ns. size v.origin ∷ ns) (sizes_of size w.snaps v.snaps k.devices));
 }
 
 -- what neither a copy that starts nor a spoil changes
@@ -70,36 +73,37 @@ module _ {B : Type 0} (contents : B → List ℕ) (layers : B → List Layer) wh
     set_fixed xs k s t is same = map-set_same f xs k t s (same ∙ ap f is)
 
   -- by what each snapshot keeps
-  keeps_by : (v w : Volumed B) → w.origin ≡ v.origin → w.attached ≡ v.attached → ((X : Type 0) (f : Kept B → X) → IsFixed contents layers f → map f w.snaps ≡ map f v.snaps) → KeepsDevices v w
-  keeps_by v w origin attached same = record {
+  keeps_by : (v w : Volumed B) → w.origin ≡ v.origin → w.merge ≡ v.merge → w.attached ≡ v.attached → ((X : Type 0) (f : Kept B → X) → IsFixed contents layers f → map f w.snaps ≡ map f v.snaps) → KeepsDevices v w
+  keeps_by v w origin merge attached same = record {
     origin = origin;
     devices = same B (λ (s : Kept B). s.device) fixed_device;
     attached = attached;
     numbers = same ℕ number_of_snap fixed_number;
     chunks = same ℕ (λ (s : Kept B). s.state.chunk) fixed_chunk;
+    merge = merge;
   }
 
   pub keeps_same : (v w : Volumed B) → w ≡ v → KeepsDevices v w
-  keeps_same v w e = subst (λ (x : Volumed B). KeepsDevices v x) (sym e) (keeps_by v v refl refl (λ X f fixed. refl))
+  keeps_same v w e = subst (λ (x : Volumed B). KeepsDevices v x) (sym e) (keeps_by v v refl refl refl (λ X f fixed. refl))
 
   pub keeps_entered : (v w : Volumed B) (f : Flight) → w ≡ entered_of f v → KeepsDevices v w
-  keeps_entered v w f e = subst (λ (x : Volumed B). KeepsDevices v x) (sym e) (keeps_by v (entered_of f v) refl refl (λ X g fixed. refl))
+  keeps_entered v w f e = subst (λ (x : Volumed B). KeepsDevices v x) (sym e) (keeps_by v (entered_of f v) refl refl refl (λ X g fixed. refl))
 
   -- room was made, and copies were started
-  pub keeps_saved : (v w : Volumed B) (c n m : ℕ) (before : List (Kept B)) (fs gs : List Flight) → w.origin ≡ v.origin → w.attached ≡ v.attached → map unroomed before ≡ map unroomed v.snaps → AreSavedIn contents layers c before w.snaps n m fs gs → KeepsDevices v w
-  keeps_saved v w c n m before fs gs origin attached room saved = keeps_by v w origin attached (λ X f fixed. all_fixed f fixed c before w.snaps n m fs gs saved ∙ roomed f before v.snaps room fixed.room)
+  pub keeps_saved : (v w : Volumed B) (c n m : ℕ) (before : List (Kept B)) (fs gs : List Flight) → w.origin ≡ v.origin → w.merge ≡ v.merge → w.attached ≡ v.attached → map unroomed before ≡ map unroomed v.snaps → AreSavedIn contents layers c before w.snaps n m fs gs → KeepsDevices v w
+  keeps_saved v w c n m before fs gs origin merge attached room saved = keeps_by v w origin merge attached (λ X f fixed. all_fixed f fixed c before w.snaps n m fs gs saved ∙ roomed f before v.snaps room fixed.room)
 
   -- in one of them
-  pub keeps_begun : (v w : Volumed B) (k : ℕ) (before : List (Kept B)) (s t : Kept B) (p : ChunkCopy) → w.origin ≡ v.origin → w.attached ≡ v.attached → w.snaps ≡ set before k t → map unroomed before ≡ map unroomed v.snaps → s ≡ get_or before k s
+  pub keeps_begun : (v w : Volumed B) (k : ℕ) (before : List (Kept B)) (s t : Kept B) (p : ChunkCopy) → w.origin ≡ v.origin → w.merge ≡ v.merge → w.attached ≡ v.attached → w.snaps ≡ set before k t → map unroomed before ≡ map unroomed v.snaps → s ≡ get_or before k s
       → StartsAt contents layers p s t → KeepsDevices v w
-  keeps_begun v w k before s t p origin attached snaps room is at =
-      keeps_by v w origin attached (λ X f fixed. ap (map f) snaps ∙ set_fixed f fixed before k s t is (fixed.begun s t p at) ∙ roomed f before v.snaps room fixed.room)
+  keeps_begun v w k before s t p origin merge attached snaps room is at =
+      keeps_by v w origin merge attached (λ X f fixed. ap (map f) snaps ∙ set_fixed f fixed before k s t is (fixed.begun s t p at) ∙ roomed f before v.snaps room fixed.room)
 
   keeps_room : (v w : Volumed B) → SameButRoom v w → KeepsDevices v w
-  keeps_room v w e = keeps_by v w (ap (λ (x : Volumed B). x.origin) e.becomes) (ap (λ (x : Volumed B). x.attached) e.becomes) (λ X f fixed. roomed f w.snaps v.snaps e.roomed fixed.room)
+  keeps_room v w e = keeps_by v w (ap (λ (x : Volumed B). x.origin) e.becomes) (ap (λ (x : Volumed B). x.merge) e.becomes) (ap (λ (x : Volumed B). x.attached) e.becomes) (λ X f fixed. roomed f w.snaps v.snaps e.roomed fixed.room)
 
   keeps_full : (number c : ℕ) (v w : Volumed B) → IsFoundFull contents layers number c v w → KeepsDevices v w
-  keeps_full number c v w e = keeps_by v w (ap (λ (x : Volumed B). x.origin) e.becomes) (ap (λ (x : Volumed B). x.attached) e.becomes)
+  keeps_full number c v w e = keeps_by v w (ap (λ (x : Volumed B). x.origin) e.becomes) (ap (λ (x : Volumed B). x.merge) e.becomes) (ap (λ (x : Volumed B). x.attached) e.becomes)
       (λ X f fixed. roomed f w.snaps (set v.snaps e.place (spoilt_of e.snap)) e.spoilt fixed.room ∙ set_fixed f fixed v.snaps e.place e.snap (spoilt_of e.snap) e.is (fixed.spoilt e.snap))
 
   pub keeps_refused : (size : B → ℕ) (request : Request) (refusal : Refusal) (v w : Volumed B) → IsRefusedAs contents layers size request refusal v w → KeepsDevices v w

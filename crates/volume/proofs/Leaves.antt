@@ -16,14 +16,14 @@ use Rattle.volume_laws.proofs.Lists.{All-remove, map-remove}
 use Rattle.volume_laws.proofs.Waiting.{waits_none}
 use Rattle.snapshot.specs.Kept.{Kept, books_of as snap_books}
 use Rattle.snapshot.specs.declared.opening.StoreDev.{StoreDev}
-use Rattle.volume.specs.Volumed.{Volumed, books_of, is_loud_in_all, piece_of, plain_of}
+use Rattle.volume.specs.Volumed.{Volumed, books_of, is_loud_in_all, piece_of, plain_of, is_loud_with}
 use Rattle.snapshots.specs.Numbers.{number_of_snap, count_in}
 use Rattle.volume.specs.Whole.{AreNumbers, SharesNone, IsAttached, IsWhole, IsCounted, starts_left}
 use Rattle.volume.proofs.Changing.{books_within, books_is}
 use Rattle.snapshots.specs.Finding.{place_of_snap}
 use Rattle.volume.specs.Leaving.{IsWithout, is_done_of, is_quiet_of}
 use Rattle.std.proofs.lemmas.List.Quantifiers.{position-Some}
-use Rattle.volume.proofs.Shown.{shown}
+use Rattle.volume.proofs.Shown.{shown, one_loud}
 use Rattle.volume.proofs.Sums.{sum_cons}
 
 -- the piece goes by the first that is left
@@ -62,6 +62,7 @@ module _ {B : Type 0} (contents : B → List ℕ) (layers : B → List Layer) (s
       let sums = sum_left count_in v.snaps k in
       let lefts = sum_left starts_left v.snaps k in
       record {
+        alone = h.alone;
         holds = (detach_event k (snap_books contents layers s) (books_of contents layers size v) (books_of contents layers size left) h.holds detaches).0;
         waits = waits_none (books_of contents layers size left) none;
         snaps = piece_left v.copies (size v.origin) (piece_of v.snaps) (remove v.snaps k) (All-remove (IsAttached v.copies (size v.origin) (piece_of v.snaps)) v.snaps k h.snaps);
@@ -109,8 +110,9 @@ all_removed p (x ∷ xs) (suc k) d lt = ap (λ b. p x && b) (all_removed p xs k 
 pub without_loud : {B : Type 0} (layers : B → List Layer) (number : ℕ) (v w : Volumed B) (store : StoreDev B) (d : Kept B) → IsWithout number v w store → is_loud_in_all layers v ≡ (is_loud_in_all layers w && is_loud (layers store.device))
 without_loud {B = B} layers number v w store d h =
     let within : h.place < length v.snaps = (position-Some (λ (s : Kept B). nat_eq s.number number) v.snaps h.place d h.found).0 in
-    ap (λ b. is_loud (layers v.origin) && b) (all_removed (λ (s : Kept B). is_loud (layers s.device)) v.snaps h.place d within)
-    ∙ grouped (is_loud (layers v.origin)) (list_all (λ (s : Kept B). is_loud (layers s.device)) (remove v.snaps h.place)) (is_loud (layers (get_or v.snaps h.place d).device))
+    ap (is_loud_with layers v.merge) (ap (λ b. is_loud (layers v.origin) && b) (all_removed (λ (s : Kept B). is_loud (layers s.device)) v.snaps h.place d within)
+    ∙ grouped (is_loud (layers v.origin)) (list_all (λ (s : Kept B). is_loud (layers s.device)) (remove v.snaps h.place)) (is_loud (layers (get_or v.snaps h.place d).device)))
+    ∙ one_loud layers v.merge (is_loud (layers v.origin) && list_all (λ (s : Kept B). is_loud (layers s.device)) (remove v.snaps h.place)) (is_loud (layers (get_or v.snaps h.place d).device))
     ∙ ap (λ (d : B). is_loud_in_all layers (record v { snaps = remove v.snaps h.place }) && is_loud (layers d)) (sym (h.device d))
     ∙ ap (λ (x : Volumed B). is_loud_in_all layers x && is_loud (layers store.device)) (sym h.becomes)
 

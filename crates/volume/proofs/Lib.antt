@@ -1,4 +1,5 @@
 pub mod Shown
+pub mod Alone
 pub mod Lists
 pub mod Looked
 pub mod Changing

@@ -1,20 +1,20 @@
 -- Each call of a snapshot keeps its pairs counted.
-use Rattle.std.proofs.Common.{◌≡◌, ℕ, ◌+◌, ◌*◌, ◌<◌, Bool, true, false, List, [], ◌∷◌, ◌++◌, length, map, take, drop, set, refl, sym, ◌∙◌, ap, subst, arith, inl, inr, eq-eqb}
+use Rattle.std.proofs.Common.{◌≡◌, ℕ, ◌+◌, ◌*◌, ◌<◌, ◌≤◌, Bool, true, false, List, [], ◌∷◌, ◌++◌, length, map, take, drop, set, refl, sym, ◌∙◌, ap, subst, arith, inl, inr, eq-eqb}
 use Rattle.std.specs.Prelude.{◌==◌, ◌-◌}
 use Rattle.std.proofs.lemmas.Bool.{cases_eq, false≢true}
-use Rattle.std.proofs.lemmas.List.{length-append}
+use Rattle.std.proofs.lemmas.List.{length-append, length-map, length-take-le}
 use Rattle.sector.specs.declared.pair.Pair.{Pair}
 use Rattle.device.specs.Layers.{Layer}
 use Rattle.model.specs.NextPlace.{stepped}
 use Rattle.pending.specs.Copies.{pair_of}
-use Rattle.pending.specs.Due.{front_written}
+use Rattle.pending.proofs.Batches.{batch_few}
 use Rattle.pending.specs.declared.copies.ChunkCopy.{ChunkCopy}
 use Rattle.pending.specs.declared.copies.Mark.{Mark}
 use Rattle.store.specs.Stored.{after_commit}
 use Rattle.store.specs.declared.state.State.{State}
 use Rattle.volume_laws.specs.Steps.{mark_of}
 use Rattle.snapshot.specs.Calls.{StartsAt}
-use Rattle.snapshot.specs.Kept.{Kept}
+use Rattle.snapshot.specs.Kept.{Kept, batch_of}
 use Rattle.volume.specs.Whole.{IsCounted}
 use Rattle.volume.proofs.MovedLists.{if_true, if_false}
 use Rattle.volume.proofs.MovedDue.{unequal}
@@ -29,19 +29,14 @@ counted_same s s' c state pairs live idle = record {
   idle = λ is. idle (c.idle (sym live ∙ is));
 }
 
--- the first of some copies
-pub front_some : (copies : List ChunkCopy) → front_written copies ≡ true → (p : ChunkCopy) × (ps : List ChunkCopy) × (copies ≡ p ∷ ps)
-front_some [] e = absurd (false≢true e)
-front_some (p ∷ ps) e = (p, ps, refl)
-
 set_none : (xs : List ChunkCopy) (j : ℕ) (q : ChunkCopy) → xs ≡ [] → set xs j q ≡ []
 set_none xs j q e = ap (λ ys. set ys j q) e
 
-next_full : (a n f k : ℕ) → f + 1 ≡ n → k ≡ a * n + f → k + 1 ≡ (a + 1) * n + 0
-next_full a n f k full is = omega (arith, is, full)
+next_full : (a n f k count : ℕ) → f + count ≡ n → k ≡ a * n + f → k + count ≡ (a + 1) * n + 0
+next_full a n f k count full is = omega (arith, is, full)
 
-next_part : (a n f k : ℕ) → k ≡ a * n + f → k + 1 ≡ a * n + (f + 1)
-next_part a n f k is = omega (arith, is)
+next_part : (a n f k count : ℕ) → k ≡ a * n + f → k + count ≡ a * n + (f + count)
+next_part a n f k count is = omega (arith, is)
 
 module _ {B : Type 0} (s : Kept B) (c : IsCounted s) where
   pub counted_device : (d : B) → IsCounted (record s { device = d })
@@ -66,34 +61,33 @@ module _ {B : Type 0} (s : Kept B) (c : IsCounted s) where
   pub counted_started : s.live ≡ true → (next room : ℕ) (begun : List Pair) (copies : List ChunkCopy) → IsCounted (record s { next = next; begun = begun; copies = copies; room = room })
   counted_started live next room begun copies = record { some = c.some; count = c.count; fits = c.fits; idle = λ e. absurd (false≢true (sym e ∙ live)) }
 
-  -- one pair is committed in a live one
-  pub counted_committed : s.live ≡ true → (d : B) (begun : List Pair) (copies : List ChunkCopy) (marks : List Mark) (pair : Pair)
-      → IsCounted (record s { device = d; state = after_commit s.state 1; pairs = s.pairs ++ pair ∷ []; begun = begun; copies = copies; marks = marks })
-  counted_committed live d begun copies marks pair =
-      let one : length (s.pairs ++ pair ∷ []) ≡ length s.pairs + 1 = length-append s.pairs (pair ∷ []) in
+  -- so many pairs are committed in a live one
+  pub counted_committed : s.live ≡ true → (d : B) (begun : List Pair) (copies : List ChunkCopy) (marks : List Mark) (count : ℕ) (pairs : List Pair) → length pairs ≡ count → s.state.filled + count ≤ 32 * s.state.chunk
+      → IsCounted (record s { device = d; state = after_commit s.state count; pairs = s.pairs ++ pairs; begun = begun; copies = copies; marks = marks })
+  counted_committed live d begun copies marks count pairs many room =
+      let len : length (s.pairs ++ pairs) ≡ length s.pairs + count = length-append s.pairs pairs ∙ ap (λ n. length s.pairs + n) many in
       let gone : s.live ≡ false → copies ≡ [] = λ e. absurd (false≢true (sym e ∙ live)) in
-      elim (cases_eq (s.state.filled + 1) (32 * s.state.chunk)) [
+      elim (cases_eq (s.state.filled + count) (32 * s.state.chunk)) [
         | inl full ↦
             (let t : State = record s.state { current = s.state.current + 1; filled = 0; zeroed = false } in
-            let at : after_commit s.state 1 ≡ t = if_true (s.state.filled + 1 == 32 * s.state.chunk) t (record s.state { filled = s.state.filled + 1 }) (eq-eqb (s.state.filled + 1) (32 * s.state.chunk) full) in
-            subst (λ (x : State). IsCounted (record s { device = d; state = x; pairs = s.pairs ++ pair ∷ []; begun = begun; copies = copies; marks = marks })) (sym at)
-            (record { some = c.some; count = one ∙ next_full s.state.current (32 * s.state.chunk) s.state.filled (length s.pairs) full c.count; fits = λ e. omega (arith, c.some); idle = gone }))
+            let at : after_commit s.state count ≡ t = if_true (s.state.filled + count == 32 * s.state.chunk) t (record s.state { filled = s.state.filled + count }) (eq-eqb (s.state.filled + count) (32 * s.state.chunk) full) in
+            subst (λ (x : State). IsCounted (record s { device = d; state = x; pairs = s.pairs ++ pairs; begun = begun; copies = copies; marks = marks })) (sym at)
+            (record { some = c.some; count = len ∙ next_full s.state.current (32 * s.state.chunk) s.state.filled (length s.pairs) count full c.count; fits = λ e. omega (arith, c.some); idle = gone }))
         | inr other ↦
-            (let t : State = record s.state { filled = s.state.filled + 1 } in
-            let at : after_commit s.state 1 ≡ t = if_false (s.state.filled + 1 == 32 * s.state.chunk) (record s.state { current = s.state.current + 1; filled = 0; zeroed = false }) t (unequal (s.state.filled + 1) (32 * s.state.chunk) other) in
-            subst (λ (x : State). IsCounted (record s { device = d; state = x; pairs = s.pairs ++ pair ∷ []; begun = begun; copies = copies; marks = marks })) (sym at)
-            (record { some = c.some; count = one ∙ next_part s.state.current (32 * s.state.chunk) s.state.filled (length s.pairs) c.count; fits = λ e. omega (arith, c.fits live, other); idle = gone }))
+            (let t : State = record s.state { filled = s.state.filled + count } in
+            let at : after_commit s.state count ≡ t = if_false (s.state.filled + count == 32 * s.state.chunk) (record s.state { current = s.state.current + 1; filled = 0; zeroed = false }) t (unequal (s.state.filled + count) (32 * s.state.chunk) other) in
+            subst (λ (x : State). IsCounted (record s { device = d; state = x; pairs = s.pairs ++ pairs; begun = begun; copies = copies; marks = marks })) (sym at)
+            (record { some = c.some; count = len ∙ next_part s.state.current (32 * s.state.chunk) s.state.filled (length s.pairs) count c.count; fits = λ e. omega (arith, room, other); idle = gone }))
       ]
 
-  -- of its first copy
-  pub counted_first : s.live ≡ true → (d : B) → front_written s.copies ≡ true → s.begun ≡ map pair_of s.copies
-      → IsCounted (record s { device = d; state = after_commit s.state 1; pairs = s.pairs ++ take 1 s.begun; begun = drop 1 s.begun; copies = drop 1 s.copies; marks = s.marks ++ map mark_of (take 1 s.copies) })
-  counted_first live d front begun =
-      let some = front_some s.copies front in
-      let marks : List Mark = s.marks ++ map mark_of (take 1 s.copies) in
-      let taken : take 1 s.begun ≡ some.0.pair ∷ [] = ap (take 1) begun ∙ ap (λ (cs : List ChunkCopy). take 1 (map pair_of cs)) some.2 in
-      subst (λ (ps : List Pair). IsCounted (record s { device = d; state = after_commit s.state 1; pairs = s.pairs ++ ps; begun = drop 1 s.begun; copies = drop 1 s.copies; marks = marks })) (sym taken)
-      (counted_committed live d (drop 1 s.begun) (drop 1 s.copies) marks some.0.pair)
+  -- of its first copies
+  pub counted_first : s.live ≡ true → (d : B) (count : ℕ) → count ≡ batch_of s.state s.copies → s.begun ≡ map pair_of s.copies
+      → IsCounted (record s { device = d; state = after_commit s.state count; pairs = s.pairs ++ take count s.begun; begun = drop count s.begun; copies = drop count s.copies; marks = s.marks ++ map mark_of (take count s.copies) })
+  counted_first live d count is begun =
+      let few = batch_few (32 * s.state.chunk - s.state.filled) s.copies in
+      let below = c.fits live in
+      let within : count ≤ length s.begun = omega (arith, is, few, ap length begun, length-map s.copies pair_of) in
+      counted_committed live d (drop count s.begun) (drop count s.copies) (s.marks ++ map mark_of (take count s.copies)) count (take count s.begun) (length-take-le count s.begun within) (omega (arith, is, below))
 
 -- a copy was started in a live one
 pub counted_begun : {B : Type 0} (contents : B → List ℕ) (layers : B → List Layer) (s t : Kept B) (p : ChunkCopy) → s.live ≡ true → StartsAt contents layers p s t → IsCounted s → IsCounted t

@@ -1,10 +1,10 @@
 -- What is due of a volume is what is due of the event machine.
 use Rattle.std.proofs.Common.{◌≡◌, ℕ, ◌+◌, ◌*◌, ◌%◌, ◌<◌, Bool, true, false, List, [], ◌∷◌, Option, Some, length, get_or, map, refl, sym, ◌∙◌, ap, arith, inl, inr, eq-eqb}
-use Rattle.std.specs.Prelude.{◌==◌, ◌&&◌, not, if◌then◌else◌}
-use Rattle.std.specs.List.{All}
+use Rattle.std.specs.Prelude.{◌==◌, ◌&&◌, not, min, ◌-◌, if◌then◌else◌}
+use Rattle.std.specs.List.{All, prefix_len}
+use Rattle.pending.proofs.Batches.{prefix_map}
 use Rattle.std.proofs.lemmas.Bool.{cases_Bool, cases_eq, eqb-true, false≢true}
 use Rattle.std.proofs.lemmas.Nat.{mod-mul-add}
-use Rattle.std.proofs.Math.Nat.{add-mod_right, mul-mod_left}
 use Rattle.std.proofs.lemmas.List.Elements.{All-head, All-tail}
 use Rattle.device.specs.Layers.{Layer}
 use Rattle.plain.specs.declared.request.Reply.{Reply}
@@ -15,12 +15,12 @@ use Rattle.pending.specs.declared.copies.Stage.{Stage}
 use Rattle.pending.specs.declared.copies.Stage.TheVariants.{Waiting, Read}
 use Rattle.pending.specs.declared.copies.Mark.{Mark}
 use Rattle.pending.specs.declared.flights.Flight.{Flight}
-use Rattle.volume_laws.specs.Due.{DueSnap, least_of, copy_of, publishable_of, is_untried as is_untried_due, can_commit as can_commit_due, can_zero as can_zero_due, snap_number}
+use Rattle.volume_laws.specs.Due.{DueSnap, least_of, copy_of, publishable_of, is_untried as is_untried_due, can_commit as can_commit_due, can_zero as can_zero_due, snap_number, due_of}
 use Rattle.event_machine.specs.Held.{Held, number_of, is_untried}
-use Rattle.event_machine.specs.Due.{needs_area, is_front_written, can_commit, can_zero, is_at, copy_at, number_of_copying, is_reading, is_publishable, publishable_in, is_issuable, number_of_going, least_in, chosen, due}
+use Rattle.event_machine.specs.Due.{filled_of, batch_of, is_ready, needs_area, is_front_written, can_commit, can_zero, is_at, copy_at, number_of_copying, is_reading, is_publishable, publishable_in, is_issuable, number_of_going, least_in, chosen, due}
 use Rattle.event_machine.specs.Seen.{copying_of, going_of}
-use Rattle.snapshot.specs.Kept.{Kept, due_of_kept, needs_area as needs_area_of}
-use Rattle.volume.specs.Volumed.{Volumed, next_of}
+use Rattle.snapshot.specs.Kept.{Kept, due_of_kept, batch_of as batch_in, needs_area as needs_area_of}
+use Rattle.volume.specs.Volumed.{Volumed, dues_of}
 use Rattle.volume.specs.Whole.{IsCounted}
 use Rattle.volume.specs.Moved.{held_of, moving_of}
 use Rattle.volume.proofs.MovedLists.{any_seen}
@@ -63,32 +63,23 @@ unequal a b apart = elim (cases_Bool (a == b)) [
   | inr other ↦ other
 ]
 
--- numbers of slots
-slots_full : (a n f : ℕ) → f + 1 ≡ n → (a * n + f + 1) % n ≡ 0
-slots_full a n f e =
-    let at : a * n + f + 1 ≡ a * n + n = omega (arith, e) in
-    ap (λ x. x % n) at ∙ add-mod_right (a * n) n ∙ mul-mod_left a n
-
-slots_part : (a n f : ℕ) → f + 1 < n → (a * n + f + 1) % n ≡ f + 1
-slots_part a n f lt =
-    let at : a * n + f + 1 ≡ a * n + (f + 1) = omega arith in
-    ap (λ x. x % n) at ∙ mod-mul-add a n (f + 1) lt
-
--- the slot after the last one in use is the last of its area
-pub last_slot : (a n f k : ℕ) → f < n → k ≡ a * n + f → ((k + 1) % n == 0) ≡ (f + 1 == n)
-last_slot a n f k lt is = elim (cases_eq (f + 1) n) [
-  | inl full ↦
-      (let at : (k + 1) % n ≡ 0 = ap (λ x. (x + 1) % n) is ∙ slots_full a n f full in
-      eq-eqb ((k + 1) % n) 0 at ∙ sym (eq-eqb (f + 1) n full))
-  | inr other ↦
-      (let at : (k + 1) % n ≡ f + 1 = ap (λ x. (x + 1) % n) is ∙ slots_part a n f (omega (arith, lt, other)) in
-      let no : ((k + 1) % n ≡ 0) → ⊥ = λ z. omega (arith, at, z) in
-      unequal ((k + 1) % n) 0 no ∙ sym (unequal (f + 1) n other))
-]
+-- the slot of the next pair
+pub slot_within : (a n f k : ℕ) → f < n → k ≡ a * n + f → k % n ≡ f
+slot_within a n f k lt is = ap (λ x. x % n) is ∙ mod-mul-add a n f lt
 
 module _ {B : Type 0} (contents : B → List ℕ) (layers : B → List Layer) where
-  pub needs_same : (s : Kept B) → IsCounted s → s.live ≡ true → needs_area (held_of contents layers s) ≡ needs_area_of s.state
-  needs_same s c live = ap (λ b. b && not s.state.zeroed) (last_slot s.state.current (32 * s.state.chunk) s.state.filled (length s.pairs) (c.fits live) c.count)
+  pub filled_same : (s : Kept B) → IsCounted s → s.live ≡ true → filled_of (held_of contents layers s) ≡ s.state.filled
+  filled_same s c live = slot_within s.state.current (32 * s.state.chunk) s.state.filled (length s.pairs) (c.fits live) c.count
+
+  pub batch_same : (s : Kept B) → IsCounted s → s.live ≡ true → batch_of (held_of contents layers s) ≡ batch_in s.state s.copies
+  batch_same s c live =
+      ap (λ f. min (32 * s.state.chunk - f) (prefix_len is_ready (map copying_of s.copies))) (filled_same s c live)
+      ∙ ap (min (32 * s.state.chunk - s.state.filled)) (prefix_map copying_of is_ready s.copies)
+
+  pub needs_same : (s : Kept B) → IsCounted s → s.live ≡ true → needs_area (held_of contents layers s) ≡ needs_area_of s.state s.copies
+  needs_same s c live =
+      ap (λ f. (f + batch_of (held_of contents layers s) == 32 * s.state.chunk) && not s.state.zeroed) (filled_same s c live)
+      ∙ ap (λ n. (s.state.filled + n == 32 * s.state.chunk) && not s.state.zeroed) (batch_same s c live)
 
   -- one whose first copy is written is live
   pub front_lives : (s : Kept B) → IsCounted s → front_written s.copies ≡ true → s.live ≡ true
@@ -97,16 +88,16 @@ module _ {B : Type 0} (contents : B → List ℕ) (layers : B → List Layer) wh
     | inr spoiled ↦ absurd (false≢true (sym (front_none s.copies (c.idle spoiled)) ∙ e))
   ]
 
-  pub can_commit_same : (s : Kept B) → IsCounted s → can_commit (held_of contents layers s) ≡ (front_written s.copies && not (needs_area_of s.state))
+  pub can_commit_same : (s : Kept B) → IsCounted s → can_commit (held_of contents layers s) ≡ (front_written s.copies && not (needs_area_of s.state s.copies))
   can_commit_same s c = ap (λ b. b && not (needs_area (held_of contents layers s))) (front_same s.copies) ∙ elim (cases_Bool (front_written s.copies)) [
     | inl front ↦ ap (λ b. front_written s.copies && not b) (needs_same s c (front_lives s c front))
-    | inr none ↦ ap (λ b. b && not (needs_area (held_of contents layers s))) none ∙ sym (ap (λ b. b && not (needs_area_of s.state)) none)
+    | inr none ↦ ap (λ b. b && not (needs_area (held_of contents layers s))) none ∙ sym (ap (λ b. b && not (needs_area_of s.state s.copies)) none)
   ]
 
-  pub can_zero_same : (s : Kept B) → IsCounted s → can_zero (held_of contents layers s) ≡ (front_written s.copies && needs_area_of s.state)
+  pub can_zero_same : (s : Kept B) → IsCounted s → can_zero (held_of contents layers s) ≡ (front_written s.copies && needs_area_of s.state s.copies)
   can_zero_same s c = ap (λ b. b && needs_area (held_of contents layers s)) (front_same s.copies) ∙ elim (cases_Bool (front_written s.copies)) [
     | inl front ↦ ap (λ b. front_written s.copies && b) (needs_same s c (front_lives s c front))
-    | inr none ↦ ap (λ b. b && needs_area (held_of contents layers s)) none ∙ sym (ap (λ b. b && needs_area_of s.state) none)
+    | inr none ↦ ap (λ b. b && needs_area (held_of contents layers s)) none ∙ sym (ap (λ b. b && needs_area_of s.state s.copies) none)
   ]
 
   pub publishable_same : (s : Kept B) (fs : List Flight) (m : Mark) → is_publishable (map going_of fs) (held_of contents layers s) m ≡ is_publishable_in s.number s.state.chunk fs m
@@ -124,7 +115,7 @@ module _ {B : Type 0} (contents : B → List ℕ) (layers : B → List Layer) wh
       ∙ ap (λ x. chosen a' b' c' d' x f g) pe ∙ ap (λ x. chosen a' b' c' d' e' x g) pf ∙ ap (λ x. chosen a' b' c' d' e' f' x) pg
 
   -- the event that is due first
-  pub due_is : (replied : Option Reply) (v : Volumed B) → All IsCounted v.snaps → due (moving_of contents layers replied v) ≡ next_of contents layers v
+  pub due_is : (replied : Option Reply) (v : Volumed B) → All IsCounted v.snaps → due (moving_of contents layers replied v) ≡ due_of (dues_of contents layers v) v.flights
   due_is replied v counted =
       let held : Kept B → Held = held_of contents layers in
       let dues : Kept B → DueSnap = due_of_kept contents layers in

@@ -52,11 +52,11 @@ module _ {B : Type 0} (contents : B → List ℕ) (layers : B → List Layer) wh
       ∙ ap (λ b. list_all (is_saved_in first) (map (snap_books contents layers) snaps) && not b) (untried_seen snaps)
 
   -- held origin writes are routed again
-  pub again_seen : (snaps : List (Kept B)) (fs : List Flight) → map (again (map (held_of contents layers) snaps)) (map going_of fs) ≡ map going_of (map (again_of None (is_clear_in (map (snap_books contents layers) snaps))) fs)
+  pub again_seen : (snaps : List (Kept B)) (fs : List Flight) → map (again None (map (held_of contents layers) snaps)) (map going_of fs) ≡ map going_of (map (again_of None (is_clear_in (map (snap_books contents layers) snaps))) fs)
   again_seen snaps [] = refl
   again_seen snaps (f ∷ fs) =
       let clear : ℕ → Bool = is_clear_in (map (snap_books contents layers) snaps) in
-      ap (λ (b : Bool). record (going_of f) { route = again_route_of (kind_of f.request) f.route (write_route_of false None b) } ∷ map (again (map (held_of contents layers) snaps)) (map going_of fs))
+      ap (λ (b : Bool). record (going_of f) { route = again_route_of (kind_of f.request) f.route (write_route_of false None b) } ∷ map (again None (map (held_of contents layers) snaps)) (map going_of fs))
       (clear_seen f.request.range.first snaps)
       ∙ ap (λ (rs : List Going). going_of (again_of None clear f) ∷ rs) (again_seen snaps fs)
 
@@ -71,7 +71,7 @@ module _ {B : Type 0} (contents : B → List ℕ) (layers : B → List Layer) wh
         → rerouted (moving_of contents layers replied w) ≡ moving_of contents layers replied (record w { flights = flights })
     rerouted_is w flights is =
         machine_by contents layers replied w.copies (device_of contents layers w.origin) (device_of contents layers w.origin) (map (held_of contents layers) w.snaps) (map (held_of contents layers) w.snaps)
-        (map (again (map (held_of contents layers) w.snaps)) (map going_of w.flights)) (map going_of flights) refl refl (again_seen w.snaps w.flights ∙ sym (ap (map going_of) is))
+        (map (again None (map (held_of contents layers) w.snaps)) (map going_of w.flights)) (map going_of flights) refl refl (again_seen w.snaps w.flights ∙ sym (ap (map going_of) is))
 
     -- the mark is tried, whatever the device answers
     pub write_invalid_is : IsFirst (is_trying n) k s v.snaps → (ok : Bool) (s' : Kept B) (flights : List Flight) (faults faults' done done' : ℕ) (d : B)

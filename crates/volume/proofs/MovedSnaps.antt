@@ -1,5 +1,5 @@
 -- What an event does that finds its snapshot: the parts that all events share.
-use Rattle.std.proofs.Common.{◌≡◌, ℕ, Bool, true, false, List, [], ◌∷◌, Option, set, map, refl, sym, ◌∙◌, ap}
+use Rattle.std.proofs.Common.{◌≡◌, ℕ, Bool, true, false, List, [], ◌∷◌, Option, None, set, map, refl, sym, ◌∙◌, ap}
 use Rattle.std.specs.Prelude.{if◌then◌else◌}
 use Rattle.device.specs.Layers.{Layer, layers_after}
 use Rattle.device.specs.declared.operation.Operation.{Operation}
@@ -49,11 +49,11 @@ module _ {B : Type 0} (contents : B → List ℕ) (layers : B → List Layer) wh
 
   -- a machine by its parts
   pub machine_by : (replied : Option Reply) (started : ℕ) (o o' : Device) (hs hs' : List Held) (rs rs' : List Going) → o ≡ o' → hs ≡ hs' → rs ≡ rs'
-      → ◌≡◌ {A = Moving} (record { origin = o; snaps = hs; requests = rs; replied = replied; started = started }) (record { origin = o'; snaps = hs'; requests = rs'; replied = replied; started = started })
+      → ◌≡◌ {A = Moving} (record { origin = o; snaps = hs; merge = None; requests = rs; replied = replied; started = started }) (record { origin = o'; snaps = hs'; merge = None; requests = rs'; replied = replied; started = started })
   machine_by replied started o o' hs hs' rs rs' po ps pr =
-      ap (λ (x : Device). record { origin = x; snaps = hs; requests = rs; replied = replied; started = started }) po
-      ∙ ap (λ (x : List Held). record { origin = o'; snaps = x; requests = rs; replied = replied; started = started }) ps
-      ∙ ap (λ (x : List Going). record { origin = o'; snaps = hs'; requests = x; replied = replied; started = started }) pr
+      ap (λ (x : Device). record { origin = x; snaps = hs; merge = None; requests = rs; replied = replied; started = started }) po
+      ∙ ap (λ (x : List Held). record { origin = o'; snaps = x; merge = None; requests = rs; replied = replied; started = started }) ps
+      ∙ ap (λ (x : List Going). record { origin = o'; snaps = hs'; merge = None; requests = x; replied = replied; started = started }) pr
 
   -- a spoil's requests
   pub refused_seen : (n : ℕ) (fs : List Flight) → map (refused n) (map going_of fs) ≡ map going_of (map (refused_of (n ∷ [])) fs)

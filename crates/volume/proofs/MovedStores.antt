@@ -1,11 +1,10 @@
--- The events of a store: the next area is zeroed, and the first copy is committed.
-use Rattle.std.proofs.Common.{◌≡◌, ℕ, ◌+◌, ◌*◌, ◌/◌, ◌%◌, ◌<◌, ◌≤◌, Bool, true, false, List, [], ◌∷◌, ◌++◌, Option, length, get_or, map, take, drop, replicate, refl, sym, ◌∙◌, ap, arith}
+-- The events of a store: the next area is zeroed, and the first copies are committed.
+use Rattle.std.proofs.Common.{◌≡◌, ℕ, zero, suc, ◌+◌, ◌*◌, ◌/◌, ◌%◌, ◌<◌, ◌≤◌, Bool, true, false, List, [], ◌∷◌, ◌++◌, Option, length, get_or, map, take, drop, replicate, refl, sym, ◌∙◌, ap, arith}
 use Rattle.std.specs.Prelude.{◌==◌, ◌&&◌, not, if◌then◌else◌}
-use Rattle.std.specs.List.{All}
+use Rattle.std.specs.List.{All, flat_map}
 use Rattle.std.proofs.lemmas.Bool.{false≢true}
-use Rattle.std.proofs.lemmas.List.{append-nil}
-use Rattle.std.proofs.lemmas.Nat.{mod-mul-add, div-mul-add}
-use Rattle.std.proofs.Math.Nat.{mul-div_cancel}
+use Rattle.std.proofs.lemmas.List.{drop-map}
+use Rattle.std.proofs.lemmas.Nat.{div-mul-add}
 use Rattle.sector.specs.Bytes.{with_part, with_sectors}
 use Rattle.sector.specs.declared.pair.Pair.{Pair}
 use Rattle.device.specs.Layers.{Layer}
@@ -25,19 +24,19 @@ use Rattle.store.specs.Slots.{pairs_bytes, slot_start}
 use Rattle.store.specs.Stored.{after_commit}
 use Rattle.store.specs.declared.state.State.{State}
 use Rattle.volume_laws.specs.Steps.{mark_of}
-use Rattle.settled.specs.Saves.{paired, zeroed}
+use Rattle.settled.specs.Saves.{zeroed}
 use Rattle.settled.specs.Saving.{lacks_area}
 use Rattle.event_machine.specs.Held.{Copying, Held, Moving, with_store}
-use Rattle.event_machine.specs.Due.{can_commit, can_zero}
-use Rattle.event_machine.specs.Stepping.{spoil, store_write, zero_next, commit_first, stepped}
+use Rattle.event_machine.specs.Due.{batch_of as batch_in, can_commit, can_zero}
+use Rattle.event_machine.specs.Stepping.{spoil, store_write, zero_next, all_paired, commit, stepped, pair_of as pair_of_copying, mark_of as mark_of_copying}
 use Rattle.event_machine.specs.Seen.{copying_of}
-use Rattle.snapshot.specs.Kept.{Kept}
+use Rattle.snapshot.specs.Kept.{Kept, batch_of}
 use Rattle.volume.specs.Volumed.{Volumed}
 use Rattle.snapshots.specs.Finding.{is_committing, is_zeroing}
 use Rattle.volume.specs.Whole.{IsCounted}
 use Rattle.volume.specs.Moved.{device_of, held_of, moving_of}
 use Rattle.volume.proofs.MovedLists.{IsFirst, first_by_all, if_true, if_false}
-use Rattle.volume.proofs.MovedDue.{last_slot, can_commit_same, can_zero_same}
+use Rattle.volume.proofs.MovedDue.{slot_within, batch_same, can_commit_same, can_zero_same}
 use Rattle.volume.proofs.MovedSnaps.{changed, spoilt, spoil_is, on_snap_is, write_is, fail_is}
 
 and_false : (b : Bool) → (b && false) ≡ false
@@ -75,31 +74,39 @@ state_zeroed : (b : Bool) (s x y : State) → x.zeroed ≡ false → y.zeroed �
 state_zeroed true s x y xz yz = and_false s.zeroed ∙ sym xz
 state_zeroed false s x y xz yz = and_true s.zeroed ∙ sym yz
 
-commit_chunk : (s : State) → s.chunk ≡ (after_commit s 1).chunk
-commit_chunk s = state_chunk (s.filled + 1 == 32 * s.chunk) s (record s { current = s.current + 1; filled = 0; zeroed = false }) (record s { filled = s.filled + 1 }) refl refl
+commit_chunk : (s : State) (count : ℕ) → s.chunk ≡ (after_commit s count).chunk
+commit_chunk s count = state_chunk (s.filled + count == 32 * s.chunk) s (record s { current = s.current + 1; filled = 0; zeroed = false }) (record s { filled = s.filled + count }) refl refl
 
-commit_zeroed : (s : State) → (s.zeroed && not (s.filled + 1 == 32 * s.chunk)) ≡ (after_commit s 1).zeroed
-commit_zeroed s = state_zeroed (s.filled + 1 == 32 * s.chunk) s (record s { current = s.current + 1; filled = 0; zeroed = false }) (record s { filled = s.filled + 1 }) refl refl
+commit_zeroed : (s : State) (count : ℕ) → (s.zeroed && not (s.filled + count == 32 * s.chunk)) ≡ (after_commit s count).zeroed
+commit_zeroed s count = state_zeroed (s.filled + count == 32 * s.chunk) s (record s { current = s.current + 1; filled = 0; zeroed = false }) (record s { filled = s.filled + count }) refl refl
 
 -- the slot of the next pair
 slot_area : (a n f k : ℕ) → f < n → k ≡ a * n + f → k / n ≡ a
 slot_area a n f k lt is = ap (λ x. x / n) is ∙ div-mul-add a n f lt
 
-slot_within : (a n f k : ℕ) → f < n → k ≡ a * n + f → k % n ≡ f
-slot_within a n f k lt is = ap (λ x. x % n) is ∙ mod-mul-add a n f lt
+-- the first copies, their pairs and their marks, as the event machine has them
+pairs_seen : (count : ℕ) (copies : List ChunkCopy) → map pair_of_copying (take count (map copying_of copies)) ≡ take count (map pair_of copies)
+pairs_seen zero copies = refl
+pairs_seen (suc count) [] = refl
+pairs_seen (suc count) (p ∷ ps) = ap (λ (qs : List Pair). p.pair ∷ qs) (pairs_seen count ps)
 
-next_area : (a n f k : ℕ) → 0 < n → f + 1 ≡ n → k ≡ a * n + f → (k + 1) / n ≡ a + 1
-next_area a n f k some full is =
-    let at : k + 1 ≡ (a + 1) * n = omega (arith, is, full) in
-    ap (λ x. x / n) at ∙ mul-div_cancel (a + 1) some
+marks_seen : (count : ℕ) (copies : List ChunkCopy) → map mark_of_copying (take count (map copying_of copies)) ≡ map mark_of (take count copies)
+marks_seen zero copies = refl
+marks_seen (suc count) [] = refl
+marks_seen (suc count) (p ∷ ps) = ap (λ (ms : List Mark). mark_of p ∷ ms) (marks_seen count ps)
 
-paired_is : (chunk : ℕ) (store : List ℕ) (k a f : ℕ) (pair : Pair) → k / (32 * chunk) ≡ a → k % (32 * chunk) ≡ f → paired chunk store k pair ≡ with_part store (slot_start chunk a f) (pair_bytes pair)
-paired_is chunk store k a f pair area slot =
-    ap (λ x. with_part store (512 * (chunk * area_place chunk x) + 16 * (k % (32 * chunk))) (pair_bytes pair)) area
-    ∙ ap (λ x. with_part store (512 * (chunk * area_place chunk a) + 16 * x) (pair_bytes pair)) slot
+bytes_same : (pairs : List Pair) → flat_map pair_bytes pairs ≡ pairs_bytes pairs
+bytes_same [] = refl
+bytes_same (pair ∷ pairs) = ap (λ (b : List ℕ). pair_bytes pair ++ b) (bytes_same pairs)
+
+paired_is : (chunk : ℕ) (store : List ℕ) (k a f : ℕ) (pairs : List Pair) → k / (32 * chunk) ≡ a → k % (32 * chunk) ≡ f → all_paired chunk store k pairs ≡ with_part store (slot_start chunk a f) (pairs_bytes pairs)
+paired_is chunk store k a f pairs area slot =
+    ap (λ x. with_part store (512 * (chunk * area_place chunk x) + 16 * (k % (32 * chunk))) (flat_map pair_bytes pairs)) area
+    ∙ ap (λ x. with_part store (512 * (chunk * area_place chunk a) + 16 * x) (flat_map pair_bytes pairs)) slot
+    ∙ ap (with_part store (slot_start chunk a f)) (bytes_same pairs)
 
 module _ {B : Type 0} (contents : B → List ℕ) (layers : B → List Layer) (replied : Option Reply) (v : Volumed B) (counted : All IsCounted v.snaps) (n k : ℕ) (s : Kept B) where
-  module _ (found : IsFirst (is_committing n) k s v.snaps) (counts : IsCounted s) (live : s.live ≡ true) (p : ChunkCopy) (ps : List ChunkCopy) (copies : s.copies ≡ p ∷ ps) (begun : s.begun ≡ p.pair ∷ map pair_of ps)
+  module _ (found : IsFirst (is_committing n) k s v.snaps) (counts : IsCounted s) (live : s.live ≡ true) (count : ℕ) (batched : count ≡ batch_of s.state s.copies) (agree : s.begun ≡ map pair_of s.copies)
       (faults faults' done done' : ℕ) (d : B) where
     abbrev commits : Held → Bool
     commits h = (h.snap.number == n) && can_commit h
@@ -112,14 +119,18 @@ module _ {B : Type 0} (contents : B → List ℕ) (layers : B → List Layer) (r
     op = Writes (s.state.chunk * area_place s.state.chunk s.state.current) s.state.chunk
 
     abbrev bytes : List ℕ
-    bytes = with_part (contents s.device) (slot_start s.state.chunk s.state.current s.state.filled) (pair_bytes p.pair)
+    bytes = with_part (contents s.device) (slot_start s.state.chunk s.state.current s.state.filled) (pairs_bytes (take count s.begun))
 
-    abbrev committed : Held → Held
-    committed after = record after {
-      pairs = after.pairs ++ p.pair ∷ [];
-      copies = map copying_of ps;
-      marks = after.marks ++ mark_of p ∷ [];
-      zeroed = after.zeroed && not ((length s.pairs + 1) % (32 * after.snap.chunk) == 0);
+    abbrev now : List Copying
+    now = take count (map copying_of s.copies)
+
+    -- the snapshot after the commit, by how many slots of the area were in use
+    abbrev committed : ℕ → Held → Held
+    committed f after = record after {
+      pairs = after.pairs ++ map pair_of_copying now;
+      copies = drop count after.copies;
+      marks = after.marks ++ map mark_of_copying now;
+      zeroed = after.zeroed && not (f + count == 32 * s.state.chunk);
     }
 
     area_is : length s.pairs / (32 * s.state.chunk) ≡ s.state.current
@@ -128,32 +139,39 @@ module _ {B : Type 0} (contents : B → List ℕ) (layers : B → List Layer) (r
     slot_is : length s.pairs % (32 * s.state.chunk) ≡ s.state.filled
     slot_is = slot_within s.state.current (32 * s.state.chunk) s.state.filled (length s.pairs) (counts.fits live) counts.count
 
-    committing_is : stepped (WriteArea n) (moving_of contents layers replied v) ≡ store_write commits (held_of contents layers s) op bytes committed (moving_of contents layers replied v)
+    pairs_are : map pair_of_copying now ≡ take count s.begun
+    pairs_are = pairs_seen count s.copies ∙ ap (take count) (sym agree)
+
+    bytes_are : all_paired s.state.chunk (contents s.device) (length s.pairs) (map pair_of_copying now) ≡ bytes
+    bytes_are =
+        paired_is s.state.chunk (contents s.device) (length s.pairs) s.state.current s.state.filled (map pair_of_copying now) area_is slot_is
+        ∙ ap (λ (qs : List Pair). with_part (contents s.device) (slot_start s.state.chunk s.state.current s.state.filled) (pairs_bytes qs)) pairs_are
+
+    committing_is : stepped (WriteArea n) (moving_of contents layers replied v) ≡ store_write commits (held_of contents layers s) op bytes (committed s.state.filled) (moving_of contents layers replied v)
     committing_is =
         let m : Moving = moving_of contents layers replied v in
         let h : Held = held_of contents layers s in
-        on_snap_is contents layers replied v k s (λ (x : Held). (x.snap.number == n) && can_commit x) commits_first (λ test h. commit_first test h h.copies)
-        ∙ ap (λ (cs : List ChunkCopy). commit_first (λ (x : Held). (x.snap.number == n) && can_commit x) h (map copying_of cs) m) copies
-        ∙ ap (λ (a : ℕ). store_write (λ (x : Held). (x.snap.number == n) && can_commit x) h (Writes (s.state.chunk * area_place s.state.chunk a) s.state.chunk) (paired s.state.chunk (contents s.device) (length s.pairs) p.pair) committed m) area_is
-        ∙ ap (λ (b : List ℕ). store_write (λ (x : Held). (x.snap.number == n) && can_commit x) h op b committed m) (paired_is s.state.chunk (contents s.device) (length s.pairs) s.state.current s.state.filled p.pair area_is slot_is)
+        let test : Held → Bool = λ (x : Held). (x.snap.number == n) && can_commit x in
+        on_snap_is contents layers replied v k s test commits_first (λ t x. commit (batch_in x) t x)
+        ∙ ap (λ c. commit c test h m) (batch_same contents layers s counts live ∙ sym batched)
+        ∙ ap (λ (a : ℕ). store_write test h (Writes (s.state.chunk * area_place s.state.chunk a) s.state.chunk) (all_paired s.state.chunk (contents s.device) (length s.pairs) (map pair_of_copying now)) (committed (length s.pairs % (32 * s.state.chunk))) m) area_is
+        ∙ ap (λ (f : ℕ). store_write test h op (all_paired s.state.chunk (contents s.device) (length s.pairs) (map pair_of_copying now)) (committed f) m) slot_is
+        ∙ ap (λ (b : List ℕ). store_write test h op b (committed s.state.filled) m) bytes_are
 
-    -- the first copy is committed
+    -- the first copies are committed
     pub write_area_done : (s' : Kept B) → IsOneOperation op true (layers s.device) (layers d) faults faults' done done'
-        → contents d ≡ with_part (contents s.device) (slot_start s.state.chunk s.state.current s.state.filled) (pairs_bytes (take 1 s.begun))
-        → s' ≡ record s { device = d; state = after_commit s.state 1; pairs = s.pairs ++ take 1 s.begun; begun = drop 1 s.begun; copies = drop 1 s.copies; marks = s.marks ++ map mark_of (take 1 s.copies) }
+        → contents d ≡ with_part (contents s.device) (slot_start s.state.chunk s.state.current s.state.filled) (pairs_bytes (take count s.begun))
+        → s' ≡ record s { device = d; state = after_commit s.state count; pairs = s.pairs ++ take count s.begun; begun = drop count s.begun; copies = drop count s.copies; marks = s.marks ++ map mark_of (take count s.copies) }
         → stepped (WriteArea n) (moving_of contents layers replied v) ≡ moving_of contents layers replied (changed v v.origin k s' v.flights)
     write_area_done s' one new is =
         let h : Held = with_store (held_of contents layers s) (device_of contents layers d) in
-        let bytes_is : contents d ≡ bytes =
-        new ∙ ap (λ (b : List Pair). with_part (contents s.device) (slot_start s.state.chunk s.state.current s.state.filled) (pairs_bytes (take 1 b))) begun
-        ∙ ap (λ (b : List ℕ). with_part (contents s.device) (slot_start s.state.chunk s.state.current s.state.filled) b) (append-nil (pair_bytes p.pair)) in
-        committing_is ∙ write_is contents layers replied v k s (λ (x : Held). (x.snap.number == n) && can_commit x) commits_first op bytes committed s' faults faults' done done' d one bytes_is
-        (held_by h s.state.chunk (after_commit s.state 1).chunk (s.pairs ++ p.pair ∷ []) (s.pairs ++ take 1 s.begun)
-        (s.state.zeroed && not ((length s.pairs + 1) % (32 * s.state.chunk) == 0)) (after_commit s.state 1).zeroed (map copying_of ps) (map copying_of (drop 1 s.copies))
-        (s.marks ++ mark_of p ∷ []) (s.marks ++ map mark_of (take 1 s.copies))
-        (commit_chunk s.state) (ap (λ (b : List Pair). s.pairs ++ take 1 b) (sym begun))
-        (ap (λ (b : Bool). s.state.zeroed && not b) (last_slot s.state.current (32 * s.state.chunk) s.state.filled (length s.pairs) (counts.fits live) counts.count) ∙ commit_zeroed s.state)
-        (ap (λ (cs : List ChunkCopy). map copying_of (drop 1 cs)) (sym copies)) (ap (λ (cs : List ChunkCopy). s.marks ++ map mark_of (take 1 cs)) (sym copies))
+        committing_is ∙ write_is contents layers replied v k s (λ (x : Held). (x.snap.number == n) && can_commit x) commits_first op bytes (committed s.state.filled) s' faults faults' done done' d one new
+        (held_by h s.state.chunk (after_commit s.state count).chunk (s.pairs ++ map pair_of_copying now) (s.pairs ++ take count s.begun)
+        (s.state.zeroed && not (s.state.filled + count == 32 * s.state.chunk)) (after_commit s.state count).zeroed (drop count (map copying_of s.copies)) (map copying_of (drop count s.copies))
+        (s.marks ++ map mark_of_copying now) (s.marks ++ map mark_of (take count s.copies))
+        (commit_chunk s.state count) (ap (λ (qs : List Pair). s.pairs ++ qs) pairs_are)
+        (commit_zeroed s.state count)
+        (drop-map copying_of count s.copies) (ap (λ (ms : List Mark). s.marks ++ ms) (marks_seen count s.copies))
         ∙ sym (ap (held_of contents layers) is))
 
     -- the store failed, and the snapshot is spoiled
@@ -161,9 +179,9 @@ module _ {B : Type 0} (contents : B → List ℕ) (layers : B → List Layer) (r
         → contents d ≡ contents s.device → s' ≡ record s { device = d } → s'' ≡ spoilt s'
         → stepped (WriteArea n) (moving_of contents layers replied v) ≡ moving_of contents layers replied (changed v v.origin k s'' (map (refused_of (s.number ∷ [])) v.flights))
     write_area_fault s' s'' one same kept gone =
-        committing_is ∙ fail_is contents layers replied v k s (λ (x : Held). (x.snap.number == n) && can_commit x) commits_first op bytes committed s' s'' faults faults' done done' d one same kept gone
+        committing_is ∙ fail_is contents layers replied v k s (λ (x : Held). (x.snap.number == n) && can_commit x) commits_first op bytes (committed s.state.filled) s' s'' faults faults' done done' d one same kept gone
 
-  module _ (found : IsFirst (is_zeroing n) k s v.snaps) (counts : IsCounted s) (live : s.live ≡ true) (full : s.state.filled + 1 ≡ 32 * s.state.chunk) (sized : length (contents s.device) ≡ 512 * s.state.size)
+  module _ (found : IsFirst (is_zeroing n) k s v.snaps) (counts : IsCounted s) (live : s.live ≡ true) (sized : length (contents s.device) ≡ 512 * s.state.size)
       (faults faults' done done' : ℕ) (d : B) where
     abbrev zeroes : Held → Bool
     zeroes h = (h.snap.number == n) && can_zero h
@@ -187,7 +205,7 @@ module _ {B : Type 0} (contents : B → List ℕ) (layers : B → List Layer) (r
 
     zeroing_is : stepped (ZeroNext n) (moving_of contents layers replied v) ≡ zeroing (s.state.current + 1)
     zeroing_is = on_snap_is contents layers replied v k s (λ (x : Held). (x.snap.number == n) && can_zero x) zeroes_first zero_next
-        ∙ ap zeroing (next_area s.state.current (32 * s.state.chunk) s.state.filled (length s.pairs) (omega (arith, counts.some)) full counts.count)
+        ∙ ap (λ a. zeroing (a + 1)) (slot_area s.state.current (32 * s.state.chunk) s.state.filled (length s.pairs) (counts.fits live) counts.count)
 
     lacks : LacksArea s.state.chunk s.state.size (s.state.current + 1) → lacks_area (s.state.current + 1) (held_of contents layers s).snap ≡ true
     lacks short =

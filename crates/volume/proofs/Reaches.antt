@@ -14,12 +14,13 @@ use Rattle.event_machine.specs.Stepping.{for_some, stepped}
 use Rattle.event_machine.specs.Rest.{IsAtRest}
 use Rattle.event_machine.specs.Settles.{settle, SettlesTo}
 use Rattle.snapshot.specs.Kept.{Kept}
-use Rattle.volume.specs.Volumed.{Volumed, next_of, is_loud_in_all}
+use Rattle.volume.specs.Volumed.{Volumed, dues_of, is_loud_in_all}
 use Rattle.volume.specs.Whole.{IsCounted}
 use Rattle.volume.specs.Moved.{held_of, moving_of}
 use Rattle.volume.specs.Exact.{IsExact}
 use Rattle.volume.specs.Reaching.{Reaches, IsRun, IsAnswered}
 use Rattle.volume.proofs.MovedDue.{due_is}
+use Rattle.volume_laws.specs.Due.{due_of}
 
 -- nothing is done
 pub reaches_none : (m : Moving) → Reaches m m
@@ -49,7 +50,7 @@ module _ {B : Type 0} (contents : B → List ℕ) (layers : B → List Layer) wh
   run_none replied v = record { reaches = λ loud. reaches_none (moving_of contents layers replied v); loud = refl }
 
   -- one event more, that was due
-  pub run_more : (before after : Option Reply) (v w u : Volumed B) (event : Event) (outcome : Outcome) → IsRun contents layers before after v w → All IsCounted w.snaps → next_of contents layers w ≡ Some event
+  pub run_more : (before after : Option Reply) (v w u : Volumed B) (event : Event) (outcome : Outcome) → IsRun contents layers before after v w → All IsCounted w.snaps → due_of (dues_of contents layers w) w.flights ≡ Some event
       → IsExact contents layers event outcome w u → is_loud_in_all layers u ≡ is_loud_in_all layers w → IsRun contents layers before (replied_by outcome after) v u
   run_more before after v w u event outcome r counted next e loud = record {
     reaches = λ all. reaches_more (moving_of contents layers before v) (moving_of contents layers after w) (moving_of contents layers (replied_by outcome after) u) event (r.reaches all)
@@ -63,7 +64,7 @@ module _ {B : Type 0} (contents : B → List ℕ) (layers : B → List Layer) wh
 
   -- until none is due: the volume's devices and snapshots, and the reply, are those of the big step
   pub run_answers : (sectors : ℕ) (answer : Answered) (before after : Option Reply) (v w : Volumed B) → is_loud_in_all layers v ≡ true → SettlesTo sectors (moving_of contents layers before v) answer
-      → IsRun contents layers before after v w → All IsCounted w.snaps → next_of contents layers w ≡ None → IsAnswered contents layers sectors after w answer
+      → IsRun contents layers before after v w → All IsCounted w.snaps → due_of (dues_of contents layers w) w.flights ≡ None → IsAnswered contents layers sectors after w answer
   run_answers sectors answer before after v w loud t r counted none =
       let last : moving_of contents layers after w ≡ t.last =
       reaches_end sectors answer (moving_of contents layers before v) (moving_of contents layers after w) t (r.reaches loud) (due_is contents layers after w counted ∙ none) in
@@ -76,6 +77,6 @@ module _ {B : Type 0} (contents : B → List ℕ) (layers : B → List Layer) wh
 
   -- a request that was submitted, and then run until nothing is due
   pub request_answers : (sectors : ℕ) (answer : Answered) (before after : Option Reply) (m : Moving) (v w : Volumed B) → is_loud_in_all layers v ≡ true → SettlesTo sectors m answer → m ≡ moving_of contents layers before v
-      → IsRun contents layers before after v w → All IsCounted w.snaps → next_of contents layers w ≡ None → IsAnswered contents layers sectors after w answer
+      → IsRun contents layers before after v w → All IsCounted w.snaps → due_of (dues_of contents layers w) w.flights ≡ None → IsAnswered contents layers sectors after w answer
   request_answers sectors answer before after m v w loud t is r counted none =
       run_answers sectors answer before after v w loud (subst (λ (x : Moving). SettlesTo sectors x answer) is t) r counted none

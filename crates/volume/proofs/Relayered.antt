@@ -1,6 +1,6 @@
 -- Where layers alone change, and a device drops writes as before, a volume stays whole.
-use Rattle.std.proofs.Common.{◌≡◌, ◌≢◌, inl, inr, ℕ, suc, ◌+◌, ◌<◌, ◌≤◌, Bool, List, [], ◌∷◌, length, get_or, set, map, refl, sym, ◌∙◌, ap, subst, arith}
-use Rattle.std.specs.Prelude.{sum_by, Option}
+use Rattle.std.proofs.Common.{◌≡◌, ◌≢◌, inl, inr, ℕ, suc, ◌+◌, ◌<◌, ◌≤◌, Bool, List, [], ◌∷◌, length, get_or, set, map, refl, sym, ◌∙◌, ap, subst, arith, ◌++◌}
+use Rattle.std.specs.Prelude.{sum_by, Option, Some, None, ◌&&◌}
 use Rattle.std.specs.List.{sum}
 use Rattle.std.proofs.lemmas.List.Sums.{sum-map}
 use Rattle.std.proofs.lemmas.List.{get_or-set_same, get_or-set_other, length-set, get_or_default}
@@ -10,17 +10,20 @@ use Rattle.layers.specs.Ticks.{layers_ticked}
 use Rattle.layers.specs.Loudness.{loud_ticked}
 use Rattle.event_machine.specs.Held.{Held, Moving}
 use Rattle.plain.specs.declared.request.Reply.{Reply}
-use Rattle.volume_laws.specs.Books.{Books, SnapBooks}
+use Rattle.volume_laws.specs.Books.{Books, SnapBooks, MergeBooks}
 use Rattle.volume_laws.specs.Due.{DueSnap}
 use Rattle.volume_laws.specs.Whole.{Holds}
 use Rattle.pending.specs.Due.{number_of_flight}
 use Rattle.volume_laws.specs.Waits.{Waits}
 use Rattle.snapshot.specs.Kept.{Kept, books_of as snap_books, due_of_kept}
-use Rattle.volume.specs.Volumed.{Volumed, books_of, dues_of, piece_of}
+use Rattle.volume.specs.Volumed.{Volumed, books_of, dues_of, piece_of, merge_books, is_loud_with}
 use Rattle.snapshots.specs.Numbers.{number_of_snap, count_in}
 use Rattle.volume.specs.Whole.{IsWhole, IsAttached, IsCounted, SharesNone, AreNumbers, starts_left}
 use Rattle.volume.specs.Moved.{moving_of, held_of}
-use Rattle.volume.specs.Layering.{Measures, IsLater, IsSnapLater, IsTicked, held_relayered, moving_relayered}
+use Rattle.volume.specs.Layering.{Measures, IsLater, IsSnapLater, IsTicked, held_relayered, moving_relayered, IsMergeLater}
+use Rattle.merge.specs.Merging.{Merging, books_of as merging_books}
+use Rattle.volume.specs.Causes.{counts_with}
+use Rattle.volume.specs.Stepping.{merged_of}
 
 -- maps that agree at each place
 pub map_at : {A C : Type 0} (f g : A → C) (xs ys : List A) → length ys ≡ length xs → ((k : ℕ) (d : A) → k < length xs → f (get_or ys k d) ≡ g (get_or xs k d)) → map f ys ≡ map g xs
@@ -46,11 +49,56 @@ module _ {B : Type 0} (contents : B → List ℕ) (layers : B → List Layer) (s
     pub store : IsAlike s.device t.device
     pub same : t ≡ record s { device = t.device }
 
+  abbrev pub IsMergeAlike : Option (Merging B) → Option (Merging B) → Type 0
+  IsMergeAlike None None = Unit {0}
+  IsMergeAlike None (Some y) = ⊥
+  IsMergeAlike (Some x) None = ⊥
+  IsMergeAlike (Some x) (Some y) = IsAlike x.device y.device × (y ≡ record x { device = y.device })
+
   pub record IsVolumeAlike (v w : Volumed B) : Type 0 where
     pub origin : IsAlike v.origin w.origin
     pub count : length w.snaps ≡ length v.snaps
     pub snaps : (k : ℕ) (d : Kept B) → k < length v.snaps → IsSnapAlike (get_or v.snaps k d) (get_or w.snaps k d)
-    pub becomes : w ≡ record v { origin = w.origin; snaps = w.snaps }
+    pub merge : IsMergeAlike v.merge w.merge
+    pub becomes : w ≡ record v { origin = w.origin; snaps = w.snaps; merge = w.merge }
+
+  -- the same merge
+  pub merge_same : (x : Option (Merging B)) → IsMergeAlike x x
+  merge_same None = tt
+  merge_same (Some x) = (record { bytes = refl; sectors = refl; loud = refl }, refl)
+
+  merge_none : (x y : Option (Merging B)) → IsMergeAlike x y → x ≡ None → y ≡ None
+  merge_none None None h e = refl
+  merge_none None (Some y) h e = absurd h
+  merge_none (Some x) y h e = absurd (cc)
+
+  merge_books_alike : (loud : Bool) (x y : Option (Merging B)) → IsMergeAlike x y → merge_books contents layers loud y ≡ merge_books contents layers loud x
+  merge_books_alike loud None None h = refl
+  merge_books_alike loud None (Some y) h = absurd h
+  merge_books_alike loud (Some x) None h = absurd h
+  merge_books_alike loud (Some x) (Some y) h =
+      let mk : Bool → List ℕ → Option MergeBooks = λ b store. Some (record (merging_books contents b x) { store = store }) in
+      ap (λ z. Some (merging_books contents (loud && is_loud (layers y.device)) z)) h.1
+      ∙ ap (λ b. mk (loud && b) (contents y.device)) h.0.loud ∙ ap (mk (loud && is_loud (layers x.device))) h.0.bytes
+
+  -- the merging store drops writes as before, and is as large
+  pub merge_loud_alike : (others : Bool) (x y : Option (Merging B)) → IsMergeAlike x y → is_loud_with layers y others ≡ is_loud_with layers x others
+  merge_loud_alike others None None h = refl
+  merge_loud_alike others None (Some y) h = absurd h
+  merge_loud_alike others (Some x) None h = absurd h
+  merge_loud_alike others (Some x) (Some y) h = ap (λ b. others && b) h.0.loud
+
+  pub merge_sized_alike : (counts : List ℕ) (x y : Option (Merging B)) → IsMergeAlike x y → counts_with size y counts ≡ counts_with size x counts
+  merge_sized_alike counts None None h = refl
+  merge_sized_alike counts None (Some y) h = absurd h
+  merge_sized_alike counts (Some x) None h = absurd h
+  merge_sized_alike counts (Some x) (Some y) h = ap (λ n. counts ++ n ∷ []) h.0.sectors
+
+  pub merged_alike : (x y : Option (Merging B)) → IsMergeAlike x y → merged_of y ≡ merged_of x
+  merged_alike None None h = refl
+  merged_alike None (Some y) h = absurd h
+  merged_alike (Some x) None h = absurd h
+  merged_alike (Some x) (Some y) h = ap (λ (z : Merging B). Some (z.number, z.state.chunk)) h.1
 
   alike : (d : B) → IsAlike d d
   alike d = record { bytes = refl; sectors = refl; loud = refl }
@@ -89,12 +137,13 @@ module _ {B : Type 0} (contents : B → List ℕ) (layers : B → List Layer) (s
 
     pub books_of_alike : books_of contents layers size w ≡ books_of contents layers size v
     books_of_alike =
-        let mk : List ℕ → ℕ → Bool → List SnapBooks → Books = λ o n l ss. record (books_of contents layers size v) { origin = o; sectors = n; loud = l; snaps = ss } in
+        let mk : List ℕ → ℕ → Bool → List SnapBooks → Option MergeBooks → Books = λ o n l ss m. record (books_of contents layers size v) { origin = o; sectors = n; loud = l; snaps = ss; merge = m } in
         ap (books_of contents layers size) h.becomes
-        ∙ ap (λ o. mk o (size w.origin) (is_loud (layers w.origin)) (map (snap_books contents layers) w.snaps)) h.origin.bytes
-        ∙ ap (λ n. mk (contents v.origin) n (is_loud (layers w.origin)) (map (snap_books contents layers) w.snaps)) h.origin.sectors
-        ∙ ap (λ l. mk (contents v.origin) (size v.origin) l (map (snap_books contents layers) w.snaps)) h.origin.loud
-        ∙ ap (mk (contents v.origin) (size v.origin) (is_loud (layers v.origin))) books_map
+        ∙ ap (λ o. mk o (size w.origin) (is_loud (layers w.origin)) (map (snap_books contents layers) w.snaps) (merge_books contents layers (is_loud (layers w.origin)) w.merge)) h.origin.bytes
+        ∙ ap (λ n. mk (contents v.origin) n (is_loud (layers w.origin)) (map (snap_books contents layers) w.snaps) (merge_books contents layers (is_loud (layers w.origin)) w.merge)) h.origin.sectors
+        ∙ ap (λ l. mk (contents v.origin) (size v.origin) l (map (snap_books contents layers) w.snaps) (merge_books contents layers l w.merge)) h.origin.loud
+        ∙ ap (λ ss. mk (contents v.origin) (size v.origin) (is_loud (layers v.origin)) ss (merge_books contents layers (is_loud (layers v.origin)) w.merge)) books_map
+        ∙ ap (mk (contents v.origin) (size v.origin) (is_loud (layers v.origin)) (map (snap_books contents layers) v.snaps)) (merge_books_alike (is_loud (layers v.origin)) v.merge w.merge h.merge)
 
     numbers_map : map number_of_snap w.snaps ≡ map number_of_snap v.snaps
     numbers_map = map_at number_of_snap number_of_snap v.snaps w.snaps h.count (λ k d lt. ap number_of_snap (h.snaps k d lt).same)
@@ -107,6 +156,7 @@ module _ {B : Type 0} (contents : B → List ℕ) (layers : B → List Layer) (s
 
     pub whole_alike : IsWhole contents layers size v → IsWhole contents layers size w
     whole_alike whole = record {
+      alone = merge_none v.merge w.merge h.merge whole.alone;
       holds = subst Holds (sym books_of_alike) whole.holds;
       waits = subst Waits (sym books_of_alike) whole.waits;
       snaps = λ k d lt. subst (λ (n : ℕ). IsAttached n (size w.origin) (piece_of w.snaps) (get_or w.snaps k d)) (sym (ap (λ (x : Volumed B). x.copies) h.becomes))
@@ -138,11 +188,18 @@ module _ {B : Type 0} (m : Measures B) (layers : B → List Layer) (seconds : �
   snap_later_alike : (s t : Kept B) → IsSnapLater m layers seconds s t → IsSnapAlike m.contents layers m.size s t
   snap_later_alike s t h = record { store = later_alike s.device t.device h.store; same = h.same }
 
+  merge_later_alike : (x y : Option (Merging B)) → IsMergeLater m layers seconds x y → IsMergeAlike m.contents layers m.size x y
+  merge_later_alike None None h = tt
+  merge_later_alike None (Some y) h = absurd h
+  merge_later_alike (Some x) None h = absurd h
+  merge_later_alike (Some x) (Some y) h = (later_alike x.device y.device h.0, h.1)
+
   pub ticked_alike : (v w : Volumed B) → IsTicked m layers seconds v w → IsVolumeAlike m.contents layers m.size v w
   ticked_alike v w h = record {
     origin = later_alike v.origin w.origin h.origin;
     count = h.count;
     snaps = λ k d lt. snap_later_alike (get_or v.snaps k d) (get_or w.snaps k d) (h.snaps k d lt);
+    merge = merge_later_alike v.merge w.merge h.merge;
     becomes = h.becomes;
   }
 

@@ -39,6 +39,7 @@ module _ {B : Type 0} (contents : B → List ℕ) (layers : B → List Layer) (s
       let sums = roomed_sum count_in snaps v.snaps e (λ s. refl) in
       let lefts = roomed_sum starts_left snaps v.snaps e (λ s. refl) in
       record {
+        alone = h.alone;
         holds = subst (λ (xs : List SnapBooks). let b : Books = record bs { snaps = xs } in Holds b) (sym books_roomed) h.holds;
         waits = subst (λ (xs : List SnapBooks). let b : Books = record bs { snaps = xs } in Waits b) (sym books_roomed) h.waits;
         snaps = λ k d lt. subst (λ (n : ℕ). IsAttached v.copies (size v.origin) n (get_or snaps k d)) (sym piece)

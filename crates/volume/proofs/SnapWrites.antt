@@ -191,7 +191,7 @@ module _ {B : Type 0} (contents : B → List ℕ) (layers : B → List Layer) (s
           ∙ sym (ap (λ (q : Kind). lives_after q c v.snaps) kind));
       flown = entered_flown v.flights v.flights f refl;
       exact = held_submitted;
-      kept = keeps_begun contents layers v (entered_of f copying) k (set v.snaps k s1) s1 t copy refl refl refl one_roomed is_roomy at;
+      kept = keeps_begun contents layers v (entered_of f copying) k (set v.snaps k s1) s1 t copy refl refl refl refl one_roomed is_roomy at;
     }
 
   -- its store is full

@@ -1,10 +1,8 @@
--- The events of one store: an area is zeroed, and the first copy is committed.
-use Rattle.std.proofs.Common.{◌≡◌, inl, inr, ℕ, suc, ◌+◌, ◌*◌, ◌<◌, Bool, true, false, List, [], ◌∷◌, ◌++◌, length, get_or, map, take, drop, refl, ◌∙◌, ap, arith, nat_eq, eq-eqb, append_assoc, sym, subst}
+-- The events of one store: an area is zeroed, and the first copies are committed.
+use Rattle.std.proofs.Common.{◌≡◌, inl, inr, ℕ, zero, suc, ◌+◌, ◌-◌, ◌*◌, ◌<◌, Bool, true, false, List, [], ◌∷◌, ◌++◌, length, get_or, map, take, drop, refl, ◌∙◌, ap, arith, nat_eq, eq-eqb, append_assoc, sym, subst}
 use Rattle.std.specs.Prelude.{◌&&◌, not, if◌then◌else◌}
-use Rattle.std.specs.List.{All}
 use Rattle.std.proofs.lemmas.Bool.{false≢true, eqb-true}
 use Rattle.std.proofs.lemmas.List.{map-append}
-use Rattle.std.proofs.lemmas.List.Elements.{All-cons, All-nil}
 use Rattle.sector.specs.Bytes.{next_count}
 use Rattle.device.specs.Layers.{Layer, is_loud}
 use Rattle.model.specs.NextPlace.{LacksArea}
@@ -12,9 +10,9 @@ use Rattle.plain.specs.declared.event.Event.TheVariants.{ZeroNext, WriteArea}
 use Rattle.plain.specs.declared.event.Outcome.TheVariants.{Done, Fault}
 use Rattle.pending.specs.Due.{number_of_copy, number_of_mark, front_written}
 use Rattle.pending.specs.Routes.{refused_of}
+use Rattle.pending.proofs.Batches.{batch_some}
 use Rattle.pending.specs.declared.copies.ChunkCopy.{ChunkCopy}
 use Rattle.pending.specs.declared.copies.Mark.{Mark}
-use Rattle.pending.specs.declared.copies.Stage.TheVariants.{Written}
 use Rattle.store.specs.declared.state.State.{State}
 use Rattle.store.specs.Stored.{after_commit}
 use Rattle.volume_laws.specs.Held.{LiveHolds}
@@ -23,14 +21,14 @@ use Rattle.volume_laws.proofs.WholeOne.{snap_holds, live_by_copy, zero_event, co
 use Rattle.volume_laws.proofs.Keeping.{zero_keeps, commit_keeps}
 use Rattle.volume_laws.proofs.Waiting.{waits_changed}
 use Rattle.volume_laws.proofs.Left.{zero_left, commit_left}
-use Rattle.snapshot.specs.Kept.{Kept, books_of as snap_books, due_of_kept, needs_area}
+use Rattle.snapshot.specs.Kept.{Kept, books_of as snap_books, due_of_kept, batch_of, needs_area}
 use Rattle.volume.specs.Volumed.{Volumed, books_of}
 use Rattle.snapshots.specs.Numbers.{numbers_in}
 use Rattle.volume.specs.Whole.{IsWhole, IsCounted}
 use Rattle.snapshots.specs.Finding.{is_committing, is_zeroing}
 use Rattle.volume.proofs.Changing.{SameDisk, same_disk, StaysAttached, changed, books_within, books_is, changes}
 use Rattle.volume.proofs.Counting.{counts_same, counts_store, store_within, lives_same, lives_spoiled, lived}
-use Rattle.volume.proofs.CopyEvents.{stage_by, both_left, both_right}
+use Rattle.volume.proofs.CopyEvents.{both_left, both_right}
 use Rattle.volume.proofs.Good.{IsGood, SpoiltTo, silent_good, spoilt_good}
 use Rattle.volume.proofs.StartsLeft.{left_same}
 use Rattle.volume.proofs.MovedCounts.{counted_zeroed, counted_first}
@@ -40,40 +38,36 @@ pub first_some : (copies : List ChunkCopy) → front_written copies ≡ true →
 first_some [] e = absurd (false≢true e)
 first_some (p ∷ ps) e = omega arith
 
-pub first_ready : (copies : List ChunkCopy) → front_written copies ≡ true → All (λ (p : ChunkCopy). p.stage ≡ Written) (take 1 copies)
-first_ready [] e = All-nil (λ (p : ChunkCopy). p.stage ≡ Written)
-first_ready (p ∷ ps) e = All-cons (λ (p : ChunkCopy). p.stage ≡ Written) p [] (stage_by Written p.stage e) (All-nil (λ (p : ChunkCopy). p.stage ≡ Written))
-
 -- what a test of a snapshot found
 module _ {B : Type 0} (number : ℕ) (s : Kept B) where
   pub zeroing_number : is_zeroing number s ≡ true → s.number ≡ number
-  zeroing_number e = eqb-true s.number number (both_left (nat_eq s.number number) (front_written s.copies && needs_area s.state) e)
+  zeroing_number e = eqb-true s.number number (both_left (nat_eq s.number number) (front_written s.copies && needs_area s.state s.copies) e)
 
   pub zeroing_front : is_zeroing number s ≡ true → front_written s.copies ≡ true
-  zeroing_front e = both_left (front_written s.copies) (needs_area s.state) (both_right (nat_eq s.number number) (front_written s.copies && needs_area s.state) e)
+  zeroing_front e = both_left (front_written s.copies) (needs_area s.state s.copies) (both_right (nat_eq s.number number) (front_written s.copies && needs_area s.state s.copies) e)
 
-  pub zeroing_due : is_zeroing number s ≡ true → needs_area s.state ≡ true
-  zeroing_due e = both_right (front_written s.copies) (needs_area s.state) (both_right (nat_eq s.number number) (front_written s.copies && needs_area s.state) e)
+  pub zeroing_due : is_zeroing number s ≡ true → needs_area s.state s.copies ≡ true
+  zeroing_due e = both_right (front_written s.copies) (needs_area s.state s.copies) (both_right (nat_eq s.number number) (front_written s.copies && needs_area s.state s.copies) e)
 
   pub zeroing_needs : is_zeroing number s ≡ true → s.state.zeroed ≡ false
-  zeroing_needs e = not_true s.state.zeroed (both_right (nat_eq (s.state.filled + 1) (32 * s.state.chunk)) (not s.state.zeroed)
-      (both_right (front_written s.copies) (needs_area s.state) (both_right (nat_eq s.number number) (front_written s.copies && needs_area s.state) e)))
+  zeroing_needs e = not_true s.state.zeroed (both_right (nat_eq (s.state.filled + batch_of s.state s.copies) (32 * s.state.chunk)) (not s.state.zeroed)
+      (both_right (front_written s.copies) (needs_area s.state s.copies) (both_right (nat_eq s.number number) (front_written s.copies && needs_area s.state s.copies) e)))
     where
       not_true : (b : Bool) → not b ≡ true → b ≡ false
       not_true true h = absurd (false≢true h)
       not_true false h = refl
 
   pub committing_number : is_committing number s ≡ true → s.number ≡ number
-  committing_number e = eqb-true s.number number (both_left (nat_eq s.number number) (front_written s.copies && not (needs_area s.state)) e)
+  committing_number e = eqb-true s.number number (both_left (nat_eq s.number number) (front_written s.copies && not (needs_area s.state s.copies)) e)
 
   pub committing_front : is_committing number s ≡ true → front_written s.copies ≡ true
-  committing_front e = both_left (front_written s.copies) (not (needs_area s.state)) (both_right (nat_eq s.number number) (front_written s.copies && not (needs_area s.state)) e)
+  committing_front e = both_left (front_written s.copies) (not (needs_area s.state s.copies)) (both_right (nat_eq s.number number) (front_written s.copies && not (needs_area s.state s.copies)) e)
 
   -- a full area's next one is zeroed
-  pub committing_next : is_committing number s ≡ true → s.state.filled + 1 ≡ 32 * s.state.chunk → s.state.zeroed ≡ true
+  pub committing_next : is_committing number s ≡ true → s.state.filled + batch_of s.state s.copies ≡ 32 * s.state.chunk → s.state.zeroed ≡ true
   committing_next e full =
-      let kept : not (needs_area s.state) ≡ true = both_right (front_written s.copies) (not (needs_area s.state)) (both_right (nat_eq s.number number) (front_written s.copies && not (needs_area s.state)) e) in
-      at (nat_eq (s.state.filled + 1) (32 * s.state.chunk)) s.state.zeroed (eq-eqb (s.state.filled + 1) (32 * s.state.chunk) full) kept
+      let kept : not (needs_area s.state s.copies) ≡ true = both_right (front_written s.copies) (not (needs_area s.state s.copies)) (both_right (nat_eq s.number number) (front_written s.copies && not (needs_area s.state s.copies)) e) in
+      at (nat_eq (s.state.filled + batch_of s.state s.copies) (32 * s.state.chunk)) s.state.zeroed (eq-eqb (s.state.filled + batch_of s.state s.copies) (32 * s.state.chunk) full) kept
     where
       at : (a b : Bool) → a ≡ true → not (a && not b) ≡ true → b ≡ true
       at true true f k = refl
@@ -89,15 +83,16 @@ commit_sizes : (s : State) (count : ℕ) → ((after_commit s count).chunk ≡ s
 commit_sizes s count = state_parts (nat_eq (s.filled + count) (32 * s.chunk)) s (record s { current = s.current + 1; filled = 0; zeroed = false }) (record s { filled = s.filled + count }) refl refl refl refl refl refl
 
 -- and the copies' numbers
-commit_front : (copies : List ChunkCopy) → map number_of_mark (map mark_of (take 1 copies)) ++ map number_of_copy (drop 1 copies) ≡ map number_of_copy copies
-commit_front [] = refl
-commit_front (p ∷ ps) = refl
+commit_front : (count : ℕ) (copies : List ChunkCopy) → map number_of_mark (map mark_of (take count copies)) ++ map number_of_copy (drop count copies) ≡ map number_of_copy copies
+commit_front zero copies = refl
+commit_front (suc count) [] = refl
+commit_front (suc count) (p ∷ ps) = ap (λ ns. p.number ∷ ns) (commit_front count ps)
 
-commit_numbers : (marks : List Mark) (copies : List ChunkCopy) → map number_of_mark (marks ++ map mark_of (take 1 copies)) ++ map number_of_copy (drop 1 copies) ≡ map number_of_mark marks ++ map number_of_copy copies
-commit_numbers marks copies =
-    ap (λ ns. ns ++ map number_of_copy (drop 1 copies)) (map-append number_of_mark marks (map mark_of (take 1 copies)))
-    ∙ append_assoc (map number_of_mark marks) (map number_of_mark (map mark_of (take 1 copies))) (map number_of_copy (drop 1 copies))
-    ∙ ap (λ ns. map number_of_mark marks ++ ns) (commit_front copies)
+commit_numbers : (count : ℕ) (marks : List Mark) (copies : List ChunkCopy) → map number_of_mark (marks ++ map mark_of (take count copies)) ++ map number_of_copy (drop count copies) ≡ map number_of_mark marks ++ map number_of_copy copies
+commit_numbers count marks copies =
+    ap (λ ns. ns ++ map number_of_copy (drop count copies)) (map-append number_of_mark marks (map mark_of (take count copies)))
+    ∙ append_assoc (map number_of_mark marks) (map number_of_mark (map mark_of (take count copies))) (map number_of_copy (drop count copies))
+    ∙ ap (λ ns. map number_of_mark marks ++ ns) (commit_front count copies)
 
 module _ {B : Type 0} (contents : B → List ℕ) (layers : B → List Layer) (size faults done : B → ℕ) (v : Volumed B) (h : IsWhole contents layers size v) (number : ℕ)
     (k : ℕ) (s s' : Kept B) (within : k < length v.snaps) (is : s ≡ get_or v.snaps k s) where
@@ -179,28 +174,31 @@ module _ {B : Type 0} (contents : B → List ℕ) (layers : B → List Layer) (s
       }))
       (inl (counts_same v v.origin k s s' flights within is done refl (ap done device)))
 
-  pub commit_good : is_committing number s ≡ true → (d : B)
-      → s' ≡ record s { device = d; state = after_commit s.state 1; pairs = s.pairs ++ take 1 s.begun; begun = drop 1 s.begun; copies = drop 1 s.copies; marks = s.marks ++ map mark_of (take 1 s.copies) }
-      → Commits 1 s.state.current (snap_books contents layers s) (snap_books contents layers s')
+  pub commit_good : is_committing number s ≡ true → (d : B) (count : ℕ) → count ≡ batch_of s.state s.copies
+      → s' ≡ record s { device = d; state = after_commit s.state count; pairs = s.pairs ++ take count s.begun; begun = drop count s.begun; copies = drop count s.copies; marks = s.marks ++ map mark_of (take count s.copies) }
+      → Commits count s.state.current (snap_books contents layers s) (snap_books contents layers s')
       → is_loud (layers d) ≡ is_loud (layers s.device) → size d ≡ size s.device → faults d ≡ faults s.device → done d ≡ next_count (done s.device) → IsGood contents layers size faults done (WriteArea number) Done v (changed v v.origin k s' v.flights)
-  commit_good found d f r loud sized faulty counted =
+  commit_good found d count batched f r loud sized faulty counted =
       let sb = snap_books contents layers in
       let w = changed v v.origin k s' v.flights in
       let live = front_live (committing_front number s found) in
       let device : s'.device ≡ d = ap (λ (x : Kept B). x.device) f in
-      let sizes = commit_sizes s.state 1 in
+      let counts : IsCounted s = subst IsCounted (sym is) (h.counted k s within) in
+      let below = counts.fits live in
+      let many = batch_some (32 * s.state.chunk - s.state.filled) s.copies (committing_front number s found) (omega (arith, below)) in
+      let sizes = commit_sizes s.state count in
       let stays : StaysAttached s s' = record {
         number = ap (λ (x : Kept B). x.number) f;
         chunk_is = ap (λ (x : Kept B). x.state.chunk) f ∙ sizes.0;
         origin = ap (λ (x : Kept B). x.state.origin) f ∙ sizes.1;
-        numbers = inl (ap (λ (x : Kept B). numbers_in x) f ∙ commit_numbers s.marks s.copies);
-        counted = λ counts. subst IsCounted (sym f) (counted_first s counts live d (committing_front number s found) (holds_live live).agree);
+        numbers = inl (ap (λ (x : Kept B). numbers_in x) f ∙ commit_numbers count s.marks s.copies);
+        counted = λ counts. subst IsCounted (sym f) (counted_first s counts live d count batched (holds_live live).agree);
         left = left_same s s' (ap (λ (x : Kept B). x.live) f) (ap (λ (x : Kept B). x.state.size) f ∙ sizes.2) (ap (λ (x : Kept B). x.next) f);
       } in
       silent_good contents layers size faults done v h (WriteArea number) Done (λ a b x. x) (λ xs ys e. e) v.origin k s s' within is disk (ap (λ x. is_loud (layers x)) device ∙ loud) (ap size device ∙ sized) v.flights refl stays
-      (commit_event k (sb s) (sb s') (books_of contents layers size v) (books_of contents layers size w) h.holds e_is 1 s.state.current live r)
-      (waits_changed k (sb s) (sb s') (books_of contents layers size v) (books_of contents layers size w) h.waits e_is (commit_keeps (contents v.origin) v.flights 1 s.state.current (sb s) (sb s') (holds_live live) r))
-      (commit_left 1 s.state.current (due_of_kept contents layers s) (due_of_kept contents layers s') r (omega arith))
+      (commit_event k (sb s) (sb s') (books_of contents layers size v) (books_of contents layers size w) h.holds e_is count s.state.current live r)
+      (waits_changed k (sb s) (sb s') (books_of contents layers size v) (books_of contents layers size w) h.waits e_is (commit_keeps (contents v.origin) v.flights count s.state.current (sb s) (sb s') (holds_live live) r))
+      (commit_left count s.state.current (due_of_kept contents layers s) (due_of_kept contents layers s') r (omega (arith, batched, many)))
       (record { counts = counts_same v v.origin k s s' v.flights within is faults refl (ap faults device ∙ faulty); lives = lives_same v v.origin k s s' v.flights within is (ap (λ (x : Kept B). x.live) f) })
       (inr (suc k, store_within v v.origin k s s' v.flights within is done, counts_store v v.origin k s s' v.flights within is done refl (ap done device ∙ counted)))
 

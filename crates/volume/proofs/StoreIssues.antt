@@ -30,7 +30,7 @@ use Rattle.volume_laws.specs.Held.{SnapHolds, RouteHolds, RefusedHolds}
 use Rattle.volume_laws.specs.Due.{left_in}
 use Rattle.volume_laws.specs.Steps.{OnlyTakesOut, TakesOut, WritesPlace}
 use Rattle.volume_laws.specs.Waits.{WaitsHolds, Waits}
-use Rattle.volume_laws.specs.Whole.{UnmergedHolds}
+use Rattle.volume_laws.specs.Whole.{UnmergedHolds, OriginHolds}
 use Rattle.volume_laws.specs.Outcomes.{IsReply}
 use Rattle.volume_laws.proofs.Same.{same_books}
 use Rattle.volume_laws.proofs.Waiting.{KeepsWaiting, waits_out, waits_changed}
@@ -52,6 +52,7 @@ use Rattle.volume.proofs.IssueEvents.{reply_good, taken_out, fits_read, fits_wri
 use Rattle.volume.proofs.DiskIssues.{read_kinds, write_kinds}
 use Rattle.volume.proofs.StartsLeft.{left_same}
 use Rattle.volume.proofs.MovedCounts.{counted_device}
+use Rattle.volume.proofs.Alone.{alone_books}
 
 store_ne_refused : (place : ℕ) → Store place ≢ Refused
 store_ne_refused place c = cc
@@ -88,11 +89,12 @@ module _ {B : Type 0} (contents : B → List ℕ) (layers : B → List Layer) (s
   mine : r.number ≡ number
   mine = (let p = position-Some (λ (f : Flight). nat_eq f.number number) v.flights place r found in eqb-true r.number number (ap (λ (f : Flight). nat_eq f.number number) was ∙ p.1))
 
-  waiting : WaitsHolds None vb.snaps r
-  waiting = subst (WaitsHolds None vb.snaps) (sym was) (h.waits.held place r in_list)
+  waiting : WaitsHolds vb.merge vb.snaps r
+  waiting = subst (WaitsHolds vb.merge vb.snaps) (sym was) (h.waits.held place r in_list)
 
   unmerged : UnmergedHolds r
-  unmerged = subst UnmergedHolds (sym was) (h.holds.merge place r in_list)
+  unmerged = subst UnmergedHolds (sym was)
+      ((subst (OriginHolds (contents v.origin) v.flights) (alone_books contents layers (is_loud (layers v.origin)) v.merge h.alone) h.holds.merge) place r in_list)
 
   -- a request that goes to a store is of a snapshot that is there
   pub is_snap : (at : ℕ) → r.route ≡ Store at → (n : ℕ) × (r.request.dev ≡ Snap n) × Any (λ (s : SnapBooks). s.number ≡ n) vb.snaps
@@ -110,7 +112,7 @@ module _ {B : Type 0} (contents : B → List ℕ) (layers : B → List Layer) (s
 
   -- it is answered Invalid
   pub refused_good : r.route ≡ Refused → IsGood contents layers size faults done (Issue number) (Replied number (IsRefused IsInvalid)) v (record v { flights = remove v.flights place })
-  refused_good route = reply_good contents layers size faults done v w h number place (IsRefused IsInvalid) in_list refl refl refl refl (snaps_fit contents layers size v (size v.origin) h refl) refl refl (record { attached = refl; numbers = refl; chunks = refl; sizes = refl }) (by r.request.op refl)
+  refused_good route = reply_good contents layers size faults done v w h number place (IsRefused IsInvalid) in_list refl refl refl refl refl (snaps_fit contents layers size v (size v.origin) h refl) refl refl (record { attached = refl; numbers = refl; chunks = refl; merged = refl; sizes = refl }) (by r.request.op refl)
       (waits_out place vb wb h.waits in_list refl refl refl) (record { counts = refl; lives = refl }) (inl refl) (taken_out number place (IsRefused IsInvalid) r vb wb only.out tt)
     where
       w : Volumed B
@@ -207,7 +209,7 @@ module _ {B : Type 0} (contents : B → List ℕ) (layers : B → List Layer) (s
           omega (arith, e, at_k, same, now)
 
       good : (reply : Reply) → IsReply number reply vb wb → HasReplied faults number reply v issued → Fits r.request.op r.request.range reply → IsGood contents layers size faults done (Issue number) (Replied number reply) v issued
-      good reply answered cause fits = reply_good contents layers size faults done v issued h number place reply in_list refl refl refl refl
+      good reply answered cause fits = reply_good contents layers size faults done v issued h number place reply in_list refl refl refl refl refl
           (snaps_changed contents layers size v v.origin k s s' within is h (same_disk contents layers size v.origin) stays) lefts
           (loud_changed contents layers size v v.origin k s s' within is (remove v.flights place) (same_disk contents layers size v.origin) loud_now)
           (kept_changed size v v.origin k s s' (remove v.flights place) within is refl (ap size device ∙ sized) stays.number stays.chunk_is) answered waits cause

@@ -24,7 +24,7 @@ use Rattle.settled.proofs.Each.{Each, each_from, all_from}
 use Rattle.volume_laws.specs.Whole.{plain_of as plain_books}
 use Rattle.store.specs.Layering.{IsRelayered}
 use Rattle.snapshot.specs.Kept.{Kept}
-use Rattle.volume.specs.Volumed.{Volumed, books_of, plain_of, is_loud_in_all}
+use Rattle.volume.specs.Volumed.{Volumed, books_of, plain_of, is_loud_in_all, is_loud_with}
 use Rattle.volume.specs.Attached.{volume_in}
 use Rattle.snapshots.specs.Finding.{place_of_snap}
 use Rattle.volume.specs.Whole.{IsWhole}
@@ -35,7 +35,7 @@ use Rattle.volume.proofs.Accepts.{if_ok, if_err}
 use Rattle.snapshots.proofs.Finds.{position_none}
 use Rattle.volume.proofs.Keeping.{of_both}
 use Rattle.volume.proofs.MovedLists.{IsFirst, first_position}
-use Rattle.volume.proofs.Relayered.{IsAlike, IsSnapAlike, IsVolumeAlike, books_of_alike, whole_alike}
+use Rattle.volume.proofs.Relayered.{IsAlike, IsSnapAlike, IsVolumeAlike, books_of_alike, whole_alike, IsMergeAlike, merge_same, merge_loud_alike}
 use Rattle.volume.proofs.Shown.{shown}
 
 -- tests of all that agree at each place
@@ -53,8 +53,9 @@ module _ {B : Type 0} (contents : B → List ℕ) (layers : B → List Layer) (s
 
   pub loud_alike : is_loud_in_all layers w ≡ is_loud_in_all layers v
   loud_alike =
-      ap (λ b. b && list_all (λ (s : Kept B). is_loud (layers s.device)) w.snaps) h.origin.loud
-      ∙ ap (λ b. is_loud (layers v.origin) && b)
+      merge_loud_alike contents layers size (is_loud (layers w.origin) && list_all (λ (s : Kept B). is_loud (layers s.device)) w.snaps) v.merge w.merge h.merge
+      ∙ ap (λ b. is_loud_with layers v.merge (b && list_all (λ (s : Kept B). is_loud (layers s.device)) w.snaps)) h.origin.loud
+      ∙ ap (λ b. is_loud_with layers v.merge (is_loud (layers v.origin) && b))
       (all_at (λ (s : Kept B). is_loud (layers s.device)) v.snaps w.snaps h.count (λ k d lt. ap (λ (x : Kept B). is_loud (layers x.device)) (h.snaps k d lt).same ∙ (h.snaps k d lt).store.loud))
 
 -- a message leaves as many layers that drop writes
@@ -82,11 +83,14 @@ module _ {B : Type 0} (m : Measures B) (layers : B → List Layer) (f : List Lay
   pub origin_alike : (v w : Volumed B) → IsOriginRelayered m layers f v w → IsVolumeAlike m.contents layers m.size v w
   origin_alike v w h =
       let snaps : w.snaps ≡ v.snaps = ap (λ (x : Volumed B). x.snaps) h.becomes in
+      let merge : w.merge ≡ v.merge = ap (λ (x : Volumed B). x.merge) h.becomes in
       record {
         origin = device_alike v.origin w.origin h.device;
         count = ap length snaps;
         snaps = λ k d lt. subst (λ (xs : List (Kept B)). IsSnapAlike m.contents layers m.size (get_or v.snaps k d) (get_or xs k d)) (sym snaps) (same_snap (get_or v.snaps k d));
-        becomes = h.becomes ∙ ap (λ (xs : List (Kept B)). (let x : Volumed B = record v { origin = w.origin; snaps = xs } in x)) (sym snaps);
+        merge = subst (IsMergeAlike m.contents layers m.size v.merge) (sym merge) (merge_same m.contents layers m.size v.merge);
+        becomes = h.becomes ∙ ap (λ (xs : List (Kept B)). (let x : Volumed B = record v { origin = w.origin; snaps = xs } in x)) (sym snaps)
+            ∙ ap (λ y. (let x : Volumed B = record v { origin = w.origin; snaps = w.snaps; merge = y } in x)) (sym merge);
       }
 
   snaps_alike : (xs : List (Kept B)) (k : ℕ) (s t : Kept B) → s ≡ get_or xs k s → IsSnapAlike m.contents layers m.size s t → (j : ℕ) (d : Kept B) → j < length xs → IsSnapAlike m.contents layers m.size (get_or xs j d) (get_or (set xs k t) j d)
@@ -104,13 +108,16 @@ module _ {B : Type 0} (m : Measures B) (layers : B → List Layer) (f : List Lay
       let t : Kept B = record h.snap { device = h.device } in
       let snaps : w.snaps ≡ set v.snaps h.place t = ap (λ (x : Volumed B). x.snaps) h.becomes in
       let origin : w.origin ≡ v.origin = ap (λ (x : Volumed B). x.origin) h.becomes in
+      let merge : w.merge ≡ v.merge = ap (λ (x : Volumed B). x.merge) h.becomes in
       let one : IsSnapAlike m.contents layers m.size h.snap t = record { store = device_alike h.snap.device h.device h.relayered_is; same = refl } in
       record {
         origin = subst (IsAlike m.contents layers m.size v.origin) (sym origin) (same_device v.origin);
         count = ap length snaps ∙ length-set v.snaps h.place t;
+        merge = subst (IsMergeAlike m.contents layers m.size v.merge) (sym merge) (merge_same m.contents layers m.size v.merge);
         snaps = λ k d lt. subst (λ (xs : List (Kept B)). IsSnapAlike m.contents layers m.size (get_or v.snaps k d) (get_or xs k d)) (sym snaps) (snaps_alike v.snaps h.place h.snap t h.is one k d lt);
         becomes = h.becomes ∙ ap (λ (x : B). (let y : Volumed B = record v { origin = x; snaps = set v.snaps h.place t } in y)) (sym origin)
-            ∙ ap (λ (xs : List (Kept B)). (let y : Volumed B = record v { origin = w.origin; snaps = xs } in y)) (sym snaps);
+            ∙ ap (λ (xs : List (Kept B)). (let y : Volumed B = record v { origin = w.origin; snaps = xs } in y)) (sym snaps)
+            ∙ ap (λ z. (let y : Volumed B = record v { origin = w.origin; snaps = w.snaps; merge = z } in y)) (sym merge);
       }
 
   pub at_alike : (dev : Dev) (v w : Volumed B) → IsRelayeredAt m layers dev f v w → IsVolumeAlike m.contents layers m.size v w
@@ -199,6 +206,7 @@ module _ {B : Type 0} (m : Measures B) (layers : B → List Layer) (dev : Dev) (
       origin = record { bytes = refl; sectors = refl; loud = refl };
       count = refl;
       snaps = λ k d lt. record { store = record { bytes = refl; sectors = refl; loud = refl }; same = refl };
+      merge = merge_same m.contents layers m.size v.merge;
       becomes = refl;
     })
     | inr again ↦ at_alike m layers (λ ls. ls) (λ ls. refl) dev v w again
@@ -341,9 +349,10 @@ helds_rest sectors number f (h ∷ hs) all = elim (cases_Bool (h.snap.number == 
 ]
 
 pub dev_rests : (sectors : ℕ) (dev : Dev) (f : List Layer → List Layer) (v : Moving) → IsAtRest sectors v → IsAtRest sectors (dev_relayered dev f v)
-dev_rests sectors Origin f v rest = record { whole = rest.whole; snaps = rest.snaps; requests = rest.requests }
+dev_rests sectors Origin f v rest = record { whole = rest.whole; snaps = rest.snaps; requests = rest.requests; alone = rest.alone }
 dev_rests sectors (Snap number) f v rest = record {
   whole = rest.whole;
   snaps = all_from (IsResting sectors) (helds_relayered number f v.snaps) (helds_rest sectors number f v.snaps (each_from (IsResting sectors) v.snaps rest.snaps));
   requests = rest.requests;
+  alone = rest.alone;
 }

@@ -1,7 +1,7 @@
 -- What made an event fail, and how many operations it did: which device's counts rose, and which snapshot was spoiled. The
 -- rules are this project's own, after the kernel's admin-guide page on snapshots: a store that fails makes its own
 -- snapshot invalid, and nothing else.
-use Rattle.std.specs.Prelude.{◌≡◌, ◌⊎◌, ℕ, suc, ◌+◌, ◌<◌, Bool, true, false, List, ◌∷◌, Any, length, map, slice_index, slice_index_or, slice_set}
+use Rattle.std.specs.Prelude.{◌≡◌, ◌⊎◌, ℕ, suc, ◌+◌, ◌<◌, Bool, true, false, List, [], ◌∷◌, ◌++◌, Option, Some, None, Any, length, map, slice_index, slice_index_or, slice_set}
 use Rattle.sector.specs.Bytes.{next_count}
 use Rattle.model.specs.NextPlace.{LacksArea}
 use Rattle.plain.specs.declared.event.Event.{Event}
@@ -16,11 +16,17 @@ use Rattle.pending.specs.declared.flights.Route.TheVariants.{Origin, Store}
 use Rattle.pending.specs.Kinds.{kind_of}
 use Rattle.pending.specs.declared.flights.Kind.TheVariants.{SnapRead, SnapWrite}
 use Rattle.snapshot.specs.Kept.{Kept}
+use Rattle.merge.specs.Merging.{Merging}
 use Rattle.volume.specs.Volumed.{Volumed}
 
--- what each device counted: the origin disk, which is device 0, and then each snapshot's store
+-- what some devices counted, and then the merging store
+abbrev pub counts_with : {B : Type 0} → (B → ℕ) → Option (Merging B) → List ℕ → List ℕ
+counts_with count None counts = counts
+counts_with count (Some m) counts = counts ++ count m.device ∷ []
+
+-- what each device counted: the origin disk, which is device 0, then each snapshot's store, and the merging store last
 abbrev pub counts_of : {B : Type 0} → (B → ℕ) → Volumed B → List ℕ
-counts_of count v = count v.origin ∷ map (λ s. count s.device) v.snaps
+counts_of count v = counts_with count v.merge (count v.origin ∷ map (λ s. count s.device) v.snaps)
 
 -- one device counted one more
 abbrev pub counted : ℕ → List ℕ → List ℕ

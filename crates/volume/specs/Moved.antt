@@ -1,6 +1,6 @@
 -- A volume as the event machine that its events step: the same devices, snapshots, copies and requests, without the
 -- buffers' room. This project's own.
-use Rattle.std.specs.Prelude.{ℕ, List, Option, map}
+use Rattle.std.specs.Prelude.{ℕ, List, Option, None, map}
 use Rattle.device.specs.Layers.{Layer}
 use Rattle.plain.specs.declared.request.Reply.{Reply}
 use Rattle.settled.specs.Devices.{Device}
@@ -24,6 +24,7 @@ abbrev pub moving_of : {B : Type 0} → (B → List ℕ) → (B → List Layer) 
 moving_of contents layers replied v = record {
   origin = device_of contents layers v.origin;
   snaps = map (held_of contents layers) v.snaps;
+  merge = None;
   requests = map going_of v.flights;
   replied = replied;
   started = v.copies;

@@ -15,12 +15,11 @@ use Rattle.plain.specs.declared.event.Outcome.{Outcome}
 use Rattle.plain.specs.declared.request.Dev.{Dev}
 use Rattle.plain.specs.declared.request.Op.TheVariants.{Write}
 use Rattle.plain.specs.declared.request.Request.{Request}
-use Rattle.volume_laws.specs.Due.{is_due}
 use Rattle.volume.specs.declared.calls.Call.{Call}
 use Rattle.volume.specs.declared.calls.Call.TheVariants.{Submit, Step, Tick, Message as Tell}
 use Rattle.volume.specs.declared.calls.Returned.{Returned}
 use Rattle.volume.specs.declared.calls.Returned.TheVariants.{Submitted, Stepped, Ticked, Told}
-use Rattle.volume.specs.Volumed.{Volumed, dues_of}
+use Rattle.volume.specs.Volumed.{Volumed, is_due_of}
 use Rattle.volume.specs.Exact.{IsExact}
 use Rattle.volume.specs.Layering.{Measures, IsTicked}
 use Rattle.volume.specs.Stepping.{IsStepped}
@@ -43,7 +42,7 @@ IsSubmitReturned m layers request result old new =
 abbrev pub IsStepReturned : {B : Type 0} → Measures B → (B → List Layer) → Event → Result Outcome NotDue → Volumed B → Volumed B → Type 0
 IsStepReturned m layers event result old new =
     MatchResult result (λ outcome. IsStepped m.contents layers m.size m.faults m.done event outcome old new × IsExact m.contents layers event outcome old new) (λ early. new ≡ old)
-    × (is_ok result ≡ is_due (dues_of m.contents layers old) old.flights event)
+    × (is_ok result ≡ is_due_of m.contents layers old event)
 
 -- a layer was told something, or was not
 abbrev pub IsMessageReturned : {B : Type 0} → Measures B → (B → List Layer) → Dev → ℕ → Message → Result Answer Refusal → Volumed B → Volumed B → Type 0

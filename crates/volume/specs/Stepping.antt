@@ -1,31 +1,39 @@
 -- What an event that was due does to a volume.
-use Rattle.std.specs.Prelude.{◌≡◌, ℕ, ◌<◌, true, List, map}
+use Rattle.std.specs.Prelude.{◌≡◌, ℕ, ◌<◌, true, List, Option, Some, None, map}
 use Rattle.device.specs.Layers.{Layer}
 use Rattle.plain.specs.declared.event.Event.{Event}
 use Rattle.plain.specs.declared.event.Outcome.{Outcome}
 use Rattle.plain.specs.Legal.{IsLegalStep}
 use Rattle.pending.specs.Kinds.{in_flight}
+use Rattle.merge.specs.Merging.{Merging}
 use Rattle.volume.specs.Volumed.{Volumed, plain_of, left_in_all, is_loud_in_all}
 use Rattle.snapshots.specs.Numbers.{number_of_snap}
 use Rattle.volume.specs.Flying.{IsFlown}
 use Rattle.volume.specs.Causes.{HasCause, IsOneAtMost, counts_of}
 
+-- the number and the sectors of a chunk of the snapshot that is being merged
+abbrev pub merged_of : {B : Type 0} → Option (Merging B) → Option (ℕ × ℕ)
+merged_of None = None
+merged_of (Some m) = Some (m.number, m.state.chunk)
+
 -- What no event and no request changes: how many snapshots were attached, which of them there are, the sectors of their
--- chunks, and the sectors of every device.
+-- chunks, which one is being merged, and the sectors of every device.
 pub record KeepsAll {B : Type 0} (size : B → ℕ) (old new : Volumed B) : Type 0 where
   pub attached : new.attached ≡ old.attached
   pub numbers : map number_of_snap new.snaps ≡ map number_of_snap old.snaps
   pub chunks : map (λ s. s.state.chunk) new.snaps ≡ map (λ s. s.state.chunk) old.snaps
+  pub merged : merged_of new.merge ≡ merged_of old.merge
   pub sizes : counts_of size new ≡ counts_of size old
 
--- what no request changes: every device, how many snapshots were attached, which of them there are, and the sectors of their
--- chunks
+-- what no request changes: every device, how many snapshots were attached, which of them there are, the sectors of their
+-- chunks, and the merge
 pub record KeepsDevices {B : Type 0} (old new : Volumed B) : Type 0 where
   pub origin : new.origin ≡ old.origin
   pub devices : map (λ s. s.device) new.snaps ≡ map (λ s. s.device) old.snaps
   pub attached : new.attached ≡ old.attached
   pub numbers : map number_of_snap new.snaps ≡ map number_of_snap old.snaps
   pub chunks : map (λ s. s.state.chunk) new.snaps ≡ map (λ s. s.state.chunk) old.snaps
+  pub merge : new.merge ≡ old.merge
 
 -- Where no device drops writes, the plain machine takes the step that the outcome tells. Whatever the devices do, a whole
 -- number falls, the cause is counted, a request leaves only where it is answered, at most one operation is done, and no

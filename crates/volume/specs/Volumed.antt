@@ -1,36 +1,45 @@
 -- To be believed: `run`'s output, a volume's steps or its attach are said in these words.
 -- What callers see of a volume, what that is as plain records, and what is due of it. This project's own.
-use Rattle.std.specs.Prelude.{◌&&◌, ℕ, Bool, List, [], ◌∷◌, Option, None, map}
+use Rattle.std.specs.Prelude.{◌&&◌, ℕ, ◌+◌, Bool, true, List, [], ◌∷◌, Option, Some, None, map}
 use Rattle.std.specs.List.{list_all}
 use Rattle.device.specs.Layers.{Layer, is_loud}
 use Rattle.plain.specs.Plain.{Plain}
 use Rattle.plain.specs.declared.event.Event.{Event}
 use Rattle.pending.specs.Kinds.{in_flight}
 use Rattle.pending.specs.declared.flights.Flight.{Flight}
-use Rattle.volume_laws.specs.Books.{Books}
-use Rattle.volume_laws.specs.Due.{DueSnap, due_of, left_of}
-use Rattle.volume_laws.specs.Shape.{SnapShape, Shape, plain_shown}
+use Rattle.volume_laws.specs.Books.{Books, MergeBooks}
+use Rattle.volume_laws.specs.Due.{DueSnap, due_of, is_due, left_of}
+use Rattle.volume_laws.specs.MergeDue.{DueMerge, due_with, is_due_with, left_in_merge}
+use Rattle.volume_laws.specs.Shape.{SnapShape, MergeShape, Shape, plain_shown}
 use Rattle.snapshot.specs.Kept.{Kept, books_of as snap_books, due_of_kept}
+use Rattle.merge.specs.Merging.{Merging, books_of as merging_books, due_of as merging_due}
 
 -- A volume, with its devices. requests, copies, attached: how many numbers of each kind were given.
 pub record Volumed (B : Type 0) : Type 0 where
   pub origin : B
   -- in order of attaching
   pub snaps : List (Kept B)
+  -- the snapshot that is being merged, which is none of these
+  pub merge : Option (Merging B)
   -- the requests in flight, in order of acceptance
   pub flights : List Flight
   pub requests : ℕ
   pub copies : ℕ
   pub attached : ℕ
 
--- its books, over what a device's bytes, layers and sectors are; no merge is among them yet
+-- The books of its merge. loud: whether writes to the origin disk that answer Ok are done.
+abbrev pub merge_books : {B : Type 0} → (B → List ℕ) → (B → List Layer) → Bool → Option (Merging B) → Option MergeBooks
+merge_books contents layers loud None = None
+merge_books contents layers loud (Some m) = Some (merging_books contents (loud && is_loud (layers m.device)) m)
+
+-- its books, over what a device's bytes, layers and sectors are
 abbrev pub books_of : {B : Type 0} → (B → List ℕ) → (B → List Layer) → (B → ℕ) → Volumed B → Books
 books_of contents layers size v = record {
   origin = contents v.origin;
   sectors = size v.origin;
   loud = is_loud (layers v.origin);
   snaps = map (snap_books contents layers) v.snaps;
-  merge = None;
+  merge = merge_books contents layers (is_loud (layers v.origin)) v.merge;
   requests = v.flights;
 }
 
@@ -38,27 +47,59 @@ books_of contents layers size v = record {
 abbrev pub dues_of : {B : Type 0} → (B → List ℕ) → (B → List Layer) → Volumed B → List DueSnap
 dues_of contents layers v = map (due_of_kept contents layers) v.snaps
 
+-- and which of its merge; whether writes are done decides none
+abbrev pub merge_due : {B : Type 0} → (B → List ℕ) → Option (Merging B) → Option DueMerge
+merge_due contents None = None
+merge_due contents (Some m) = Some (merging_due contents true m)
+
+-- whether a write that is answered by some devices, and by the merging store, is done
+abbrev pub is_loud_with : {B : Type 0} → (B → List Layer) → Option (Merging B) → Bool → Bool
+is_loud_with layers None others = others
+is_loud_with layers (Some m) others = others && is_loud (layers m.device)
+
 -- whether a write that is answered by one of its devices is done
 abbrev pub is_loud_in_all : {B : Type 0} → (B → List Layer) → Volumed B → Bool
-is_loud_in_all layers v = is_loud (layers v.origin) && list_all (λ s. is_loud (layers s.device)) v.snaps
+is_loud_in_all layers v = is_loud_with layers v.merge (is_loud (layers v.origin) && list_all (λ s. is_loud (layers s.device)) v.snaps)
+
+-- of snapshots and requests, and of a merge where there is one: which event is due first, whether one is due, and how much
+-- the merge has left
+abbrev pub due_by : List DueSnap → List Flight → Option DueMerge → Option Event
+due_by snaps rs None = due_of snaps rs
+due_by snaps rs (Some d) = due_with snaps rs d
+
+abbrev pub is_due_by : List DueSnap → List Flight → Option DueMerge → Event → Bool
+is_due_by snaps rs None event = is_due snaps rs event
+is_due_by snaps rs (Some d) event = is_due_with snaps rs d event
+
+abbrev pub left_by : Option DueMerge → ℕ
+left_by None = 0
+left_by (Some d) = left_in_merge d
 
 -- the event that is due first
 abbrev pub next_of : {B : Type 0} → (B → List ℕ) → (B → List Layer) → Volumed B → Option Event
-next_of contents layers v = due_of (dues_of contents layers v) v.flights
+next_of contents layers v = due_by (dues_of contents layers v) v.flights (merge_due contents v.merge)
+
+-- whether an event is due
+abbrev pub is_due_of : {B : Type 0} → (B → List ℕ) → (B → List Layer) → Volumed B → Event → Bool
+is_due_of contents layers v event = is_due_by (dues_of contents layers v) v.flights (merge_due contents v.merge) event
 
 -- a whole number that every event lowers
 abbrev pub left_in_all : {B : Type 0} → (B → List ℕ) → (B → List Layer) → Volumed B → ℕ
-left_in_all contents layers v = left_of (dues_of contents layers v) v.flights
+left_in_all contents layers v = left_of (dues_of contents layers v) v.flights + left_by (merge_due contents v.merge)
 
 abbrev pub snap_shape : {B : Type 0} → Kept B → SnapShape B
 snap_shape s = record { number = s.number; live = s.live; chunk = s.state.chunk; store = s.device }
+
+abbrev pub merge_shape : {B : Type 0} → Option (Merging B) → Option (MergeShape B)
+merge_shape None = None
+merge_shape (Some m) = Some (record { number = m.number; chunk = m.state.chunk; store = m.device })
 
 -- its devices, each snapshot's state, the requests in flight, and what is left to do
 abbrev pub shape_of : {B : Type 0} → (B → List ℕ) → (B → List Layer) → Volumed B → Shape B
 shape_of contents layers v = record {
   origin = v.origin;
   snaps = map snap_shape v.snaps;
-  merge = None;
+  merge = merge_shape v.merge;
   requests = map in_flight v.flights;
   due = next_of contents layers v;
   left = left_in_all contents layers v;

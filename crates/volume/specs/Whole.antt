@@ -1,5 +1,5 @@
 -- What a volume keeps true.
-use Rattle.std.specs.Prelude.{◌≡◌, ◌≢◌, ℕ, ◌+◌, ◌-◌, ◌*◌, ◌<◌, ◌≤◌, true, false, List, [], length, map, AllPairs, sum_by, if◌then◌else◌}
+use Rattle.std.specs.Prelude.{◌≡◌, ◌≢◌, ℕ, ◌+◌, ◌-◌, ◌*◌, ◌<◌, ◌≤◌, true, false, List, [], None, length, map, AllPairs, sum_by, if◌then◌else◌}
 use Rattle.std.specs.List.{All}
 use Rattle.device.specs.Layers.{Layer}
 use Rattle.pending.specs.Due.{number_of_flight}
@@ -40,6 +40,8 @@ starts_left s = if s.live then s.state.size - s.next else 0
 
 -- numbers_left: a store has 2^24 sectors at most, so each snapshot that was ever attached starts fewer than 2^24 copies
 pub record IsWhole {B : Type 0} (contents : B → List ℕ) (layers : B → List Layer) (size : B → ℕ) (v : Volumed B) : Type 0 where
+  -- no call begins a merge yet
+  pub alone : v.merge ≡ None
   pub holds : Holds (books_of contents layers size v)
   pub waits : Waits (books_of contents layers size v)
   pub snaps : All (IsAttached v.copies (size v.origin) (piece_of v.snaps)) v.snaps

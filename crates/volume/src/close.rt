@@ -21,6 +21,7 @@ impl<B: Block + Drop> Volume<B> {
         let Volume {
             origin,
             snaps: _,
+            merge: _,
             flights: _,
             requests: _,
             copies: _,

@@ -101,7 +101,8 @@ impl<B: Block> Volume<B> {
         }
     }
 
-    /// Commits the first copy of a snapshot. Where that fails, the snapshot is spoiled.
+    /// Commits the first copies of a snapshot, those that are written, up to the first that is not and up to the end of the
+    /// area. Where that fails, the snapshot is spoiled.
     pub(crate) fn write_area(&mut self, number: SnapId) -> Result<Outcome, NotDue>
         ensures step { IfOk result (λ outcome. IsStepped B.contents B.layers B.size B.fault_count B.done_count (WriteArea number) outcome self.old self.new) }
         ensures exact { IfOk result (λ outcome. IsExact B.contents B.layers (WriteArea number) outcome self.old self.new) }
@@ -111,7 +112,8 @@ impl<B: Block> Volume<B> {
         match committing_at(&self.snaps, number) {
             Some(place) => {
                 let snap = &mut self.snaps[place];
-                match snap.write_area(1) {
+                let count = snap.batch();
+                match snap.write_area(count) {
                     Ok(()) => Ok(Outcome::Done),
                     Err(Io) => {
                         spoil(snap, &mut self.flights);

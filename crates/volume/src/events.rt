@@ -3,7 +3,7 @@ ghost use Rattle.std.specs.Prelude.{◌≡◌, ◌<◌, IfOk, IsOk, OnErr, OnOk,
 ghost use Rattle.plain.specs.Legal.{IsLegalStep};
 ghost use Rattle.pending.specs.Kinds.{in_flight};
 ghost use Rattle.volume_laws.specs.Due.{is_due};
-ghost use Rattle.volume.specs.Volumed.{dues_of, is_loud_in_all, left_in_all, next_of, plain_of};
+ghost use Rattle.volume.specs.Volumed.{dues_of, is_due_of, is_loud_in_all, left_in_all, next_of, plain_of};
 ghost use Rattle.volume.specs.Causes.{HasCause, IsOneAtMost};
 ghost use Rattle.volume.specs.Flying.{IsFlown};
 ghost use Rattle.volume.specs.Stepping.{IsStepped, KeepsAll};
@@ -46,7 +46,7 @@ impl<B: Block> Volume<B> {
     pub fn step(&mut self, event: Event) -> Result<Outcome, NotDue>
         ensures legal { IfOk result (λ outcome. is_loud_in_all B.layers self.old ≡ true → IsLegalStep (plain_of B.contents B.layers self.old) event outcome (plain_of B.contents B.layers self.new)) }
         ensures exact { IfOk result (λ outcome. IsExact B.contents B.layers event outcome self.old self.new) }
-        ensures due { is_ok result ≡ is_due (dues_of B.contents B.layers self.old) self.old.flights event }
+        ensures due { is_ok result ≡ is_due_of B.contents B.layers self.old event }
         ensures first { next_of B.contents B.layers self.old ≡ Some event → IsOk result }
         ensures lower { OnOk result (left_in_all B.contents B.layers self.new < left_in_all B.contents B.layers self.old) }
         ensures loud { is_loud_in_all B.layers self.new ≡ is_loud_in_all B.layers self.old }

@@ -5,10 +5,11 @@ ghost use Rattle.plain.specs.declared.request.Reply.{Reply};
 ghost use Rattle.snapshot.specs.Kept.{Kept};
 ghost use Rattle.volume.specs.Volumed.{books_of, is_loud_in_all, plain_of};
 ghost use Rattle.volume.specs.Moved.{moving_of};
-ghost use Rattle.volume.specs.Layering.{IsSnapLater, IsTicked, moving_relayered};
+ghost use Rattle.volume.specs.Layering.{IsMergeLater, IsSnapLater, IsTicked, moving_relayered};
 
 use crate::Volume;
 use layers::Layered;
+use merge::Merge;
 use snapshot::Snapshot;
 
 /// Lets so many seconds pass for the layers of all stores.
@@ -18,6 +19,16 @@ fn tick_all<B: Layered>(snaps: &mut [Snapshot<B>], seconds: u32)
 {
     for k in 0..snaps.len() {
         snaps[k].tick(seconds);
+    }
+}
+
+/// Lets so many seconds pass for the layers of the merging store.
+fn tick_merge<B: Layered>(merge: &mut Option<Merge<B>>, seconds: u32)
+    ensures { IsMergeLater (record { contents = B.contents; durable = B.durable; size = B.size; faults = B.fault_count; done = B.done_count }) B.layers seconds merge.old merge.new }
+{
+    match merge {
+        None => {}
+        Some(merge) => merge.tick(seconds),
     }
 }
 
@@ -34,5 +45,6 @@ impl<B: Layered> Volume<B> {
     {
         self.origin.tick(seconds);
         tick_all(self.snaps.as_mut_slice(), seconds);
+        tick_merge(&mut self.merge, seconds);
     }
 }

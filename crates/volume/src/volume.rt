@@ -1,5 +1,5 @@
 // A volume, and what callers ask of it.
-ghost use Rattle.std.specs.Prelude.{◌≡◌, ◌≤◌, [], IfErr, IfNone, IfOk, Option, length, true};
+ghost use Rattle.std.specs.Prelude.{◌≡◌, ◌≤◌, [], None, IfErr, IfNone, IfOk, Option, length, true};
 ghost use Rattle.chunk.specs.Sizes.{is_chunk};
 ghost use Rattle.std.specs.List.{All};
 ghost use Rattle.plain.specs.declared.request.Reply.{Reply};
@@ -10,6 +10,7 @@ ghost use Rattle.volume_laws.specs.Waits.{IsQuiet};
 ghost use Rattle.volume.specs.Volumed.{books_of, next_of, piece_of};
 
 use device::Block;
+use merge::Merge;
 use pending::{Flight, MAX_REQUESTS};
 use plain::Event;
 use sector::Refusal;
@@ -30,6 +31,8 @@ pub const MAX_SNAPSHOTS: usize = 8;
 pub struct Volume<B: Block> {
     pub(crate) origin: B,
     pub(crate) snaps: Vec<Snapshot<B>>,
+    /// The snapshot that is being merged, which is none of these.
+    pub(crate) merge: Option<Merge<B>>,
     pub(crate) flights: Vec<Flight>,
     /// How many numbers of requests, of copies and of snapshots were given.
     pub(crate) requests: u64,
@@ -44,16 +47,16 @@ impl<B: Block> Model for Volume<B> {
 
     ghost use Rattle.volume.specs.Whole.{IsWhole};
 
-    ghost view = { λ v. record { origin = v.origin; snaps = v.snaps.items; flights = v.flights.items; requests = v.requests; copies = v.copies; attached = v.attached } };
+    ghost view = { λ v. record { origin = v.origin; snaps = v.snaps.items; merge = v.merge; flights = v.flights.items; requests = v.requests; copies = v.copies; attached = v.attached } };
 
-    ghost invariant = { λ v. IsWhole B.contents B.layers B.size (record { origin = v.origin; snaps = v.snaps.items; flights = v.flights.items; requests = v.requests; copies = v.copies; attached = v.attached }) };
+    ghost invariant = { λ v. IsWhole B.contents B.layers B.size (record { origin = v.origin; snaps = v.snaps.items; merge = v.merge; flights = v.flights.items; requests = v.requests; copies = v.copies; attached = v.attached }) };
 }
 
 impl<B: Block> Volume<B> {
     /// A volume over an origin disk, without snapshots and requests. Where the room for both is refused, the disk is given
     /// back.
     pub fn new(alloc: Global, origin: B) -> Result<Volume<B>, (Refusal, B)>
-        ensures ok { IfOk result (λ v. v ≡ record { origin = origin; snaps = []; flights = []; requests = 0; copies = 0; attached = 0 }) }
+        ensures ok { IfOk result (λ v. v ≡ record { origin = origin; snaps = []; merge = None; flights = []; requests = 0; copies = 0; attached = 0 }) }
         ensures err { IfErr result (λ e. e ≡ record { 0 = NoMemory; 1 = origin }) }
     {
         let Ok(flights) = Vec::with_capacity(alloc, MAX_REQUESTS) else {
@@ -65,6 +68,7 @@ impl<B: Block> Volume<B> {
         Ok(Volume {
             origin,
             snaps,
+            merge: None,
             flights,
             requests: 0,
             copies: 0,

@@ -17,7 +17,7 @@ use Rattle.pending.specs.declared.flights.Flight.{Flight}
 use Rattle.pending.specs.declared.flights.Kind.TheVariants.{OriginWrite, SnapWrite}
 use Rattle.pending.specs.declared.flights.Route.TheVariants.{Origin, Store, Refused}
 use Rattle.volume_laws.specs.Books.{SnapBooks, Books}
-use Rattle.volume_laws.specs.Published.{IsSaved}
+use Rattle.volume_laws.specs.Published.{IsPublished, IsSaved, IsSavedOver}
 use Rattle.volume_laws.specs.Held.{SnapHolds, RouteHolds, RefusedHolds, RequestHolds}
 use Rattle.volume_laws.specs.Whole.{Holds, IsLoud, plain_of, entry_of, origin_of, begun_of, UnmergedHolds, OriginHolds}
 use Rattle.volume_laws.specs.Steps.{WritesOut, WritesSnapOut, WritesDisk}
@@ -28,23 +28,34 @@ use Rattle.volume_laws.proofs.Requests.{asked, gone, found_holds, origin_out, sn
 use Rattle.volume_laws.proofs.Entries.{saved_at, with_saved_at, as_entry, origin_write_is, snap_write_is, serves_as}
 use Rattle.volume_laws.proofs.SnapRequests.{place_write, place_write_picture}
 use Rattle.volume_laws.proofs.DiskWrites.{disk_write, disk_write_picture}
-use Rattle.volume_laws.proofs.Bytes.{piece_low}
+use Rattle.volume_laws.proofs.Bytes.{sector_in}
 use Rattle.volume_laws.proofs.WholeOne.{snap_holds, snap_loud, same_entry, same_numbers, shown}
 
 pub same_map : (f g : SnapBooks → Entry) (vs : List SnapBooks) → All (λ v. f v ≡ g v) vs → map f vs ≡ map g vs
 same_map f g [] all = refl
 same_map f g (v ∷ vs) all = ap (λ x. x ∷ map f vs) (all 0 v (omega arith)) ∙ ap (λ x. g v ∷ x) (same_map f g vs (λ k d lt. all (suc k) d (omega arith)))
 
+-- where a piece lies inside one chunk, that alone is touched
+pub saved_over : (s : SnapBooks) (first count : ℕ) → (s.live ≡ true → 0 < s.chunk) → (s.live ≡ true → first + count ≤ s.chunk * (first / s.chunk) + s.chunk) → IsSaved first s → IsSavedOver first count s
+saved_over s first count some piece published i lt live =
+    subst (IsPublished s.pairs s.marks) (sym (sector_in s.chunk first i (some live) (omega (arith, piece live, lt)))) (published live)
+
 -- what a write to the origin disk leaves of a snapshot
-pub disk_write_snap : (o o' : List ℕ) (rs : List Flight) (s : SnapBooks) (first count : ℕ) → SnapHolds o rs s → WritesDisk first count o o' → (s.live ≡ true → first + count ≤ s.chunk * (first / s.chunk) + s.chunk) → IsSaved first s → SnapHolds o' rs s
-disk_write_snap o o' rs s first count h e piece published = record {
-  alive = λ live. disk_write o o' rs s (h.alive live) first count (first / s.chunk) e (piece_low s.chunk first (h.alive live).text.some) (piece live) (published live);
+pub disk_write_over : (o o' : List ℕ) (rs : List Flight) (s : SnapBooks) (first count : ℕ) → SnapHolds o rs s → WritesDisk first count o o' → IsSavedOver first count s → SnapHolds o' rs s
+disk_write_over o o' rs s first count h e published = record {
+  alive = λ live. disk_write o o' rs s (h.alive live) first count e (λ j lt. published j lt live);
   spoilt = h.spoilt;
 }
 
+pub disk_write_shown : (o o' : List ℕ) (rs : List Flight) (s : SnapBooks) (first count : ℕ) → SnapHolds o rs s → s.loud ≡ true → WritesDisk first count o o' → IsSavedOver first count s → entry_of o' s ≡ entry_of o s
+disk_write_shown o o' rs s first count h loud e published = same_entry o o' s s refl refl (λ live. disk_write_picture o o' rs s (h.alive live) first count e (λ j lt. published j lt live) loud)
+
+-- and one that lies inside one chunk of it
+pub disk_write_snap : (o o' : List ℕ) (rs : List Flight) (s : SnapBooks) (first count : ℕ) → SnapHolds o rs s → WritesDisk first count o o' → (s.live ≡ true → first + count ≤ s.chunk * (first / s.chunk) + s.chunk) → IsSaved first s → SnapHolds o' rs s
+disk_write_snap o o' rs s first count h e piece published = disk_write_over o o' rs s first count h e (saved_over s first count (λ live. (h.alive live).text.some) piece published)
+
 pub disk_write_entry : (o o' : List ℕ) (rs : List Flight) (s : SnapBooks) (first count : ℕ) → SnapHolds o rs s → s.loud ≡ true → WritesDisk first count o o' → (s.live ≡ true → first + count ≤ s.chunk * (first / s.chunk) + s.chunk) → IsSaved first s → entry_of o' s ≡ entry_of o s
-disk_write_entry o o' rs s first count h loud e piece published = same_entry o o' s s refl refl
-    (λ live. disk_write_picture o o' rs s (h.alive live) first count (first / s.chunk) e (piece_low s.chunk first (h.alive live).text.some) (piece live) (published live) loud)
+disk_write_entry o o' rs s first count h loud e piece published = disk_write_shown o o' rs s first count h loud e (saved_over s first count (λ live. (h.alive live).text.some) piece published)
 
 -- an origin write that is routed to the origin disk, without a merge
 module _ (number k : ℕ) (r : Flight) (bytes : List ℕ) (v w : Books) (h : Holds v) (e : WritesOut number k r bytes v w) (none : v.merge ≡ None)

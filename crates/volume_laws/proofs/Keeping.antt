@@ -22,7 +22,7 @@ use Rattle.volume_laws.proofs.Pairs.{place_of-front_kept, place_of-whole_none, s
 use Rattle.volume_laws.proofs.Clear.{published_true}
 use Rattle.volume_laws.proofs.Waiting.{KeepsWaiting}
 
-abbrev Copies : ℕ → List ChunkCopy → Type 0
+abbrev pub Copies : ℕ → List ChunkCopy → Type 0
 Copies c copies = Any (λ (p : ChunkCopy). p.pair.old ≡ c) copies
 
 abbrev Marks : ℕ → List Mark → Type 0
@@ -47,7 +47,7 @@ keeps_by s s' same pairs marks copies = record {
   ];
 }
 
-any_set : (P : ChunkCopy → Type 0) (xs : List ChunkCopy) (k : ℕ) (p q : ChunkCopy) → k < length xs → p ≡ get_or xs k p → (P p → P q) → Any P xs → Any P (set xs k q)
+pub any_set : (P : ChunkCopy → Type 0) (xs : List ChunkCopy) (k : ℕ) (p q : ChunkCopy) → k < length xs → p ≡ get_or xs k p → (P p → P q) → Any P xs → Any P (set xs k q)
 any_set P xs k p q within is keeps (j, x, lt, x_is, holds) = elim (cases_eq j k) [
   | inl same ↦ (let at : x ≡ p = sym x_is ∙ ap (λ i. get_or xs i x) same ∙ get_or_default xs k x p within ∙ sym is in
       (k, q, omega (arith, within, length-set xs k q), get_or-set_same xs k q q within, keeps (subst P at holds)))
@@ -66,17 +66,17 @@ copy_write_keeps k p q v w e = keeps_by v w e.same e.pairs e.marks (goes_on k p 
 pub zero_keeps : (a : ℕ) (v w : SnapBooks) → ZeroesArea a v w → KeepsWaiting v w
 zero_keeps a v w e = keeps_by v w e.same e.pairs e.marks (λ c any. subst (Copies c) (sym e.copies) any)
 
-any_more : {X : Type 0} (P : X → Type 0) (xs ys : List X) → Any P xs → Any P (xs ++ ys)
+pub any_more : {X : Type 0} (P : X → Type 0) (xs ys : List X) → Any P xs → Any P (xs ++ ys)
 any_more P xs ys (k, x, lt, is, holds) = (k, x, omega (arith, lt, length-append xs ys), get_or_append_left xs ys x k lt ∙ is, holds)
 
-any_after : {X : Type 0} (P : X → Type 0) (xs ys : List X) → Any P ys → Any P (xs ++ ys)
+pub any_after : {X : Type 0} (P : X → Type 0) (xs ys : List X) → Any P ys → Any P (xs ++ ys)
 any_after P xs ys (k, x, lt, is, holds) = (length xs + k, x, omega (arith, lt, length-append xs ys), get_or-append-add xs ys k x ∙ is, holds)
 
 pub start_keeps : (p : ChunkCopy) (v w : SnapBooks) → StartsCopy p v w → KeepsWaiting v w
 start_keeps p v w e = keeps_by v w e.same e.pairs e.marks (λ c any. subst (Copies c) (sym e.copies) (any_more (λ (x : ChunkCopy). x.pair.old ≡ c) v.copies (p ∷ []) any))
 
 -- an element of a list is in its front, or after it
-any_split : (P : ChunkCopy → Type 0) (xs ys : List ChunkCopy) → Any P (xs ++ ys) → Any P xs ⊎ Any P ys
+pub any_split : (P : ChunkCopy → Type 0) (xs ys : List ChunkCopy) → Any P (xs ++ ys) → Any P xs ⊎ Any P ys
 any_split P [] ys any = inr any
 any_split P (x ∷ xs) ys (zero, y, lt, is, holds) = inl (zero, y, omega arith, is, holds)
 any_split P (x ∷ xs) ys (suc k, y, lt, is, holds) = elim (any_split P xs ys (k, y, omega (arith, lt), is, holds)) [
@@ -85,7 +85,7 @@ any_split P (x ∷ xs) ys (suc k, y, lt, is, holds) = elim (any_split P xs ys (k
 ]
 
 -- copies of a chunk name it, and so do their marks
-named_by : (cs : List ChunkCopy) (c : ℕ) → Copies c cs → place_of (map pair_of cs) c ≡ None → ⊥
+pub named_by : (cs : List ChunkCopy) (c : ℕ) → Copies c cs → place_of (map pair_of cs) c ≡ None → ⊥
 named_by [] c (k, x, lt, is, holds) none = absurd (omega (arith, lt))
 named_by (p ∷ cs) c (zero, x, lt, is, holds) none =
     let same : nat_eq p.pair.old c ≡ true = eq-eqb p.pair.old c (ap (λ (y : ChunkCopy). y.pair.old) is ∙ holds) in
@@ -134,7 +134,7 @@ not_published ps ms cs c e = elim (cases_Bool (is_published (ps ++ map pair_of c
       unmarked = All-front (λ (m : Mark). m.chunk ≢ c) ms (map mark_of cs) h.unmarked;
     }
 
-placed_more : (ps qs : List Pair) (c : ℕ) → place_of ps c ≢ None → place_of (ps ++ qs) c ≢ None
+pub placed_more : (ps qs : List Pair) (c : ℕ) → place_of ps c ≢ None → place_of (ps ++ qs) c ≢ None
 placed_more ps qs c named = at (place_of ps c) refl
   where
     at : (r : Option ℕ) → place_of ps c ≡ r → place_of (ps ++ qs) c ≢ None

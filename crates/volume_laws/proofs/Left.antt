@@ -57,15 +57,15 @@ rest_left s s' untried live zeroed marks less =
 pub copy_read_left : (o : List ℕ) (k : ℕ) (p q : ChunkCopy) (s s' : DueSnap) → ReadsCopy o k p q s.books s'.books → p.stage ≡ Waiting → s'.zeroed ≡ s.zeroed → left_in s' < left_in s
 copy_read_left o k p q s s' e was zeroed =
     let sums = copies_left k p q s.books s'.books e.copy in
-    let a : steps_at p.stage ≡ 6 = ap steps_at was in
-    let b : steps_at q.stage ≡ 5 = ap steps_at e.stage in
+    let a : steps_at p.stage ≡ steps_at Waiting = ap steps_at was in
+    let b : steps_at q.stage ≡ steps_at Read = ap steps_at e.stage in
     rest_left s s' e.same.untried e.same.live zeroed e.marks (omega (arith, sums, a, b))
 
 pub copy_write_left : (k : ℕ) (p q : ChunkCopy) (s s' : DueSnap) → WritesCopy k p q s.books s'.books → s'.zeroed ≡ s.zeroed → left_in s' < left_in s
 copy_write_left k p q s s' e zeroed =
     let sums = copies_left k p q s.books s'.books e.copy in
-    let a : steps_at p.stage ≡ 5 = ap steps_at e.was_read in
-    let b : steps_at q.stage ≡ 4 = ap steps_at e.stage in
+    let a : steps_at p.stage ≡ steps_at Read = ap steps_at e.was_read in
+    let b : steps_at q.stage ≡ steps_at Written = ap steps_at e.stage in
     rest_left s s' e.same.untried e.same.live zeroed e.marks (omega (arith, sums, a, b))
 
 -- the next area is zeroed
@@ -83,10 +83,10 @@ zero_left a s s' e live before after =
     off false = refl
 
 -- copies that are written
-written_sum : (cs : List ChunkCopy) → All (λ p. p.stage ≡ Written) cs → sum_by steps_of cs ≡ 4 * length cs
+written_sum : (cs : List ChunkCopy) → All (λ p. p.stage ≡ Written) cs → sum_by steps_of cs ≡ steps_at Written * length cs
 written_sum [] all = refl
 written_sum (c ∷ cs) all =
-    let here : steps_at c.stage ≡ 4 = ap steps_at (All-head (λ p. p.stage ≡ Written) c cs all) in
+    let here : steps_at c.stage ≡ steps_at Written = ap steps_at (All-head (λ p. p.stage ≡ Written) c cs all) in
     let rest = written_sum cs (All-tail (λ p. p.stage ≡ Written) c cs all) in
     let more : sum_by steps_of (c ∷ cs) ≡ steps_at c.stage + sum_by steps_of cs = sum_by-cons steps_of c cs in
     omega (arith, here, rest, more)

@@ -44,3 +44,10 @@ pub mod MergeTests
 pub mod MergeSteps
 pub mod Preparing
 pub mod Accepted
+pub mod AcceptedAlone
+pub mod MergeRooms
+pub mod MergeRoomEvents
+pub mod MergeRoomSteps
+pub mod Beside
+pub mod MergeStarts
+pub mod MergeRoomStarts

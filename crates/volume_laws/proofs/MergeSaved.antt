@@ -13,17 +13,18 @@ use Rattle.pending.specs.declared.copies.ChunkCopy.{ChunkCopy}
 use Rattle.pending.specs.declared.copies.Mark.{Mark}
 use Rattle.pending.specs.declared.flights.Flight.{Flight}
 use Rattle.volume_laws.specs.Books.{SnapBooks, MergeBooks, Books, group_of}
-use Rattle.volume_laws.specs.Published.{IsPublished, IsSaved}
+use Rattle.volume_laws.specs.Published.{IsPublished, IsSaved, IsSavedOver}
 use Rattle.volume_laws.specs.Held.{LiveHolds}
 use Rattle.volume_laws.specs.Steps.{IsSame, ReadsCopy, WritesCopy, ZeroesArea, Commits, Unmarks, StartsCopy, WritesPlace, SpoilsSnap, TriesMark, ChangesSnap, SpoilsOne, mark_of}
 use Rattle.volume_laws.specs.Waits.{IsSaving}
 use Rattle.volume_laws.specs.MergeDue.{DueMerge, last_of}
-use Rattle.volume_laws.specs.MergeWaits.{next_pairs, next_in, HaveChunk, IsSavedSoon, IsSavedIn, MergeGoes}
+use Rattle.volume_laws.specs.MergeWaits.{next_pairs, next_in, HaveChunk, IsSavedSoon, IsSavedIn, MergeSteady, MergeGoes}
 use Rattle.volume_laws.specs.MergeSteps.{FormsGroup, ReadsBack, WritesBack, FlushesBack, CommitsGroup, ReleasesGroup, ReadsArea, FailsMerge, Resumes, WritesStore, without_group}
 use Rattle.volume_laws.proofs.Lists.{All-remove}
 use Rattle.volume_laws.proofs.Committing.{published_more, fresh_marks}
 use Rattle.volume_laws.proofs.Waiting.{KeepsWaiting}
 use Rattle.volume_laws.proofs.Keeping.{copy_read_keeps, copy_write_keeps, zero_keeps, start_keeps, commit_keeps}
+use Rattle.volume_laws.proofs.IssuingWrites.{saved_over}
 use Rattle.volume_laws.proofs.MergeEvents.{IsUngrouped}
 use Rattle.volume_laws.proofs.MergeLeft.{no_group}
 
@@ -37,13 +38,21 @@ pub record KeepsSaved (s s' : SnapBooks) : Type 0 where
 saved_still : (first : ℕ) (s s' : SnapBooks) → KeepsSaved s s' → IsSaved first s → IsSaved first s'
 saved_still first s s' keeps h live = subst (λ n. IsPublished s'.pairs s'.marks (first / n)) (sym (keeps.chunk live)) (keeps.published live (first / s.chunk) (h (keeps.live live)))
 
+over_still : (first count : ℕ) (s s' : SnapBooks) → KeepsSaved s s' → IsSavedOver first count s → IsSavedOver first count s'
+over_still first count s s' keeps h i lt = saved_still (first + i) s s' keeps (h i lt)
+
 saving_still : (first : ℕ) (s s' : SnapBooks) → KeepsSaved s s' → (s.live ≡ true → IsSaving (first / s.chunk) s) → s'.live ≡ true → IsSaving (first / s'.chunk) s'
 saving_still first s s' keeps h live = subst (λ n. IsSaving (first / n) s') (sym (keeps.chunk live)) (keeps.saving live (first / s.chunk) (h (keeps.live live)))
 
 -- of all snapshots, where one changes
 module _ (snaps : List SnapBooks) (k : ℕ) (s s' : SnapBooks) (within : k < length snaps) (is : s ≡ get_or snaps k s) (keeps : KeepsSaved s s') where
-  pub saved_in : (chunk : ℕ) (q : Pair) → IsSavedIn chunk snaps q → IsSavedIn chunk (set snaps k s') q
-  saved_in chunk q h = All-set (IsSaved (chunk * q.old)) snaps k s' (saved_still (chunk * q.old) s s' keeps (subst (IsSaved (chunk * q.old)) (sym is) (h k s within))) h
+  pub saved_set : (first : ℕ) → All (IsSaved first) snaps → All (IsSaved first) (set snaps k s')
+  saved_set first h = All-set (IsSaved first) snaps k s' (saved_still first s s' keeps (subst (IsSaved first) (sym is) (h k s within))) h
+
+  pub saved_in : (chunk sectors : ℕ) (q : Pair) → IsSavedIn chunk sectors snaps q → IsSavedIn chunk sectors (set snaps k s') q
+  saved_in chunk sectors q h =
+      All-set (IsSavedOver (chunk * q.old) (count_of chunk sectors q.old)) snaps k s'
+      (over_still (chunk * q.old) (count_of chunk sectors q.old) s s' keeps (subst (IsSavedOver (chunk * q.old) (count_of chunk sectors q.old)) (sym is) (h k s within))) h
 
   pub saved_soon : (chunk : ℕ) (q : Pair) → IsSavedSoon chunk snaps q → IsSavedSoon chunk (set snaps k s') q
   saved_soon chunk q h = All-set (λ v. v.live ≡ true → IsSaving (chunk * q.old / v.chunk) v) snaps k s'
@@ -55,7 +64,7 @@ module _ (snaps : List SnapBooks) (k : ℕ) (s s' : SnapBooks) (within : k < len
     ending = h.ending;
     area = h.area;
     next = All-weaker (IsSavedSoon d.books.chunk snaps) (IsSavedSoon d.books.chunk (set snaps k s')) (saved_soon d.books.chunk) (next_in d.books) h.next;
-    saved = All-weaker (IsSavedIn d.books.chunk snaps) (IsSavedIn d.books.chunk (set snaps k s')) (saved_in d.books.chunk) (d.books.copied ++ d.books.released) h.saved;
+    saved = All-weaker (IsSavedIn d.books.chunk d.books.sectors snaps) (IsSavedIn d.books.chunk d.books.sectors (set snaps k s')) (saved_in d.books.chunk d.books.sectors) (d.books.copied ++ d.books.released) h.saved;
   }
 
 -- an event that keeps what waits, and what is published
@@ -111,7 +120,7 @@ pub place_saved : (c place off : ℕ) (bytes : List ℕ) (v w : SnapBooks) → W
 place_saved c place off bytes v w e = keeps_pairs v w e.same e.pairs e.copies (λ n all. subst (All (λ (m : Mark). m.chunk ≢ n)) (sym e.marks) all)
 
 -- a spoiled snapshot is asked for nothing
-dead_saved : (s s' : SnapBooks) → s'.live ≡ false → KeepsSaved s s'
+pub dead_saved : (s s' : SnapBooks) → s'.live ≡ false → KeepsSaved s s'
 dead_saved s s' dead = record {
   live = λ live. absurd (false≢true (sym dead ∙ live));
   chunk = λ live. absurd (false≢true (sym dead ∙ live));
@@ -141,8 +150,8 @@ pub record KeepsAll (snaps snaps' : List SnapBooks) : Type 0 where
   pub len : length snaps' ≡ length snaps
   pub each : (k : ℕ) (d : SnapBooks) → k < length snaps → KeepsSaved (get_or snaps k d) (get_or snaps' k d)
 
-pub all_saved_in : (snaps snaps' : List SnapBooks) (chunk : ℕ) (q : Pair) → KeepsAll snaps snaps' → IsSavedIn chunk snaps q → IsSavedIn chunk snaps' q
-all_saved_in snaps snaps' chunk q keeps h k d lt = saved_still (chunk * q.old) (get_or snaps k d) (get_or snaps' k d) (keeps.each k d (omega (arith, lt, keeps.len))) (h k d (omega (arith, lt, keeps.len)))
+pub all_saved_in : (snaps snaps' : List SnapBooks) (chunk sectors : ℕ) (q : Pair) → KeepsAll snaps snaps' → IsSavedIn chunk sectors snaps q → IsSavedIn chunk sectors snaps' q
+all_saved_in snaps snaps' chunk sectors q keeps h k d lt = over_still (chunk * q.old) (count_of chunk sectors q.old) (get_or snaps k d) (get_or snaps' k d) (keeps.each k d (omega (arith, lt, keeps.len))) (h k d (omega (arith, lt, keeps.len)))
 
 pub all_saved_soon : (snaps snaps' : List SnapBooks) (chunk : ℕ) (q : Pair) → KeepsAll snaps snaps' → IsSavedSoon chunk snaps q → IsSavedSoon chunk snaps' q
 all_saved_soon snaps snaps' chunk q keeps h k d lt = saving_still (chunk * q.old) (get_or snaps k d) (get_or snaps' k d) (keeps.each k d (omega (arith, lt, keeps.len))) (h k d (omega (arith, lt, keeps.len)))
@@ -153,7 +162,22 @@ goes_all snaps snaps' d keeps h = record {
   ending = h.ending;
   area = h.area;
   next = All-weaker (IsSavedSoon d.books.chunk snaps) (IsSavedSoon d.books.chunk snaps') (λ q. all_saved_soon snaps snaps' d.books.chunk q keeps) (next_in d.books) h.next;
-  saved = All-weaker (IsSavedIn d.books.chunk snaps) (IsSavedIn d.books.chunk snaps') (λ q. all_saved_in snaps snaps' d.books.chunk q keeps) (d.books.copied ++ d.books.released) h.saved;
+  saved = All-weaker (IsSavedIn d.books.chunk d.books.sectors snaps) (IsSavedIn d.books.chunk d.books.sectors snaps') (λ q. all_saved_in snaps snaps' d.books.chunk d.books.sectors q keeps) (d.books.copied ++ d.books.released) h.saved;
+}
+
+-- a merge that goes on is steady, and one that is steady goes on where the copies of its next chunk are started
+pub goes_steady : (snaps : List SnapBooks) (d : DueMerge) → MergeGoes snaps d → MergeSteady snaps d
+goes_steady snaps d h = record { staged = h.staged; ending = h.ending; area = h.area; saved = h.saved }
+
+pub steady_goes : (snaps : List SnapBooks) (d : DueMerge) → MergeSteady snaps d → All (IsSavedSoon d.books.chunk snaps) (next_in d.books) → MergeGoes snaps d
+steady_goes snaps d h soon = record { staged = h.staged; ending = h.ending; area = h.area; next = soon; saved = h.saved }
+
+pub steady_all : (snaps snaps' : List SnapBooks) (d : DueMerge) → KeepsAll snaps snaps' → MergeSteady snaps d → MergeSteady snaps' d
+steady_all snaps snaps' d keeps h = record {
+  staged = h.staged;
+  ending = h.ending;
+  area = h.area;
+  saved = All-weaker (IsSavedIn d.books.chunk d.books.sectors snaps) (IsSavedIn d.books.chunk d.books.sectors snaps') (λ q. all_saved_in snaps snaps' d.books.chunk d.books.sectors q keeps) (d.books.copied ++ d.books.released) h.saved;
 }
 
 -- none changes, one changes, and changes one after another
@@ -195,7 +219,7 @@ goes_detached snaps k d h = record {
   ending = h.ending;
   area = h.area;
   next = All-weaker (IsSavedSoon d.books.chunk snaps) (IsSavedSoon d.books.chunk (remove snaps k)) (λ q. All-remove (λ s. s.live ≡ true → IsSaving (d.books.chunk * q.old / s.chunk) s) snaps k) (next_in d.books) h.next;
-  saved = All-weaker (IsSavedIn d.books.chunk snaps) (IsSavedIn d.books.chunk (remove snaps k)) (λ q. All-remove (IsSaved (d.books.chunk * q.old)) snaps k) (d.books.copied ++ d.books.released) h.saved;
+  saved = All-weaker (IsSavedIn d.books.chunk d.books.sectors snaps) (IsSavedIn d.books.chunk d.books.sectors (remove snaps k)) (λ q. All-remove (IsSavedOver (d.books.chunk * q.old) (count_of d.books.chunk d.books.sectors q.old)) snaps k) (d.books.copied ++ d.books.released) h.saved;
 }
 
 -- what a copy that is started saves
@@ -222,7 +246,7 @@ goes_alone snaps m failed flushed filled current none area = record {
   );
   area = area;
   next = subst (All (IsSavedSoon m.chunk snaps)) (sym (ap (λ x. next_pairs x (last_of m.waiting)) none.reading ∙ ap (λ x. next_pairs [] (last_of x)) none.waiting)) (All-nil (IsSavedSoon m.chunk snaps));
-  saved = subst (All (IsSavedIn m.chunk snaps)) (sym (ap (λ x. x ++ m.released) none.copied ∙ none.released)) (All-nil (IsSavedIn m.chunk snaps));
+  saved = subst (All (IsSavedIn m.chunk m.sectors snaps)) (sym (ap (λ x. x ++ m.released) none.copied ∙ none.released)) (All-nil (IsSavedIn m.chunk m.sectors snaps));
 }
   where
     empty : group_of m ≡ []
@@ -242,11 +266,11 @@ last_pushed [] q = refl
 last_pushed (p ∷ []) q = refl
 last_pushed (p ∷ r ∷ rest) q = last_pushed (r ∷ rest) q
 
--- The merge's own events. MergeGroup, after the copies of its last chunk were started in the snapshots that lack it.
-pub goes_grouped : (snaps : List SnapBooks) (kept group : List Pair) (d d' : DueMerge) → FormsGroup kept group d d' → MergeGoes snaps d → All (IsSavedSoon d.books.chunk snaps) (next_in d'.books) → MergeGoes snaps d'
-goes_grouped snaps kept group d d' e h soon =
+-- The merge's own events. MergeGroup, before the copies of its last chunk are started in the snapshots that lack it.
+pub steady_grouped : (snaps : List SnapBooks) (kept group : List Pair) (d d' : DueMerge) → FormsGroup kept group d d' → MergeGoes snaps d → MergeSteady snaps d'
+steady_grouped snaps kept group d d' e h =
     let none = no_group d.books e.none in
-    subst (λ m. MergeGoes snaps (record d' { books = m })) (sym e.books) (record {
+    subst (λ m. MergeSteady snaps (record d' { books = m })) (sym e.books) (record {
       staged = record {
         one = omega (arith, ap length none.reading);
         read = λ flushed. absurd (false≢true (sym e.flushed ∙ flushed));
@@ -258,9 +282,13 @@ goes_grouped snaps kept group d d' e h soon =
       };
       ending = (kept, e.ends ∙ ap (λ x. kept ++ x) (sym (append-nil group)) ∙ sym (ap (λ x. kept ++ (group ++ (x ++ d.books.copied))) none.reading ∙ ap (λ x. kept ++ (group ++ x)) none.copied));
       area = h.area ∙ ap (λ n. n * (32 * d.books.chunk) + d.filled) (sym e.current) ∙ ap (λ n. d'.current * (32 * d.books.chunk) + n) (sym e.filled);
-      next = subst (λ m. All (IsSavedSoon d.books.chunk snaps) (next_in m)) e.books soon;
       saved = h.saved;
     })
+
+-- and after it
+pub goes_grouped : (snaps : List SnapBooks) (kept group : List Pair) (d d' : DueMerge) → FormsGroup kept group d d' → MergeGoes snaps d → All (IsSavedSoon d.books.chunk snaps) (next_in d'.books) → MergeGoes snaps d'
+goes_grouped snaps kept group d d' e h soon = steady_goes snaps d' (steady_grouped snaps kept group d d' e h)
+    (subst (λ n. All (IsSavedSoon n snaps) (next_in d'.books)) (sym (ap (λ (m : MergeBooks). m.chunk) e.books)) soon)
 
 -- MergeRead
 pub goes_read : (snaps : List SnapBooks) (rest : List Pair) (q : Pair) (bytes : List ℕ) (d d' : DueMerge) → ReadsBack rest q bytes d d' → MergeGoes snaps d → MergeGoes snaps d'
@@ -288,10 +316,10 @@ goes_read snaps rest q bytes d d' e h =
     waits : d.books.released ≢ [] → ⊥
     waits some = omega (arith, ap length (h.staged.over some), ap length e.last, length-append rest (q ∷ []))
 
--- MergeWrite: each live snapshot has published the chunk, and the copies of the next one were started
-pub goes_written : (snaps : List SnapBooks) (q : Pair) (d d' : DueMerge) → WritesBack q d d' → MergeGoes snaps d → IsSavedIn d.books.chunk snaps q → All (IsSavedSoon d.books.chunk snaps) (next_in d'.books) → MergeGoes snaps d'
-goes_written snaps q d d' e h published soon =
-    subst (λ m. MergeGoes snaps (record d' { books = m })) (sym e.books) (record {
+-- MergeWrite: each live snapshot has published the chunk; before the copies of the next one are started
+pub steady_written : (snaps : List SnapBooks) (q : Pair) (d d' : DueMerge) → WritesBack q d d' → MergeGoes snaps d → IsSavedIn d.books.chunk d.books.sectors snaps q → MergeSteady snaps d'
+steady_written snaps q d d' e h published =
+    subst (λ m. MergeSteady snaps (record d' { books = m })) (sym e.books) (record {
       staged = record {
         one = omega arith;
         read = λ flushed. absurd (false≢true (sym e.flushed ∙ flushed));
@@ -303,12 +331,16 @@ goes_written snaps q d d' e h published soon =
       };
       ending = (h.ending.0, h.ending.1 ∙ ap (λ x. h.ending.0 ++ (d.books.waiting ++ (x ++ d.books.copied))) e.full);
       area = h.area ∙ ap (λ n. n * (32 * d.books.chunk) + d.filled) (sym e.current) ∙ ap (λ n. d'.current * (32 * d.books.chunk) + n) (sym e.filled);
-      next = subst (λ m. All (IsSavedSoon d.books.chunk snaps) (next_in m)) e.books soon;
-      saved = All-cons (IsSavedIn d.books.chunk snaps) q (d.books.copied ++ d.books.released) published h.saved;
+      saved = All-cons (IsSavedIn d.books.chunk d.books.sectors snaps) q (d.books.copied ++ d.books.released) published h.saved;
     })
   where
     full : d.books.released ≢ [] → ⊥
     full some = omega (arith, ap length (h.staged.out some), ap length e.full)
+
+-- and after it
+pub goes_written : (snaps : List SnapBooks) (q : Pair) (d d' : DueMerge) → WritesBack q d d' → MergeGoes snaps d → IsSavedIn d.books.chunk d.books.sectors snaps q → All (IsSavedSoon d.books.chunk snaps) (next_in d'.books) → MergeGoes snaps d'
+goes_written snaps q d d' e h published soon = steady_goes snaps d' (steady_written snaps q d d' e h published)
+    (subst (λ n. All (IsSavedSoon n snaps) (next_in d'.books)) (sym (ap (λ (m : MergeBooks). m.chunk) e.books)) soon)
 
 -- MergeFlush
 pub goes_flushed : (snaps : List SnapBooks) (d d' : DueMerge) → FlushesBack d d' → MergeGoes snaps d → MergeGoes snaps d'
@@ -408,15 +440,7 @@ goes_stored snaps store d d' e h =
 same_chunk : (chunk c n : ℕ) → 0 < chunk → n ≡ chunk → chunk * c / n ≡ c
 same_chunk chunk c n some same = ap (λ x. chunk * c / x) same ∙ mul-div_cancel_left c some
 
-pub saved_soon_of : (chunk : ℕ) (snaps : List SnapBooks) (q : Pair) → 0 < chunk → HaveChunk chunk snaps → All (λ s. s.live ≡ true → IsSaving q.old s) snaps → IsSavedSoon chunk snaps q
-saved_soon_of chunk snaps q some same saving k d lt live =
-    subst (λ c. IsSaving c (get_or snaps k d)) (sym (same_chunk chunk q.old (get_or snaps k d).chunk some (same k d lt live))) (saving k d lt live)
-
-pub saved_soon_is : (chunk : ℕ) (snaps : List SnapBooks) (q : Pair) → 0 < chunk → HaveChunk chunk snaps → IsSavedSoon chunk snaps q → All (λ s. s.live ≡ true → IsSaving q.old s) snaps
-saved_soon_is chunk snaps q some same saving k d lt live =
-    subst (λ c. IsSaving c (get_or snaps k d)) (same_chunk chunk q.old (get_or snaps k d).chunk some (same k d lt live)) (saving k d lt live)
-
--- and it lies inside one chunk of each
+-- and it lies inside one chunk of each, so that chunk is all that it touches
 pub pieces_of : (chunk sectors : ℕ) (snaps : List SnapBooks) (q : Pair) → 0 < chunk → HaveChunk chunk snaps
     → All (λ s. s.live ≡ true → chunk * q.old + count_of chunk sectors q.old ≤ s.chunk * (chunk * q.old / s.chunk) + s.chunk) snaps
 pieces_of chunk sectors snaps q some same k d lt live =
@@ -426,3 +450,7 @@ pieces_of chunk sectors snaps q some same k d lt live =
     let first : (get_or snaps k d).chunk * (chunk * q.old / (get_or snaps k d).chunk) ≡ chunk * q.old = ap (λ x. (get_or snaps k d).chunk * x) at ∙ ap (λ x. x * q.old) is in
     let few : count_of chunk sectors q.old ≤ chunk = omega arith in
     omega (arith, is, first, few)
+
+pub saved_everywhere : (chunk sectors : ℕ) (snaps : List SnapBooks) (q : Pair) → All (λ s. s.live ≡ true → 0 < s.chunk) snaps → All (λ s. s.live ≡ true → chunk * q.old + count_of chunk sectors q.old ≤ s.chunk * (chunk * q.old / s.chunk) + s.chunk) snaps → All (IsSaved (chunk * q.old)) snaps
+    → IsSavedIn chunk sectors snaps q
+saved_everywhere chunk sectors snaps q some pieces published k d lt = saved_over (get_or snaps k d) (chunk * q.old) (count_of chunk sectors q.old) (some k d lt) (pieces k d lt) (published k d lt)

@@ -1,6 +1,6 @@
 -- Each event of a merge in a whole volume, in one law: nothing is seen of it, each held request keeps its reason, the merge
 -- goes on, and less is left.
-use Rattle.std.proofs.Common.{◌≡◌, ℕ, ◌+◌, ◌*◌, ◌/◌, ◌<◌, ◌≤◌, true, List, [], ◌∷◌, ◌++◌, Some, length, take, refl, sym, ◌∙◌, ap, subst}
+use Rattle.std.proofs.Common.{◌≡◌, ℕ, ◌+◌, ◌*◌, ◌<◌, ◌≤◌, true, List, [], ◌∷◌, ◌++◌, Some, length, take, refl, sym, ◌∙◌, ap, subst, arith}
 use Rattle.std.specs.List.{All}
 use Rattle.sector.specs.Bytes.{sectors_at}
 use Rattle.sector.specs.declared.pair.Pair.{Pair}
@@ -8,14 +8,15 @@ use Rattle.model.specs.Places.{area_place, ChangesOnly}
 use Rattle.model.specs.Pairs.{pairs_of}
 use Rattle.pending.specs.Copies.{count_of}
 use Rattle.volume_laws.specs.Books.{SnapBooks, MergeBooks, Books}
-use Rattle.volume_laws.specs.Published.{IsSaved, is_clear}
+use Rattle.volume_laws.specs.Published.{is_clear}
 use Rattle.volume_laws.specs.Whole.{Holds, IsLoud}
 use Rattle.volume_laws.specs.Steps.{WritesDisk}
 use Rattle.volume_laws.specs.Again.{Reroutes}
+use Rattle.volume_laws.specs.Accepting.{IsPrepared}
 use Rattle.volume_laws.specs.Outcomes.{IsSilent, IsSpoil}
 use Rattle.volume_laws.specs.Waits.{Waits}
-use Rattle.volume_laws.specs.MergeDue.{DueMerge, left_in_merge}
-use Rattle.volume_laws.specs.MergeWaits.{HaveChunk, next_in, IsSavedSoon, MergeGoes}
+use Rattle.volume_laws.specs.MergeDue.{DueMerge, per_pair, left_in_merge}
+use Rattle.volume_laws.specs.MergeWaits.{next_in, IsSavedSoon, IsSavedIn, MergeGoes}
 use Rattle.volume_laws.specs.MergeSteps.{FormsGroup, ReadsBack, WritesBack, FlushesBack, CommitsGroup, ReleasesGroup, ReadsArea, FailsMerge, Resumes, ChangesMerge, without_group}
 use Rattle.volume_laws.proofs.Same.{books, same_volume}
 use Rattle.volume_laws.proofs.Composing.{silent_is, silent_then, spoil_then, loud_rerouted}
@@ -45,15 +46,19 @@ pub record StartsCopies (which : List ℕ) (v w : Books) : Type 0 where
   pub loud : IsLoud v → IsLoud w
   pub keeps : KeepsAll v.snaps w.snaps
 
+-- where they are prepared, and each snapshot keeps what it saves
+pub starts_by : (which : List ℕ) (v w : Books) → IsPrepared which v w → KeepsAll v.snaps w.snaps → StartsCopies which v w
+starts_by which v w h keeps = record { spoil = record { holds = h.holds; step = h.step }; waits = h.waits; loud = h.loud; keeps = keeps }
+
 -- an event of a merge that starts copies: all that is seen is which snapshots are spoiled
 pub record IsMergeStart (which : List ℕ) (v w : Books) (d d' : DueMerge) : Type 0 where
   pub spoil : IsSpoil which v w
   pub waits : Waits w
   pub loud : IsLoud v → IsLoud w
   pub goes : MergeGoes w.snaps d'
-  pub less : left_in_merge d' + 43 ≤ left_in_merge d
+  pub less : left_in_merge d' + (per_pair + 1) ≤ left_in_merge d
 
-starts_after : (which : List ℕ) (v u w : Books) (d d' : DueMerge) → IsMergeChange v u → StartsCopies which u w → MergeGoes w.snaps d' → left_in_merge d' + 43 ≤ left_in_merge d → IsMergeStart which v w d d'
+starts_after : (which : List ℕ) (v u w : Books) (d d' : DueMerge) → IsMergeChange v u → StartsCopies which u w → MergeGoes w.snaps d' → left_in_merge d' + (per_pair + 1) ≤ left_in_merge d → IsMergeStart which v w d d'
 starts_after which v u w d d' one starts goes less = record {
   spoil = spoil_then [] which v u w (silent_is v u one.silent) starts.spoil one.loud;
   waits = starts.waits;
@@ -113,10 +118,10 @@ module _ (v w : Books) (d d' : DueMerge) (h : Holds v) (waiting : Waits v) (goes
   -- MergeWrite, before the copies of the next chunk are started
   pub write_change : (q : Pair) → WritesBack q d d' → WritesDisk (m.chunk * q.old) (count_of m.chunk m.sectors q.old) v.origin w.origin
       → (m.loud ≡ true → sectors_at w.origin (m.chunk * q.old) (count_of m.chunk m.sectors q.old) ≡ take (512 * count_of m.chunk m.sectors q.old) m.buffer)
-      → All (λ s. s.live ≡ true → m.chunk * q.old + count_of m.chunk m.sectors q.old ≤ s.chunk * (m.chunk * q.old / s.chunk) + s.chunk) v.snaps → All (IsSaved (m.chunk * q.old)) v.snaps → IsMergeChange v w
-  write_change q s disk wrote pieces published = record {
+      → IsSavedIn m.chunk m.sectors v.snaps q → IsMergeChange v w
+  write_change q s disk wrote published = record {
     silent = silent_as w.origin (record d.books { reading = []; copied = q ∷ d.books.copied }) refl s.books
-        (write_event v.origin v.sectors v.loud v.snaps d.books v.requests held w.origin q s.full disk wrote pieces published);
+        (write_event v.origin v.sectors v.loud v.snaps d.books v.requests held w.origin q s.full disk wrote published);
     waits = waits_written d d' v w waiting e q s;
     loud = loud_of d.books d'.books v w e (ap (λ (x : MergeBooks). x.loud) s.books);
   }
@@ -167,9 +172,9 @@ module _ (v w : Books) (d d' : DueMerge) (h : Holds v) (waiting : Waits v) (goes
     -- MergeWrite
     pub write_step : (q : Pair) → WritesBack q d d' → WritesDisk (m.chunk * q.old) (count_of m.chunk m.sectors q.old) v.origin w.origin
         → (m.loud ≡ true → sectors_at w.origin (m.chunk * q.old) (count_of m.chunk m.sectors q.old) ≡ take (512 * count_of m.chunk m.sectors q.old) m.buffer)
-        → All (λ s. s.live ≡ true → m.chunk * q.old + count_of m.chunk m.sectors q.old ≤ s.chunk * (m.chunk * q.old / s.chunk) + s.chunk) v.snaps → All (IsSaved (m.chunk * q.old)) v.snaps → IsMergeStart which v x d d'
-    write_step q s disk wrote pieces published = starts_after which v w x d d' (write_change q s disk wrote pieces published) starts
-        (goes_written x.snaps q d d' s (goes_all v.snaps x.snaps d keeps goes) (all_saved_in v.snaps x.snaps d.books.chunk q keeps published) soon) (write_left q d d' s)
+        → IsSavedIn m.chunk m.sectors v.snaps q → IsMergeStart which v x d d'
+    write_step q s disk wrote published = starts_after which v w x d d' (write_change q s disk wrote published) starts
+        (goes_written x.snaps q d d' s (goes_all v.snaps x.snaps d keeps goes) (all_saved_in v.snaps x.snaps d.books.chunk d.books.sectors q keeps published) soon) (write_left q d d' s)
 
   -- what ends a group: held writes are routed again after it
   module _ (x : Books) (again : Reroutes (is_clear w.snaps) w x) (origin : w.origin ≡ v.origin) where
@@ -183,11 +188,15 @@ module _ (v w : Books) (d d' : DueMerge) (h : Holds v) (waiting : Waits v) (goes
     goes_after : MergeGoes v.snaps d' → MergeGoes x.snaps d'
     goes_after y = subst (λ (z : List SnapBooks). MergeGoes z d') (sym again.snaps) (goes_in y)
 
+    -- each request begins on the origin
+    inside_all : All (λ f. f.request.range.first < d.books.sectors) v.requests
+    inside_all k f lt = (let one = h.requests k f lt in let a = h.whole in let b = held.merge.fits in omega (arith, one.some, one.inside, a, b))
+
     -- MergeRelease
-    pub release_step : ReleasesGroup d d' → All (GoesElsewhere m.released) v.requests → 0 < m.chunk → HaveChunk m.chunk v.snaps → IsMergeStep v x d d'
-    release_step s elsewhere some same = record {
+    pub release_step : ReleasesGroup d d' → All (GoesElsewhere m.released) v.requests → IsMergeStep v x d d'
+    release_step s elsewhere = record {
       change = ended (silent_as v.origin (without_group d.books) origin s.books (release_event v.origin v.sectors v.loud v.snaps d.books v.requests held elsewhere))
-          (loud_of d.books d'.books v w e (ap (λ (y : MergeBooks). y.loud) s.books)) (waits_released d d' v w x waiting goes s e some same again);
+          (loud_of d.books d'.books v w e (ap (λ (y : MergeBooks). y.loud) s.books)) (waits_released d d' v w x waiting goes s e held.merge.text.some inside_all again);
       goes = goes_after (goes_released v.snaps d d' s goes);
       less = release_left d d' goes.staged s;
     }

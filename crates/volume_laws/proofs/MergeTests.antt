@@ -1,5 +1,5 @@
 -- What the test of each event of a merge says.
-use Rattle.std.proofs.Common.{◌≡◌, ◌≢◌, inl, inr, ℕ, ◌+◌, ◌*◌, ◌<◌, Bool, true, false, List, [], ◌∷◌, ◌++◌, Option, Some, None, length, refl, sym, ◌∙◌, ap, arith, nat_eq, length-append, eq-eqb}
+use Rattle.std.proofs.Common.{◌≡◌, ◌≢◌, inl, inr, ℕ, ◌+◌, ◌-◌, ◌*◌, ◌<◌, ◌≤◌, Bool, true, false, List, [], ◌∷◌, ◌++◌, Option, Some, None, length, refl, sym, ◌∙◌, ap, arith, nat_eq, length-append, eq-eqb}
 use Rattle.std.specs.Prelude.{◌&&◌, not, nat_lt}
 use Rattle.std.specs.List.{All, list_any}
 use Rattle.std.proofs.lemmas.Bool.{cases_Bool, false≢true, ltb-true, eqb-true}
@@ -14,9 +14,9 @@ use Rattle.pending.specs.declared.flights.Kind.TheVariants.{OriginRead, OriginWr
 use Rattle.pending.specs.declared.flights.Route.{Route}
 use Rattle.pending.specs.declared.flights.Route.TheVariants.{Store}
 use Rattle.volume_laws.specs.Books.{SnapBooks, MergeBooks, group_of}
-use Rattle.volume_laws.specs.Published.{is_clear}
+use Rattle.volume_laws.specs.Published.{IsSaved, is_clear}
 use Rattle.volume_laws.specs.MergeDue.{DueMerge, is_none, has_group, last_of, goes_to, writes_to, is_writing, is_using, is_readable, can_read, is_writable, can_write, is_copied, can_flush, can_commit_group, can_release, can_group, can_read_area, is_finished, is_merge_due, left_in_merge}
-use Rattle.volume_laws.specs.MergeWaits.{IsSavedIn, IsStaged, MergeGoes}
+use Rattle.volume_laws.specs.MergeWaits.{IsStaged, MergeGoes}
 use Rattle.volume_laws.proofs.Lists.{All-from_list_any}
 use Rattle.volume_laws.proofs.Clear.{clear_saved}
 use Rattle.volume_laws.proofs.MergeEvents.{NoWriteTo, GoesElsewhere}
@@ -74,7 +74,7 @@ no_write : (place : ℕ) (kind : Kind) (route : Route) → writes_to place kind 
 no_write place kind route e is to = false≢true (sym e ∙ ap (λ k. writes_to place k route) is ∙ ap (writes_to place OriginWrite) to ∙ eq-eqb place place refl)
 
 -- a list with a last pair ends with it
-last_is : (pairs : List Pair) (q : Pair) → last_of pairs ≡ Some q → (rest : List Pair) × (pairs ≡ rest ++ q ∷ [])
+pub last_is : (pairs : List Pair) (q : Pair) → last_of pairs ≡ Some q → (rest : List Pair) × (pairs ≡ rest ++ q ∷ [])
 last_is [] q e = cc
 last_is (p ∷ []) q e = ([], (let same : p ≡ q = cc in ap (λ x. x ∷ []) same))
 last_is (p ∷ r ∷ pairs) q e = (let h = last_is (r ∷ pairs) q e in (p ∷ h.0, ap (λ x. p ∷ x) h.1))
@@ -107,7 +107,7 @@ read_test rs m e =
 pub record MayWrite (snaps : List SnapBooks) (q : Pair) (m : MergeBooks) : Type 0 where
   pub full : m.reading ≡ q ∷ []
   pub clear : is_clear snaps (m.chunk * q.old) ≡ true
-  pub published : IsSavedIn m.chunk snaps q
+  pub published : All (IsSaved (m.chunk * q.old)) snaps
 
 pub write_test : (snaps : List SnapBooks) (d : DueMerge) → IsStaged d → can_write snaps d.books ≡ true → (q : Pair) × MayWrite snaps q d.books
 write_test snaps d h e = at d.books.reading refl
@@ -206,3 +206,29 @@ due_going snaps rs d (ZeroNext n) h e = absurd (false≢true e)
 due_going snaps rs d (WriteArea n) h e = absurd (false≢true e)
 due_going snaps rs d (Publish n) h e = absurd (false≢true e)
 due_going snaps rs d (WriteInvalid n) h e = absurd (false≢true e)
+
+-- Pairs are left where an event of a merge is due, but for the release of a committed group: so a merge that fails is not
+-- finished.
+pairs_count : (snaps : List SnapBooks) (d : DueMerge) → MergeGoes snaps d → length d.books.waiting + (length d.books.reading + length d.books.copied) ≤ length d.books.pairs
+pairs_count snaps d h =
+    let all : length d.books.pairs ≡ length h.ending.0 + length (d.books.waiting ++ (d.books.reading ++ d.books.copied)) = ap length h.ending.1 ∙ length-append h.ending.0 (d.books.waiting ++ (d.books.reading ++ d.books.copied)) in
+    omega (arith, all, length-append d.books.waiting (d.books.reading ++ d.books.copied), length-append d.books.reading d.books.copied)
+
+below_area : (current width : ℕ) → 0 < current → 0 < width → 0 < current * width
+below_area current width some wide = (let one : current ≡ current - 1 + 1 = omega arith in let more : (current - 1 + 1) * width ≡ (current - 1) * width + width = grind arith in omega (arith, ap (λ n. n * width) one, more, wide))
+
+pub due_some : (snaps : List SnapBooks) (rs : List Flight) (d : DueMerge) (e : Event) → MergeGoes snaps d → 0 < d.books.chunk → e ≢ MergeRelease → is_merge_due snaps rs d e ≡ true → 0 < length d.books.pairs
+due_some snaps rs d MergeRelease h chunk other e = absurd (other refl)
+due_some snaps rs d MergeCommit h chunk other e = omega (arith, pairs_count snaps d h, some_pairs d.books.copied (commit_test d e).0.some)
+due_some snaps rs d MergeFlush h chunk other e = omega (arith, pairs_count snaps d h, some_pairs d.books.copied (flush_test d e).0.some)
+due_some snaps rs d MergeWrite h chunk other e = (let (q, may) = write_test snaps d h.staged e in omega (arith, pairs_count snaps d h, ap length may.full))
+due_some snaps rs d MergeRead h chunk other e = (let (rest, q, may) = read_test rs d.books e in omega (arith, pairs_count snaps d h, ap length may.last, length-append rest (q ∷ [])))
+due_some snaps rs d MergeAreaRead h chunk other e = omega (arith, h.area, below_area d.current (32 * d.books.chunk) (area_test d e).before (omega (arith, chunk)))
+due_some snaps rs d MergeGroup h chunk other e = omega (arith, h.area, (group_test d e).some)
+due_some snaps rs d (Issue n) h chunk other e = absurd (false≢true e)
+due_some snaps rs d (CopyRead n) h chunk other e = absurd (false≢true e)
+due_some snaps rs d (CopyWrite n) h chunk other e = absurd (false≢true e)
+due_some snaps rs d (ZeroNext n) h chunk other e = absurd (false≢true e)
+due_some snaps rs d (WriteArea n) h chunk other e = absurd (false≢true e)
+due_some snaps rs d (Publish n) h chunk other e = absurd (false≢true e)
+due_some snaps rs d (WriteInvalid n) h chunk other e = absurd (false≢true e)

@@ -1,13 +1,14 @@
 -- Each held request keeps its reason over each event of a merge.
-use Rattle.std.proofs.Common.{◌≡◌, ◌≢◌, inl, inr, ℕ, ◌*◌, ◌/◌, ◌<◌, Bool, true, false, List, [], ◌∷◌, ◌++◌, Option, Some, None, length, get_or, refl, sym, ◌∙◌, ap, subst, append_assoc, append-nil, nat_eq}
+use Rattle.std.proofs.Common.{◌≡◌, ◌≢◌, inl, inr, ℕ, ◌+◌, ◌*◌, ◌/◌, ◌%◌, ◌<◌, Bool, true, false, List, [], ◌∷◌, ◌++◌, Option, Some, None, length, get_or, refl, sym, ◌∙◌, ap, subst, append_assoc, append-nil, nat_eq, arith}
 use Rattle.std.specs.Prelude.{AllPairs, Any}
 use Rattle.std.specs.List.{All, remove}
-use Rattle.std.proofs.Math.Nat.{mul-div_cancel_left}
+use Rattle.std.proofs.lemmas.Nat.{mod_below, div-add-mod'}
 use Rattle.std.proofs.lemmas.Bool.{cases_Bool, eqb-true}
 use Rattle.std.proofs.lemmas.List.Elements.{All-weaker}
 use Rattle.std.proofs.lemmas.List.Folds.{Any-from_list_any}
 use Rattle.sector.specs.declared.pair.Pair.{Pair}
 use Rattle.model.specs.Picture.{place_of}
+use Rattle.pending.specs.Copies.{count_of}
 use Rattle.pending.specs.Routes.{write_route_of}
 use Rattle.pending.specs.declared.flights.Flight.{Flight}
 use Rattle.pending.specs.declared.flights.Route.TheVariants.{Held}
@@ -16,7 +17,7 @@ use Rattle.volume_laws.specs.Published.{chunk_of, IsPublished, is_clear}
 use Rattle.volume_laws.specs.Again.{has_chunk, new_route, Reroutes}
 use Rattle.volume_laws.specs.Waits.{IsSaving, WaitsHolds, Waits, is_grouped}
 use Rattle.volume_laws.specs.MergeDue.{DueMerge}
-use Rattle.volume_laws.specs.MergeWaits.{IsSavedIn, MergeGoes, HaveChunk}
+use Rattle.volume_laws.specs.MergeWaits.{IsSavedIn, MergeGoes}
 use Rattle.volume_laws.specs.MergeSteps.{FormsGroup, ReadsBack, WritesBack, FlushesBack, CommitsGroup, ReleasesGroup, ReadsArea, FailsMerge, Resumes, WritesStore, ChangesMerge}
 use Rattle.volume_laws.proofs.Keeping.{placed_behind}
 use Rattle.volume_laws.proofs.Pairs.{unnamed}
@@ -85,17 +86,17 @@ pair_of_chunk group c e = (let (k, q, lt, is, same) = Any-from_list_any (λ (q :
 published_saving : (s : SnapBooks) (c : ℕ) → IsPublished s.pairs s.marks c → IsSaving c s
 published_saving s c h = inl h.placed
 
--- a released group's chunks are saved in each live snapshot
-released_saving : (chunk : ℕ) (snaps : List SnapBooks) (released : List Pair) (f : Flight) → 0 < chunk → HaveChunk chunk snaps → All (IsSavedIn chunk snaps) released → has_chunk released (chunk_of chunk f) ≡ true
+-- a released group's chunks are saved in each live snapshot, where a request begins in one of them
+released_saving : (chunk sectors : ℕ) (snaps : List SnapBooks) (released : List Pair) (f : Flight) → 0 < chunk → f.request.range.first < sectors → All (IsSavedIn chunk sectors snaps) released → has_chunk released (chunk_of chunk f) ≡ true
     → All (λ s. s.live ≡ true → IsSaving (chunk_of s.chunk f) s) snaps
-released_saving chunk snaps released f some same saved e k d lt live =
-    let s : SnapBooks = get_or snaps k d in
-    let (j, q, inside, is, old) = pair_of_chunk released (chunk_of chunk f) e in
-    let have : (get_or snaps k d).chunk ≡ chunk = same k d lt live in
-    let one : IsPublished (get_or snaps k d).pairs (get_or snaps k d).marks (chunk * q.old / (get_or snaps k d).chunk) = subst (IsSavedIn chunk snaps) is (saved j q inside) k d lt live in
-    let at : chunk * q.old / (get_or snaps k d).chunk ≡ chunk_of (get_or snaps k d).chunk f =
-    ap (λ n. chunk * q.old / n) have ∙ mul-div_cancel_left q.old some ∙ old ∙ ap (λ n. chunk_of n f) (sym have) in
-    published_saving (get_or snaps k d) (chunk_of (get_or snaps k d).chunk f) (subst (IsPublished (get_or snaps k d).pairs (get_or snaps k d).marks) at one)
+released_saving chunk sectors snaps released f some inside saved e k d lt live =
+    let (j, q, within, is, old) = pair_of_chunk released (chunk_of chunk f) e in
+    let whole : chunk * (f.request.range.first / chunk) + f.request.range.first % chunk ≡ f.request.range.first = grind (arith, div-add-mod' f.request.range.first chunk) in
+    let at : chunk * q.old + f.request.range.first % chunk ≡ f.request.range.first = ap (λ n. chunk * n + f.request.range.first % chunk) old ∙ whole in
+    let off : f.request.range.first % chunk < count_of chunk sectors q.old = (let low = mod_below f.request.range.first chunk some in omega (arith, low, at, inside)) in
+    let one : IsPublished (get_or snaps k d).pairs (get_or snaps k d).marks ((chunk * q.old + f.request.range.first % chunk) / (get_or snaps k d).chunk) =
+    subst (IsSavedIn chunk sectors snaps) is (saved j q within) k d lt (f.request.range.first % chunk) off live in
+    published_saving (get_or snaps k d) (chunk_of (get_or snaps k d).chunk f) (subst (λ n. IsPublished (get_or snaps k d).pairs (get_or snaps k d).marks (n / (get_or snaps k d).chunk)) at one)
 
 -- the group is gone: a request that was held for it waits for copies now, if its new route holds it
 half_of : (m m' : MergeBooks) (snaps : List SnapBooks) (f : Flight) → (is_grouped (Some m) f ≡ true → new_route (Some m') (is_clear snaps) f ≡ Held → All (λ s. s.live ≡ true → IsSaving (chunk_of s.chunk f) s) snaps)
@@ -115,27 +116,26 @@ half_of m m' snaps f saves h = record {
 }
 
 waits_again : (m m' : MergeBooks) (v u w : Books) → Waits v → ChangesMerge m m' v u
-    → ((f : Flight) → is_grouped (Some m) f ≡ true → new_route (Some m') (is_clear v.snaps) f ≡ Held → All (λ s. s.live ≡ true → IsSaving (chunk_of s.chunk f) s) v.snaps)
+    → All (λ f. is_grouped (Some m) f ≡ true → new_route (Some m') (is_clear v.snaps) f ≡ Held → All (λ s. s.live ≡ true → IsSaving (chunk_of s.chunk f) s) v.snaps) v.requests
     → Reroutes (is_clear u.snaps) u w → Waits w
 waits_again m m' v u w h e saves again = waits_rerouted u w
     (subst (AllPairs (λ (x y : Flight). x.number ≢ y.number)) (sym e.requests) h.numbers)
     (subst (λ (x : List SnapBooks). All (HalfWaits u.merge x) u.requests) (sym e.snaps)
     (subst (λ x. All (HalfWaits x v.snaps) u.requests) (sym e.merge)
     (subst (All (HalfWaits (Some m') v.snaps)) (sym e.requests)
-    (All-weaker (WaitsHolds (Some m) v.snaps) (HalfWaits (Some m') v.snaps) (λ f. half_of m m' v.snaps f (saves f)) v.requests
-    (subst (λ x. All (WaitsHolds x v.snaps) v.requests) e.was h.held)))))
+    (λ k d lt. half_of m m' v.snaps (get_or v.requests k d) (saves k d lt) (subst (λ x. All (WaitsHolds x v.snaps) v.requests) e.was h.held k d lt)))))
     again
 
 -- MergeRelease, and then held writes are routed again
-pub waits_released : (d d' : DueMerge) (v u w : Books) → Waits v → MergeGoes v.snaps d → ReleasesGroup d d' → ChangesMerge d.books d'.books v u → 0 < d.books.chunk → HaveChunk d.books.chunk v.snaps
+pub waits_released : (d d' : DueMerge) (v u w : Books) → Waits v → MergeGoes v.snaps d → ReleasesGroup d d' → ChangesMerge d.books d'.books v u → 0 < d.books.chunk → All (λ f. f.request.range.first < d.books.sectors) v.requests
     → Reroutes (is_clear u.snaps) u w → Waits w
-waits_released d d' v u w h goes s e some same again =
+waits_released d d' v u w h goes s e some inside again =
     let only : group_of d.books ≡ d.books.released =
     ap (λ x. x ++ (d.books.reading ++ (d.books.copied ++ d.books.released))) (goes.staged.over s.some) ∙ ap (λ x. x ++ (d.books.copied ++ d.books.released)) (goes.staged.out s.some)
     ∙ ap (λ x. x ++ d.books.released) (goes.staged.copied s.some) in
-    waits_again d.books d'.books v u w h e (λ f grouped _. released_saving d.books.chunk v.snaps d.books.released f some same
-    (All-back (IsSavedIn d.books.chunk v.snaps) d.books.copied d.books.released goes.saved)
-    (ap (λ x. has_chunk x (chunk_of d.books.chunk f)) (sym only) ∙ grouped)) again
+    waits_again d.books d'.books v u w h e (λ k f lt grouped _. released_saving d.books.chunk d.books.sectors v.snaps d.books.released (get_or v.requests k f) some (inside k f lt)
+    (All-back (IsSavedIn d.books.chunk d.books.sectors v.snaps) d.books.copied d.books.released goes.saved)
+    (ap (λ x. has_chunk x (chunk_of d.books.chunk (get_or v.requests k f))) (sym only) ∙ grouped)) again
 
 -- a chunk with a pair goes to its place
 placed_ne_held : (found : Option ℕ) (clear : Bool) → found ≢ None → write_route_of false found clear ≢ Held
@@ -147,7 +147,7 @@ named_in group c e none = (let (k, q, lt, is, same) = pair_of_chunk group c e in
 
 -- a fault, and then held writes are routed again: those of the group go to their places
 pub waits_failed : (d d' : DueMerge) (v u w : Books) → Waits v → MergeGoes v.snaps d → FailsMerge d d' → ChangesMerge d.books d'.books v u → Reroutes (is_clear u.snaps) u w → Waits w
-waits_failed d d' v u w h goes s e again = waits_again d.books d'.books v u w h e (λ f grouped held. absurd (goes_there f grouped held)) again
+waits_failed d d' v u w h goes s e again = waits_again d.books d'.books v u w h e (λ k f lt grouped held. absurd (goes_there (get_or v.requests k f) grouped held)) again
   where
     group_is : group_of d.books ≡ d.books.waiting ++ (d.books.reading ++ d.books.copied)
     group_is = ap (λ x. d.books.waiting ++ (d.books.reading ++ (d.books.copied ++ x))) s.uncommitted ∙ ap (λ x. d.books.waiting ++ (d.books.reading ++ x)) (append-nil d.books.copied)

@@ -1,15 +1,13 @@
 -- Copies are started for a request, and snapshots whose stores are full are spoiled, one after the other.
-use Rattle.std.proofs.Common.{◌≡◌, ◌≢◌, ◌⊎◌, inl, inr, ℕ, ◌+◌, ◌<◌, Bool, true, false, List, [], ◌∷◌, ◌++◌, length, get_or, set, map, refl, sym, ◌∙◌, ap, subst, arith, length-append}
+use Rattle.std.proofs.Common.{◌*◌, ◌/◌, ◌≡◌, inl, inr, ℕ, ◌+◌, ◌<◌, true, List, [], ◌∷◌, ◌++◌, length, get_or, set, map, refl, sym, ◌∙◌, ap, subst, arith, length-append}
 use Rattle.std.specs.Prelude.{Any}
-use Rattle.std.proofs.lemmas.Bool.{cases_eq, false≢true}
-use Rattle.std.proofs.lemmas.List.{get_or-set_same, get_or-set_other, length-set, get_or_default, get_or-append-add, append-nil}
-use Rattle.plain.specs.Plain.{Plain}
+use Rattle.std.proofs.lemmas.Bool.{cases_eq}
+use Rattle.std.proofs.lemmas.List.{get_or-set_same, get_or-set_other, get_or_default, get_or-append-add, append-nil}
 use Rattle.plain.specs.Legal.{Spoils}
 use Rattle.pending.specs.Kinds.{in_flight}
-use Rattle.pending.specs.Routes.{refused_of}
 use Rattle.pending.specs.declared.copies.ChunkCopy.{ChunkCopy}
 use Rattle.volume_laws.specs.Books.{SnapBooks, Books}
-use Rattle.volume_laws.specs.Whole.{Holds, IsLoud, plain_of}
+use Rattle.volume_laws.specs.Whole.{Holds, plain_of}
 use Rattle.volume_laws.specs.Waits.{Waits, IsSaving}
 use Rattle.volume_laws.specs.Steps.{ChangesSnap, StartsCopy, SpoilsOne}
 use Rattle.volume_laws.specs.Outcomes.{IsSilent, IsSpoil}
@@ -20,7 +18,12 @@ use Rattle.volume_laws.proofs.Composing.{Spoils_then, loud_one, loud_spoiled}
 use Rattle.volume_laws.proofs.Waiting.{waits_changed}
 use Rattle.volume_laws.proofs.WaitingAgain.{waits_spoiled}
 use Rattle.volume_laws.proofs.Keeping.{start_keeps}
-use Rattle.volume_laws.specs.Accepting.{IsPrepared, AreSaving}
+use Rattle.volume_laws.specs.Accepting.{IsPrepared, AreSaving, AreSavingAt}
+use Rattle.volume_laws.specs.Published.{chunk_of}
+use Rattle.volume_laws.specs.MergeWaits.{IsSavedSoon}
+use Rattle.pending.specs.declared.flights.Flight.{Flight}
+use Rattle.sector.specs.declared.pair.Pair.{Pair}
+use Rattle.std.specs.List.{All}
 
 -- nothing yet
 pub prepared_none : (v : Books) → Holds v → Waits v → IsPrepared [] v v
@@ -87,6 +90,34 @@ saving_set c k s s' snaps h within here = record {
     | inr other ↦ subst (λ (x : SnapBooks). x.live ≡ true → IsSaving c x) (sym (get_or-set_other snaps k j s' d other)) (h.each j d (omega (arith, lt, other)))
   ];
 }
+
+-- the same, of each snapshot's own chunk at a sector
+pub saving_none_at : (first : ℕ) (snaps : List SnapBooks) → AreSavingAt first 0 snaps
+saving_none_at first snaps = record { each = λ j d lt. absurd (omega (arith, lt)) }
+
+pub saving_here_at : (first k : ℕ) (s : SnapBooks) (snaps : List SnapBooks) → AreSavingAt first k snaps → k < length snaps → s ≡ get_or snaps k s → (s.live ≡ true → IsSaving (first / s.chunk) s) → AreSavingAt first (k + 1) snaps
+saving_here_at first k s snaps h within is here = record {
+  each = λ j d lt live. elim (cases_eq j k) [
+    | inl same ↦ (let at : s ≡ get_or snaps j d = is ∙ ap (λ i. get_or snaps i s) (sym same) ∙ get_or_default snaps j s d (omega (arith, within, same)) in
+        subst (λ (x : SnapBooks). x.live ≡ true → IsSaving (first / x.chunk) x) at here live)
+    | inr other ↦ h.each j d (omega (arith, lt, other)) live
+  ];
+}
+
+pub saving_set_at : (first k : ℕ) (s' : SnapBooks) (snaps : List SnapBooks) → AreSavingAt first k snaps → k < length snaps → (s'.live ≡ true → IsSaving (first / s'.chunk) s') → AreSavingAt first (k + 1) (set snaps k s')
+saving_set_at first k s' snaps h within here = record {
+  each = λ j d lt. elim (cases_eq j k) [
+    | inl same ↦ subst (λ (x : SnapBooks). x.live ≡ true → IsSaving (first / x.chunk) x) (sym (ap (λ i. get_or (set snaps k s') i d) same ∙ get_or-set_same snaps k s' d within)) here
+    | inr other ↦ subst (λ (x : SnapBooks). x.live ≡ true → IsSaving (first / x.chunk) x) (sym (get_or-set_other snaps k j s' d other)) (h.each j d (omega (arith, lt, other)))
+  ];
+}
+
+-- of all snapshots: they are saving the chunk of a request, or of a pair
+pub saving_asked : (f : Flight) (snaps : List SnapBooks) → AreSavingAt f.request.range.first (length snaps) snaps → All (λ s. s.live ≡ true → IsSaving (chunk_of s.chunk f) s) snaps
+saving_asked f snaps h k d lt = h.each k d lt
+
+pub saving_soon : (chunk : ℕ) (snaps : List SnapBooks) (q : Pair) → AreSavingAt (chunk * q.old) (length snaps) snaps → IsSavedSoon chunk snaps q
+saving_soon chunk snaps q h k d lt = h.each k d lt
 
 -- a copy that was started is under way
 pub saving_started : (c : ℕ) (p : ChunkCopy) (s s' : SnapBooks) → StartsCopy p s s' → p.pair.old ≡ c → IsSaving c s'

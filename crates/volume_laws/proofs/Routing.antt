@@ -64,10 +64,10 @@ write_origin false None false e = cc
 pub read_ne_write : OriginRead ≢ OriginWrite
 read_ne_write e = cc
 
-origin_read_ne_read : (n : ℕ) → OriginRead ≢ SnapRead n
+pub origin_read_ne_read : (n : ℕ) → OriginRead ≢ SnapRead n
 origin_read_ne_read n e = cc
 
-origin_read_ne_write : (n : ℕ) → OriginRead ≢ SnapWrite n
+pub origin_read_ne_write : (n : ℕ) → OriginRead ≢ SnapWrite n
 origin_read_ne_write n e = cc
 
 write_ne_read : OriginWrite ≢ OriginRead

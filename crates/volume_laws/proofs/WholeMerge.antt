@@ -21,7 +21,7 @@ use Rattle.pending.specs.declared.flights.Flight.{Flight}
 use Rattle.pending.specs.declared.flights.Kind.TheVariants.{OriginRead, OriginWrite}
 use Rattle.pending.specs.declared.flights.Route.TheVariants.{Origin, Store}
 use Rattle.volume_laws.specs.Books.{SnapBooks, MergeBooks, Books, listed, taken, number_of}
-use Rattle.volume_laws.specs.Published.{chunk_of, IsSaved}
+use Rattle.volume_laws.specs.Published.{chunk_of, IsSavedOver}
 use Rattle.volume_laws.specs.Held.{SnapHolds, RouteHolds, RequestHolds}
 use Rattle.volume_laws.specs.Merging.{MergeHolds, MergeRouteHolds}
 use Rattle.volume_laws.specs.Whole.{Holds, plain_of, entry_of, UnmergedHolds}
@@ -32,7 +32,7 @@ use Rattle.volume_laws.proofs.Same.{books, plain}
 use Rattle.volume_laws.proofs.Requests.{asked, gone, found_holds, origin_out, snap_out}
 use Rattle.volume_laws.proofs.Entries.{saved_at, without_saved_at, origin_read_is, origin_write_is, serves_as}
 use Rattle.volume_laws.proofs.WholeOne.{silent_step, snap_holds, shown}
-use Rattle.volume_laws.proofs.IssuingWrites.{same_map, disk_write_snap, disk_write_entry}
+use Rattle.volume_laws.proofs.IssuingWrites.{same_map, disk_write_over, disk_write_shown, disk_write_snap, disk_write_entry}
 use Rattle.volume_laws.proofs.MergeEvents.{merge_read, merge_write, merge_write_picture, merge_commit, merge_commit_picture, merge_group, merge_dissolve, merge_fault, dissolved, GoesElsewhere, IsUngrouped, NoWriteTo, begun, begin, finish}
 use Rattle.volume_laws.proofs.MergeIssue.{merge_place_write, merge_place_picture, merge_disk_write, merge_disk_picture, merge_place_read, merge_disk_read}
 
@@ -60,20 +60,19 @@ module _ (o : List ℕ) (n : ℕ) (l : Bool) (vs : List SnapBooks) (m : MergeBoo
   -- the chunks that the merged one touches are published in each other live snapshot
   pub write_event : (o' : List ℕ) (q : Pair) → m.reading ≡ q ∷ [] → WritesDisk (m.chunk * q.old) (count_of m.chunk m.sectors q.old) o o'
       → (m.loud ≡ true → sectors_at o' (m.chunk * q.old) (count_of m.chunk m.sectors q.old) ≡ take (512 * count_of m.chunk m.sectors q.old) m.buffer)
-      → All (λ s. s.live ≡ true → m.chunk * q.old + count_of m.chunk m.sectors q.old ≤ s.chunk * (m.chunk * q.old / s.chunk) + s.chunk) vs → All (IsSaved (m.chunk * q.old)) vs
-      → IsSilent now (books o' n l vs (Some (record m { reading = []; copied = q ∷ m.copied })) rs)
-  write_event o' q full e wrote pieces published = record {
+      → All (IsSavedOver (m.chunk * q.old) (count_of m.chunk m.sectors q.old)) vs → IsSilent now (books o' n l vs (Some (record m { reading = []; copied = q ∷ m.copied })) rs)
+  write_event o' q full e wrote published = record {
     holds = record {
       whole = e.len ∙ h.whole;
       merge = merge_write o o' rs m h.merge q full e wrote;
-      snaps = λ k d lt. disk_write_snap o o' rs (get_or vs k d) (m.chunk * q.old) (count_of m.chunk m.sectors q.old) (h.snaps k d lt) e (pieces k d lt) (published k d lt);
+      snaps = λ k d lt. disk_write_over o o' rs (get_or vs k d) (m.chunk * q.old) (count_of m.chunk m.sectors q.old) (h.snaps k d lt) e (published k d lt);
       requests = h.requests;
       numbers = h.numbers;
     };
     step = λ loud. silent_step (plain_of now) (plain_of (books o' n l vs (Some (record m { reading = []; copied = q ∷ m.copied })) rs))
         (ap (λ x. plain x (Some m.number) (map (entry_of o') vs) (map in_flight rs)) (merge_write_picture o o' rs m h.merge q full e wrote (loud.merge m refl))
         ∙ ap (λ x. plain (picture m.chunk o m.store) (Some m.number) x (map in_flight rs))
-        (same_map (entry_of o') (entry_of o) vs (λ k d lt. disk_write_entry o o' rs (get_or vs k d) (m.chunk * q.old) (count_of m.chunk m.sectors q.old) (h.snaps k d lt) (loud.snaps k d lt) e (pieces k d lt) (published k d lt))));
+        (same_map (entry_of o') (entry_of o) vs (λ k d lt. disk_write_shown o o' rs (get_or vs k d) (m.chunk * q.old) (count_of m.chunk m.sectors q.old) (h.snaps k d lt) (loud.snaps k d lt) e (published k d lt))));
   }
 
   pub merge_commit_event : (kept : List Pair) (a : ℕ) (store : List ℕ) → m.pairs ≡ kept ++ m.copied → m.waiting ≡ [] → m.reading ≡ [] → ChangesOnly m.chunk (area_place m.chunk a) m.store store → (m.loud ≡ true → pairs_of m.chunk store ≡ kept)

@@ -1,10 +1,14 @@
 -- What accepting a request does to a volume: copies are started, snapshots whose stores are full are spoiled, and then the
 -- request is in flight. This project's own.
-use Rattle.std.specs.Prelude.{◌≡◌, ℕ, ◌<◌, true, List, map, slice_index_or}
+use Rattle.std.specs.Prelude.{◌≡◌, ◌≢◌, ℕ, ◌/◌, ◌<◌, true, List, Option, Some, map, slice_index_or}
+use Rattle.std.specs.List.{All}
 use Rattle.plain.specs.declared.request.Request.{Request}
 use Rattle.plain.specs.Legal.{Spoils, IsSubmitted}
-use Rattle.pending.specs.Kinds.{in_flight}
-use Rattle.volume_laws.specs.Books.{SnapBooks, Books}
+use Rattle.pending.specs.Kinds.{kind_of, in_flight}
+use Rattle.pending.specs.declared.flights.Flight.{Flight}
+use Rattle.pending.specs.declared.flights.Kind.TheVariants.{SnapRead, SnapWrite}
+use Rattle.volume_laws.specs.Books.{SnapBooks, MergeBooks, Books}
+use Rattle.volume_laws.specs.Published.{IsPiece}
 use Rattle.volume_laws.specs.Whole.{Holds, IsLoud, plain_of}
 use Rattle.volume_laws.specs.Waits.{Waits, IsSaving}
 
@@ -26,6 +30,20 @@ pub record IsTakenIn (which : List ℕ) (number : ℕ) (request : Request) (v w 
   pub step : IsLoud v → IsSubmitted which (plain_of v) number request (plain_of w)
   pub loud : IsLoud v → IsLoud w
 
+-- What a merge asks of a request: it lies inside one chunk of the merged snapshot, and is none of that snapshot's.
+pub record IsBeside (f : Flight) (m : MergeBooks) : Type 0 where
+  pub piece : IsPiece m.chunk f.request.range
+  pub no_read : kind_of f.request ≢ SnapRead m.number
+  pub no_write : kind_of f.request ≢ SnapWrite m.number
+
+-- the merged snapshot's number is none of the others'
+abbrev pub IsNumberedApart : Option MergeBooks → List SnapBooks → Type 0
+IsNumberedApart merge snaps = (m : MergeBooks) → merge ≡ Some m → All (λ s. s.number ≢ m.number) snaps
+
 -- each of the first snapshots that is live has the chunk, or a copy of it is under way
 pub record AreSaving (c i : ℕ) (snaps : List SnapBooks) : Type 0 where
   pub each : (j : ℕ) (d : SnapBooks) → j < i → (slice_index_or snaps j d).live ≡ true → IsSaving c (slice_index_or snaps j d)
+
+-- each of the first snapshots that is live has its chunk of the origin's sector `first`, or a copy of it is under way
+pub record AreSavingAt (first i : ℕ) (snaps : List SnapBooks) : Type 0 where
+  pub each : (j : ℕ) (d : SnapBooks) → j < i → (slice_index_or snaps j d).live ≡ true → IsSaving (first / (slice_index_or snaps j d).chunk) (slice_index_or snaps j d)

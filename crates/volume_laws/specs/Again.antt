@@ -15,6 +15,11 @@ use Rattle.volume_laws.specs.Published.{chunk_of, is_published}
 abbrev pub has_chunk : List Pair → ℕ → Bool
 has_chunk group c = list_any (λ q. q.old == c) group
 
+-- where the store that is being merged has a request's chunk
+abbrev pub merged_place : Option MergeBooks → Flight → Option ℕ
+merged_place None f = None
+merged_place (Some m) f = place_of m.pairs (chunk_of m.chunk f)
+
 -- The route of an origin write. clear: whether a write at this first sector may go to the origin disk.
 abbrev pub new_route : Option MergeBooks → (ℕ → Bool) → Flight → Route
 new_route None clear r = write_route_of false None (clear r.request.range.first)

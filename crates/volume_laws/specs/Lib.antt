@@ -13,3 +13,4 @@ pub mod MergeWaits
 pub mod MergeSteps
 pub mod Shape
 pub mod Accepting
+pub mod MergeRooms

@@ -11,9 +11,10 @@ use Rattle.pending.specs.declared.flights.Kind.{Kind}
 use Rattle.pending.specs.declared.flights.Kind.TheVariants.{OriginRead, OriginWrite, SnapRead, SnapWrite}
 use Rattle.pending.specs.declared.flights.Route.{Route}
 use Rattle.pending.specs.declared.flights.Route.TheVariants.{Held, Origin, Store, Refused}
+use Rattle.pending.specs.declared.copies.Stage.TheVariants.{Waiting}
 use Rattle.volume_laws.specs.Books.{SnapBooks, MergeBooks, group_of}
 use Rattle.volume_laws.specs.Published.{is_clear}
-use Rattle.volume_laws.specs.Due.{DueSnap, books_of, due_of, is_due, left_of}
+use Rattle.volume_laws.specs.Due.{DueSnap, books_of, due_of, is_due, steps_at, left_of}
 
 -- A merge. failed: one of its own operations was answered by a fault, and it was not resumed. flushed: all chunks of the
 -- group are copied, and the origin was flushed since. filled: the slots in use of the current area; current: its number.
@@ -129,14 +130,24 @@ is_merge_due snaps rs d MergeAreaRead = can_read_area d
 is_merge_due snaps rs d MergeGroup = can_group d
 is_merge_due snaps rs d event = false
 
+-- how many events a copy that is started needs, and how many copies are started for a pair at most: one in each other
+-- snapshot
+abbrev pub per_copy : ℕ
+per_copy = steps_at Waiting
+
+abbrev pub copies_of_a_pair : ℕ
+copies_of_a_pair = 7
+
+abbrev pub per_pair : ℕ
+per_pair = per_copy * copies_of_a_pair
+
 -- A whole number that every event of a merge lowers. A pair that is in no group weighs more than what the forming of its
--- group starts, which is a copy in each of seven other snapshots; and so does a pair whose chunk is in the buffer, since
--- its write starts the copies of the next.
+-- group starts; and so does a pair whose chunk is in the buffer, since its write starts the copies of the next.
 abbrev pub kept_count : MergeBooks → ℕ
 kept_count m = length m.pairs - (length m.waiting + length m.reading + length m.copied)
 
 abbrev pub weight_of : MergeBooks → ℕ
-weight_of m = 94 * kept_count m + 50 * length m.waiting + 48 * length m.reading + 4 * length m.copied + 2 * length m.released
+weight_of m = (2 * per_pair + 10) * kept_count m + (per_pair + 8) * length m.waiting + (per_pair + 6) * length m.reading + 4 * length m.copied + 2 * length m.released
 
 abbrev pub left_in_merge : DueMerge → ℕ
 left_in_merge d = if d.failed then 0 else weight_of d.books + (if d.flushed then 0 else 1) + 2 * d.current

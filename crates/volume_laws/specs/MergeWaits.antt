@@ -2,8 +2,9 @@
 use Rattle.std.specs.Prelude.{◌≡◌, ◌≢◌, ℕ, ◌+◌, ◌*◌, ◌/◌, ◌≤◌, true, List, [], ◌∷◌, ◌++◌, length, Option, Some, None}
 use Rattle.std.specs.List.{All}
 use Rattle.sector.specs.declared.pair.Pair.{Pair}
+use Rattle.pending.specs.Copies.{count_of}
 use Rattle.volume_laws.specs.Books.{SnapBooks, MergeBooks, Books, group_of}
-use Rattle.volume_laws.specs.Published.{IsSaved}
+use Rattle.volume_laws.specs.Published.{IsSavedOver}
 use Rattle.volume_laws.specs.MergeDue.{DueMerge, last_of}
 use Rattle.volume_laws.specs.Waits.{IsSaving, IsQuiet}
 
@@ -20,9 +21,9 @@ next_in m = next_pairs m.reading (last_of m.waiting)
 abbrev pub IsSavedSoon : ℕ → List SnapBooks → Pair → Type 0
 IsSavedSoon chunk snaps q = All (λ s. s.live ≡ true → IsSaving (chunk * q.old / s.chunk) s) snaps
 
--- each live snapshot has published it
-abbrev pub IsSavedIn : ℕ → List SnapBooks → Pair → Type 0
-IsSavedIn chunk snaps q = All (IsSaved (chunk * q.old)) snaps
+-- each live snapshot has published each chunk that it touches, on an origin of so many sectors
+abbrev pub IsSavedIn : ℕ → ℕ → List SnapBooks → Pair → Type 0
+IsSavedIn chunk sectors snaps q = All (IsSavedOver (chunk * q.old) (count_of chunk sectors q.old)) snaps
 
 -- the live snapshots have chunks of so many sectors
 abbrev pub HaveChunk : ℕ → List SnapBooks → Type 0
@@ -38,13 +39,20 @@ pub record IsStaged (d : DueMerge) : Type 0 where
   pub out : d.books.released ≢ [] → d.books.reading ≡ []
   pub none : d.failed ≡ true → group_of d.books ≡ []
 
--- A merge among the other snapshots. area: the pairs fill the areas below the current one, and the slots in use of that one.
+-- A merge, also while the copies of the chunk that it copies next are being started.
+pub record MergeSteady (snaps : List SnapBooks) (d : DueMerge) : Type 0 where
+  pub staged : IsStaged d
+  pub ending : (kept : List Pair) × (d.books.pairs ≡ kept ++ (d.books.waiting ++ (d.books.reading ++ d.books.copied)))
+  pub area : length d.books.pairs ≡ d.current * (32 * d.books.chunk) + d.filled
+  pub saved : All (IsSavedIn d.books.chunk d.books.sectors snaps) (d.books.copied ++ d.books.released)
+
+-- A merge among the other snapshots, where those copies are started. area: the pairs fill the areas below the current one, and the slots in use of that one.
 pub record MergeGoes (snaps : List SnapBooks) (d : DueMerge) : Type 0 where
   pub staged : IsStaged d
   pub ending : (kept : List Pair) × (d.books.pairs ≡ kept ++ (d.books.waiting ++ (d.books.reading ++ d.books.copied)))
   pub area : length d.books.pairs ≡ d.current * (32 * d.books.chunk) + d.filled
   pub next : All (IsSavedSoon d.books.chunk snaps) (next_in d.books)
-  pub saved : All (IsSavedIn d.books.chunk snaps) (d.books.copied ++ d.books.released)
+  pub saved : All (IsSavedIn d.books.chunk d.books.sectors snaps) (d.books.copied ++ d.books.released)
 
 -- a volume with a merge is quiet where no request is in flight, nothing is left of any snapshot, and no group is formed
 pub record IsQuietMerge (v : Books) (d : DueMerge) : Type 0 where

@@ -1,6 +1,6 @@
 -- When a snapshot has a chunk of its own: from the publication on, its reads go to the store, and origin writes need not
 -- wait for it. This project's own; the kernel's admin-guide page on snapshots has one step for all of it.
-use Rattle.std.specs.Prelude.{◌≡◌, ◌≢◌, ◌==◌, ◌⊎◌, ◌&&◌, ◌||◌, not, ℕ, ◌+◌, ◌*◌, ◌/◌, ◌≤◌, Bool, true, List, None, Any}
+use Rattle.std.specs.Prelude.{◌≡◌, ◌≢◌, ◌==◌, ◌⊎◌, ◌&&◌, ◌||◌, not, ℕ, ◌+◌, ◌*◌, ◌/◌, ◌<◌, ◌≤◌, Bool, true, List, None, Any}
 use Rattle.std.specs.List.{All, list_any, list_all}
 use Rattle.std.specs.Option.{is_some}
 use Rattle.sector.specs.declared.pair.Pair.{Pair}
@@ -34,6 +34,10 @@ is_published pairs marks c = is_some (place_of pairs c) && not (list_any (λ m. 
 -- the chunk of the origin's sector `first` is published in a snapshot, if that is live
 abbrev pub IsSaved : ℕ → SnapBooks → Type 0
 IsSaved first v = v.live ≡ true → IsPublished v.pairs v.marks (first / v.chunk)
+
+-- and so is each chunk that touches so many sectors from there on
+abbrev pub IsSavedOver : ℕ → ℕ → SnapBooks → Type 0
+IsSavedOver first count v = (i : ℕ) → i < count → IsSaved (first + i) v
 
 abbrev pub is_saved : ℕ → SnapBooks → Bool
 is_saved first v = not v.live || is_published v.pairs v.marks (first / v.chunk)

@@ -29,9 +29,42 @@ impl Books {
         }
     }
 
-    /// Whether the next area is to be zeroed before the next pair is committed.
+    /// How many copies of a snapshot the next write of its area commits: the first ones that are written, as far as the
+    /// area goes.
+    fn batch(&self, snap: &SnapBook) -> usize {
+        let slots = self.size.slots_left(&snap.pairs);
+        let mut count = 0;
+        for copy in &self.copies {
+            if copy.snap != snap.number || copy.stage == Stage::Committed {
+                continue;
+            }
+            if copy.stage != Stage::Written || slots <= count {
+                return count;
+            }
+            count += 1;
+        }
+        count
+    }
+
+    /// Commits the first copies of a snapshot.
+    pub fn commit(&mut self, number: SnapId) {
+        let mut count = 0;
+        for snap in &self.snaps {
+            if snap.number == number {
+                count = self.batch(snap);
+            }
+        }
+        for _ in 0..count {
+            if let Some(copy) = self.first_of(number) {
+                self.set_stage(copy.number, Stage::Committed);
+            }
+        }
+        self.set_zeroed(number, false);
+    }
+
+    /// Whether the next area is to be zeroed before the next pairs are committed.
     fn needs_area(&self, snap: &SnapBook) -> bool {
-        self.size.fills_area(&snap.pairs) && !snap.zeroed
+        self.batch(snap) == self.size.slots_left(&snap.pairs) && !snap.zeroed
     }
 
     /// Whether a copy may be published: it is committed, and no read of its chunk goes to the origin for its snapshot.

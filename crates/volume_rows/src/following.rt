@@ -24,12 +24,7 @@ impl Beside {
             } else {
                 self.books.set_zeroed(number, true);
             },
-            Event::WriteArea(number) => {
-                if let Some(copy) = self.books.first_of(number) {
-                    self.books.set_stage(copy.number, Stage::Committed);
-                }
-                self.books.set_zeroed(number, false);
-            }
+            Event::WriteArea(number) => self.books.commit(number),
             Event::Publish(number) => self.books.copies.retain(|copy| copy.number != number),
             Event::WriteInvalid(number) => self.books.try_mark(number, false),
             _ => {}

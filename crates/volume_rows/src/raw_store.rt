@@ -151,9 +151,9 @@ impl ChunkSize {
         }
     }
 
-    /// Whether one pair more than these fills an area.
-    pub fn fills_area(&self, pairs: &[Pair]) -> bool {
-        pairs.len() % self.slots() == self.slots() - 1
+    /// How many pairs more than these fill an area.
+    pub fn slots_left(&self, pairs: &[Pair]) -> usize {
+        self.slots() - pairs.len() % self.slots()
     }
 
     /// Whether the area after that of these pairs' end lies not inside a store.

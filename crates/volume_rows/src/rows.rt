@@ -82,6 +82,35 @@ fn an_origin_write_waits_for_the_copies_of_both_snapshots(rt: HostRuntime) -> Re
 }
 
 #[test]
+fn one_write_of_an_area_commits_all_that_is_written(rt: HostRuntime) -> Result<(), Fail> {
+    let mut volume = volume_of(&rt, rt.alloc(), 64)?;
+    for chunk in 0..20u64 {
+        let number = write(&rt, rt.alloc(), &mut volume, Dev::Origin, chunk, 0xaa)?;
+        assert_eq!(rt; number, Ok(chunk + 1));
+    }
+    for copy in 1..=20u64 {
+        do_all(&rt, &mut volume, &[Event::CopyRead(copy)]);
+    }
+    for copy in 1..=20u64 {
+        if copy != 13 {
+            do_all(&rt, &mut volume, &[Event::CopyWrite(copy)]);
+        }
+    }
+    let size = ChunkSize { sectors: 1 };
+    for (more, committed) in [(None, 12), (Some(13), 20)] {
+        if let Some(copy) = more {
+            do_all(&rt, &mut volume, &[Event::CopyWrite(copy)]);
+        }
+        do_all(&rt, &mut volume, &[Event::WriteArea(1)]);
+        assert!(rt; is_early(&mut volume, Event::WriteArea(1)));
+        let store = raw(&rt, rt.alloc(), volume.store(1)?)?;
+        let pairs = size.pairs_of(rt.alloc(), &store)?;
+        assert_eq!(rt; pairs.len(), committed);
+    }
+    Ok(())
+}
+
+#[test]
 fn a_write_of_a_snapshot_whose_store_is_full_spoils_it(rt: HostRuntime) -> Result<(), Fail> {
     let mut volume = volume_of(&rt, rt.alloc(), 3)?;
     let snap = Dev::Snap(1);

@@ -61,7 +61,7 @@ fn copy_first(
 // Commits it, in an area that it does not fill.
 fn commit_first(rt: &impl Abort, snapshot: &mut Snapshot<MemDisk>) -> Result<(), Io> {
     assert!(rt; snapshot.is_live() && 0 < snapshot.copies().len());
-    assert!(rt; !snapshot.needs_next_area());
+    assert!(rt; !snapshot.needs_next_area() && snapshot.batch() == 1);
     let Stage::Written = snapshot.copies()[0].stage else {
         return Err(Io);
     };

@@ -1,4 +1,4 @@
-# Copies are committed in the order in which they began, also where a later one is written first.
+# Copies are committed in the order in which they began, up to the first that is not written, also where a later one is.
 # The order of the events is that of docs/DESIGN.md, a volume as single events.
 disk base 128
 disk cow 64
@@ -7,13 +7,17 @@ write vol 0 65536*11
 create snap 0 128 snapshot base cow P 1
 start vol write 5 512*aa
 start vol write 6 512*bb
+start vol write 7 512*cc
 step vol copy-read 1
 step vol copy-read 2
-step vol copy-write 2
+step vol copy-read 3
+step vol copy-write 3
 step vol write-area snap
 step vol copy-write 1
 step vol write-area snap
 save cow 1 1
+step vol write-area snap
+step vol copy-write 2
 step vol write-area snap
 save cow 1 1
 step vol write-area snap

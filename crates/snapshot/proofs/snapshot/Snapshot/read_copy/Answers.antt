@@ -4,6 +4,7 @@ use Rattle.pending.specs.Copies.{count_of}
 use Rattle.store.specs.Held.{committed, pairs_pending}
 use Rattle.snapshot.proofs.Copies.{copy_inside, copy_set}
 use Rattle.snapshot.proofs.Events.{reads_at}
+use Rattle.snapshot.proofs.Spared.{spared_set}
 use Rattle.snapshot.proofs.snapshot.Snapshot.read_copy.Goals as goal
 
 pub fill-requires-clause-begins : goal.fill-requires-clause-begins
@@ -18,6 +19,7 @@ invariant_of-self g c =
     let within : c.args.index < length c.self.inside.copies.items = omega (arith, ap (λ v. length v.copies) c.self.view_is) in (
       copy_set _ _ _ c.self.inside.store.state _ c.self.inside.copies.items _ c.args.index _ _ c.self.invariant.0 within c.index_mut-copy.ensures.value c.in-Err.ensures.kept.pair c.fill.ensures.room,
       rw length-set c.self.invariant.1,
+      spared_set c.self.inside.store.state.chunk c.self.inside.spare c.self.inside.merging c.self.inside.copies.items c.args.index _ _ c.index_mut-copy.ensures.value c.in-Err.ensures.kept.number c.fill.ensures.capacity c.self.invariant.2,
     )
 
 pub returns-in-Err-clause-kept : goal.returns-in-Err-clause-kept
@@ -29,6 +31,7 @@ invariant_of-self-2 g c =
     let within : c.args.index < length c.self.inside.copies.items = omega (arith, ap (λ v. length v.copies) c.self.view_is) in (
       copy_set _ _ _ c.self.inside.store.state _ c.self.inside.copies.items _ c.args.index _ _ c.self.invariant.0 within c.index_mut-copy.ensures.value c.in-Ok.ensures.read.pair c.fill.ensures.room,
       rw length-set c.self.invariant.1,
+      spared_set c.self.inside.store.state.chunk c.self.inside.spare c.self.inside.merging c.self.inside.copies.items c.args.index _ _ c.index_mut-copy.ensures.value c.in-Ok.ensures.read.number c.fill.ensures.capacity c.self.invariant.2,
     )
 
 pub returns-clause-read : goal.returns-clause-read

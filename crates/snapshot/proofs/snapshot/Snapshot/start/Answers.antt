@@ -8,6 +8,7 @@ use Rattle.snapshot.specs.Calls.{started}
 use Rattle.snapshot.proofs.Copies.{copies_push, not_begun, state_same, like_same}
 use Rattle.snapshot.proofs.Stores.{pairs_more, store_holds, text_started}
 use Rattle.snapshot.proofs.Events.{starts_at}
+use Rattle.snapshot.proofs.Spared.{spared_like, spared_push}
 use Rattle.snapshot.proofs.Steps.{step_like}
 use Rattle.snapshot.proofs.snapshot.Snapshot.start.Goals as goal
 
@@ -34,9 +35,13 @@ invariant_of-self-2 g c =
           c.start.ensures.state (pairs_more (pending s.exceptions) (pending t.exceptions) c.in-Some.begun e.pending)),
       record {
         for_pairs = omega (arith, e.used, has.for_pairs, ap (λ v. v.room) c.self.view_is);
+        counted = has.counted;
         for_copies = omega (arith, len, has.for_copies, c.push_reserved.ensures.capacity, ap (λ v. v.room) c.self.view_is);
         for_marks = omega (arith, len, has.for_marks, ap (λ v. v.room) c.self.view_is);
       },
+      rw c.push_reserved.ensures.items
+          (spared_like s.state.chunk t.state.chunk c.self.inside.spare c.self.inside.merging (copies ++ p ∷ []) (ap (λ x. x.chunk) c.start.ensures.state)
+          (spared_push s.state.chunk c.self.inside.spare c.self.inside.merging copies p c.self.invariant.2)),
     )
 
 pub returns-clause-started : goal.returns-clause-started

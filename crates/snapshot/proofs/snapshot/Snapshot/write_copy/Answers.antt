@@ -6,6 +6,7 @@ use Rattle.pending.specs.declared.copies.Stage.TheVariants.{Written}
 use Rattle.store.specs.Held.{committed, pairs_pending, reserved}
 use Rattle.snapshot.proofs.Copies.{copy_inside, copy_set, state_same, like_same}
 use Rattle.snapshot.proofs.Events.{writes_at}
+use Rattle.snapshot.proofs.Spared.{spared_like, spared_set}
 use Rattle.snapshot.proofs.Steps.{step_like}
 use Rattle.snapshot.proofs.snapshot.Snapshot.write_copy.Goals as goal
 
@@ -56,6 +57,8 @@ invariant_of-self g c =
           (copy_set _ _ _ s.state _ c.self.inside.copies.items _ c.args.index p q c.self.invariant.0 within c.index_mut.ensures.value refl refl)
           e.state (ap pairs_pending e.exceptions),
       rw (ap reserved e.exceptions, length-set) c.self.invariant.1,
+      spared_like s.state.chunk t.state.chunk c.self.inside.spare c.self.inside.merging _ (ap (λ x. x.chunk) e.state)
+          (spared_set s.state.chunk c.self.inside.spare c.self.inside.merging c.self.inside.copies.items c.args.index p q c.index_mut.ensures.value refl refl c.self.invariant.2),
     )
 
 pub returns-in-Ok-clause-wrote : goal.returns-in-Ok-clause-wrote

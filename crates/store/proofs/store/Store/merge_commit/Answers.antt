@@ -11,6 +11,7 @@ use Rattle.store.specs.Loading.{is_settled}
 use Rattle.store.specs.Stored.{AreGiven}
 use Rattle.store.proofs.Given.{front_room}
 use Rattle.store.proofs.Merges.{IsCut, front_less, stored_less, given_less, cut-written}
+use Rattle.store.proofs.Stops.{cut_stops, kept_stops}
 use Rattle.store.proofs.store.Store.merge_commit.Goals as goal
 
 pub invariant_of-self-clause-front : goal.invariant_of-self-clause-front
@@ -82,3 +83,26 @@ returns-in-Ok-clause-written g c = λ loud.
     let fits = s.front.fits in
     let few = c.requires.fits in
     written ∙ cut-written s.state.size s.state.chunk (area_place s.state.chunk s.state.current) (s.state.filled - c.args.count) c.args.count s.area.bytes.items x (g.B.Block.contents s.device) cut ((s.stored l).here (ap is_settled c.requires.ready)) whole s.front.place (omega arith)
+
+pub returns-in-Ok-clause-stops : goal.returns-in-Ok-clause-stops
+returns-in-Ok-clause-stops g c = λ valid loud.
+    let s = c.args.self.now in
+    let x = c.clear.new.self.bytes.items in
+    let copy = c.copy_area.new.area in
+    let cut : IsCut s.area.bytes.items (s.state.filled - c.args.count) c.args.count x = subst (λ (a : List ℕ). IsCut a (s.state.filled - c.args.count) c.args.count x) c.copy_area.ensures.bytes (record {
+      all = c.clear.ensures.bytes;
+      len = c.clear.new.self.whole ∙ ap (λ n. 512 * n) c.clear.ensures.chunk ∙ sym copy.whole;
+      others = c.clear.ensures.others;
+      cleared = c.clear.ensures.cleared;
+    }) in
+    let l : IsTrue (is_loud (g.B.Block.layers s.device)) = loud in
+    let whole : length (g.B.Block.contents s.device) ≡ 512 * s.state.size = g.met.B.Block.whole s.device ∙ ap (λ n. 512 * n) (sym s.size) in
+    let written = c.in-Ok.ensures.written l ∙ ap (λ y. with_sectors (g.B.Block.contents s.device) (s.state.chunk * area_place s.state.chunk s.state.current) y) c.encode.ensures in
+    cut_stops c.args.count s.places.next (committed s.exceptions) (pairs_pending s.exceptions) s.state s.area.bytes.items x (g.B.Block.contents s.device) _ s.front (s.stored l) s.given cut c.requires.some c.requires.fits c.requires.ready valid whole written c.in-Ok.ensures.only
+
+pub returns-in-Err-clause-stops : goal.returns-in-Err-clause-stops
+returns-in-Err-clause-stops g c = λ valid loud.
+    let s = c.args.self.now in
+    let l : IsTrue (is_loud (g.B.Block.layers s.device)) = loud in
+    let whole : length (g.B.Block.contents s.device) ≡ 512 * s.state.size = g.met.B.Block.whole s.device ∙ ap (λ n. 512 * n) (sym s.size) in
+    kept_stops c.args.count s.places.next (committed s.exceptions) (pairs_pending s.exceptions) s.state s.area.bytes.items (g.B.Block.contents s.device) _ s.front (s.stored l) s.given c.requires.ready valid whole c.in-Err.ensures.err

@@ -25,7 +25,7 @@ push_reserved-requires g c = omega (arith, c.in-Ok.ensures.ok)
 
 pub invariant_of-self-in-Ok-open_snapshot : goal.invariant_of-self-in-Ok-open_snapshot
 invariant_of-self-in-Ok-open_snapshot g c =
-    let v : Volumed g.row.B.Denot = record { origin = c.self.inside.origin; snaps = c.self.inside.snaps.items; flights = c.self.inside.flights.items; requests = c.self.inside.requests; copies = c.self.inside.copies; attached = c.self.inside.attached } in
+    let v : Volumed g.row.B.Denot = record { origin = c.self.inside.origin; snaps = c.self.inside.snaps.items; merge = c.self.inside.merge; flights = c.self.inside.flights.items; requests = c.self.inside.requests; copies = c.self.inside.copies; attached = c.self.inside.attached } in
     let s : Kept g.row.B.Denot = c.in-Ok-open_snapshot.snap in
     let now = c.args.self.now in
     let admitted = taking_none c.args.store.stale (is_quiet_of c.args.self.now) (length c.args.self.now.snaps) c.args.self.now.attached c.args.chunk (sym c.in-None.ensures) in
@@ -46,7 +46,7 @@ invariant_of-self-in-Ok-open_snapshot g c =
 
 pub returns-in-Ok-open_snapshot-clause-taken : goal.returns-in-Ok-open_snapshot-clause-taken
 returns-in-Ok-open_snapshot-clause-taken g c = λ _ loud.
-    let v : Volumed g.row.B.Denot = record { origin = c.self.inside.origin; snaps = c.self.inside.snaps.items; flights = c.self.inside.flights.items; requests = c.self.inside.requests; copies = c.self.inside.copies; attached = c.self.inside.attached } in
+    let v : Volumed g.row.B.Denot = record { origin = c.self.inside.origin; snaps = c.self.inside.snaps.items; merge = c.self.inside.merge; flights = c.self.inside.flights.items; requests = c.self.inside.requests; copies = c.self.inside.copies; attached = c.self.inside.attached } in
     let s : Kept g.row.B.Denot = c.in-Ok-open_snapshot.snap in
     let admitted = taking_none c.args.store.stale (is_quiet_of c.args.self.now) (length c.args.self.now.snaps) c.args.self.now.attached c.args.chunk (sym c.in-None.ensures) in
     let none : v.flights ≡ [] = ap (λ (x : Volumed g.row.B.Denot). x.flights) c.self.view_is ∙ quiet_none c.args.self.now admitted.0 in
@@ -89,7 +89,7 @@ returns-in-Ok-open_snapshot-clause-gained g c =
 
 pub returns-in-Ok-open_snapshot-clause-exact : goal.returns-in-Ok-open_snapshot-clause-exact
 returns-in-Ok-open_snapshot-clause-exact g c = λ _ loud.
-    let v : Volumed g.row.B.Denot = record { origin = c.self.inside.origin; snaps = c.self.inside.snaps.items; flights = c.self.inside.flights.items; requests = c.self.inside.requests; copies = c.self.inside.copies; attached = c.self.inside.attached } in
+    let v : Volumed g.row.B.Denot = record { origin = c.self.inside.origin; snaps = c.self.inside.snaps.items; merge = c.self.inside.merge; flights = c.self.inside.flights.items; requests = c.self.inside.requests; copies = c.self.inside.copies; attached = c.self.inside.attached } in
     let s : Kept g.row.B.Denot = c.in-Ok-open_snapshot.snap in
     let contents = g.B.Block.contents in
     let layers = g.B.Block.layers in
@@ -117,7 +117,7 @@ returns-in-Ok-open_snapshot-clause-exact g c = λ _ loud.
 
 pub returns-in-Err-open_snapshot-clause-back : goal.returns-in-Err-open_snapshot-clause-back
 returns-in-Err-open_snapshot-clause-back g c = λ some quiet _ loud.
-    let v : Volumed g.row.B.Denot = record { origin = c.self.inside.origin; snaps = c.self.inside.snaps.items; flights = c.self.inside.flights.items; requests = c.self.inside.requests; copies = c.self.inside.copies; attached = c.self.inside.attached } in
+    let v : Volumed g.row.B.Denot = record { origin = c.self.inside.origin; snaps = c.self.inside.snaps.items; merge = c.self.inside.merge; flights = c.self.inside.flights.items; requests = c.self.inside.requests; copies = c.self.inside.copies; attached = c.self.inside.attached } in
     let e = c.in-Err-open_snapshot.ensures in
     let none : attach_refusal c.args.store.stale c.args.chunk v ≡ None = ap (attach_refusal c.args.store.stale c.args.chunk) c.self.view_is ∙ sym c.in-None.ensures in
     let few : c.self.inside.attached ≤ 4294967295 = omega (arith, c.self.ranges) in
@@ -129,7 +129,7 @@ returns-in-Err-open_snapshot-clause-back g c = λ some quiet _ loud.
 
 pub returns-in-Some-clause-back : goal.returns-in-Some-clause-back
 returns-in-Some-clause-back g c = λ _ quiet _ _.
-    let v : Volumed g.row.B.Denot = record { origin = c.self.inside.origin; snaps = c.self.inside.snaps.items; flights = c.self.inside.flights.items; requests = c.self.inside.requests; copies = c.self.inside.copies; attached = c.self.inside.attached } in
+    let v : Volumed g.row.B.Denot = record { origin = c.self.inside.origin; snaps = c.self.inside.snaps.items; merge = c.self.inside.merge; flights = c.self.inside.flights.items; requests = c.self.inside.requests; copies = c.self.inside.copies; attached = c.self.inside.attached } in
     let few : c.self.inside.attached ≤ 4294967295 = omega (arith, c.self.ranges) in
     let why : attach_refusal c.args.store.stale c.args.chunk v ≡ Some c.in-Some.refusal = ap (attach_refusal c.args.store.stale c.args.chunk) c.self.view_is ∙ sym c.in-Some.ensures in
     let calm : is_quiet_of v ≡ true = ap is_quiet_of c.self.view_is ∙ quiet in
@@ -137,7 +137,7 @@ returns-in-Some-clause-back g c = λ _ quiet _ _.
 
 pub overflow_add-number : goal.overflow_add-number
 overflow_add-number g c =
-    let v : Volumed g.row.B.Denot = record { origin = c.self.inside.origin; snaps = c.self.inside.snaps.items; flights = c.self.inside.flights.items; requests = c.self.inside.requests; copies = c.self.inside.copies; attached = c.self.inside.attached } in
+    let v : Volumed g.row.B.Denot = record { origin = c.self.inside.origin; snaps = c.self.inside.snaps.items; merge = c.self.inside.merge; flights = c.self.inside.flights.items; requests = c.self.inside.requests; copies = c.self.inside.copies; attached = c.self.inside.attached } in
     let few : c.self.inside.attached ≤ 4294967295 = omega (arith, c.self.ranges) in
     let none : attach_refusal c.args.store.stale c.args.chunk v ≡ None = ap (attach_refusal c.args.store.stale c.args.chunk) c.self.view_is ∙ sym c.in-None.ensures in
     let left = number_left c.args.store.stale (is_quiet_of v) (length v.snaps) v.attached c.args.chunk few none in
@@ -145,7 +145,7 @@ overflow_add-number g c =
 
 pub returns-in-Ok-open_snapshot-clause-loud : goal.returns-in-Ok-open_snapshot-clause-loud
 returns-in-Ok-open_snapshot-clause-loud g c =
-    let v : Volumed g.row.B.Denot = record { origin = c.self.inside.origin; snaps = c.self.inside.snaps.items; flights = c.self.inside.flights.items; requests = c.self.inside.requests; copies = c.self.inside.copies; attached = c.self.inside.attached } in
+    let v : Volumed g.row.B.Denot = record { origin = c.self.inside.origin; snaps = c.self.inside.snaps.items; merge = c.self.inside.merge; flights = c.self.inside.flights.items; requests = c.self.inside.requests; copies = c.self.inside.copies; attached = c.self.inside.attached } in
     let s : Kept g.row.B.Denot = c.in-Ok-open_snapshot.snap in
     let pushed = c.push_reserved.ensures.items ∙ ap (λ (x : List (Kept g.row.B.Denot)). x ++ s ∷ []) c.reserve.ensures.items in
     rw (← c.self.view_is) (loud_taken_as g.B.Block.contents g.B.Block.layers v (v.attached + 1) c.args.store.device s c.push_reserved.new.self.items pushed c.in-Ok-open_snapshot.ensures.loud)

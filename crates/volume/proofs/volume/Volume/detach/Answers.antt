@@ -9,14 +9,14 @@ use Rattle.volume.proofs.volume.Volume.detach.Goals as goal
 
 pub invariant_of-self : goal.invariant_of-self
 invariant_of-self g c =
-    let v : Volumed g.row.B.Denot = record { origin = c.self.inside.origin; snaps = c.self.inside.snaps.items; flights = c.self.inside.flights.items; requests = c.self.inside.requests; copies = c.self.inside.copies; attached = c.self.inside.attached } in
+    let v : Volumed g.row.B.Denot = record { origin = c.self.inside.origin; snaps = c.self.inside.snaps.items; merge = c.self.inside.merge; flights = c.self.inside.flights.items; requests = c.self.inside.requests; copies = c.self.inside.copies; attached = c.self.inside.attached } in
     let found = found_place c.args.number c.self.inside.snaps.items c.in-Some.k c.remove-snap.result (c.in-Some.ensures ∙ ap (place_of_snap c.args.number) c.as_slice.ensures.value) in
     let none : v.flights ≡ [] = ap (λ (x : Volumed g.row.B.Denot). x.flights) c.self.view_is ∙ quiet_none c.args.self.now (sym c.if-not-is_quiet.ensures.value) in
     rw (c.remove-snap.ensures.items) (whole_left g.B.Block.contents g.B.Block.layers g.B.Block.size v c.in-Some.k c.remove-snap.result found.0 c.remove-snap.ensures.value none c.self.invariant)
 
 pub returns-clause-taken : goal.returns-clause-taken
 returns-clause-taken g c =
-    let v : Volumed g.row.B.Denot = record { origin = c.self.inside.origin; snaps = c.self.inside.snaps.items; flights = c.self.inside.flights.items; requests = c.self.inside.requests; copies = c.self.inside.copies; attached = c.self.inside.attached } in
+    let v : Volumed g.row.B.Denot = record { origin = c.self.inside.origin; snaps = c.self.inside.snaps.items; merge = c.self.inside.merge; flights = c.self.inside.flights.items; requests = c.self.inside.requests; copies = c.self.inside.copies; attached = c.self.inside.attached } in
     let place = c.in-Some.ensures ∙ ap (place_of_snap c.args.number) c.as_slice.ensures.value in
     let found = found_place c.args.number c.self.inside.snaps.items c.in-Some.k c.remove-snap.result place in
     let at : (d : Kept g.row.B.Denot) → c.remove-snap.result ≡ get_or c.self.inside.snaps.items c.in-Some.k d = λ d. c.remove-snap.ensures.value ∙ get_or_default c.self.inside.snaps.items c.in-Some.k c.remove-snap.result d found.0 in
@@ -30,7 +30,7 @@ returns-clause-taken g c =
 
 pub returns-clause-plain : goal.returns-clause-plain
 returns-clause-plain g c = λ _.
-    let v : Volumed g.row.B.Denot = record { origin = c.self.inside.origin; snaps = c.self.inside.snaps.items; flights = c.self.inside.flights.items; requests = c.self.inside.requests; copies = c.self.inside.copies; attached = c.self.inside.attached } in
+    let v : Volumed g.row.B.Denot = record { origin = c.self.inside.origin; snaps = c.self.inside.snaps.items; merge = c.self.inside.merge; flights = c.self.inside.flights.items; requests = c.self.inside.requests; copies = c.self.inside.copies; attached = c.self.inside.attached } in
     let found = found_place c.args.number c.self.inside.snaps.items c.in-Some.k c.remove-snap.result (c.in-Some.ensures ∙ ap (place_of_snap c.args.number) c.as_slice.ensures.value) in
     let none : v.flights ≡ [] = ap (λ (x : Volumed g.row.B.Denot). x.flights) c.self.view_is ∙ quiet_none c.args.self.now (sym c.if-not-is_quiet.ensures.value) in
     let mine = ap (λ (x : Kept g.row.B.Denot). x.number) c.remove-snap.ensures.value ∙ found.1 in

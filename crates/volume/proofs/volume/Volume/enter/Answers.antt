@@ -13,7 +13,7 @@ use Rattle.volume.proofs.volume.Volume.enter.Goals as goal
 
 pub invariant_of-self-2 : goal.invariant_of-self-2
 invariant_of-self-2 g c =
-    let v : Volumed g.row.B.Denot = record { origin = c.self.inside.origin; snaps = c.self.inside.snaps.items; flights = c.self.inside.flights.items; requests = c.self.inside.requests; copies = c.self.inside.copies; attached = c.self.inside.attached } in
+    let v : Volumed g.row.B.Denot = record { origin = c.self.inside.origin; snaps = c.self.inside.snaps.items; merge = c.self.inside.merge; flights = c.self.inside.flights.items; requests = c.self.inside.requests; copies = c.self.inside.copies; attached = c.self.inside.attached } in
     let f : Flight = c.in-Ok.flight in
     let next : f.number ≡ c.args.self.now.requests + 1 = c.in-Ok.ensures.number ∙ ap (λ (x : Volumed g.row.B.Denot). x.requests + 1) c.self.view_is in
     let room : length v.flights < 64 = omega (arith, c.requires.room, ap (λ (x : Volumed g.row.B.Denot). length x.flights) c.self.view_is) in
@@ -24,7 +24,7 @@ invariant_of-self-2 g c =
 
 pub returns-clause-ok : goal.returns-clause-ok
 returns-clause-ok g c =
-    let v : Volumed g.row.B.Denot = record { origin = c.self.inside.origin; snaps = c.self.inside.snaps.items; flights = c.self.inside.flights.items; requests = c.self.inside.requests; copies = c.self.inside.copies; attached = c.self.inside.attached } in
+    let v : Volumed g.row.B.Denot = record { origin = c.self.inside.origin; snaps = c.self.inside.snaps.items; merge = c.self.inside.merge; flights = c.self.inside.flights.items; requests = c.self.inside.requests; copies = c.self.inside.copies; attached = c.self.inside.attached } in
     let f : Flight = c.in-Ok.flight in
     let now = c.args.self.now in
     let next : f.number ≡ c.args.self.now.requests + 1 = c.in-Ok.ensures.number ∙ ap (λ (x : Volumed g.row.B.Denot). x.requests + 1) c.self.view_is in

@@ -11,7 +11,7 @@ use Rattle.volume.proofs.volume.Volume.is_quiet.Goals as goal
 
 pub returns-then-is_empty-clause-rest : goal.returns-then-is_empty-clause-rest
 returns-then-is_empty-clause-rest g c = λ quiet loud replied.
-    let v : Volumed g.row.B.Denot = record { origin = c.self.inside.origin; snaps = c.self.inside.snaps.items; flights = c.self.inside.flights.items; requests = c.self.inside.requests; copies = c.self.inside.copies; attached = c.self.inside.attached } in
+    let v : Volumed g.row.B.Denot = record { origin = c.self.inside.origin; snaps = c.self.inside.snaps.items; merge = c.self.inside.merge; flights = c.self.inside.flights.items; requests = c.self.inside.requests; copies = c.self.inside.copies; attached = c.self.inside.attached } in
     let zero : vec_len c.self.inside.flights ≡ 0 = eqb-true (vec_len c.self.inside.flights) 0 (sym c.is_empty.ensures ∙ c.if-is_empty.true) in
     let none : v.flights ≡ [] = nil_from_length c.self.inside.flights.items (omega (arith, zero)) in
     let done : list_all is_done_of v.snaps ≡ true = ap (list_all is_done_of) (sym c.as_slice.ensures.value) ∙ sym c.are_done.ensures.value ∙ quiet in

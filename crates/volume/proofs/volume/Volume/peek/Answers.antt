@@ -4,11 +4,12 @@ use Rattle.std.specs.Prelude.{◌==◌}
 use Rattle.sector.specs.Bytes.{sectors_at}
 use Rattle.plain.specs.Serves.{Shows}
 use Rattle.plain.specs.declared.request.Dev.{Dev}
-use Rattle.plain.specs.declared.request.Dev.TheVariants.{Snap}
+use Rattle.plain.specs.declared.request.Dev.TheVariants.{Origin, Snap}
 use Rattle.snapshot.specs.Kept.{Kept}
 use Rattle.volume.specs.Peeking.{is_loud_under}
 use Rattle.volume.specs.Volumed.{Volumed, plain_of}
 use Rattle.snapshots.specs.Finding.{place_of_snap}
+use Rattle.volume.proofs.Alone.{origin_alone}
 use Rattle.volume.proofs.MovedLists.{IsFirst, first_position}
 use Rattle.volume.proofs.Named.{found_within}
 use Rattle.volume.proofs.Peeked.{places_inside, pairs_stored, shown_snap, snap_loud, live_refusal}
@@ -16,7 +17,7 @@ use Rattle.volume.proofs.volume.Volume.peek.Goals as goal
 
 pub peek_pieces-requires-clause-places : goal.peek_pieces-requires-clause-places
 peek_pieces-requires-clause-places g c =
-    let v : Volumed g.row.B.Denot = record { origin = c.self.inside.origin; snaps = c.self.inside.snaps.items; flights = c.self.inside.flights.items; requests = c.self.inside.requests; copies = c.self.inside.copies; attached = c.self.inside.attached } in
+    let v : Volumed g.row.B.Denot = record { origin = c.self.inside.origin; snaps = c.self.inside.snaps.items; merge = c.self.inside.merge; flights = c.self.inside.flights.items; requests = c.self.inside.requests; copies = c.self.inside.copies; attached = c.self.inside.attached } in
     let s : Kept g.row.B.Denot = c.index-snap.result.now in
     let found : Some c.in-Some.k ≡ place_of_snap c.in-Snap.number v.snaps = c.in-Some.ensures ∙ ap (place_of_snap c.in-Snap.number) c.as_slice.ensures.value in
     places_inside g.B.Block.contents g.B.Block.layers g.B.Block.size v c.self.invariant c.in-Some.k s (found_within c.in-Snap.number v.snaps c.in-Some.k found) c.index-snap.ensures (sym c.if-not-is_live.ensures) g.met.B.Block.whole
@@ -29,7 +30,7 @@ returns-else-not-is_live-clause-there g c =
 
 pub returns-else-not-is_live-clause-bytes : goal.returns-else-not-is_live-clause-bytes
 returns-else-not-is_live-clause-bytes g c = λ loud array shown.
-    let v : Volumed g.row.B.Denot = record { origin = c.self.inside.origin; snaps = c.self.inside.snaps.items; flights = c.self.inside.flights.items; requests = c.self.inside.requests; copies = c.self.inside.copies; attached = c.self.inside.attached } in
+    let v : Volumed g.row.B.Denot = record { origin = c.self.inside.origin; snaps = c.self.inside.snaps.items; merge = c.self.inside.merge; flights = c.self.inside.flights.items; requests = c.self.inside.requests; copies = c.self.inside.copies; attached = c.self.inside.attached } in
     let s : Kept g.row.B.Denot = c.index-snap.result.now in
     let live : s.live ≡ true = sym c.if-not-is_live.ensures in
     let found : Some c.in-Some.k ≡ place_of_snap c.in-Snap.number v.snaps = c.in-Some.ensures ∙ ap (place_of_snap c.in-Snap.number) c.as_slice.ensures.value in
@@ -39,3 +40,10 @@ returns-else-not-is_live-clause-bytes g c = λ loud array shown.
     let stored = pairs_stored g.B.Block.contents g.B.Block.layers g.B.Block.size v c.self.invariant c.in-Some.k s (found_within c.in-Snap.number v.snaps c.in-Some.k found) c.index-snap.ensures live (snap_loud g.B.Block.layers v.snaps c.args.dev c.in-Snap.number c.in-Some.k s c.in-Snap.is found c.index-snap.ensures (ap (λ (x : Volumed g.row.B.Denot). is_loud_under g.B.Block.layers c.args.dev x.snaps) c.self.view_is ∙ loud)) in
     c.peek_pieces.ensures stored
     ∙ ap (λ (a : List ℕ). sectors_at a c.args.range.first c.args.range.count) (sym (shown_snap g.B.Block.contents (g.B.Block.contents v.origin) c.in-Snap.number c.in-Some.k s v.snaps array first live mine))
+
+pub returns-in-Origin-clause-bytes : goal.returns-in-Origin-clause-bytes
+returns-in-Origin-clause-bytes g c = λ loud array shown.
+    let v : Volumed g.row.B.Denot = record { origin = c.self.inside.origin; snaps = c.self.inside.snaps.items; merge = c.self.inside.merge; flights = c.self.inside.flights.items; requests = c.self.inside.requests; copies = c.self.inside.copies; attached = c.self.inside.attached } in
+    let mine : Shows (plain_of g.B.Block.contents g.B.Block.layers v) Origin array =
+    subst (λ (d : Dev). Shows (plain_of g.B.Block.contents g.B.Block.layers v) d array) c.in-Origin.is (subst (λ (x : Volumed g.row.B.Denot). Shows (plain_of g.B.Block.contents g.B.Block.layers x) c.args.dev array) (sym c.self.view_is) shown) in
+    c.peek.ensures ∙ ap (λ (a : List ℕ). sectors_at a c.args.range.first c.args.range.count) (sym (mine ∙ origin_alone g.B.Block.contents g.B.Block.layers v c.self.invariant.alone))

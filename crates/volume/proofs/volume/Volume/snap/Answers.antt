@@ -17,7 +17,7 @@ returns-clause-first g c =
 pub returns-clause-sized : goal.returns-clause-sized
 returns-clause-sized g c = λ live.
     let s : Kept g.row.B.Denot = c.index.result.now in
-    let v : Volumed g.row.B.Denot = record { origin = c.self.inside.origin; snaps = c.self.inside.snaps.items; flights = c.self.inside.flights.items; requests = c.self.inside.requests; copies = c.self.inside.copies; attached = c.self.inside.attached } in
+    let v : Volumed g.row.B.Denot = record { origin = c.self.inside.origin; snaps = c.self.inside.snaps.items; merge = c.self.inside.merge; flights = c.self.inside.flights.items; requests = c.self.inside.requests; copies = c.self.inside.copies; attached = c.self.inside.attached } in
     let at : s ≡ get_or v.snaps c.args.k s = c.index.ensures in
     let within : c.args.k < length v.snaps = subst (λ (w : Volumed g.row.B.Denot). c.args.k < length w.snaps) (sym c.self.view_is) c.requires in
     let alive : (get_or v.snaps c.args.k s).live ≡ true = ap (λ (x : Kept g.row.B.Denot). x.live) (sym at) ∙ live in

@@ -18,7 +18,7 @@ use Rattle.volume.proofs.volume.Volume.start_and_enter.Goals as goal
 
 pub invariant_of-self : goal.invariant_of-self
 invariant_of-self g c =
-    let v : Volumed g.row.B.Denot = record { origin = c.self.inside.origin; snaps = c.self.inside.snaps.items; flights = c.self.inside.flights.items; requests = c.self.inside.requests; copies = c.self.inside.copies; attached = c.self.inside.attached } in
+    let v : Volumed g.row.B.Denot = record { origin = c.self.inside.origin; snaps = c.self.inside.snaps.items; merge = c.self.inside.merge; flights = c.self.inside.flights.items; requests = c.self.inside.requests; copies = c.self.inside.copies; attached = c.self.inside.attached } in
     let s : Kept g.row.B.Denot = c.index_mut.result.now in
     let place : Some c.args.k ≡ place_of_snap c.args.id c.self.inside.snaps.items = c.requires.place ∙ sym (ap (λ (x : Volumed g.row.B.Denot). place_of_snap c.args.id x.snaps) c.self.view_is) in
     let free : dev_refusal c.args.request.dev c.self.inside.snaps.items ≡ None = ap (λ (x : Volumed g.row.B.Denot). dev_refusal c.args.request.dev x.snaps) c.self.view_is ∙ c.requires.found in
@@ -27,7 +27,7 @@ invariant_of-self g c =
 
 pub take_room-requires : goal.take_room-requires
 take_room-requires g c =
-    let v : Volumed g.row.B.Denot = record { origin = c.self.inside.origin; snaps = c.self.inside.snaps.items; flights = c.self.inside.flights.items; requests = c.self.inside.requests; copies = c.self.inside.copies; attached = c.self.inside.attached } in
+    let v : Volumed g.row.B.Denot = record { origin = c.self.inside.origin; snaps = c.self.inside.snaps.items; merge = c.self.inside.merge; flights = c.self.inside.flights.items; requests = c.self.inside.requests; copies = c.self.inside.copies; attached = c.self.inside.attached } in
     let s : Kept g.row.B.Denot = c.index_mut.result.now in
     let place : Some c.args.k ≡ place_of_snap c.args.id c.self.inside.snaps.items = c.requires.place ∙ sym (ap (λ (x : Volumed g.row.B.Denot). place_of_snap c.args.id x.snaps) c.self.view_is) in
     let within : c.args.k < length c.self.inside.snaps.items = found_within c.args.id c.self.inside.snaps.items c.args.k place in
@@ -38,7 +38,7 @@ take_room-requires g c =
 
 pub returns-in-Err-clause-err : goal.returns-in-Err-clause-err
 returns-in-Err-clause-err g c =
-    let v : Volumed g.row.B.Denot = record { origin = c.self.inside.origin; snaps = c.self.inside.snaps.items; flights = c.self.inside.flights.items; requests = c.self.inside.requests; copies = c.self.inside.copies; attached = c.self.inside.attached } in
+    let v : Volumed g.row.B.Denot = record { origin = c.self.inside.origin; snaps = c.self.inside.snaps.items; merge = c.self.inside.merge; flights = c.self.inside.flights.items; requests = c.self.inside.requests; copies = c.self.inside.copies; attached = c.self.inside.attached } in
     let s : Kept g.row.B.Denot = c.index_mut.result.now in
     let place : Some c.args.k ≡ place_of_snap c.args.id c.self.inside.snaps.items = c.requires.place ∙ sym (ap (λ (x : Volumed g.row.B.Denot). place_of_snap c.args.id x.snaps) c.self.view_is) in
     let free : dev_refusal c.args.request.dev c.self.inside.snaps.items ≡ None = ap (λ (x : Volumed g.row.B.Denot). dev_refusal c.args.request.dev x.snaps) c.self.view_is ∙ c.requires.found in
@@ -47,7 +47,7 @@ returns-in-Err-clause-err g c =
 
 pub invariant_of-self-in_default : goal.invariant_of-self-in_default
 invariant_of-self-in_default g c =
-    let v : Volumed g.row.B.Denot = record { origin = c.self.inside.origin; snaps = c.self.inside.snaps.items; flights = c.self.inside.flights.items; requests = c.self.inside.requests; copies = c.self.inside.copies; attached = c.self.inside.attached } in
+    let v : Volumed g.row.B.Denot = record { origin = c.self.inside.origin; snaps = c.self.inside.snaps.items; merge = c.self.inside.merge; flights = c.self.inside.flights.items; requests = c.self.inside.requests; copies = c.self.inside.copies; attached = c.self.inside.attached } in
     let s : Kept g.row.B.Denot = c.index_mut.result.now in
     let place : Some c.args.k ≡ place_of_snap c.args.id c.self.inside.snaps.items = c.requires.place ∙ sym (ap (λ (x : Volumed g.row.B.Denot). place_of_snap c.args.id x.snaps) c.self.view_is) in
     let free : dev_refusal c.args.request.dev c.self.inside.snaps.items ≡ None = ap (λ (x : Volumed g.row.B.Denot). dev_refusal c.args.request.dev x.snaps) c.self.view_is ∙ c.requires.found in
@@ -56,7 +56,7 @@ invariant_of-self-in_default g c =
 
 pub returns-in_default-clause-err : goal.returns-in_default-clause-err
 returns-in_default-clause-err g c =
-    let v : Volumed g.row.B.Denot = record { origin = c.self.inside.origin; snaps = c.self.inside.snaps.items; flights = c.self.inside.flights.items; requests = c.self.inside.requests; copies = c.self.inside.copies; attached = c.self.inside.attached } in
+    let v : Volumed g.row.B.Denot = record { origin = c.self.inside.origin; snaps = c.self.inside.snaps.items; merge = c.self.inside.merge; flights = c.self.inside.flights.items; requests = c.self.inside.requests; copies = c.self.inside.copies; attached = c.self.inside.attached } in
     let s : Kept g.row.B.Denot = c.index_mut.result.now in
     let place : Some c.args.k ≡ place_of_snap c.args.id c.self.inside.snaps.items = c.requires.place ∙ sym (ap (λ (x : Volumed g.row.B.Denot). place_of_snap c.args.id x.snaps) c.self.view_is) in
     let free : dev_refusal c.args.request.dev c.self.inside.snaps.items ≡ None = ap (λ (x : Volumed g.row.B.Denot). dev_refusal c.args.request.dev x.snaps) c.self.view_is ∙ c.requires.found in
@@ -65,7 +65,7 @@ returns-in_default-clause-err g c =
 
 pub invariant_of-self-in-Err-reserve : goal.invariant_of-self-in-Err-reserve
 invariant_of-self-in-Err-reserve g c =
-    let v : Volumed g.row.B.Denot = record { origin = c.self.inside.origin; snaps = c.self.inside.snaps.items; flights = c.self.inside.flights.items; requests = c.self.inside.requests; copies = c.self.inside.copies; attached = c.self.inside.attached } in
+    let v : Volumed g.row.B.Denot = record { origin = c.self.inside.origin; snaps = c.self.inside.snaps.items; merge = c.self.inside.merge; flights = c.self.inside.flights.items; requests = c.self.inside.requests; copies = c.self.inside.copies; attached = c.self.inside.attached } in
     let s : Kept g.row.B.Denot = c.index_mut.result.now in
     let place : Some c.args.k ≡ place_of_snap c.args.id c.self.inside.snaps.items = c.requires.place ∙ sym (ap (λ (x : Volumed g.row.B.Denot). place_of_snap c.args.id x.snaps) c.self.view_is) in
     let free : dev_refusal c.args.request.dev c.self.inside.snaps.items ≡ None = ap (λ (x : Volumed g.row.B.Denot). dev_refusal c.args.request.dev x.snaps) c.self.view_is ∙ c.requires.found in
@@ -74,7 +74,7 @@ invariant_of-self-in-Err-reserve g c =
 
 pub returns-in-Err-reserve-clause-err : goal.returns-in-Err-reserve-clause-err
 returns-in-Err-reserve-clause-err g c =
-    let v : Volumed g.row.B.Denot = record { origin = c.self.inside.origin; snaps = c.self.inside.snaps.items; flights = c.self.inside.flights.items; requests = c.self.inside.requests; copies = c.self.inside.copies; attached = c.self.inside.attached } in
+    let v : Volumed g.row.B.Denot = record { origin = c.self.inside.origin; snaps = c.self.inside.snaps.items; merge = c.self.inside.merge; flights = c.self.inside.flights.items; requests = c.self.inside.requests; copies = c.self.inside.copies; attached = c.self.inside.attached } in
     let s : Kept g.row.B.Denot = c.index_mut.result.now in
     let place : Some c.args.k ≡ place_of_snap c.args.id c.self.inside.snaps.items = c.requires.place ∙ sym (ap (λ (x : Volumed g.row.B.Denot). place_of_snap c.args.id x.snaps) c.self.view_is) in
     let free : dev_refusal c.args.request.dev c.self.inside.snaps.items ≡ None = ap (λ (x : Volumed g.row.B.Denot). dev_refusal c.args.request.dev x.snaps) c.self.view_is ∙ c.requires.found in
@@ -83,7 +83,7 @@ returns-in-Err-reserve-clause-err g c =
 
 pub index_mut-requires-2 : goal.index_mut-requires-2
 index_mut-requires-2 g c =
-    let v : Volumed g.row.B.Denot = record { origin = c.self.inside.origin; snaps = c.self.inside.snaps.items; flights = c.self.inside.flights.items; requests = c.self.inside.requests; copies = c.self.inside.copies; attached = c.self.inside.attached } in
+    let v : Volumed g.row.B.Denot = record { origin = c.self.inside.origin; snaps = c.self.inside.snaps.items; merge = c.self.inside.merge; flights = c.self.inside.flights.items; requests = c.self.inside.requests; copies = c.self.inside.copies; attached = c.self.inside.attached } in
     let s : Kept g.row.B.Denot = c.index_mut.result.now in
     let place : Some c.args.k ≡ place_of_snap c.args.id c.self.inside.snaps.items = c.requires.place ∙ sym (ap (λ (x : Volumed g.row.B.Denot). place_of_snap c.args.id x.snaps) c.self.view_is) in
     let free : dev_refusal c.args.request.dev c.self.inside.snaps.items ≡ None = ap (λ (x : Volumed g.row.B.Denot). dev_refusal c.args.request.dev x.snaps) c.self.view_is ∙ c.requires.found in
@@ -94,7 +94,7 @@ index_mut-requires-2 g c =
 
 pub save_in-given-requires-clause-begins : goal.save_in-given-requires-clause-begins
 save_in-given-requires-clause-begins g c =
-    let v : Volumed g.row.B.Denot = record { origin = c.self.inside.origin; snaps = c.self.inside.snaps.items; flights = c.self.inside.flights.items; requests = c.self.inside.requests; copies = c.self.inside.copies; attached = c.self.inside.attached } in
+    let v : Volumed g.row.B.Denot = record { origin = c.self.inside.origin; snaps = c.self.inside.snaps.items; merge = c.self.inside.merge; flights = c.self.inside.flights.items; requests = c.self.inside.requests; copies = c.self.inside.copies; attached = c.self.inside.attached } in
     let s : Kept g.row.B.Denot = c.index_mut.result.now in
     let place : Some c.args.k ≡ place_of_snap c.args.id c.self.inside.snaps.items = c.requires.place ∙ sym (ap (λ (x : Volumed g.row.B.Denot). place_of_snap c.args.id x.snaps) c.self.view_is) in
     let free : dev_refusal c.args.request.dev c.self.inside.snaps.items ≡ None = ap (λ (x : Volumed g.row.B.Denot). dev_refusal c.args.request.dev x.snaps) c.self.view_is ∙ c.requires.found in
@@ -110,7 +110,7 @@ save_in-given-requires-clause-begins g c =
 
 pub save_in-given-requires-clause-room : goal.save_in-given-requires-clause-room
 save_in-given-requires-clause-room g c =
-    let v : Volumed g.row.B.Denot = record { origin = c.self.inside.origin; snaps = c.self.inside.snaps.items; flights = c.self.inside.flights.items; requests = c.self.inside.requests; copies = c.self.inside.copies; attached = c.self.inside.attached } in
+    let v : Volumed g.row.B.Denot = record { origin = c.self.inside.origin; snaps = c.self.inside.snaps.items; merge = c.self.inside.merge; flights = c.self.inside.flights.items; requests = c.self.inside.requests; copies = c.self.inside.copies; attached = c.self.inside.attached } in
     let s : Kept g.row.B.Denot = c.index_mut.result.now in
     let place : Some c.args.k ≡ place_of_snap c.args.id c.self.inside.snaps.items = c.requires.place ∙ sym (ap (λ (x : Volumed g.row.B.Denot). place_of_snap c.args.id x.snaps) c.self.view_is) in
     let free : dev_refusal c.args.request.dev c.self.inside.snaps.items ≡ None = ap (λ (x : Volumed g.row.B.Denot). dev_refusal c.args.request.dev x.snaps) c.self.view_is ∙ c.requires.found in
@@ -124,7 +124,7 @@ save_in-given-requires-clause-room g c =
 
 pub invariant_of-self-then-given-self : goal.invariant_of-self-then-given-self
 invariant_of-self-then-given-self g c =
-    let v : Volumed g.row.B.Denot = record { origin = c.self.inside.origin; snaps = c.self.inside.snaps.items; flights = c.self.inside.flights.items; requests = c.self.inside.requests; copies = c.self.inside.copies; attached = c.self.inside.attached } in
+    let v : Volumed g.row.B.Denot = record { origin = c.self.inside.origin; snaps = c.self.inside.snaps.items; merge = c.self.inside.merge; flights = c.self.inside.flights.items; requests = c.self.inside.requests; copies = c.self.inside.copies; attached = c.self.inside.attached } in
     let s : Kept g.row.B.Denot = c.index_mut.result.now in
     let place : Some c.args.k ≡ place_of_snap c.args.id c.self.inside.snaps.items = c.requires.place ∙ sym (ap (λ (x : Volumed g.row.B.Denot). place_of_snap c.args.id x.snaps) c.self.view_is) in
     let free : dev_refusal c.args.request.dev c.self.inside.snaps.items ≡ None = ap (λ (x : Volumed g.row.B.Denot). dev_refusal c.args.request.dev x.snaps) c.self.view_is ∙ c.requires.found in
@@ -149,7 +149,7 @@ invariant_of-self-then-given-self g c =
 
 pub returns-then-given-self-clause-err : goal.returns-then-given-self-clause-err
 returns-then-given-self-clause-err g c =
-    let v : Volumed g.row.B.Denot = record { origin = c.self.inside.origin; snaps = c.self.inside.snaps.items; flights = c.self.inside.flights.items; requests = c.self.inside.requests; copies = c.self.inside.copies; attached = c.self.inside.attached } in
+    let v : Volumed g.row.B.Denot = record { origin = c.self.inside.origin; snaps = c.self.inside.snaps.items; merge = c.self.inside.merge; flights = c.self.inside.flights.items; requests = c.self.inside.requests; copies = c.self.inside.copies; attached = c.self.inside.attached } in
     let s : Kept g.row.B.Denot = c.index_mut.result.now in
     let place : Some c.args.k ≡ place_of_snap c.args.id c.self.inside.snaps.items = c.requires.place ∙ sym (ap (λ (x : Volumed g.row.B.Denot). place_of_snap c.args.id x.snaps) c.self.view_is) in
     let free : dev_refusal c.args.request.dev c.self.inside.snaps.items ≡ None = ap (λ (x : Volumed g.row.B.Denot). dev_refusal c.args.request.dev x.snaps) c.self.view_is ∙ c.requires.found in
@@ -174,7 +174,7 @@ returns-then-given-self-clause-err g c =
 
 pub invariant_of-self-2 : goal.invariant_of-self-2
 invariant_of-self-2 g c =
-    let v : Volumed g.row.B.Denot = record { origin = c.self.inside.origin; snaps = c.self.inside.snaps.items; flights = c.self.inside.flights.items; requests = c.self.inside.requests; copies = c.self.inside.copies; attached = c.self.inside.attached } in
+    let v : Volumed g.row.B.Denot = record { origin = c.self.inside.origin; snaps = c.self.inside.snaps.items; merge = c.self.inside.merge; flights = c.self.inside.flights.items; requests = c.self.inside.requests; copies = c.self.inside.copies; attached = c.self.inside.attached } in
     let s : Kept g.row.B.Denot = c.index_mut.result.now in
     let place : Some c.args.k ≡ place_of_snap c.args.id c.self.inside.snaps.items = c.requires.place ∙ sym (ap (λ (x : Volumed g.row.B.Denot). place_of_snap c.args.id x.snaps) c.self.view_is) in
     let free : dev_refusal c.args.request.dev c.self.inside.snaps.items ≡ None = ap (λ (x : Volumed g.row.B.Denot). dev_refusal c.args.request.dev x.snaps) c.self.view_is ∙ c.requires.found in
@@ -204,7 +204,7 @@ invariant_of-self-2 g c =
 
 pub returns-clause-ok : goal.returns-clause-ok
 returns-clause-ok g c =
-    let v : Volumed g.row.B.Denot = record { origin = c.self.inside.origin; snaps = c.self.inside.snaps.items; flights = c.self.inside.flights.items; requests = c.self.inside.requests; copies = c.self.inside.copies; attached = c.self.inside.attached } in
+    let v : Volumed g.row.B.Denot = record { origin = c.self.inside.origin; snaps = c.self.inside.snaps.items; merge = c.self.inside.merge; flights = c.self.inside.flights.items; requests = c.self.inside.requests; copies = c.self.inside.copies; attached = c.self.inside.attached } in
     let s : Kept g.row.B.Denot = c.index_mut.result.now in
     let place : Some c.args.k ≡ place_of_snap c.args.id c.self.inside.snaps.items = c.requires.place ∙ sym (ap (λ (x : Volumed g.row.B.Denot). place_of_snap c.args.id x.snaps) c.self.view_is) in
     let free : dev_refusal c.args.request.dev c.self.inside.snaps.items ≡ None = ap (λ (x : Volumed g.row.B.Denot). dev_refusal c.args.request.dev x.snaps) c.self.view_is ∙ c.requires.found in

@@ -18,7 +18,7 @@ use Rattle.volume.proofs.volume.Volume.submit_origin_write.Goals as goal
 
 pub invariant_of-self : goal.invariant_of-self
 invariant_of-self g c =
-    let v : Volumed g.row.B.Denot = record { origin = c.self.inside.origin; snaps = c.self.inside.snaps.items; flights = c.self.inside.flights.items; requests = c.self.inside.requests; copies = c.self.inside.copies; attached = c.self.inside.attached } in
+    let v : Volumed g.row.B.Denot = record { origin = c.self.inside.origin; snaps = c.self.inside.snaps.items; merge = c.self.inside.merge; flights = c.self.inside.flights.items; requests = c.self.inside.requests; copies = c.self.inside.copies; attached = c.self.inside.attached } in
     let rooms = c.take_rooms.new.snaps in
     let same : map unroomed c.take_rooms.new.snaps ≡ map unroomed c.self.inside.snaps.items = c.take_rooms.ensures.same ∙ ap (map unroomed) c.as_mut_slice.ensures.value in
     let back_rooms = back c.self.inside.snaps.len c.take_rooms.new.snaps c.self.inside.snaps.items (c.take_rooms.auto.snaps ∙ c.as_mut_slice.ensures.len) in
@@ -26,7 +26,7 @@ invariant_of-self g c =
 
 pub invariant_of-self-in_default : goal.invariant_of-self-in_default
 invariant_of-self-in_default g c =
-    let v : Volumed g.row.B.Denot = record { origin = c.self.inside.origin; snaps = c.self.inside.snaps.items; flights = c.self.inside.flights.items; requests = c.self.inside.requests; copies = c.self.inside.copies; attached = c.self.inside.attached } in
+    let v : Volumed g.row.B.Denot = record { origin = c.self.inside.origin; snaps = c.self.inside.snaps.items; merge = c.self.inside.merge; flights = c.self.inside.flights.items; requests = c.self.inside.requests; copies = c.self.inside.copies; attached = c.self.inside.attached } in
     let rooms = c.take_rooms.new.snaps in
     let same : map unroomed c.take_rooms.new.snaps ≡ map unroomed c.self.inside.snaps.items = c.take_rooms.ensures.same ∙ ap (map unroomed) c.as_mut_slice.ensures.value in
     let back_rooms = back c.self.inside.snaps.len c.take_rooms.new.snaps c.self.inside.snaps.items (c.take_rooms.auto.snaps ∙ c.as_mut_slice.ensures.len) in
@@ -34,7 +34,7 @@ invariant_of-self-in_default g c =
 
 pub invariant_of-self-in-Err-reserve : goal.invariant_of-self-in-Err-reserve
 invariant_of-self-in-Err-reserve g c =
-    let v : Volumed g.row.B.Denot = record { origin = c.self.inside.origin; snaps = c.self.inside.snaps.items; flights = c.self.inside.flights.items; requests = c.self.inside.requests; copies = c.self.inside.copies; attached = c.self.inside.attached } in
+    let v : Volumed g.row.B.Denot = record { origin = c.self.inside.origin; snaps = c.self.inside.snaps.items; merge = c.self.inside.merge; flights = c.self.inside.flights.items; requests = c.self.inside.requests; copies = c.self.inside.copies; attached = c.self.inside.attached } in
     let rooms = c.take_rooms.new.snaps in
     let same : map unroomed c.take_rooms.new.snaps ≡ map unroomed c.self.inside.snaps.items = c.take_rooms.ensures.same ∙ ap (map unroomed) c.as_mut_slice.ensures.value in
     let back_rooms = back c.self.inside.snaps.len c.take_rooms.new.snaps c.self.inside.snaps.items (c.take_rooms.auto.snaps ∙ c.as_mut_slice.ensures.len) in
@@ -42,7 +42,7 @@ invariant_of-self-in-Err-reserve g c =
 
 pub save_in_all-self-inside-requires-clause-begins : goal.save_in_all-self-inside-requires-clause-begins
 save_in_all-self-inside-requires-clause-begins g c =
-    let v : Volumed g.row.B.Denot = record { origin = c.self.inside.origin; snaps = c.self.inside.snaps.items; flights = c.self.inside.flights.items; requests = c.self.inside.requests; copies = c.self.inside.copies; attached = c.self.inside.attached } in
+    let v : Volumed g.row.B.Denot = record { origin = c.self.inside.origin; snaps = c.self.inside.snaps.items; merge = c.self.inside.merge; flights = c.self.inside.flights.items; requests = c.self.inside.requests; copies = c.self.inside.copies; attached = c.self.inside.attached } in
     let rooms = c.take_rooms.new.snaps in
     let same : map unroomed c.take_rooms.new.snaps ≡ map unroomed c.self.inside.snaps.items = c.take_rooms.ensures.same ∙ ap (map unroomed) c.as_mut_slice.ensures.value in
     let back_rooms = back c.self.inside.snaps.len c.take_rooms.new.snaps c.self.inside.snaps.items (c.take_rooms.auto.snaps ∙ c.as_mut_slice.ensures.len) in
@@ -55,7 +55,7 @@ save_in_all-self-inside-requires-clause-begins g c =
 
 pub save_in_all-self-inside-requires-clause-rooms : goal.save_in_all-self-inside-requires-clause-rooms
 save_in_all-self-inside-requires-clause-rooms g c =
-    let v : Volumed g.row.B.Denot = record { origin = c.self.inside.origin; snaps = c.self.inside.snaps.items; flights = c.self.inside.flights.items; requests = c.self.inside.requests; copies = c.self.inside.copies; attached = c.self.inside.attached } in
+    let v : Volumed g.row.B.Denot = record { origin = c.self.inside.origin; snaps = c.self.inside.snaps.items; merge = c.self.inside.merge; flights = c.self.inside.flights.items; requests = c.self.inside.requests; copies = c.self.inside.copies; attached = c.self.inside.attached } in
     let rooms = c.take_rooms.new.snaps in
     let same : map unroomed c.take_rooms.new.snaps ≡ map unroomed c.self.inside.snaps.items = c.take_rooms.ensures.same ∙ ap (map unroomed) c.as_mut_slice.ensures.value in
     let back_rooms = back c.self.inside.snaps.len c.take_rooms.new.snaps c.self.inside.snaps.items (c.take_rooms.auto.snaps ∙ c.as_mut_slice.ensures.len) in
@@ -66,7 +66,7 @@ save_in_all-self-inside-requires-clause-rooms g c =
 
 pub is_clear-requires : goal.is_clear-requires
 is_clear-requires g c =
-    let v : Volumed g.row.B.Denot = record { origin = c.self.inside.origin; snaps = c.self.inside.snaps.items; flights = c.self.inside.flights.items; requests = c.self.inside.requests; copies = c.self.inside.copies; attached = c.self.inside.attached } in
+    let v : Volumed g.row.B.Denot = record { origin = c.self.inside.origin; snaps = c.self.inside.snaps.items; merge = c.self.inside.merge; flights = c.self.inside.flights.items; requests = c.self.inside.requests; copies = c.self.inside.copies; attached = c.self.inside.attached } in
     let rooms = c.take_rooms.new.snaps in
     let same : map unroomed c.take_rooms.new.snaps ≡ map unroomed c.self.inside.snaps.items = c.take_rooms.ensures.same ∙ ap (map unroomed) c.as_mut_slice.ensures.value in
     let back_rooms = back c.self.inside.snaps.len c.take_rooms.new.snaps c.self.inside.snaps.items (c.take_rooms.auto.snaps ∙ c.as_mut_slice.ensures.len) in
@@ -86,7 +86,7 @@ is_clear-requires g c =
 
 pub invariant_of-self-2 : goal.invariant_of-self-2
 invariant_of-self-2 g c =
-    let v : Volumed g.row.B.Denot = record { origin = c.self.inside.origin; snaps = c.self.inside.snaps.items; flights = c.self.inside.flights.items; requests = c.self.inside.requests; copies = c.self.inside.copies; attached = c.self.inside.attached } in
+    let v : Volumed g.row.B.Denot = record { origin = c.self.inside.origin; snaps = c.self.inside.snaps.items; merge = c.self.inside.merge; flights = c.self.inside.flights.items; requests = c.self.inside.requests; copies = c.self.inside.copies; attached = c.self.inside.attached } in
     let rooms = c.take_rooms.new.snaps in
     let same : map unroomed c.take_rooms.new.snaps ≡ map unroomed c.self.inside.snaps.items = c.take_rooms.ensures.same ∙ ap (map unroomed) c.as_mut_slice.ensures.value in
     let back_rooms = back c.self.inside.snaps.len c.take_rooms.new.snaps c.self.inside.snaps.items (c.take_rooms.auto.snaps ∙ c.as_mut_slice.ensures.len) in
@@ -119,7 +119,7 @@ invariant_of-self-2 g c =
 
 pub returns-clause-ok : goal.returns-clause-ok
 returns-clause-ok g c =
-    let v : Volumed g.row.B.Denot = record { origin = c.self.inside.origin; snaps = c.self.inside.snaps.items; flights = c.self.inside.flights.items; requests = c.self.inside.requests; copies = c.self.inside.copies; attached = c.self.inside.attached } in
+    let v : Volumed g.row.B.Denot = record { origin = c.self.inside.origin; snaps = c.self.inside.snaps.items; merge = c.self.inside.merge; flights = c.self.inside.flights.items; requests = c.self.inside.requests; copies = c.self.inside.copies; attached = c.self.inside.attached } in
     let rooms = c.take_rooms.new.snaps in
     let same : map unroomed c.take_rooms.new.snaps ≡ map unroomed c.self.inside.snaps.items = c.take_rooms.ensures.same ∙ ap (map unroomed) c.as_mut_slice.ensures.value in
     let back_rooms = back c.self.inside.snaps.len c.take_rooms.new.snaps c.self.inside.snaps.items (c.take_rooms.auto.snaps ∙ c.as_mut_slice.ensures.len) in
@@ -148,7 +148,7 @@ returns-clause-ok g c =
     let route_f = c.write_route-flight.ensures ∙ ap (write_route_of false None) (c.is_clear.ensures ∙ ap (λ (xs : List (Kept g.row.B.Denot)). is_clear (map (snap_books g.B.Block.contents g.B.Block.layers) xs) c.args.request.range.first) slice ∙ ap (λ (r : Request). is_clear (map (snap_books g.B.Block.contents g.B.Block.layers) c.save_in_all-self-inside.new.snaps) r.range.first) (sym request_is)) in
     let space : length c.self.inside.flights.items < 64 = omega (arith, c.requires.room, ap (λ (x : Volumed g.row.B.Denot). length x.flights) c.self.view_is) in
     let pushed = c.push_reserved.ensures.items ∙ ap (λ fs. fs ++ f ∷ []) back_flights in
-    let w : List (Kept g.row.B.Denot) → List Flight → Volumed g.row.B.Denot = λ x y. record { origin = c.self.inside.origin; snaps = x; flights = y; requests = c.self.inside.requests + 1; copies = c.save_in_all-self-inside.result; attached = c.self.inside.attached } in
+    let w : List (Kept g.row.B.Denot) → List Flight → Volumed g.row.B.Denot = λ x y. record { origin = c.self.inside.origin; snaps = x; merge = c.self.inside.merge; flights = y; requests = c.self.inside.requests + 1; copies = c.save_in_all-self-inside.result; attached = c.self.inside.attached } in
     let is = written_accepted g.B.Block.contents g.B.Block.layers g.B.Block.size v c.self.invariant c.take_rooms.new.snaps c.save_in_all-self-inside.new.snaps same c.save_in_all-self-inside.result c.save_in_all-self-inside.new.flights f saved_f few_f c.in-Ok-new.ensures.number asked_f room_f kind_f route_f space in
     rw (← c.self.view_is)
     (subst (λ (x : List (Kept g.row.B.Denot)). IsAcceptedAs g.B.Block.contents g.B.Block.layers c.args.request (c.self.inside.requests + 1) v (w x c.push_reserved.new.self.items)) (sym back_snaps)

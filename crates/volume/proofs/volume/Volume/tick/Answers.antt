@@ -13,8 +13,8 @@ use Rattle.volume.proofs.volume.Volume.tick.Goals as goal
 pub invariant_of-self : goal.invariant_of-self
 invariant_of-self g c =
     let m : Measures g.row.B.Denot = record { contents = g.B.Block.contents; durable = g.B.Block.durable; size = g.B.Block.size; faults = g.B.Block.fault_count; done = g.B.Block.done_count } in
-    let v : Volumed g.row.B.Denot = record { origin = c.self.inside.origin; snaps = c.self.inside.snaps.items; flights = c.self.inside.flights.items; requests = c.self.inside.requests; copies = c.self.inside.copies; attached = c.self.inside.attached } in
-    let w : Volumed g.row.B.Denot = record v { origin = c.tick.new.self; snaps = c.tick_all.new.snaps } in
+    let v : Volumed g.row.B.Denot = record { origin = c.self.inside.origin; snaps = c.self.inside.snaps.items; merge = c.self.inside.merge; flights = c.self.inside.flights.items; requests = c.self.inside.requests; copies = c.self.inside.copies; attached = c.self.inside.attached } in
+    let w : Volumed g.row.B.Denot = record v { origin = c.tick.new.self; snaps = c.tick_all.new.snaps; merge = c.tick_merge.new.merge } in
     let len : length c.tick_all.new.snaps ≡ c.self.inside.snaps.len = c.tick_all.ensures.count ∙ c.as_mut_slice.ensures.len in
     let whole_len : length c.tick_all.new.snaps ≡ length c.self.inside.snaps.items = c.tick_all.ensures.count ∙ ap length c.as_mut_slice.ensures.value in
     let there = back c.self.inside.snaps.len c.tick_all.new.snaps c.self.inside.snaps.items len in
@@ -24,6 +24,7 @@ invariant_of-self g c =
       origin = record { moved = c.tick.ensures.layers; rest = record { contents_are = c.tick.ensures.contents; durable_are = c.tick.ensures.durable; size_is = c.tick.ensures.size; faults_are = c.tick.ensures.faults; done_are = c.tick.ensures.done } };
       count = whole_len;
       snaps = each;
+      merge = c.tick_merge.ensures;
       becomes = refl;
     } in
     rw (there) (whole_alike g.B.Block.contents g.B.Block.layers g.B.Block.size v w (ticked_alike m g.B.Block.layers c.args.seconds v w ticked) c.self.invariant)
@@ -31,8 +32,8 @@ invariant_of-self g c =
 pub returns-clause-ticked : goal.returns-clause-ticked
 returns-clause-ticked g c =
     let m : Measures g.row.B.Denot = record { contents = g.B.Block.contents; durable = g.B.Block.durable; size = g.B.Block.size; faults = g.B.Block.fault_count; done = g.B.Block.done_count } in
-    let v : Volumed g.row.B.Denot = record { origin = c.self.inside.origin; snaps = c.self.inside.snaps.items; flights = c.self.inside.flights.items; requests = c.self.inside.requests; copies = c.self.inside.copies; attached = c.self.inside.attached } in
-    let w : Volumed g.row.B.Denot = record v { origin = c.tick.new.self; snaps = c.tick_all.new.snaps } in
+    let v : Volumed g.row.B.Denot = record { origin = c.self.inside.origin; snaps = c.self.inside.snaps.items; merge = c.self.inside.merge; flights = c.self.inside.flights.items; requests = c.self.inside.requests; copies = c.self.inside.copies; attached = c.self.inside.attached } in
+    let w : Volumed g.row.B.Denot = record v { origin = c.tick.new.self; snaps = c.tick_all.new.snaps; merge = c.tick_merge.new.merge } in
     let len : length c.tick_all.new.snaps ≡ c.self.inside.snaps.len = c.tick_all.ensures.count ∙ c.as_mut_slice.ensures.len in
     let whole_len : length c.tick_all.new.snaps ≡ length c.self.inside.snaps.items = c.tick_all.ensures.count ∙ ap length c.as_mut_slice.ensures.value in
     let there = back c.self.inside.snaps.len c.tick_all.new.snaps c.self.inside.snaps.items len in
@@ -42,6 +43,7 @@ returns-clause-ticked g c =
       origin = record { moved = c.tick.ensures.layers; rest = record { contents_are = c.tick.ensures.contents; durable_are = c.tick.ensures.durable; size_is = c.tick.ensures.size; faults_are = c.tick.ensures.faults; done_are = c.tick.ensures.done } };
       count = whole_len;
       snaps = each;
+      merge = c.tick_merge.ensures;
       becomes = refl;
     } in
     rw (← c.self.view_is, there) ticked
@@ -49,8 +51,8 @@ returns-clause-ticked g c =
 pub returns-clause-moving : goal.returns-clause-moving
 returns-clause-moving g c =
     let m : Measures g.row.B.Denot = record { contents = g.B.Block.contents; durable = g.B.Block.durable; size = g.B.Block.size; faults = g.B.Block.fault_count; done = g.B.Block.done_count } in
-    let v : Volumed g.row.B.Denot = record { origin = c.self.inside.origin; snaps = c.self.inside.snaps.items; flights = c.self.inside.flights.items; requests = c.self.inside.requests; copies = c.self.inside.copies; attached = c.self.inside.attached } in
-    let w : Volumed g.row.B.Denot = record v { origin = c.tick.new.self; snaps = c.tick_all.new.snaps } in
+    let v : Volumed g.row.B.Denot = record { origin = c.self.inside.origin; snaps = c.self.inside.snaps.items; merge = c.self.inside.merge; flights = c.self.inside.flights.items; requests = c.self.inside.requests; copies = c.self.inside.copies; attached = c.self.inside.attached } in
+    let w : Volumed g.row.B.Denot = record v { origin = c.tick.new.self; snaps = c.tick_all.new.snaps; merge = c.tick_merge.new.merge } in
     let len : length c.tick_all.new.snaps ≡ c.self.inside.snaps.len = c.tick_all.ensures.count ∙ c.as_mut_slice.ensures.len in
     let whole_len : length c.tick_all.new.snaps ≡ length c.self.inside.snaps.items = c.tick_all.ensures.count ∙ ap length c.as_mut_slice.ensures.value in
     let there = back c.self.inside.snaps.len c.tick_all.new.snaps c.self.inside.snaps.items len in
@@ -60,6 +62,7 @@ returns-clause-moving g c =
       origin = record { moved = c.tick.ensures.layers; rest = record { contents_are = c.tick.ensures.contents; durable_are = c.tick.ensures.durable; size_is = c.tick.ensures.size; faults_are = c.tick.ensures.faults; done_are = c.tick.ensures.done } };
       count = whole_len;
       snaps = each;
+      merge = c.tick_merge.ensures;
       becomes = refl;
     } in
     rw (← c.self.view_is, there) (λ (replied : Option Reply). ticked_moving m g.B.Block.layers c.args.seconds replied v w ticked)
@@ -67,8 +70,8 @@ returns-clause-moving g c =
 pub returns-clause-books : goal.returns-clause-books
 returns-clause-books g c =
     let m : Measures g.row.B.Denot = record { contents = g.B.Block.contents; durable = g.B.Block.durable; size = g.B.Block.size; faults = g.B.Block.fault_count; done = g.B.Block.done_count } in
-    let v : Volumed g.row.B.Denot = record { origin = c.self.inside.origin; snaps = c.self.inside.snaps.items; flights = c.self.inside.flights.items; requests = c.self.inside.requests; copies = c.self.inside.copies; attached = c.self.inside.attached } in
-    let w : Volumed g.row.B.Denot = record v { origin = c.tick.new.self; snaps = c.tick_all.new.snaps } in
+    let v : Volumed g.row.B.Denot = record { origin = c.self.inside.origin; snaps = c.self.inside.snaps.items; merge = c.self.inside.merge; flights = c.self.inside.flights.items; requests = c.self.inside.requests; copies = c.self.inside.copies; attached = c.self.inside.attached } in
+    let w : Volumed g.row.B.Denot = record v { origin = c.tick.new.self; snaps = c.tick_all.new.snaps; merge = c.tick_merge.new.merge } in
     let len : length c.tick_all.new.snaps ≡ c.self.inside.snaps.len = c.tick_all.ensures.count ∙ c.as_mut_slice.ensures.len in
     let whole_len : length c.tick_all.new.snaps ≡ length c.self.inside.snaps.items = c.tick_all.ensures.count ∙ ap length c.as_mut_slice.ensures.value in
     let there = back c.self.inside.snaps.len c.tick_all.new.snaps c.self.inside.snaps.items len in
@@ -78,6 +81,7 @@ returns-clause-books g c =
       origin = record { moved = c.tick.ensures.layers; rest = record { contents_are = c.tick.ensures.contents; durable_are = c.tick.ensures.durable; size_is = c.tick.ensures.size; faults_are = c.tick.ensures.faults; done_are = c.tick.ensures.done } };
       count = whole_len;
       snaps = each;
+      merge = c.tick_merge.ensures;
       becomes = refl;
     } in
     rw (← c.self.view_is, there) (books_of_alike g.B.Block.contents g.B.Block.layers g.B.Block.size v w (ticked_alike m g.B.Block.layers c.args.seconds v w ticked))
@@ -85,8 +89,8 @@ returns-clause-books g c =
 pub returns-clause-plain : goal.returns-clause-plain
 returns-clause-plain g c =
     let m : Measures g.row.B.Denot = record { contents = g.B.Block.contents; durable = g.B.Block.durable; size = g.B.Block.size; faults = g.B.Block.fault_count; done = g.B.Block.done_count } in
-    let v : Volumed g.row.B.Denot = record { origin = c.self.inside.origin; snaps = c.self.inside.snaps.items; flights = c.self.inside.flights.items; requests = c.self.inside.requests; copies = c.self.inside.copies; attached = c.self.inside.attached } in
-    let w : Volumed g.row.B.Denot = record v { origin = c.tick.new.self; snaps = c.tick_all.new.snaps } in
+    let v : Volumed g.row.B.Denot = record { origin = c.self.inside.origin; snaps = c.self.inside.snaps.items; merge = c.self.inside.merge; flights = c.self.inside.flights.items; requests = c.self.inside.requests; copies = c.self.inside.copies; attached = c.self.inside.attached } in
+    let w : Volumed g.row.B.Denot = record v { origin = c.tick.new.self; snaps = c.tick_all.new.snaps; merge = c.tick_merge.new.merge } in
     let len : length c.tick_all.new.snaps ≡ c.self.inside.snaps.len = c.tick_all.ensures.count ∙ c.as_mut_slice.ensures.len in
     let whole_len : length c.tick_all.new.snaps ≡ length c.self.inside.snaps.items = c.tick_all.ensures.count ∙ ap length c.as_mut_slice.ensures.value in
     let there = back c.self.inside.snaps.len c.tick_all.new.snaps c.self.inside.snaps.items len in
@@ -96,6 +100,7 @@ returns-clause-plain g c =
       origin = record { moved = c.tick.ensures.layers; rest = record { contents_are = c.tick.ensures.contents; durable_are = c.tick.ensures.durable; size_is = c.tick.ensures.size; faults_are = c.tick.ensures.faults; done_are = c.tick.ensures.done } };
       count = whole_len;
       snaps = each;
+      merge = c.tick_merge.ensures;
       becomes = refl;
     } in
     rw (← c.self.view_is, there) (plain_alike g.B.Block.contents g.B.Block.layers g.B.Block.size v w (ticked_alike m g.B.Block.layers c.args.seconds v w ticked))
@@ -103,8 +108,8 @@ returns-clause-plain g c =
 pub returns-clause-loud : goal.returns-clause-loud
 returns-clause-loud g c =
     let m : Measures g.row.B.Denot = record { contents = g.B.Block.contents; durable = g.B.Block.durable; size = g.B.Block.size; faults = g.B.Block.fault_count; done = g.B.Block.done_count } in
-    let v : Volumed g.row.B.Denot = record { origin = c.self.inside.origin; snaps = c.self.inside.snaps.items; flights = c.self.inside.flights.items; requests = c.self.inside.requests; copies = c.self.inside.copies; attached = c.self.inside.attached } in
-    let w : Volumed g.row.B.Denot = record v { origin = c.tick.new.self; snaps = c.tick_all.new.snaps } in
+    let v : Volumed g.row.B.Denot = record { origin = c.self.inside.origin; snaps = c.self.inside.snaps.items; merge = c.self.inside.merge; flights = c.self.inside.flights.items; requests = c.self.inside.requests; copies = c.self.inside.copies; attached = c.self.inside.attached } in
+    let w : Volumed g.row.B.Denot = record v { origin = c.tick.new.self; snaps = c.tick_all.new.snaps; merge = c.tick_merge.new.merge } in
     let len : length c.tick_all.new.snaps ≡ c.self.inside.snaps.len = c.tick_all.ensures.count ∙ c.as_mut_slice.ensures.len in
     let whole_len : length c.tick_all.new.snaps ≡ length c.self.inside.snaps.items = c.tick_all.ensures.count ∙ ap length c.as_mut_slice.ensures.value in
     let there = back c.self.inside.snaps.len c.tick_all.new.snaps c.self.inside.snaps.items len in
@@ -114,6 +119,7 @@ returns-clause-loud g c =
       origin = record { moved = c.tick.ensures.layers; rest = record { contents_are = c.tick.ensures.contents; durable_are = c.tick.ensures.durable; size_is = c.tick.ensures.size; faults_are = c.tick.ensures.faults; done_are = c.tick.ensures.done } };
       count = whole_len;
       snaps = each;
+      merge = c.tick_merge.ensures;
       becomes = refl;
     } in
     rw (← c.self.view_is, there) (loud_alike g.B.Block.contents g.B.Block.layers g.B.Block.size v w (ticked_alike m g.B.Block.layers c.args.seconds v w ticked))

@@ -1,12 +1,13 @@
--- The first copy is committed, or its snapshot is spoiled.
-use Rattle.std.proofs.Common.{◌≡◌, ◌<◌, true, false, refl, sym, ◌∙◌, ap, length, arith, map, ◌∷◌, []}
+-- The first copies are committed, or their snapshot is spoiled.
+use Rattle.std.proofs.Common.{◌≡◌, ◌-◌, ◌*◌, ◌<◌, true, false, refl, sym, ◌∙◌, ap, length, arith, map, ◌∷◌, []}
 use Rattle.device.specs.Layers.{is_loud}
 use Rattle.pending.specs.Routes.{refused_of}
+use Rattle.pending.proofs.Batches.{batch_few, batch_ready}
 use Rattle.snapshot.specs.Kept.{Kept}
 use Rattle.snapshots.specs.Finding.{is_committing}
 use Rattle.volume.proofs.DueEvents.{due_by, snap_found, snap_due}
 use Rattle.volume.proofs.Spoilt.{spoilt_device}
-use Rattle.volume.proofs.StoreEvents.{commit_good, commit_fault, front_live, committing_front, committing_next, first_some, first_ready}
+use Rattle.volume.proofs.StoreEvents.{commit_good, commit_fault, front_live, committing_front, committing_next, first_some}
 use Rattle.volume.proofs.Exactly.{area_exact, area_fault_exact}
 use Rattle.volume.proofs.volume.Volume.write_area.Goals as goal
 
@@ -29,7 +30,7 @@ write_area-requires-clause-few g c =
     let within : k < length v.snaps.items = omega (arith, c.in-Some.ensures.found.0, ap length c.deref.ensures.value) in
     let is = c.index_mut-snap.ensures.value in
     let found : is_committing c.args.number s ≡ true = snap_found (is_committing c.args.number) k v.snaps.items c.deref.result.now s c.deref.ensures.value is (c.in-Some.ensures.found.1 s) in
-    (let some = first_some s.copies (committing_front c.args.number s found) in omega (arith, some))
+    omega (arith, c.batch-count.ensures, batch_few (32 * s.state.chunk - s.state.filled) s.copies)
 
 pub write_area-requires-clause-ready : goal.write_area-requires-clause-ready
 write_area-requires-clause-ready g c =
@@ -39,7 +40,10 @@ write_area-requires-clause-ready g c =
     let within : k < length v.snaps.items = omega (arith, c.in-Some.ensures.found.0, ap length c.deref.ensures.value) in
     let is = c.index_mut-snap.ensures.value in
     let found : is_committing c.args.number s ≡ true = snap_found (is_committing c.args.number) k v.snaps.items c.deref.result.now s c.deref.ensures.value is (c.in-Some.ensures.found.1 s) in
-    first_ready s.copies (committing_front c.args.number s found)
+    rw c.batch-count.ensures (batch_ready (32 * s.state.chunk - s.state.filled) s.copies)
+
+pub write_area-requires-clause-fits : goal.write_area-requires-clause-fits
+write_area-requires-clause-fits g c = λ more. omega (arith, more, c.batch-count.ensures)
 
 pub write_area-requires-clause-next : goal.write_area-requires-clause-next
 write_area-requires-clause-next g c =
@@ -49,7 +53,7 @@ write_area-requires-clause-next g c =
     let within : k < length v.snaps.items = omega (arith, c.in-Some.ensures.found.0, ap length c.deref.ensures.value) in
     let is = c.index_mut-snap.ensures.value in
     let found : is_committing c.args.number s ≡ true = snap_found (is_committing c.args.number) k v.snaps.items c.deref.result.now s c.deref.ensures.value is (c.in-Some.ensures.found.1 s) in
-    committing_next c.args.number s found
+    rw c.batch-count.ensures (committing_next c.args.number s found)
 
 pub invariant_of-self : goal.invariant_of-self
 invariant_of-self g c =
@@ -60,7 +64,7 @@ invariant_of-self g c =
     let is = c.index_mut-snap.ensures.value in
     let found : is_committing c.args.number s ≡ true = snap_found (is_committing c.args.number) k v.snaps.items c.deref.result.now s c.deref.ensures.value is (c.in-Some.ensures.found.1 s) in
     let op = c.in-Ok.ensures.operation in
-    let good = commit_good g.B.Block.contents g.B.Block.layers g.B.Block.size g.B.Block.fault_count g.B.Block.done_count _ c.self.invariant c.args.number k s c.write_area.new.self within is found c.write_area.new.self.device c.in-Ok.ensures.fields c.in-Ok.ensures.commits c.write_area.ensures.loud c.write_area.ensures.size op.faulty op.counted in
+    let good = commit_good g.B.Block.contents g.B.Block.layers g.B.Block.size g.B.Block.fault_count g.B.Block.done_count _ c.self.invariant c.args.number k s c.write_area.new.self within is found c.write_area.new.self.device c.batch-count.result c.batch-count.ensures c.in-Ok.ensures.fields c.in-Ok.ensures.commits c.write_area.ensures.loud c.write_area.ensures.size op.faulty op.counted in
     good.whole
 
 pub spoil-requires : goal.spoil-requires
@@ -97,7 +101,7 @@ returns-in-Ok-clause-step g c =
     let is = c.index_mut-snap.ensures.value in
     let found : is_committing c.args.number s ≡ true = snap_found (is_committing c.args.number) k v.snaps.items c.deref.result.now s c.deref.ensures.value is (c.in-Some.ensures.found.1 s) in
     let op = c.in-Ok.ensures.operation in
-    let good = commit_good g.B.Block.contents g.B.Block.layers g.B.Block.size g.B.Block.fault_count g.B.Block.done_count _ c.self.invariant c.args.number k s c.write_area.new.self within is found c.write_area.new.self.device c.in-Ok.ensures.fields c.in-Ok.ensures.commits c.write_area.ensures.loud c.write_area.ensures.size op.faulty op.counted in
+    let good = commit_good g.B.Block.contents g.B.Block.layers g.B.Block.size g.B.Block.fault_count g.B.Block.done_count _ c.self.invariant c.args.number k s c.write_area.new.self within is found c.write_area.new.self.device c.batch-count.result c.batch-count.ensures c.in-Ok.ensures.fields c.in-Ok.ensures.commits c.write_area.ensures.loud c.write_area.ensures.size op.faulty op.counted in
     rw (← c.self.view_is) good.stepped
 
 pub returns-in-Ok-clause-exact : goal.returns-in-Ok-clause-exact
@@ -109,7 +113,7 @@ returns-in-Ok-clause-exact g c =
     let is = c.index_mut-snap.ensures.value in
     let found : is_committing c.args.number s ≡ true = snap_found (is_committing c.args.number) k v.snaps.items c.deref.result.now s c.deref.ensures.value is (c.in-Some.ensures.found.1 s) in
     let op = c.in-Ok.ensures.operation in
-    rw (← c.self.view_is) (area_exact g.B.Block.contents g.B.Block.layers g.B.Block.size _ c.self.invariant c.args.number k s within c.index_mut-snap.ensures.value _ _ _ _ found c.write_area.new.self op c.in-Ok.ensures.written c.in-Ok.ensures.fields)
+    rw (← c.self.view_is) (area_exact g.B.Block.contents g.B.Block.layers g.B.Block.size _ c.self.invariant c.args.number k s within c.index_mut-snap.ensures.value _ _ _ _ found c.batch-count.result c.batch-count.ensures c.write_area.new.self op c.in-Ok.ensures.written c.in-Ok.ensures.fields)
 
 pub returns-in-Ok-clause-due : goal.returns-in-Ok-clause-due
 returns-in-Ok-clause-due g c =
@@ -145,7 +149,7 @@ returns-in-Err-clause-exact g c =
     let found : is_committing c.args.number s ≡ true = snap_found (is_committing c.args.number) k v.snaps.items c.deref.result.now s c.deref.ensures.value is (c.in-Some.ensures.found.1 s) in
     let op = c.in-Err.ensures.operation in
     let flights : c.spoil.new.flights.items ≡ map (refused_of (s.number ∷ [])) v.flights.items = c.spoil.ensures.flights ∙ ap (λ n. map (refused_of (n ∷ [])) v.flights.items) (ap (λ (x : Kept _). x.number) c.in-Err.ensures.kept) in
-    rw (← c.self.view_is, flights) (area_fault_exact g.B.Block.contents g.B.Block.layers g.B.Block.size _ c.self.invariant c.args.number k s within c.index_mut-snap.ensures.value _ _ _ _ found c.write_area.new.self c.spoil.new.snap op c.in-Err.ensures.same c.in-Err.ensures.kept c.spoil.ensures.fields)
+    rw (← c.self.view_is, flights) (area_fault_exact g.B.Block.contents g.B.Block.layers g.B.Block.size _ c.self.invariant c.args.number k s within c.index_mut-snap.ensures.value _ _ _ _ found c.batch-count.result c.batch-count.ensures c.write_area.new.self c.spoil.new.snap op c.in-Err.ensures.same c.in-Err.ensures.kept c.spoil.ensures.fields)
 
 pub returns-in-Err-clause-due : goal.returns-in-Err-clause-due
 returns-in-Err-clause-due g c =

@@ -1,4 +1,4 @@
-# Two copies are committed in their order and published each by itself; each write then goes on.
+# Two copies that are written are committed by one write of the area, and published each by itself.
 # The order of the events is that of docs/DESIGN.md, a volume as single events.
 disk base 128
 disk cow 64
@@ -12,8 +12,6 @@ step vol copy-read 2
 step vol copy-write 2
 step vol write-area snap
 step vol copy-write 1
-step vol write-area snap
-save cow 1 1
 step vol write-area snap
 save cow 1 1
 step vol write-area snap
