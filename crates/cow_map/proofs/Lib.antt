@@ -3,3 +3,4 @@ pub mod Loads
 pub mod Sorts
 pub mod Places
 pub mod Tells
+pub mod SlotFaults

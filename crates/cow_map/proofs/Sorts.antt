@@ -1,36 +1,18 @@
 -- Pairs that are in the order of a number of theirs.
-use Rattle.std.proofs.Common.{◌≡◌, ◌≢◌, ◌==◌, inl, inr, ℕ, zero, suc, ◌+◌, ◌-◌, ◌<◌, ◌≤◌, List, [], ◌∷◌, ◌++◌, length, get_or, take, drop, map, arith, refl, ap, ◌∙◌, sym, subst, Bool, true, false, cond, take-append-drop}
-use Rattle.std.specs.Prelude.{AllPairs, count_by, sum_by}
+use Rattle.std.proofs.Common.{◌≡◌, ◌≢◌, inl, inr, ℕ, zero, suc, ◌+◌, ◌-◌, ◌<◌, ◌≤◌, List, length, get_or, map, arith, ap, ◌∙◌, sym, false}
+use Rattle.std.specs.Prelude.{AllPairs}
 use Rattle.std.specs.List.{IsDistinct}
-use Rattle.std.specs.List.Sorted.{IsPermutation, IsNonDecreasingBy}
+use Rattle.std.specs.List.Sorted.{IsPermutation}
 use Rattle.std.specs.Bool.{nat_eq}
-use Rattle.std.proofs.lemmas.Bool.{cases_lt, eqb-false, ne_eqb, eq-eqb}
+use Rattle.std.proofs.lemmas.Bool.{cases_lt, eqb-false, ne_eqb}
 use Rattle.std.proofs.lemmas.List.{get_or-map, length-map, get_or_default}
-use Rattle.std.proofs.lemmas.List.Sums.{count_by_more_yes, sum_by-append}
-use Rattle.std.proofs.lemmas.List.Sorted.{IsPermutation-map, IsPermutation-sym, sum_by-IsPermutation}
+use Rattle.std.proofs.lemmas.List.Sorted.{IsPermutation-map, IsPermutation-sym}
 use Rattle.std.proofs.lemmas.Map.Keys.{apart_from_distinct, IsDistinct-from_apart, IsDistinct-IsPermutation}
 use Rattle.std.proofs.lemmas.Cmp.{nat_eq_equiv}
-use Rattle.std.proofs.lemmas.Grind.{common_steps}
 use Rattle.sector.specs.declared.pair.Pair.{Pair}
-use Rattle.model.specs.Pairs.{IsApart, IsInside}
-use Rattle.cow_map.specs.Judged.{StandsAt}
+use Rattle.model.specs.Pairs.{IsApart}
 use Rattle.cow_map.specs.Sorted.{IsRisingBy, StandsTwice, old_of, new_of}
 use Rattle.cow_map.proofs.Lists.{no_chunks}
-
--- a list's front has no more of a kind than the list
-count_front : {X : Type 0} (p : X → Bool) (xs : List X) (n : ℕ) → count_by p (take n xs) ≤ count_by p xs
-count_front p xs n =
-    let whole : sum_by (λ x. cond (p x) 1 0) (take n xs ++ drop n xs) ≡ sum_by (λ x. cond (p x) 1 0) xs = ap (sum_by (λ x. cond (p x) 1 0)) (take-append-drop n xs) in
-    let parts = sum_by-append (λ x. cond (p x) 1 0) (take n xs) (drop n xs) in
-    omega arith
-
--- two elements in a row that pass a test
-count_two : {X : Type 0} (p : X → Bool) (xs : List X) (k : ℕ) (d : X) → k + 1 < length xs → p (get_or xs k d) ≡ true → p (get_or xs (k + 1) d) ≡ true → 1 < count_by p xs
-count_two p xs k d lt here next =
-    let one = count_by_more_yes p xs k d (omega arith) here in
-    let two = count_by_more_yes p xs (k + 1) d lt next in
-    let all = count_front p xs (k + 1 + 1) in
-    omega arith
 
 -- no number of the pairs stands in two of them
 abbrev pub Differ : (Pair → ℕ) → List Pair → Type 0
@@ -65,13 +47,7 @@ rising_far f xs up j zero d lt lt' = absurd (omega arith)
 pub rising_differ : (f : Pair → ℕ) (xs : List Pair) → IsRisingBy f xs → Differ f xs
 rising_differ f xs up j k d lt lt' same = let far = rising_far f xs up j k d lt lt' in omega arith
 
--- what stands twice in one order stands twice in any
-pub twice_counts : (f : Pair → ℕ) (xs ys : List Pair) (n : ℕ) → IsPermutation xs ys → StandsTwice f ys n → 1 < count_by (λ p. f p == n) xs
-twice_counts f xs ys n moved (k, lt, here, next) =
-    let two = count_two (λ p. f p == n) ys k no_chunks lt (eq-eqb _ _ (here no_chunks)) (eq-eqb _ _ (next no_chunks)) in
-    let same = sum_by-IsPermutation (λ p. cond (f p == n) 1 0) xs ys moved in
-    omega arith
-
+-- a number that stands twice in one order: pairs do not differ in any
 pub twice_not_apart : (f : Pair → ℕ) (xs ys : List Pair) (n : ℕ) → IsPermutation xs ys → StandsTwice f ys n → Differ f xs → ⊥
 twice_not_apart f xs ys n moved (k, lt, here, next) differ =
     differ_moved f xs ys moved differ k (k + 1) no_chunks (omega arith) lt (here no_chunks ∙ sym (next no_chunks))
@@ -98,14 +74,3 @@ twice_at f ps i e pos lt same =
       λ d. ap f (get_or_default ps (i - 1) d e (omega arith)) ∙ sym same,
       λ d. ap f (ap (λ n. get_or ps n d) back ∙ get_or_default ps i d e lt),
     )
-
--- one pair more is inside
-pub inside_more : (chunk origin size : ℕ) (ps : List Pair) (i : ℕ) (e : Pair) → i < length ps → ((k : ℕ) (d : Pair) → k < i → IsInside chunk origin size (get_or ps k d)) → IsInside chunk origin size (get_or ps i e) → (k : ℕ) (d : Pair) → k < i + 1 → IsInside chunk origin size (get_or ps k d)
-inside_more chunk origin size ps i e inside before here k d lt = elim (cases_lt k i) [
-  | inl lo ↦ before k d lo
-  | inr hi ↦ (let at : i ≡ k = omega arith in subst (λ (p : Pair). IsInside chunk origin size p) (get_or_default ps i e d inside ∙ ap (λ n. get_or ps n d) at) here)
-]
-
--- the pair of a slot, whatever stands past the end
-pub stands_at : (ps : List Pair) (i : ℕ) (e : Pair) → i < length ps → StandsAt ps i (get_or ps i e)
-stands_at ps i e lt = (lt, λ d. get_or_default ps i d e lt)

@@ -1,19 +1,42 @@
--- Why the pairs of a store are not well formed.
-use Rattle.std.specs.Prelude.{◌≡◌, ◌==◌, ℕ, ◌+◌, ◌*◌, ◌/◌, ◌<◌, ◌≤◌, ◌⊎◌, true, List, length, slice_index_or, count_by}
+-- Why the pairs of a store are not well formed: this project's own rules, the kernel tests none of them.
+use Rattle.std.specs.Prelude.{◌≡◌, ◌==◌, ℕ, ◌+◌, ◌*◌, ◌/◌, ◌<◌, ◌≤◌, ◌||◌, Bool, List, [], ◌∷◌, ◌++◌, length, nat_le, nat_lt, if◌then◌else◌}
+use Rattle.std.specs.List.{list_any}
 use Rattle.sector.specs.declared.pair.Pair.{Pair}
 use Rattle.model.specs.Places.{is_area_place, area_place}
 use Rattle.cow_map.specs.declared.fault.Fault.{Fault}
-use Rattle.cow_map.specs.declared.fault.Fault.TheVariants.{PastOrigin, OutsideStore, AtArea, OldTwice, NewTwice, NoArea}
+use Rattle.cow_map.specs.declared.fault.Fault.TheVariants.{PastOrigin, OutsideStore, AtArea, OldTwice, NewTwice}
+use Rattle.cow_map.specs.Sorted.{old_of, new_of}
 
--- the pair in a slot of a list
-abbrev pub StandsAt : List Pair → ℕ → Pair → Type 0
-StandsAt pairs slot pair = (slot < length pairs) × ((d : Pair) → slice_index_or pairs slot d ≡ pair)
+-- a fault, where a test says so
+abbrev pub told_if : Bool → Fault → List Fault
+told_if told fault = if told then fault ∷ [] else []
 
--- A fault of a list of pairs, for an origin and a store of so many sectors.
-abbrev pub IsFault : ℕ → ℕ → ℕ → List Pair → Fault → Type 0
-IsFault chunk origin size pairs (PastOrigin slot pair) = StandsAt pairs slot pair × (origin ≤ chunk * pair.old)
-IsFault chunk origin size pairs (OutsideStore slot pair) = StandsAt pairs slot pair × ((pair.new ≡ 0) ⊎ (size < chunk * (pair.new + 1)))
-IsFault chunk origin size pairs (AtArea slot pair) = StandsAt pairs slot pair × (is_area_place chunk pair.new ≡ true)
-IsFault chunk origin size pairs (OldTwice old) = 1 < count_by (λ pair. pair.old == old) pairs
-IsFault chunk origin size pairs (NewTwice new) = 1 < count_by (λ pair. pair.new == new) pairs
-IsFault chunk origin size pairs (NoArea area) = (area ≤ length pairs / (32 * chunk)) × (size < chunk * (area_place chunk area + 1))
+-- whether a number stands in one of the pairs
+abbrev pub stands_in : (Pair → ℕ) → List Pair → ℕ → Bool
+stands_in number pairs n = list_any (λ pair. number pair == n) pairs
+
+-- The faults of a slot's pair, for an origin and a store of so many sectors, after the pairs of the slots before it.
+abbrev pub slot_faults : ℕ → ℕ → ℕ → List Pair → Pair → List Fault
+slot_faults chunk origin size before pair =
+    told_if (nat_le origin (chunk * pair.old)) (PastOrigin (length before) pair)
+    ++ (told_if (pair.new == 0 || nat_lt size (chunk * (pair.new + 1))) (OutsideStore (length before) pair)
+    ++ (told_if (is_area_place chunk pair.new) (AtArea (length before) pair)
+    ++ (told_if (stands_in old_of before pair.old) (OldTwice (length before) pair)
+    ++ told_if (stands_in new_of before pair.new) (NewTwice (length before) pair))))
+
+-- the faults of the slots that come after some
+abbrev pub faults_after : ℕ → ℕ → ℕ → List Pair → List Pair → List Fault
+faults_after chunk origin size before [] = []
+faults_after chunk origin size before (pair ∷ pairs) = slot_faults chunk origin size before pair ++ faults_after chunk origin size (before ++ pair ∷ []) pairs
+
+-- All faults of a store's pairs, slot by slot.
+abbrev pub faults_of : ℕ → ℕ → ℕ → List Pair → List Fault
+faults_of chunk origin size pairs = faults_after chunk origin size [] pairs
+
+-- An area that does not lie wholly inside the store, and all areas before it are full.
+abbrev pub IsLacking : ℕ → ℕ → List Pair → ℕ → Type 0
+IsLacking chunk size pairs area = (area ≤ length pairs / (32 * chunk)) × (size < chunk * (area_place chunk area + 1))
+
+-- the first of all faults
+abbrev pub IsFirstFault : ℕ → ℕ → ℕ → List Pair → Fault → Type 0
+IsFirstFault chunk origin size pairs fault = (rest : List Fault) × (faults_of chunk origin size pairs ≡ fault ∷ rest)

@@ -3,3 +3,4 @@ pub mod Judged
 pub mod Sorted
 pub mod Listed
 pub mod Maps
+pub mod Usage

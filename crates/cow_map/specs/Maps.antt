@@ -1,5 +1,5 @@
 -- What a store's bytes are read as, for an origin of so many sectors.
-use Rattle.std.specs.Prelude.{◌≡◌, ℕ, ◌+◌, ◌*◌, ◌/◌, ◌<◌, ◌≤◌, List, length, Ok, Err}
+use Rattle.std.specs.Prelude.{◌≡◌, ℕ, ◌*◌, ◌/◌, ◌<◌, ◌≤◌, List, length, Ok, Err}
 use Rattle.std.specs.List.Sorted.{IsPermutation}
 use Rattle.sector.specs.Bytes.{sector_at}
 use Rattle.cow_header.specs.HeaderText.{found_in}
@@ -7,10 +7,10 @@ use Rattle.cow_header.specs.declared.found.Found.TheVariants.{Fresh as NoHeader,
 use Rattle.model.specs.Pairs.{pairs_of, AreWellFormed}
 use Rattle.cow_map.specs.declared.map.CowMap.{CowMap}
 use Rattle.cow_map.specs.declared.found.Reason.{Reason}
-use Rattle.cow_map.specs.declared.found.Reason.TheVariants.{Empty, Header, TooSmall, Pairs}
+use Rattle.cow_map.specs.declared.found.Reason.TheVariants.{Empty, Header, TooSmall, NoRoom, NoArea, Pairs}
 use Rattle.cow_map.specs.declared.found.Told.{Told}
 use Rattle.cow_map.specs.declared.found.Told.TheVariants.{Fresh, Refused, Written}
-use Rattle.cow_map.specs.Judged.{IsFault}
+use Rattle.cow_map.specs.Judged.{IsFirstFault, IsLacking}
 
 -- the map of a store that a load accepts
 pub record IsMapOf (origin : ℕ) (bytes : List ℕ) (map : CowMap) : Type 0 where
@@ -21,15 +21,23 @@ pub record IsMapOf (origin : ℕ) (bytes : List ℕ) (map : CowMap) : Type 0 whe
   pub pairs : IsPermutation (pairs_of map.chunk bytes) map.pairs.items
   pub current : map.current ≡ length (pairs_of map.chunk bytes) / (32 * map.chunk)
 
+-- bytes with a good header, that are two chunks at least
+pub record IsSound (bytes : List ℕ) (chunk size : ℕ) : Type 0 where
+  pub whole : length bytes ≡ 512 * size
+  pub header : found_in (sector_at bytes 0) ≡ Ok (GoodHeader chunk)
+  pub large : 2 * chunk ≤ size
+
 -- why a store is refused, the first reason in the order of a load
 abbrev pub IsReason : ℕ → List ℕ → Reason → Type 0
 IsReason origin bytes Empty = length bytes ≡ 0
 IsReason origin bytes (Header refusal) = found_in (sector_at bytes 0) ≡ Err refusal
 IsReason origin bytes (TooSmall chunk) = (found_in (sector_at bytes 0) ≡ Ok (GoodHeader chunk)) × (length bytes < 512 * (2 * chunk))
-IsReason origin bytes (Pairs fault) = (chunk : ℕ) × (size : ℕ) × (length bytes ≡ 512 * size) × (found_in (sector_at bytes 0) ≡ Ok (GoodHeader chunk)) × (2 * chunk ≤ size) × IsFault chunk origin size (pairs_of chunk bytes) fault × (AreWellFormed chunk origin size (pairs_of chunk bytes) → ⊥)
+IsReason origin bytes NoRoom = (found_in (sector_at bytes 0) ≡ Ok NoHeader) × (length bytes < 512 * 2)
+IsReason origin bytes (NoArea area) = (chunk : ℕ) × (size : ℕ) × IsSound bytes chunk size × IsLacking chunk size (pairs_of chunk bytes) area × (AreWellFormed chunk origin size (pairs_of chunk bytes) → ⊥)
+IsReason origin bytes (Pairs fault) = (chunk : ℕ) × (size : ℕ) × IsSound bytes chunk size × IsFirstFault chunk origin size (pairs_of chunk bytes) fault × (AreWellFormed chunk origin size (pairs_of chunk bytes) → ⊥)
 
 -- what a store's bytes are read as
 abbrev pub IsToldOf : ℕ → List ℕ → Told → Type 0
-IsToldOf origin bytes Fresh = found_in (sector_at bytes 0) ≡ Ok NoHeader
+IsToldOf origin bytes Fresh = (found_in (sector_at bytes 0) ≡ Ok NoHeader) × (512 * 2 ≤ length bytes)
 IsToldOf origin bytes (Refused reason) = IsReason origin bytes reason
 IsToldOf origin bytes (Written map) = IsMapOf origin bytes map

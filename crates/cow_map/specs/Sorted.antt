@@ -1,5 +1,5 @@
 -- Pairs in the order of their chunks.
-use Rattle.std.specs.Prelude.{◌≡◌, ◌==◌, ℕ, ◌+◌, ◌<◌, List, length, slice_index_or}
+use Rattle.std.specs.Prelude.{◌≡◌, ℕ, ◌+◌, ◌<◌, List, length, slice_index_or}
 use Rattle.sector.specs.declared.pair.Pair.{Pair}
 
 -- each number of the pairs is less than that of the next pair

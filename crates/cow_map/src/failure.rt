@@ -13,4 +13,6 @@ pub enum Failure {
     PartOfSector(u64),
     /// The image has so many sectors, which are more than `MAX_IMAGE`.
     TooLarge(u64),
+    /// The store was another one when it was read once more.
+    Changed,
 }

@@ -1,6 +1,6 @@
 // Why the pairs of a store are not well formed.
 
-use sector::{Chunk, Pair};
+use sector::Pair;
 
 /// What is wrong with the pairs of a store. Slots are counted from 0 over all areas.
 #[derive(Clone, Copy, Debug, PartialEq, Eq)]
@@ -11,10 +11,8 @@ pub enum Fault {
     OutsideStore { slot: u64, pair: Pair },
     /// The new chunk of a slot's pair is an area's place.
     AtArea { slot: u64, pair: Pair },
-    /// More than one pair has this old chunk.
-    OldTwice { old: Chunk },
-    /// More than one pair has this new chunk.
-    NewTwice { new: Chunk },
-    /// All areas before this one are full, and it does not lie wholly inside the store.
-    NoArea { area: u64 },
+    /// The old chunk of a slot's pair stands in an earlier slot.
+    OldTwice { slot: u64, pair: Pair },
+    /// The new chunk of a slot's pair stands in an earlier slot.
+    NewTwice { slot: u64, pair: Pair },
 }

@@ -12,7 +12,11 @@ pub enum Reason {
     Header(Refusal),
     /// The store is smaller than two of its chunks, which have so many sectors.
     TooSmall(u32),
-    /// The pairs are not well formed.
+    /// The store has no header yet, and less than two sectors: it is smaller than two chunks of any size.
+    NoRoom,
+    /// All areas before this one are full, and it does not lie wholly inside the store.
+    NoArea(u64),
+    /// The pairs are not well formed: the first of all faults.
     Pairs(Fault),
 }
 

@@ -3,6 +3,7 @@
 
 mod failure;
 mod fault;
+mod faulting;
 mod finding;
 mod found;
 mod judging;
@@ -13,6 +14,7 @@ mod telling;
 
 pub use failure::Failure;
 pub use fault::Fault;
+pub use faulting::faults;
 pub use finding::place_in;
 pub use found::{Reason, Told};
 pub use judging::judge;

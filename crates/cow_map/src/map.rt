@@ -1,6 +1,8 @@
 // The map of a store.
 ghost use Rattle.std.specs.Prelude.{◌≡◌, ℕ, ◌+◌, ◌*◌, ◌<◌, ◌≤◌};
+ghost use Rattle.std.specs.List.{All};
 ghost use Rattle.cow_map.specs.Sorted.{IsRisingBy, old_of};
+ghost use Rattle.cow_map.specs.Usage.{past_new as past_of, allocated_by, metadata_by};
 
 use model::is_area_place;
 use sector::Pair;
@@ -18,7 +20,10 @@ pub struct CowMap {
     pub pairs: Vec<Pair>,
     pub ghost some: { 0 < chunk },
     pub ghost allowed: { chunk ≤ 1024 },
+    pub ghost small: { size ≤ 68_719_476_736 },
+    pub ghost here: { current < size },
     pub ghost rising: { IsRisingBy old_of pairs.items },
+    pub ghost within: { All (λ pair. pair.new < size) pairs.items },
 }
 
 /// The numbers of a status line, in sectors.
@@ -33,23 +38,35 @@ pub struct Usage {
 }
 
 impl CowMap {
-    /// The numbers that a status line says of the store, as the kernel counts them: the next place is the one after the
-    /// greatest new chunk, or after that where an area stands there.
+    /// The numbers that a status line says of the store, as the kernel counts them.
     pub fn usage(&self) -> Usage
+        ensures allocated { result.allocated ≡ allocated_by self.now.chunk self.now.pairs.items }
         ensures total { result.total ≡ self.now.size }
+        ensures metadata { result.metadata ≡ metadata_by self.now.chunk self.now.current }
     {
-        let mut next: u64 = 2;
-        for pair in self.pairs.as_slice() {
-            next = next.max(pair.new.saturating_add(1));
-        }
-        if is_area_place(self.chunk, next) {
-            next = next.saturating_add(1);
-        }
         let chunk = self.chunk as u64;
+        let mut next = past_new(self.size, self.pairs.as_slice());
+        if is_area_place(self.chunk, next) {
+            next += 1;
+        }
         Usage {
-            allocated: next.saturating_mul(chunk),
+            allocated: next * chunk,
             total: self.size,
-            metadata: self.current.saturating_add(2).saturating_mul(chunk),
+            metadata: (self.current + 2) * chunk,
         }
     }
+}
+
+/// The chunk after the greatest new chunk of these pairs, or 2 where there is none.
+fn past_new(size: u64, pairs: &[Pair]) -> u64
+    requires small { size ≤ 68_719_476_736 }
+    requires within { All (λ pair. pair.new < size) pairs.now }
+    ensures past { result ≡ past_of pairs.now }
+    ensures low { result ≤ size + 2 }
+{
+    let mut past: u64 = 2;
+    for pair in pairs {
+        past = past.max(pair.new + 1);
+    }
+    past
 }

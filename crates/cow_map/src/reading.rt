@@ -1,7 +1,7 @@
 // The areas of a written store are read from an image, up to the first empty slot.
 ghost use Rattle.std.specs.Prelude.{◌≡◌, ℕ, ◌+◌, ◌*◌, ◌<◌, ◌≤◌, List, length, IfOk, OnOk, Some};
 ghost use Rattle.model.specs.Places.{chunk_at};
-ghost use Rattle.cow_map.specs.Listed.{IsListedIn};
+ghost use Rattle.cow_map.specs.Listed.{IsListedIn, EndsBelow};
 ghost use Rattle.cow_map.specs.Loaded.{IsLoaded};
 
 use crate::Failure;
@@ -44,6 +44,7 @@ pub fn read_pairs<I: Image>(
     requires none { length pairs.old.items ≡ 0 }
     requires small { size ≤ MAX_IMAGE }
     ensures listed { IfOk result (λ listed. (b : List ℕ) → I.bytes cow.old ≡ Some b → IsListedIn area.old.chunk size b pairs.new.items area.new.bytes.items listed) }
+    ensures below { IfOk result (EndsBelow size) }
     ensures chunk { area.new.chunk ≡ area.old.chunk }
     ensures bytes { I.bytes cow.new ≡ I.bytes cow.old }
 {

@@ -1,13 +1,16 @@
 // A store is read from its image and judged.
-ghost use Rattle.std.specs.Prelude.{◌≡◌, ℕ, ◌+◌, ◌*◌, ◌/◌, ◌<◌, ◌≤◌, List, length, IfOk, OnOk, Ok, Some};
+ghost use Rattle.std.specs.Prelude.{◌≡◌, ℕ, ◌+◌, ◌*◌, ◌/◌, ◌<◌, ◌≤◌, List, ◌∷◌, length, IfOk, OnOk, Ok, Some};
 ghost use Rattle.sector.specs.Bytes.{sector_at};
 ghost use Rattle.cow_header.specs.HeaderText.{found_in};
 ghost use Rattle.model.specs.Pairs.{pairs_of};
+ghost use Rattle.cow_map.specs.Judged.{IsFirstFault};
+ghost use Rattle.cow_map.specs.Listed.{IsListedBy};
 ghost use Rattle.cow_map.specs.Maps.{IsToldOf};
+ghost use Rattle.cow_map.specs.declared.fault.Fault.{Fault as FaultOf};
 ghost use Rattle.cow_map.specs.declared.reading.Listed.TheVariants.{Ends};
 ghost use Rattle.cow_header.specs.declared.found.Found.TheVariants.{Header};
 
-use crate::{CowMap, Failure, Fault, Listed, MAX_IMAGE, Reason, Told, judge, read_pairs};
+use crate::{CowMap, Failure, Fault, Listed, MAX_IMAGE, Reason, Told, faults, judge, read_pairs};
 use cow_header::{Found, decode};
 use image::Image;
 use metadata_area::Area;
@@ -60,7 +63,12 @@ pub fn read_store<I: Image>(alloc: Global, cow: &mut I, origin: u64) -> Result<T
     read_first(cow, &mut first)?;
     match decode(&first) {
         Err(refusal) => Ok(Told::Refused(Reason::Header(refusal))),
-        Ok(Found::Fresh) => Ok(Told::Fresh),
+        Ok(Found::Fresh) => {
+            if size < 2 {
+                return Ok(Told::Refused(Reason::NoRoom));
+            }
+            Ok(Told::Fresh)
+        }
         Ok(Found::Header { chunk }) => {
             if size < 2 * chunk as u64 {
                 return Ok(Told::Refused(Reason::TooSmall(chunk)));
@@ -91,18 +99,76 @@ fn read_written<I: Image>(
     let current = match read_pairs(cow, size, &mut area, &mut pairs)? {
         Listed::Ends(current) => current,
         Listed::Lacks(area) => {
-            return Ok(Told::Refused(Reason::Pairs(Fault::NoArea { area })));
+            return Ok(Told::Refused(Reason::NoArea(area)));
         }
     };
-    match judge(chunk, origin, size, &mut pairs) {
-        Some(fault) => Ok(Told::Refused(Reason::Pairs(fault))),
-        None => Ok(Told::Written(CowMap {
-            chunk,
-            size,
-            current,
-            pairs,
-        })),
+    if !judge(chunk, origin, size, &mut pairs) {
+        let fault = read_fault(alloc, cow, chunk, size, origin)?;
+        return Ok(Told::Refused(Reason::Pairs(fault)));
     }
+    Ok(Told::Written(CowMap {
+        chunk,
+        size,
+        current,
+        pairs,
+    }))
+}
+
+/// The first fault of a store whose pairs are not well formed, from its areas once more: a judge leaves pairs in another
+/// order.
+fn read_fault<I: Image>(
+    alloc: Global,
+    cow: &mut I,
+    chunk: u32,
+    size: u64,
+    origin: u64,
+) -> Result<Fault, Failure>
+    requires some { 0 < chunk }
+    requires allowed { chunk ≤ 1024 }
+    requires small { size ≤ MAX_IMAGE }
+    ensures first { IfOk result (λ fault. (b : List ℕ) → I.bytes cow.old ≡ Some b → IsFirstFault chunk origin size (pairs_of chunk b) fault) }
+    ensures bytes { I.bytes cow.new ≡ I.bytes cow.old }
+{
+    let (pairs, listed) = listed_slots(alloc, cow, chunk, size)?;
+    let Listed::Ends(_) = listed else {
+        return Err(Failure::Changed);
+    };
+    let Ok(found) = faults(alloc, chunk, origin, size, pairs.as_slice(), 1) else {
+        return Err(Failure::NoMemory);
+    };
+    let fault = first_of(found.as_slice())?;
+    Ok(fault)
+}
+
+/// The first of these faults.
+fn first_of(faults: &[Fault]) -> Result<Fault, Failure>
+    ensures { IfOk result (λ fault. (rest : List FaultOf) × (faults.now ≡ fault ∷ rest)) }
+{
+    if faults.is_empty() {
+        return Err(Failure::Changed);
+    }
+    Ok(faults[0])
+}
+
+/// The slots of a store of so many sectors up to the first that is empty, and how its areas end.
+fn listed_slots<I: Image>(
+    alloc: Global,
+    cow: &mut I,
+    chunk: u32,
+    size: u64,
+) -> Result<(Vec<Pair>, Listed), Failure>
+    requires some { 0 < chunk }
+    requires allowed { chunk ≤ 1024 }
+    requires small { size ≤ MAX_IMAGE }
+    ensures slots { IfOk result (λ slots. (b : List ℕ) → I.bytes cow.old ≡ Some b → IsListedBy chunk size b slots.0.items slots.1) }
+    ensures bytes { I.bytes cow.new ≡ I.bytes cow.old }
+{
+    let Ok(mut area) = Area::new(alloc, chunk) else {
+        return Err(Failure::NoMemory);
+    };
+    let mut pairs: Vec<Pair> = Vec::new(alloc);
+    let listed = read_pairs(cow, size, &mut area, &mut pairs)?;
+    Ok((pairs, listed))
 }
 
 /// The slots of a store with chunks of so many sectors up to the first that is empty, whatever they hold, and how its areas
@@ -118,10 +184,5 @@ pub fn read_slots<I: Image>(
     ensures bytes { I.bytes cow.new ≡ I.bytes cow.old }
 {
     let size = sectors_of(cow)?;
-    let Ok(mut area) = Area::new(alloc, chunk) else {
-        return Err(Failure::NoMemory);
-    };
-    let mut pairs: Vec<Pair> = Vec::new(alloc);
-    let listed = read_pairs(cow, size, &mut area, &mut pairs)?;
-    Ok((pairs, listed))
+    listed_slots(alloc, cow, chunk, size)
 }

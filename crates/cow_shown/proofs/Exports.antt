@@ -69,3 +69,7 @@ bytes_shown chunk o b ps at n out len each = ext_get_or 0 out (shown chunk o b p
 -- the next chunk begins where this one ends
 pub next_at : (chunk number at : ℕ) → at ≡ 512 * (chunk * number) → at + 512 * chunk ≡ 512 * (chunk * (number + 1))
 next_at chunk number at is = grind arith
+
+-- without pairs the picture is the origin
+pub fresh_is : (chunk end : ℕ) (o b : List ℕ) → length o ≡ end → shown chunk o b [] 0 end ≡ o
+fresh_is chunk end o b whole = sym (bytes_shown chunk o b [] 0 end o whole (λ i lt. ap (λ n. get_or o n 0) (sym (zero-add i))))

@@ -8,7 +8,7 @@ ghost use Rattle.cow_shown.specs.Shown.{shown, IsFrontOf};
 
 use crate::show_chunk;
 use cow_map::CowMap;
-use image::{Image, Sink};
+use image::{Image, MemImage, Sink};
 use sector::{Chunk, Pair};
 use std::alloc::Global;
 use std::io;
@@ -45,6 +45,37 @@ pub fn export<O: Image, C: Image, S: Sink>(
     let end = 512 * size;
     let room = room.as_mut_slice();
     match write_all(origin, cow, map.chunk, pairs, end, room, sink) {
+        Ok(()) => Ok(()),
+        Err(stopped) => Err(stopped),
+    }
+}
+
+/// The chunk size with which the origin of a fresh store is copied.
+const FRESH_CHUNK: u32 = 128;
+
+/// Writes what the snapshot of a fresh store shows: its origin, which has so many sectors, from the front to the end.
+pub fn export_fresh<O: Image, S: Sink>(
+    alloc: Global,
+    origin: &mut O,
+    size: u64,
+    sink: &mut S,
+) -> Result<(), Stopped>
+    requires { size ≤ 68_719_476_736 }
+    ensures all { OnOk result ((o : List ℕ) → O.bytes origin.old ≡ Some o → length o ≡ 512 * size → Appends (S.contents sink.old) (S.contents sink.new) o) }
+    ensures part { OnErr result ((o : List ℕ) → O.bytes origin.old ≡ Some o → length o ≡ 512 * size → (front : List ℕ) × IsFrontOf front o × Appends (S.contents sink.old) (S.contents sink.new) front) }
+{
+    let bytes = 512 * FRESH_CHUNK as usize;
+    let Ok(mut room) = vec![in alloc; 0u8; bytes] else {
+        return Err(Stopped::NoMemory);
+    };
+    let mut none = MemImage {
+        bytes: Vec::new(alloc),
+    };
+    let pairs: Vec<Pair> = Vec::new(alloc);
+    let pairs = pairs.as_slice();
+    let room = room.as_mut_slice();
+    let end = 512 * size;
+    match write_all(origin, &mut none, FRESH_CHUNK, pairs, end, room, sink) {
         Ok(()) => Ok(()),
         Err(stopped) => Err(stopped),
     }

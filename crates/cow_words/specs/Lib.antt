@@ -1,2 +1,4 @@
+pub mod Json
+pub mod Lines
 pub mod Reasons
 pub mod Shows

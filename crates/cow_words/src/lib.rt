@@ -2,10 +2,15 @@
 //! it puts into words, and promises that each text is the one of its definition in `specs/`.
 #![tactic(auto)]
 
+mod json;
 mod listing;
 mod reasons;
 mod showing;
 mod text;
 
+pub use json::push_json;
 pub use listing::{push_listed, push_runs, push_slots};
-pub use showing::{Numbers, push_numbers, push_sectors, push_told, push_usage};
+pub use reasons::push_faults;
+pub use showing::{
+    Numbers, push_numbers, push_sectors, push_show, push_told, push_usage, slots_of,
+};

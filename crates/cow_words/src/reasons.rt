@@ -1,6 +1,6 @@
 // Why a store is refused, in words.
 ghost use Rattle.std.specs.Prelude.{◌≡◌, ℕ, ◌*◌, ◌<◌, ◌++◌, OnOk, codes, decimal};
-ghost use Rattle.cow_words.specs.Reasons.{slot_text, fault_text, header_text, reason_text, refused_name};
+ghost use Rattle.cow_words.specs.Reasons.{slot_text, fault_text, fault_line, faults_text, header_text, reason_text, refused_name};
 
 use crate::text::push_number;
 use cow_map::{Fault, Reason};
@@ -66,19 +66,36 @@ fn push_fault(text: &mut Vec<u8>, slots: u64, fault: Fault) -> Result<(), AllocE
             let after = b" is an area's place";
             push_slot_fault(text, slots, slot, b": new chunk ", pair.new, after)
         }
-        Fault::OldTwice { old } => {
-            push_between(text, b"old chunk ", old, b" stands in more than one pair")
+        Fault::OldTwice { slot, pair } => {
+            let after = b" stands in an earlier slot";
+            push_slot_fault(text, slots, slot, b": old chunk ", pair.old, after)
         }
-        Fault::NewTwice { new } => {
-            push_between(text, b"new chunk ", new, b" stands in more than one pair")
+        Fault::NewTwice { slot, pair } => {
+            let after = b" stands in an earlier slot";
+            push_slot_fault(text, slots, slot, b": new chunk ", pair.new, after)
         }
-        Fault::NoArea { area } => push_between(
-            text,
-            b"area ",
-            area,
-            b" comes after full areas and does not lie inside the store",
-        ),
     }
+}
+
+/// Adds a line for each of these faults, in a store whose areas have so many slots.
+pub fn push_faults(text: &mut Vec<u8>, slots: u64, faults: &[Fault]) -> Result<(), AllocError>
+    requires { 0 < slots }
+    ensures { OnOk result (text.new.items ≡ text.old.items ++ faults_text slots faults.now) }
+{
+    for fault in faults {
+        push_fault_line(text, slots, *fault)?;
+    }
+    Ok(())
+}
+
+/// Adds the line of a fault.
+fn push_fault_line(text: &mut Vec<u8>, slots: u64, fault: Fault) -> Result<(), AllocError>
+    requires { 0 < slots }
+    ensures { OnOk result (text.new.items ≡ text.old.items ++ fault_line slots fault) }
+{
+    text.extend_from_slice(b"fault ")?;
+    push_fault(text, slots, fault)?;
+    text.extend_from_slice(b"\n")
 }
 
 /// Adds that a store is smaller than two of its chunks.
@@ -112,6 +129,13 @@ pub(crate) fn push_reason(text: &mut Vec<u8>, slots: u64, reason: Reason) -> Res
         Reason::Empty => text.extend_from_slice(b"the store has no sector"),
         Reason::Header(refusal) => text.extend_from_slice(header_words(refusal).as_bytes()),
         Reason::TooSmall(chunk) => push_small(text, chunk),
+        Reason::NoRoom => text.extend_from_slice(b"no header, and less than two sectors"),
+        Reason::NoArea(area) => push_between(
+            text,
+            b"area ",
+            area,
+            b" comes after full areas and does not lie inside the store",
+        ),
         Reason::Pairs(fault) => push_fault(text, slots, fault),
     }
 }
@@ -121,8 +145,8 @@ pub(crate) fn refused_as(reason: Reason) -> &'static str
     ensures { result.now ≡ refused_name reason }
 {
     match reason {
-        Reason::Empty | Reason::TooSmall(_) => Refusal::StoreTooSmall.name(),
+        Reason::Empty | Reason::TooSmall(_) | Reason::NoRoom => Refusal::StoreTooSmall.name(),
         Reason::Header(refusal) => refusal.name(),
-        Reason::Pairs(_) => Refusal::Damaged.name(),
+        Reason::NoArea(_) | Reason::Pairs(_) => Refusal::Damaged.name(),
     }
 }

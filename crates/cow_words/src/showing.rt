@@ -1,7 +1,7 @@
 // What a store holds, in lines.
-ghost use Rattle.std.specs.Prelude.{◌≡◌, ℕ, ◌+◌, ◌*◌, ◌<◌, ◌≤◌, ◌++◌, length, OnOk, codes, decimal};
+ghost use Rattle.std.specs.Prelude.{◌≡◌, ℕ, ◌+◌, ◌*◌, ◌<◌, ◌≤◌, ◌++◌, length, OnOk, codes, decimal, None};
 ghost use Rattle.sector.specs.Number.{number_at};
-ghost use Rattle.cow_words.specs.Shows.{line_text, numbers_text, told_text, status_text};
+ghost use Rattle.cow_words.specs.Shows.{line_text, numbers_text, slots_by, told_text, status_text, usage_text, status_of, header_of, show_text};
 
 use crate::reasons::{push_reason, refused_as};
 use crate::text::{push_line, push_number};
@@ -44,6 +44,22 @@ pub fn push_numbers(text: &mut Vec<u8>, numbers: Numbers) -> Result<(), AllocErr
     push_line(text, b"valid", numbers.valid as u64)?;
     push_line(text, b"version", numbers.version as u64)?;
     push_line(text, b"chunk", numbers.chunk as u64)
+}
+
+/// The slots of an area by the numbers of a header, or 1 where they say nothing of use.
+pub fn slots_of(numbers: Option<Numbers>) -> u64
+    ensures value { result ≡ slots_by numbers }
+    ensures some { 0 < result }
+{
+    match numbers {
+        Some(numbers) => {
+            if numbers.chunk == 0 {
+                return 1;
+            }
+            32 * numbers.chunk as u64
+        }
+        None => 1,
+    }
 }
 
 /// Adds what a store holds, or why it is refused.
@@ -95,7 +111,45 @@ pub fn push_sectors(text: &mut Vec<u8>, sectors: u64) -> Result<(), AllocError>
 }
 
 /// Adds the status line of a store's map.
-pub fn push_usage(text: &mut Vec<u8>, map: &CowMap) -> Result<(), AllocError> {
+pub fn push_usage(text: &mut Vec<u8>, map: &CowMap) -> Result<(), AllocError>
+    ensures { OnOk result (text.new.items ≡ text.old.items ++ usage_text map.now) }
+{
     let usage = map.usage();
     push_status(text, usage.allocated, usage.total, usage.metadata)
+}
+
+/// Adds the four numbers of a header, where there is one.
+fn push_header(text: &mut Vec<u8>, numbers: Option<Numbers>) -> Result<(), AllocError>
+    ensures { OnOk result (text.new.items ≡ text.old.items ++ header_of numbers) }
+{
+    if let Some(numbers) = numbers {
+        push_numbers(text, numbers)?;
+    }
+    Ok(())
+}
+
+/// Adds the status line, where there is one.
+fn push_status_of(text: &mut Vec<u8>, told: &Told) -> Result<(), AllocError>
+    ensures { OnOk result (text.new.items ≡ text.old.items ++ status_of told.now) }
+{
+    match told {
+        Told::Written(map) => push_usage(text, map),
+        Told::Fresh => Ok(()),
+        Told::Refused(_) => Ok(()),
+    }
+}
+
+/// Adds all that is shown of a store of so many sectors, by its header's numbers and what is told of it.
+pub fn push_show(
+    text: &mut Vec<u8>,
+    sectors: u64,
+    numbers: Option<Numbers>,
+    told: &Told,
+) -> Result<(), AllocError>
+    ensures { OnOk result (text.new.items ≡ text.old.items ++ show_text sectors numbers told.now) }
+{
+    push_sectors(text, sectors)?;
+    push_header(text, numbers)?;
+    push_told(text, slots_of(numbers), told)?;
+    push_status_of(text, told)
 }

@@ -8,9 +8,9 @@ use Rattle.pending.specs.declared.flights.Flight.{Flight}
 use Rattle.pending.specs.declared.flights.Route.{Route}
 use Rattle.pending.specs.Kinds.{kind_of}
 use Rattle.pending.specs.Routes.{write_route_of, again_route_of}
-use Rattle.volume_laws.specs.Books.{MergeBooks}
 use Rattle.volume_laws.specs.Published.{is_clear as is_clear_in}
-use Rattle.volume_laws.specs.Again.{new_route, again_of}
+use Rattle.volume_laws.specs.Again.{merged_place as place_in_books, new_route, again_of}
+use Rattle.volume_laws.specs.Waits.{is_grouped as grouped_in_books}
 use Rattle.volume_laws.specs.MergeDue.{is_none, last_of, due_or, can_group as groups, can_read_area as reads_area, can_read as reads, can_write as writes, can_release as releases, is_readable as readable, is_writable as writable, is_copied as all_copied, merge_due as due_in_books, due_with}
 use Rattle.volume_laws.specs.Due.{books_of, due_of}
 use Rattle.settled.specs.Devices.{Device}
@@ -18,7 +18,7 @@ use Rattle.event_machine.specs.Held.{Going, MergeHeld, group_in}
 use Rattle.event_machine.specs.Again.{again, is_grouped, merged_place, write_route}
 use Rattle.event_machine.specs.MergeDue.{in_area, is_free, can_group, can_read_area, can_read, can_write, can_release, is_readable, is_writable, is_using, is_writing, is_copied, merge_due, due_all}
 use Rattle.event_machine.specs.Seen.{Seen, going_of, held_of, due_in, NeedsAsSeen}
-use Rattle.event_machine.specs.MergeSeen.{MergeSeen, merge_held_of, merging_as, IsFilledAsSeen}
+use Rattle.event_machine.specs.MergeSeen.{MergeSeen, merge_held_of, held_in, books_in, merging_as, IsFilledAsSeen}
 use Rattle.settled.proofs.Each.{Each}
 use Rattle.event_machine.proofs.Tied.{any_map, clear_seen, due_tied, seen_alike}
 
@@ -92,14 +92,14 @@ module _ (s : MergeSeen) where
       books_same [] = refl
       books_same (x ∷ xs) = ap (λ ys. x.due.books ∷ ys) (books_same xs)
 
--- Held origin writes are routed again as `volume_laws` has it, with a merge or without one.
-abbrev pub held_in : Option MergeSeen → Option MergeHeld
-held_in None = None
-held_in (Some s) = Some (merge_held_of s)
+-- Origin requests are routed, and held ones again, as `volume_laws` has it, with a merge or without one.
+pub place_tied : (merge : Option MergeSeen) (f : Flight) → merged_place (held_in merge) f.request.range.first ≡ place_in_books (books_in merge) f
+place_tied None f = refl
+place_tied (Some s) f = refl
 
-abbrev pub books_in : Option MergeSeen → Option MergeBooks
-books_in None = None
-books_in (Some s) = Some s.due.books
+pub grouped_tied : (merge : Option MergeSeen) (f : Flight) → is_grouped (held_in merge) f.request.range.first ≡ grouped_in_books (books_in merge) f
+grouped_tied None f = refl
+grouped_tied (Some s) f = refl
 
 pub route_tied : (merge : Option MergeSeen) (snaps : List Seen) (f : Flight) →
     write_route (held_in merge) (map held_of snaps) f.request.range.first ≡ new_route (books_in merge) (is_clear_in (map (λ (x : Seen). x.due.books) snaps)) f

@@ -1,10 +1,11 @@
 -- What a merge keeps, as `volume_laws` has it, seen as the machine of this crate: without the buffer's room.
-use Rattle.std.specs.Prelude.{◌≡◌, ℕ, ◌+◌, ◌*◌, List, [], ◌∷◌, length, take, Option}
+use Rattle.std.specs.Prelude.{◌≡◌, ℕ, ◌+◌, ◌*◌, List, [], ◌∷◌, length, take, Option, Some, None}
 use Rattle.sector.specs.declared.pair.Pair.{Pair}
 use Rattle.device.specs.Layers.{Layer}
 use Rattle.plain.specs.declared.request.Reply.{Reply}
 use Rattle.pending.specs.Copies.{count_of}
 use Rattle.pending.specs.declared.flights.Flight.{Flight}
+use Rattle.volume_laws.specs.Books.{MergeBooks}
 use Rattle.volume_laws.specs.MergeDue.{DueMerge}
 use Rattle.settled.specs.Devices.{Device}
 use Rattle.event_machine.specs.Held.{MergeHeld, Moving, with_merge}
@@ -39,6 +40,15 @@ merge_held_of s = record {
   released = s.due.books.released;
   flushed = s.due.flushed;
 }
+
+-- a merge that may be begun: what the machine has of it, and its books
+abbrev pub held_in : Option MergeSeen → Option MergeHeld
+held_in None = None
+held_in (Some s) = Some (merge_held_of s)
+
+abbrev pub books_in : Option MergeSeen → Option MergeBooks
+books_in None = None
+books_in (Some s) = Some s.due.books
 
 -- a volume with a merge
 abbrev pub merging_as : MergeSeen → Device → List Seen → List Flight → Option Reply → ℕ → Moving

@@ -1,12 +1,15 @@
 // Stores are looked at.
 
+ghost use Rattle.std.specs.Prelude.{ℕ, ◌<◌, ◌≤◌, IfSome};
+
 use crate::files::opened;
 use crate::trouble::Trouble;
-use cow_map::{Listed, Reason, Told, read_first, read_slots, read_store, sectors_of};
+use cow_map::{Listed, Reason, Told, faults, read_first, read_slots, read_store, sectors_of};
 use cow_words::{
-    Numbers, push_listed, push_numbers, push_runs, push_sectors, push_slots, push_told, push_usage,
+    Numbers, push_faults, push_json, push_listed, push_runs, push_show, push_slots, push_told,
+    slots_of,
 };
-use image::Image;
+use image::{FileImage, Image};
 use std::io;
 use std::io::Write;
 
@@ -27,76 +30,117 @@ pub fn numbers_of<I: Image>(cow: &mut I, size: u64) -> Result<Option<Numbers>, T
     Ok(Some(Numbers::of(&first)))
 }
 
-/// The slots of an area, as a header says, or 1 where it says nothing of use.
-fn slots_of(numbers: Option<Numbers>) -> u64 {
-    match numbers {
-        Some(numbers) if numbers.chunk != 0 => 32 * numbers.chunk as u64,
-        _ => 1,
-    }
+/// What is known of a store's image: its sectors, its header's numbers, and what is told of it.
+#[derive(Drop)]
+pub struct Seen {
+    pub sectors: u64,
+    pub numbers: Option<Numbers>,
+    pub told: Told,
 }
 
-/// Adds what is told of a store, and says whether it is good.
-pub fn put_told(
-    text: &mut Vec<u8>,
-    numbers: Option<Numbers>,
-    told: &Told,
-) -> Result<bool, Trouble> {
-    let slots = slots_of(numbers).max(1);
-    push_told(text, slots, told)?;
-    match told {
-        Told::Written(map) => {
-            push_usage(text, map)?;
-            Ok(true)
-        }
-        Told::Fresh => Ok(true),
-        Told::Refused(_) => Ok(false),
-    }
+/// Reads a store, for an origin of so many sectors.
+pub fn look<I: Image>(rt: &HostRuntime, cow: &mut I, origin: u64) -> Result<Seen, Trouble> {
+    let sectors = sectors_of(cow)?;
+    let numbers = numbers_of(cow, sectors)?;
+    let told = read_store(rt.alloc(), cow, origin)?;
+    Ok(Seen {
+        sectors,
+        numbers,
+        told,
+    })
 }
 
-/// Prints a store's header and numbers, and whether it is good.
-fn shown(rt: &HostRuntime, cow: &str, origin: u64) -> Result<bool, Trouble> {
-    let mut cow = opened(rt, cow)?;
-    let size = sectors_of(&mut cow)?;
-    let numbers = numbers_of(&mut cow, size)?;
+/// Whether a store is good.
+fn is_good(told: &Told) -> bool {
+    !matches!(told, Told::Refused(_))
+}
+
+/// Prints what a store holds or why it is refused, and tells whether it is good.
+pub fn put_seen(rt: &HostRuntime, seen: &Seen) -> Result<bool, Trouble> {
     let mut text = Vec::new(rt.alloc());
-    push_sectors(&mut text, size)?;
-    if let Some(numbers) = numbers {
-        push_numbers(&mut text, numbers)?;
-    }
-    let told = read_store(rt.alloc(), &mut cow, origin)?;
-    let good = put_told(&mut text, numbers, &told)?;
+    push_show(&mut text, seen.sectors, seen.numbers, &seen.told)?;
     printed(rt, text.as_slice())?;
-    Ok(good)
+    Ok(is_good(&seen.told))
+}
+
+/// The chunk size that a header says, where it is one that a store may have.
+fn chunk_of(numbers: Option<Numbers>) -> Option<u32>
+    ensures { IfSome result (λ chunk. (0 < chunk) × (chunk ≤ 1024)) }
+{
+    let numbers = numbers?;
+    if numbers.chunk == 0 || 1024 < numbers.chunk {
+        return None;
+    }
+    Some(numbers.chunk)
+}
+
+/// Prints all faults of a store's pairs, for an origin of so many sectors: a line for each, and one for an area that is not
+/// there.
+fn put_faults(
+    rt: &HostRuntime,
+    cow: &mut FileImage,
+    seen: &Seen,
+    origin: u64,
+) -> Result<(), Trouble> {
+    let Some(chunk) = chunk_of(seen.numbers) else {
+        return Ok(());
+    };
+    let (pairs, listed) = read_slots(rt.alloc(), cow, chunk)?;
+    let pairs = pairs.as_slice();
+    let found = faults(rt.alloc(), chunk, origin, seen.sectors, pairs, usize::MAX)?;
+    let mut text = Vec::new(rt.alloc());
+    push_faults(&mut text, slots_of(seen.numbers), found.as_slice())?;
+    if let Listed::Lacks(_) = listed {
+        push_listed(&mut text, listed)?;
+    }
+    printed(rt, text.as_slice())?;
+    Ok(())
 }
 
 /// Prints what a store holds, for an origin of any size.
 pub fn show(rt: &HostRuntime, cow: &str) -> Result<bool, Trouble> {
-    shown(rt, cow, u64::MAX)
+    let mut cow = opened(rt, cow)?;
+    let seen = look(rt, &mut cow, u64::MAX)?;
+    put_seen(rt, &seen)
 }
 
-/// Prints what a store holds, for this origin.
+/// Prints what a store holds as one JSON object, for an origin of any size.
+pub fn show_json(rt: &HostRuntime, cow: &str) -> Result<bool, Trouble> {
+    let mut cow = opened(rt, cow)?;
+    let seen = look(rt, &mut cow, u64::MAX)?;
+    let mut text = Vec::new(rt.alloc());
+    push_json(&mut text, seen.sectors, seen.numbers, &seen.told)?;
+    printed(rt, text.as_slice())?;
+    Ok(is_good(&seen.told))
+}
+
+/// Prints what a store holds for this origin, and all faults of its pairs.
 pub fn check(rt: &HostRuntime, origin: &str, cow: &str) -> Result<bool, Trouble> {
     let mut origin = opened(rt, origin)?;
     let size = sectors_of(&mut origin)?;
-    shown(rt, cow, size)
+    let mut cow = opened(rt, cow)?;
+    let seen = look(rt, &mut cow, size)?;
+    let good = put_seen(rt, &seen)?;
+    match seen.told {
+        Told::Refused(Reason::Pairs(_)) | Told::Refused(Reason::NoArea(_)) => {
+            put_faults(rt, &mut cow, &seen, size)?;
+        }
+        _ => {}
+    }
+    Ok(good)
 }
 
 /// Prints the pairs of a store in runs, or why it is refused.
 pub fn map(rt: &HostRuntime, cow: &str) -> Result<bool, Trouble> {
     let mut cow = opened(rt, cow)?;
-    let size = sectors_of(&mut cow)?;
-    let numbers = numbers_of(&mut cow, size)?;
-    let told = read_store(rt.alloc(), &mut cow, u64::MAX)?;
+    let seen = look(rt, &mut cow, u64::MAX)?;
     let mut text = Vec::new(rt.alloc());
-    let good = match &told {
-        Told::Written(map) => {
-            push_runs(&mut text, map.pairs.as_slice())?;
-            true
-        }
-        told => put_told(&mut text, numbers, told)?,
-    };
+    match &seen.told {
+        Told::Written(map) => push_runs(&mut text, map.pairs.as_slice())?,
+        told => push_told(&mut text, slots_of(seen.numbers), told)?,
+    }
     printed(rt, text.as_slice())?;
-    Ok(good)
+    Ok(is_good(&seen.told))
 }
 
 /// Prints the slots of a store up to the first that is empty, whether it is good or not. A store without a chunk size that
@@ -106,13 +150,9 @@ pub fn raw_map(rt: &HostRuntime, cow: &str) -> Result<bool, Trouble> {
     let size = sectors_of(&mut cow)?;
     let numbers = numbers_of(&mut cow, size)?;
     let mut text = Vec::new(rt.alloc());
-    let chunk = match numbers {
-        Some(numbers) => numbers.chunk,
-        None => 0,
-    };
-    if chunk == 0 || 1024 < chunk {
+    let Some(chunk) = chunk_of(numbers) else {
         return Ok(false);
-    }
+    };
     let (pairs, listed) = read_slots(rt.alloc(), &mut cow, chunk)?;
     push_slots(&mut text, 32 * chunk as u64, pairs.as_slice())?;
     push_listed(&mut text, listed)?;

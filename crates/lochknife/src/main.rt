@@ -11,7 +11,7 @@ mod looking;
 mod rolling;
 mod trouble;
 
-use crate::looking::{check, map, raw_map, show};
+use crate::looking::{check, map, raw_map, show, show_json};
 use crate::rolling::export;
 use crate::trouble::Trouble;
 use std::io;
@@ -22,6 +22,8 @@ use std::process::ExitCode;
 enum Asked<'a> {
     /// A store's header, its numbers, and whether it is good.
     Show(&'a str),
+    /// The same, as a JSON object.
+    ShowJson(&'a str),
     /// Its pairs.
     Map(&'a str),
     /// Its slots, whether it is good or not.
@@ -43,6 +45,9 @@ fn words_ask(words: &[String]) -> Option<Asked<'_>> {
         return Some(Asked::Map(first));
     }
     let second = words.get(3)?.as_str();
+    if words.len() == 4 && command == "show" && second == "--json" {
+        return Some(Asked::ShowJson(first));
+    }
     if words.len() == 4 && command == "map" && second == "--raw" {
         return Some(Asked::RawMap(first));
     }
@@ -60,6 +65,7 @@ fn words_ask(words: &[String]) -> Option<Asked<'_>> {
 fn done(rt: &HostRuntime, asked: Asked<'_>) -> Result<bool, Trouble> {
     match asked {
         Asked::Show(cow) => show(rt, cow),
+        Asked::ShowJson(cow) => show_json(rt, cow),
         Asked::Map(cow) => map(rt, cow),
         Asked::RawMap(cow) => raw_map(rt, cow),
         Asked::Check(origin, cow) => check(rt, origin, cow),
@@ -71,7 +77,7 @@ fn main(rt: HostRuntime) -> io::Result<ExitCode> {
     let words: Vec<String> = std::env::args(&rt)?.collect(rt.alloc())?;
     let Some(asked) = words_ask(&words) else {
         eprintln!(rt;
-            "lochknife: usage: lochknife show COW | map COW [--raw] | check ORIGIN COW | export ORIGIN COW OUT | rollback ORIGIN COW OUT"
+            "lochknife: usage: lochknife show COW [--json] | map COW [--raw] | check ORIGIN COW | export ORIGIN COW OUT | rollback ORIGIN COW OUT"
         )?;
         return Ok(ExitCode::from(2));
     };

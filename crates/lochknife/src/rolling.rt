@@ -3,14 +3,11 @@
 ghost use Rattle.std.specs.Prelude.{◌≤◌};
 
 use crate::files::{kept, made, opened, partial_name};
-use crate::looking::{numbers_of, printed, put_told};
+use crate::looking::{Seen, look, put_seen};
 use crate::trouble::Trouble;
-use cow_map::{CowMap, MAX_IMAGE, Told, read_store, sectors_of};
+use cow_map::{MAX_IMAGE, Told, read_store, sectors_of};
 use image::{FileImage, FileSink};
 use std::fs;
-
-/// The chunk size with which the origin of a fresh store is copied.
-const FRESH_CHUNK: u32 = 128;
 
 /// Writes a snapshot's array to a new file, or prints why its store is refused. With no other snapshot of the origin this
 /// is also what the origin holds once the snapshot was merged into it.
@@ -18,19 +15,13 @@ pub fn export(rt: &HostRuntime, origin: &str, cow: &str, out: &str) -> Result<bo
     let mut origin = opened(rt, origin)?;
     let mut cow = opened(rt, cow)?;
     let size = sectors_of(&mut origin)?;
-    let map = match read_store(rt.alloc(), &mut cow, size)? {
-        Told::Written(map) => map,
-        Told::Fresh => CowMap {
-            chunk: FRESH_CHUNK,
-            size: 0,
-            current: 0,
-            pairs: Vec::new(rt.alloc()),
-        },
-        told => return refused(rt, &mut cow, &told),
-    };
+    let seen = look(rt, &mut cow, size)?;
+    if let Told::Refused(_) = seen.told {
+        return put_seen(rt, &seen);
+    }
     let partial = partial_name(rt, out)?;
     let mut sink = made(rt, out, partial.as_str())?;
-    match rolled(rt, &mut origin, &mut cow, &map, size, &mut sink) {
+    match rolled(rt, &mut origin, &mut cow, &seen, size, &mut sink) {
         Ok(()) => {
             kept(rt, &mut sink, partial.as_str(), out)?;
             Ok(true)
@@ -42,36 +33,36 @@ pub fn export(rt: &HostRuntime, origin: &str, cow: &str, out: &str) -> Result<bo
     }
 }
 
-/// Prints why a store is refused.
-fn refused(rt: &HostRuntime, cow: &mut FileImage, told: &Told) -> Result<bool, Trouble> {
-    let size = sectors_of(cow)?;
-    let numbers = numbers_of(cow, size)?;
-    let mut text = Vec::new(rt.alloc());
-    let good = put_told(&mut text, numbers, told)?;
-    printed(rt, text.as_slice())?;
-    Ok(good)
-}
-
-/// Writes the array, and sees that the store's pairs are still those that were read.
+/// Writes the array, and sees that the store is still as it was read.
 fn rolled(
     rt: &HostRuntime,
     origin: &mut FileImage,
     cow: &mut FileImage,
-    map: &CowMap,
+    seen: &Seen,
     size: u64,
     sink: &mut FileSink,
 ) -> Result<(), Trouble>
     requires { size ≤ MAX_IMAGE }
 {
-    cow_shown::export(rt.alloc(), origin, cow, map, size, sink)?;
-    match read_store(rt.alloc(), cow, size)? {
-        Told::Written(again) => {
-            if again.pairs.as_slice() != map.pairs.as_slice() || again.chunk != map.chunk {
-                return Err(Trouble::Changed);
-            }
-            Ok(())
+    match &seen.told {
+        Told::Written(map) => cow_shown::export(rt.alloc(), origin, cow, map, size, sink)?,
+        Told::Fresh => cow_shown::export_fresh(rt.alloc(), origin, size, sink)?,
+        Told::Refused(_) => return Err(Trouble::Changed),
+    }
+    let again = read_store(rt.alloc(), cow, size)?;
+    if !is_same(&seen.told, &again) {
+        return Err(Trouble::Changed);
+    }
+    Ok(())
+}
+
+/// Whether two looks at a store told the same header and the same pairs.
+fn is_same(told: &Told, again: &Told) -> bool {
+    match (told, again) {
+        (Told::Fresh, Told::Fresh) => true,
+        (Told::Written(map), Told::Written(again)) => {
+            map.chunk == again.chunk && map.pairs.as_slice() == again.pairs.as_slice()
         }
-        Told::Fresh if map.pairs.is_empty() => Ok(()),
-        _ => Err(Trouble::Changed),
+        _ => false,
     }
 }

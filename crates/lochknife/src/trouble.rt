@@ -58,6 +58,7 @@ impl fmt::Display for Trouble {
             Trouble::Image(Failure::TooLarge(sectors)) => {
                 write!(f, "{sectors} sectors are more than this program takes")
             }
+            Trouble::Image(Failure::Changed) => write!(f, "the store changed while it was read"),
             Trouble::Export(Stopped::Unreadable(error)) => write!(f, "cannot read: {error}"),
             Trouble::Export(Stopped::Unwritable(error)) => write!(f, "cannot write: {error}"),
             Trouble::Export(Stopped::NoMemory) => write!(f, "no memory"),

@@ -10,8 +10,3 @@ pub mod MergeLaws
 pub mod MergeCommands
 pub mod MergeFaultless
 pub mod MergeReads
-pub mod SettlesCopies
-pub mod SettlesGroups
-pub mod SettlesMerges
-pub mod SettlesParts
-pub mod SettlesCommands

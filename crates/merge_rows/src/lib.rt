@@ -10,3 +10,5 @@ mod disks;
 mod events;
 #[cfg(test)]
 mod rows;
+#[cfg(test)]
+mod saved;

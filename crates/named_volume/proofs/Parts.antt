@@ -18,6 +18,7 @@ use Rattle.named.specs.Origins.{still}
 use Rattle.named.specs.Snapshots.{parted}
 use Rattle.named_volume.specs.Held.{settled_in, IsSettledIn}
 use Rattle.named_volume.proofs.Places.{here, at_place}
+use Rattle.volume.proofs.Shown.{loud_but}
 
 pub no_both : (b : Bool) → b ≡ true → b ≡ false → ⊥
 no_both b is isnt = absurd (cc)
@@ -67,7 +68,8 @@ loud_at number (x ∷ xs) s is loud = elim (cases_Bool (x.number == number)) [
 
 -- the store that is given back drops no writes
 pub given_loud : (number : ℕ) (given : StoreDev Stack) (before after : Rested Stack) → IsDetachedAs stack_contents stack_layers number given before after → IsSettledIn before → is_loud (stack_layers given.device) ≡ true
-given_loud number given before after out settled = rw out.device (loud_at number before.snaps out.snap out.found (both_right (is_loud (stack_layers before.origin)) _ settled.loud))
+given_loud number given before after out settled = rw out.device (loud_at number before.snaps out.snap out.found (both_right (is_loud (stack_layers before.origin)) (list_all (λ (x : Attached Stack). is_loud (stack_layers x.store)) before.snaps)
+    (loud_but stack_layers before.events.merge (is_loud (stack_layers before.origin) && list_all (λ (x : Attached Stack). is_loud (stack_layers x.store)) before.snaps) settled.loud)))
   where
     both_right : (a b : Bool) → (a && b) ≡ true → b ≡ true
     both_right true b h = h

@@ -17,7 +17,7 @@ use Rattle.pending.specs.declared.flights.Kind.TheVariants.{OriginRead, OriginWr
 use Rattle.chunk.proofs.PiecePlaces.{piece_high}
 use Rattle.snapshot.specs.Kept.{Kept}
 use Rattle.volume.specs.Volumed.{Volumed, piece_of}
-use Rattle.snapshots.specs.Numbers.{count_in}
+use Rattle.snapshots.specs.Numbers.{count_in, numbers_in}
 use Rattle.snapshots.specs.Finding.{place_of_snap}
 use Rattle.volume.specs.Leaving.{is_done_of, is_quiet_of}
 use Rattle.snapshots.specs.Starting.{starts}
@@ -56,7 +56,7 @@ done_marks : {B : Type 0} (s : Kept B) → is_done_of s ≡ true → s.marks ≡
 done_marks s e = nil_from_length s.marks (eqb-true (length s.marks) 0 (and_second (nat_eq (length s.copies) 0) (nat_eq (length s.marks) 0) (and_first (nat_eq (length s.copies) 0 && nat_eq (length s.marks) 0) (not s.untried) e)))
 
 done_count : {B : Type 0} (s : Kept B) → is_done_of s ≡ true → count_in s ≡ 0
-done_count s e = rw (done_copies s e, done_marks s e) refl
+done_count s e = (let none : length (numbers_in s) ≡ 0 = rw (done_copies s e, done_marks s e) refl in omega (arith, none))
 
 counts_none : {B : Type 0} (snaps : List (Kept B)) → list_all is_done_of snaps ≡ true → sum_by count_in snaps ≡ 0
 counts_none [] e = refl

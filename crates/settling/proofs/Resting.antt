@@ -5,7 +5,7 @@ use Rattle.std.proofs.lemmas.Bool.{cases_Bool, cond-true, cond-false}
 use Rattle.sector.specs.declared.pair.Pair.{Pair}
 use Rattle.model.specs.Pairs.{pairs_of}
 use Rattle.model.specs.NextPlace.{stepped}
-use Rattle.settled.specs.Saves.{Saving as Stored, next_of, zeroed, saved}
+use Rattle.settled.specs.Saves.{Saving as Stored, next_of, saved}
 use Rattle.settled.proofs.Saved.{AfterSaving, IsSavedTo}
 use Rattle.settled.proofs.Laws.{saving_law}
 use Rattle.settled.specs.Devices.{Device, answers}

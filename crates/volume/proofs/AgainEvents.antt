@@ -4,6 +4,7 @@ use Rattle.std.specs.Prelude.{not}
 use Rattle.std.specs.List.{list_any, position, remove}
 use Rattle.std.proofs.lemmas.Bool.{false≢true, eqb-true}
 use Rattle.std.proofs.lemmas.List.{length-map, length-set, map-set, get_or-set_same}
+use Rattle.std.proofs.lemmas.List.Edits.{length-remove}
 use Rattle.std.proofs.lemmas.List.Quantifiers.{position-Some}
 use Rattle.sector.specs.Bytes.{next_count}
 use Rattle.device.specs.Layers.{Layer, is_loud}
@@ -28,13 +29,13 @@ use Rattle.volume_laws.proofs.Composing.{silent_then, loud_one}
 use Rattle.volume_laws.proofs.WaitingAgain.{waits_published, waits_tried}
 use Rattle.volume_laws.proofs.Left.{unmark_left, tried_left}
 use Rattle.volume_laws.proofs.Lists.{map-remove}
-use Rattle.snapshot.specs.Kept.{Kept, books_of as snap_books, due_of_kept}
+use Rattle.snapshot.specs.Kept.{Kept, books_of as snap_books, due_of_kept, unpublished}
 use Rattle.volume.specs.Volumed.{Volumed, books_of}
 use Rattle.snapshots.specs.Numbers.{numbers_in}
 use Rattle.volume.specs.Whole.{IsWhole, IsCounted}
 use Rattle.snapshots.specs.Finding.{is_trying, is_mark_of}
 use Rattle.volume.specs.Causes.{HasCause}
-use Rattle.volume.proofs.Changing.{SameDisk, same_disk, StaysAttached, changed, books_within, books_is, changes}
+use Rattle.volume.proofs.Changing.{SameDisk, same_disk, StaysAttached, changed, books_within, books_is, changes, few_less, few_same}
 use Rattle.volume.proofs.Counting.{counts_same, counts_store, store_within, lives_same}
 use Rattle.volume.proofs.CopyEvents.{both_left, both_right}
 use Rattle.volume.proofs.Good.{IsGood, Spoiling, Staying, silent_good}
@@ -103,7 +104,7 @@ module _ {B : Type 0} (contents : B → List ℕ) (layers : B → List Layer) (s
   same_loud fs gs l = record { origin = l.origin; snaps = l.snaps; merge = l.merge }
 
   -- a spoiled snapshot's mark was tried
-  module _ (outcome : Outcome) (told : Spoiling (WriteInvalid number) outcome) (still : Staying (WriteInvalid number) outcome) (found : is_trying number s ≡ true) (f : (s'.number ≡ s.number) × (s'.live ≡ s.live) × (s'.untried ≡ false) × ((s'.state.chunk ≡ s.state.chunk) × (s'.state.origin ≡ s.state.origin)) × (s'.copies ≡ s.copies) × (s'.marks ≡ s.marks))
+  module _ (outcome : Outcome) (told : Spoiling (WriteInvalid number) outcome) (still : Staying (WriteInvalid number) outcome) (found : is_trying number s ≡ true) (f : (s'.number ≡ s.number) × (s'.live ≡ s.live) × (s'.untried ≡ false) × ((s'.state.chunk ≡ s.state.chunk) × (s'.state.origin ≡ s.state.origin)) × (s'.copies ≡ s.copies) × (s'.marks ≡ s.marks) × (s'.merging ≡ s.merging))
       (t : TriesMark (snap_books contents layers s) (snap_books contents layers s')) (loud : is_loud (layers s'.device) ≡ is_loud (layers s.device)) (sized : size s'.device ≡ size s.device) (counted : done s'.device ≡ next_count (done s.device)) (counts : IsCounted s → IsCounted s') where
     pub tried_good : HasCause faults (WriteInvalid number) outcome v (changed v v.origin k s' (again v.flights)) → IsGood contents layers size faults done (WriteInvalid number) outcome v (changed v v.origin k s' (again v.flights))
     tried_good cause =
@@ -117,6 +118,7 @@ module _ {B : Type 0} (contents : B → List ℕ) (layers : B → List Layer) (s
           chunk_is = f.3.0;
           origin = f.3.1;
           numbers = inl (ap (λ ms. map number_of_mark ms ++ map number_of_copy s'.copies) f.5 ∙ ap (λ cs. map number_of_mark s.marks ++ map number_of_copy cs) f.4);
+          few = few_same s s' (ap (λ ms. map number_of_mark ms ++ map number_of_copy s'.copies) f.5 ∙ ap (λ cs. map number_of_mark s.marks ++ map number_of_copy cs) f.4) f.6;
           counted = counts;
           left = left_spoilt s s' (f.1 ∙ t.was);
         } in
@@ -131,7 +133,7 @@ module _ {B : Type 0} (contents : B → List ℕ) (layers : B → List Layer) (s
   trying_number found = eqb-true s.number number (both_left (nat_eq s.number number) s.untried found)
 
   -- a mark was taken away
-  module _ (j : ℕ) (m : Mark) (found : position (is_mark_of s v.flights number) s.marks ≡ Some j) (f : s' ≡ record s { marks = remove s.marks j }) (r : Unmarks j m (snap_books contents layers s) (snap_books contents layers s')) where
+  module _ (j : ℕ) (m : Mark) (found : position (is_mark_of s v.flights number) s.marks ≡ Some j) (f : s' ≡ record s { marks = remove s.marks j; merging = unpublished m.number s.merging }) (r : Unmarks j m (snap_books contents layers s) (snap_books contents layers s')) where
     abbrev placed : List Flight
     placed = map (placed_of (snap_books contents layers s')) v.flights
 
@@ -169,7 +171,8 @@ module _ {B : Type 0} (contents : B → List ℕ) (layers : B → List Layer) (s
             ap (λ (x : Kept B). numbers_in x) f ∙ ap (λ ns. ns ++ map number_of_copy s.copies) (map-remove number_of_mark s.marks j)
                 ∙ sym (remove_front (map number_of_mark s.marks) (map number_of_copy s.copies) j (omega (arith, r.within, length-map s.marks number_of_mark))),
           ));
-          counted = λ counts. subst IsCounted (sym f) (counted_marks s counts (remove s.marks j));
+          few = few_less s s' fewer;
+          counted = λ counts. subst IsCounted (sym f) (counted_marks s counts (remove s.marks j) (unpublished m.number s.merging));
           left = left_same s s' (ap (λ (x : Kept B). x.live) f) (ap (λ (x : Kept B). x.state.size) f) (ap (λ (x : Kept B). x.next) f);
         } in
         silent_good contents layers size faults done v h (Publish number) Done (λ p q x. x) (λ xs ys e. e) v.origin k s s' within is disk loud (ap size device) (again placed) (again_flown clear placed ∙ placed_flown b v.flights) stays
@@ -181,6 +184,13 @@ module _ {B : Type 0} (contents : B → List ℕ) (layers : B → List Layer) (s
       where
         get_or-set_at : (i : ℕ) → get_or (map (snap_books contents layers) (set v.snaps k s')) k (snap_books contents layers s') ≡ snap_books contents layers s'
         get_or-set_at i = ap (λ xs. get_or xs k (snap_books contents layers s')) (map-set (snap_books contents layers) v.snaps k s') ∙ get_or-set_same (map (snap_books contents layers) v.snaps) k (snap_books contents layers s') (snap_books contents layers s') sb_in
+
+        fewer : length (numbers_in s') < length (numbers_in s)
+        fewer =
+            let less = length-remove s.marks j r.within in
+            let old = length-append (map number_of_mark s.marks) (map number_of_copy s.copies) in
+            let new = length-append (map number_of_mark s'.marks) (map number_of_copy s'.copies) in
+            omega (arith, r.within, less, old, new, ap (λ (x : Kept B). length x.marks) f, ap (λ (x : Kept B). length x.copies) f, length-map s.marks number_of_mark, length-map s'.marks number_of_mark, length-map s.copies number_of_copy, length-map s'.copies number_of_copy)
 
         marks_in : j < length (numbers_in s)
         marks_in = omega (arith, r.within, length-append (map number_of_mark s.marks) (map number_of_copy s.copies), length-map s.marks number_of_mark)

@@ -15,7 +15,7 @@ use Rattle.volume_laws.specs.Whole.{Holds}
 use Rattle.volume_laws.specs.Waits.{Waits}
 use Rattle.snapshot.specs.Kept.{Kept}
 use Rattle.volume.specs.Volumed.{Volumed, books_of, piece_of}
-use Rattle.snapshots.specs.Numbers.{number_of_snap, numbers_in, count_in}
+use Rattle.snapshots.specs.Numbers.{number_of_snap, numbers_in, count_in, merged_count}
 use Rattle.volume.specs.Whole.{AreNumbers, SharesNone, IsAttached, IsWhole, IsCounted, starts_left}
 use Rattle.volume.proofs.Changing.{piece_set}
 
@@ -53,13 +53,17 @@ given_more n m sectors chunk s le h = record {
   numbers = record { given = All-weaker (λ x. x ≤ n) (λ x. x ≤ m) (λ x below. omega (arith, below, le)) (numbers_in s) h.numbers.given; ascending = h.numbers.ascending };
 }
 
+-- one copy more waits
+pub count_more : {B : Type 0} (s s' : Kept B) (n : ℕ) → numbers_in s' ≡ numbers_in s ++ n ∷ [] → s'.merging ≡ s.merging → count_in s' ≤ count_in s + 1
+count_more s s' n numbers merging = omega (arith, ap length numbers, length-append (numbers_in s) (n ∷ []), ap merged_count merging)
+
 module _ {B : Type 0} (contents : B → List ℕ) (layers : B → List Layer) (size : B → ℕ) (v : Volumed B) (k : ℕ) (s s' : Kept B) (within : k < length v.snaps) (is : s ≡ get_or v.snaps k s) where
   abbrev pub begun : Volumed B
   begun = record v { snaps = set v.snaps k s'; copies = v.copies + 1 }
 
-  pub whole_begun : IsWhole contents layers size v → s'.number ≡ s.number → s'.state.chunk ≡ s.state.chunk → s'.state.origin ≡ s.state.origin → numbers_in s' ≡ numbers_in s ++ (v.copies + 1) ∷ [] → (IsCounted s → IsCounted s') → starts_left s' + 1 ≤ starts_left s → sum_by count_in v.snaps < 256
+  pub whole_begun : IsWhole contents layers size v → s'.number ≡ s.number → s'.state.chunk ≡ s.state.chunk → s'.state.origin ≡ s.state.origin → numbers_in s' ≡ numbers_in s ++ (v.copies + 1) ∷ [] → s'.merging ≡ s.merging → (IsCounted s → IsCounted s') → starts_left s' + 1 ≤ starts_left s → sum_by count_in v.snaps < 256
       → Holds (books_of contents layers size begun) → Waits (books_of contents layers size begun) → IsWhole contents layers size begun
-  whole_begun h number chunk origin numbers counts fewer room holds waits =
+  whole_begun h number chunk origin numbers merging counts fewer room holds waits =
       let old : IsAttached v.copies (size v.origin) (piece_of v.snaps) s = subst (IsAttached v.copies (size v.origin) (piece_of v.snaps)) (sym is) (h.snaps k s within) in
       let piece : piece_of (set v.snaps k s') ≡ piece_of v.snaps = piece_set v.snaps k s s' is chunk in
       let more : v.copies ≤ v.copies + 1 = omega arith in
@@ -80,7 +84,7 @@ module _ {B : Type 0} (contents : B → List ℕ) (layers : B → List Layer) (s
       let lefts = sum_by-set starts_left v.snaps k s' s within in
       let left : starts_left (get_or v.snaps k s) ≡ starts_left s = ap starts_left (sym is) in
       let at : count_in (get_or v.snaps k s) ≡ count_in s = ap count_in (sym is) in
-      let one : count_in s' ≡ count_in s + 1 = ap length numbers ∙ length-append (numbers_in s) ((v.copies + 1) ∷ []) in
+      let one : count_in s' ≤ count_in s + 1 = count_more s s' (v.copies + 1) numbers merging in
       record {
         alone = h.alone;
         holds = holds;

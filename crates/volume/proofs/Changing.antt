@@ -1,5 +1,5 @@
 -- One snapshot of a volume changes, and with it maybe what its requests wait for.
-use Rattle.std.proofs.Common.{◌≡◌, ◌≢◌, ℕ, zero, suc, ◌+◌, ◌*◌, ◌<◌, ◌≤◌, List, [], ◌∷◌, length, get_or, set, map, refl, sym, ◌∙◌, ap, subst, arith}
+use Rattle.std.proofs.Common.{◌≡◌, ◌≢◌, Option, None, Some, ℕ, zero, suc, ◌+◌, ◌*◌, ◌<◌, ◌≤◌, List, [], ◌∷◌, length, get_or, set, map, refl, sym, ◌∙◌, ap, subst, arith}
 use Rattle.std.specs.Prelude.{◌&&◌, AllPairs, sum_by}
 use Rattle.std.specs.List.{All, list_all}
 use Rattle.std.proofs.lemmas.List.{map-set, length-map, get_or-map, length-set}
@@ -18,9 +18,9 @@ use Rattle.volume_laws.specs.Waits.{Waits}
 use Rattle.volume_laws.proofs.Left.{one_left}
 use Rattle.snapshot.specs.Kept.{Kept, books_of as snap_books, due_of_kept}
 use Rattle.volume.specs.Volumed.{Volumed, books_of, piece_of, is_loud_in_all, left_in_all, merge_books, dues_of, is_loud_with}
-use Rattle.snapshots.specs.Numbers.{number_of_snap, numbers_in, count_in}
+use Rattle.snapshots.specs.Numbers.{number_of_snap, numbers_in, count_in, merged_count}
 use Rattle.volume.specs.Whole.{AreNumbers, SharesNone, IsAttached, IsWhole, IsCounted, starts_left}
-use Rattle.volume.proofs.Lists.{all_pairs_set, list_all_set, IsFewer, fewer_all, fewer_pairs, fewer_length}
+use Rattle.volume.proofs.Lists.{all_pairs_set, list_all_set, IsFewer, fewer_all, fewer_pairs}
 
 -- an origin disk that holds the same
 pub record SameDisk {B : Type 0} (contents : B → List ℕ) (layers : B → List Layer) (size : B → ℕ) (o o' : B) : Type 0 where
@@ -31,12 +31,27 @@ pub record SameDisk {B : Type 0} (contents : B → List ℕ) (layers : B → Lis
 pub same_disk : {B : Type 0} (contents : B → List ℕ) (layers : B → List Layer) (size : B → ℕ) (o : B) → SameDisk contents layers size o o
 same_disk contents layers size o = record { bytes = refl; sectors = refl; loud = refl }
 
+-- no more copies wait than before: the same, one less, or none
+pub few_same : {B : Type 0} (s s' : Kept B) → numbers_in s' ≡ numbers_in s → s'.merging ≡ s.merging → count_in s' ≤ count_in s
+few_same s s' numbers merging = omega (arith, ap length numbers, ap merged_count merging)
+
+pub few_less : {B : Type 0} (s s' : Kept B) → length (numbers_in s') < length (numbers_in s) → count_in s' ≤ count_in s
+few_less s s' less = (let one = at_most_one s.merging in omega (arith, less, one))
+  where
+    at_most_one : (merging : Option ℕ) → merged_count merging ≤ 1
+    at_most_one None = omega arith
+    at_most_one (Some n) = omega arith
+
+pub few_none : {B : Type 0} (s s' : Kept B) → numbers_in s' ≡ [] → count_in s' ≤ count_in s
+few_none s s' none = omega (arith, ap length none)
+
 -- what an event leaves of a snapshot's place in its volume
 pub record StaysAttached {B : Type 0} (s s' : Kept B) : Type 0 where
   pub number : s'.number ≡ s.number
   pub chunk_is : s'.state.chunk ≡ s.state.chunk
   pub origin : s'.state.origin ≡ s.state.origin
   pub numbers : IsFewer (numbers_in s) (numbers_in s')
+  pub few : count_in s' ≤ count_in s
   pub counted : IsCounted s → IsCounted s'
   pub left : starts_left s' ≤ starts_left s
 
@@ -121,7 +136,7 @@ module _ {B : Type 0} (contents : B → List ℕ) (layers : B → List Layer) (s
       } in
       let sums = sum_by-set count_in v.snaps k s' s within in
       let at : count_in (get_or v.snaps k s) ≡ count_in s = ap count_in (sym is) in
-      let less = fewer_length (numbers_in s) (numbers_in s') stays.numbers in
+      let less = stays.few in
       let lefts = sum_by-set starts_left v.snaps k s' s within in
       let left : starts_left (get_or v.snaps k s) ≡ starts_left s = ap starts_left (sym is) in
       record {

@@ -27,7 +27,7 @@ use Rattle.volume.specs.Volumed.{Volumed, books_of}
 use Rattle.snapshots.specs.Numbers.{numbers_in}
 use Rattle.volume.specs.Whole.{IsWhole, IsCounted}
 use Rattle.snapshots.specs.Finding.{is_copy_of}
-use Rattle.volume.proofs.Changing.{SameDisk, StaysAttached, changed, books_within, books_is, changes}
+use Rattle.volume.proofs.Changing.{SameDisk, StaysAttached, few_same, changed, books_within, books_is, changes}
 use Rattle.volume.proofs.Counting.{counts_same, counts_origin, counts_store, store_within, lives_same, lives_spoiled, lived, origin_within}
 use Rattle.snapshots.proofs.Finds.{position_within, position_any}
 use Rattle.volume.proofs.Good.{IsGood, SpoiltTo, silent_good, spoilt_good}
@@ -109,6 +109,7 @@ module _ {B : Type 0} (contents : B → List ℕ) (layers : B → List Layer) (s
           chunk_is = ap (λ (x : Kept B). x.state.chunk) f;
           origin = ap (λ (x : Kept B). x.state.origin) f;
           numbers = inl (same_numbers s s' j p q r.copy.was e.copy.number r.marks r.copy.copies);
+          few = few_same s s' (same_numbers s s' j p q r.copy.was e.copy.number r.marks r.copy.copies) (ap (λ (x : Kept B). x.merging) f);
           counted = λ counts. subst IsCounted (sym f) (counted_copies s counts s.device j q);
           left = left_same s s' (ap (λ (x : Kept B). x.live) f) (ap (λ (x : Kept B). x.state.size) f) (ap (λ (x : Kept B). x.next) f);
         } in
@@ -131,6 +132,7 @@ module _ {B : Type 0} (contents : B → List ℕ) (layers : B → List Layer) (s
           chunk_is = ap (λ (x : Kept B). x.state.chunk) f;
           origin = ap (λ (x : Kept B). x.state.origin) f;
           numbers = inl (same_numbers s s' j p q r.copy.was e.copy.number r.marks r.copy.copies);
+          few = few_same s s' (same_numbers s s' j p q r.copy.was e.copy.number r.marks r.copy.copies) (ap (λ (x : Kept B). x.merging) f);
           counted = λ counts. subst IsCounted (sym f) (counted_copies s counts s'.device j q);
           left = left_same s s' (ap (λ (x : Kept B). x.live) f) (ap (λ (x : Kept B). x.state.size) f) (ap (λ (x : Kept B). x.next) f);
         } in

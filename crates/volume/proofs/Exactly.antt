@@ -27,7 +27,7 @@ use Rattle.volume_laws.specs.Again.{again_of, placed_of}
 use Rattle.volume_laws.specs.Held.{LiveHolds, SnapHolds}
 use Rattle.volume_laws.specs.Published.{is_clear as is_clear_in}
 use Rattle.volume_laws.specs.Steps.{mark_of}
-use Rattle.snapshot.specs.Kept.{Kept, books_of as snap_books, batch_of, needs_area}
+use Rattle.snapshot.specs.Kept.{Kept, books_of as snap_books, batch_of, needs_area, spare_after, unpublished}
 use Rattle.snapshot.specs.Calls.{ReadsAt, StaysAt, WritesAt}
 use Rattle.volume.specs.Volumed.{Volumed, is_loud_in_all}
 use Rattle.volume.specs.Whole.{IsWhole, IsCounted}
@@ -170,7 +170,7 @@ module _ {B : Type 0} (contents : B → List ℕ) (layers : B → List Layer) (s
         module _ (count : ℕ) (batched : count ≡ batch_of s.state s.copies) where
           pub area_exact : (s' : Kept B) → IsOneOperation (Writes (s.state.chunk * area_place s.state.chunk s.state.current) s.state.chunk) true (layers s.device) (layers s'.device) faults faults' done done'
               → (is_loud (layers s.device) ≡ true → contents s'.device ≡ with_part (contents s.device) (slot_start s.state.chunk s.state.current s.state.filled) (pairs_bytes (take count s.begun)))
-              → s' ≡ record s { device = s'.device; state = after_commit s.state count; pairs = s.pairs ++ take count s.begun; begun = drop count s.begun; copies = drop count s.copies; marks = s.marks ++ map mark_of (take count s.copies) }
+              → s' ≡ record s { device = s'.device; state = after_commit s.state count; pairs = s.pairs ++ take count s.begun; begun = drop count s.begun; copies = drop count s.copies; marks = s.marks ++ map mark_of (take count s.copies); spare = spare_after count s }
               → IsExact contents layers (WriteArea n) Done v (changed v v.origin k s' v.flights)
           area_exact s' one written fields = record {
             step = λ loud replied. write_area_done contents layers replied v h.counted n k s committing_first counts committing_live count batched agree faults faults' done done' s'.device s' one (written (loud_store loud)) fields;
@@ -202,7 +202,7 @@ module _ {B : Type 0} (contents : B → List ℕ) (layers : B → List Layer) (s
         }
 
     -- Publish
-    pub publish_exact : (s' : Kept B) (j : ℕ) (m : Mark) (flights : List Flight) → position (is_mark_of s v.flights n) s.marks ≡ Some j → m ≡ get_or s.marks j m → s' ≡ record s { marks = remove s.marks j }
+    pub publish_exact : (s' : Kept B) (j : ℕ) (m : Mark) (flights : List Flight) → position (is_mark_of s v.flights n) s.marks ≡ Some j → m ≡ get_or s.marks j m → s' ≡ record s { marks = remove s.marks j; merging = unpublished m.number s.merging }
         → flights ≡ map (again_of None (is_clear_in (map (snap_books contents layers) (set v.snaps k s')))) (map (placed_of (snap_books contents layers s')) v.flights)
         → IsExact contents layers (Publish n) Done v (changed v v.origin k s' flights)
     publish_exact s' j m flights found at fields routed = record {

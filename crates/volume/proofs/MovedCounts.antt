@@ -1,5 +1,5 @@
 -- Each call of a snapshot keeps its pairs counted.
-use Rattle.std.proofs.Common.{◌≡◌, ℕ, ◌+◌, ◌*◌, ◌<◌, ◌≤◌, Bool, true, false, List, [], ◌∷◌, ◌++◌, length, map, take, drop, set, refl, sym, ◌∙◌, ap, subst, arith, inl, inr, eq-eqb}
+use Rattle.std.proofs.Common.{◌≡◌, ℕ, ◌+◌, ◌*◌, ◌<◌, ◌≤◌, Bool, true, false, List, [], ◌∷◌, ◌++◌, length, map, take, drop, set, Option, refl, sym, ◌∙◌, ap, subst, arith, inl, inr, eq-eqb}
 use Rattle.std.specs.Prelude.{◌==◌, ◌-◌}
 use Rattle.std.proofs.lemmas.Bool.{cases_eq, false≢true}
 use Rattle.std.proofs.lemmas.List.{length-append, length-map, length-take-le}
@@ -14,7 +14,7 @@ use Rattle.store.specs.Stored.{after_commit}
 use Rattle.store.specs.declared.state.State.{State}
 use Rattle.volume_laws.specs.Steps.{mark_of}
 use Rattle.snapshot.specs.Calls.{StartsAt}
-use Rattle.snapshot.specs.Kept.{Kept, batch_of}
+use Rattle.snapshot.specs.Kept.{Kept, batch_of, spare_after}
 use Rattle.volume.specs.Whole.{IsCounted}
 use Rattle.volume.proofs.MovedLists.{if_true, if_false}
 use Rattle.volume.proofs.MovedDue.{unequal}
@@ -48,8 +48,8 @@ module _ {B : Type 0} (s : Kept B) (c : IsCounted s) where
   pub counted_zeroed : (d : B) → IsCounted (record s { device = d; state = record s.state { zeroed = true } })
   counted_zeroed d = record { some = c.some; count = c.count; fits = c.fits; idle = c.idle }
 
-  pub counted_marks : (ms : List Mark) → IsCounted (record s { marks = ms })
-  counted_marks ms = counted_same s (record s { marks = ms }) c refl refl refl (λ e. e)
+  pub counted_marks : (ms : List Mark) (merging : Option ℕ) → IsCounted (record s { marks = ms; merging = merging })
+  counted_marks ms merging = counted_same s (record s { marks = ms; merging = merging }) c refl refl refl (λ e. e)
 
   pub counted_tried : (d : B) (stale valid : Bool) → IsCounted (record s { device = d; untried = false; stale = stale; state = record s.state { valid = valid } })
   counted_tried d stale valid = record { some = c.some; count = c.count; fits = c.fits; idle = c.idle }
@@ -62,32 +62,32 @@ module _ {B : Type 0} (s : Kept B) (c : IsCounted s) where
   counted_started live next room begun copies = record { some = c.some; count = c.count; fits = c.fits; idle = λ e. absurd (false≢true (sym e ∙ live)) }
 
   -- so many pairs are committed in a live one
-  pub counted_committed : s.live ≡ true → (d : B) (begun : List Pair) (copies : List ChunkCopy) (marks : List Mark) (count : ℕ) (pairs : List Pair) → length pairs ≡ count → s.state.filled + count ≤ 32 * s.state.chunk
-      → IsCounted (record s { device = d; state = after_commit s.state count; pairs = s.pairs ++ pairs; begun = begun; copies = copies; marks = marks })
-  counted_committed live d begun copies marks count pairs many room =
+  pub counted_committed : s.live ≡ true → (d : B) (begun : List Pair) (copies : List ChunkCopy) (marks : List Mark) (spare : Bool) (count : ℕ) (pairs : List Pair) → length pairs ≡ count → s.state.filled + count ≤ 32 * s.state.chunk
+      → IsCounted (record s { device = d; state = after_commit s.state count; pairs = s.pairs ++ pairs; begun = begun; copies = copies; marks = marks; spare = spare })
+  counted_committed live d begun copies marks spare count pairs many room =
       let len : length (s.pairs ++ pairs) ≡ length s.pairs + count = length-append s.pairs pairs ∙ ap (λ n. length s.pairs + n) many in
       let gone : s.live ≡ false → copies ≡ [] = λ e. absurd (false≢true (sym e ∙ live)) in
       elim (cases_eq (s.state.filled + count) (32 * s.state.chunk)) [
         | inl full ↦
             (let t : State = record s.state { current = s.state.current + 1; filled = 0; zeroed = false } in
             let at : after_commit s.state count ≡ t = if_true (s.state.filled + count == 32 * s.state.chunk) t (record s.state { filled = s.state.filled + count }) (eq-eqb (s.state.filled + count) (32 * s.state.chunk) full) in
-            subst (λ (x : State). IsCounted (record s { device = d; state = x; pairs = s.pairs ++ pairs; begun = begun; copies = copies; marks = marks })) (sym at)
+            subst (λ (x : State). IsCounted (record s { device = d; state = x; pairs = s.pairs ++ pairs; begun = begun; copies = copies; marks = marks; spare = spare })) (sym at)
             (record { some = c.some; count = len ∙ next_full s.state.current (32 * s.state.chunk) s.state.filled (length s.pairs) count full c.count; fits = λ e. omega (arith, c.some); idle = gone }))
         | inr other ↦
             (let t : State = record s.state { filled = s.state.filled + count } in
             let at : after_commit s.state count ≡ t = if_false (s.state.filled + count == 32 * s.state.chunk) (record s.state { current = s.state.current + 1; filled = 0; zeroed = false }) t (unequal (s.state.filled + count) (32 * s.state.chunk) other) in
-            subst (λ (x : State). IsCounted (record s { device = d; state = x; pairs = s.pairs ++ pairs; begun = begun; copies = copies; marks = marks })) (sym at)
+            subst (λ (x : State). IsCounted (record s { device = d; state = x; pairs = s.pairs ++ pairs; begun = begun; copies = copies; marks = marks; spare = spare })) (sym at)
             (record { some = c.some; count = len ∙ next_part s.state.current (32 * s.state.chunk) s.state.filled (length s.pairs) count c.count; fits = λ e. omega (arith, room, other); idle = gone }))
       ]
 
   -- of its first copies
   pub counted_first : s.live ≡ true → (d : B) (count : ℕ) → count ≡ batch_of s.state s.copies → s.begun ≡ map pair_of s.copies
-      → IsCounted (record s { device = d; state = after_commit s.state count; pairs = s.pairs ++ take count s.begun; begun = drop count s.begun; copies = drop count s.copies; marks = s.marks ++ map mark_of (take count s.copies) })
+      → IsCounted (record s { device = d; state = after_commit s.state count; pairs = s.pairs ++ take count s.begun; begun = drop count s.begun; copies = drop count s.copies; marks = s.marks ++ map mark_of (take count s.copies); spare = spare_after count s })
   counted_first live d count is begun =
       let few = batch_few (32 * s.state.chunk - s.state.filled) s.copies in
       let below = c.fits live in
       let within : count ≤ length s.begun = omega (arith, is, few, ap length begun, length-map s.copies pair_of) in
-      counted_committed live d (drop count s.begun) (drop count s.copies) (s.marks ++ map mark_of (take count s.copies)) count (take count s.begun) (length-take-le count s.begun within) (omega (arith, is, below))
+      counted_committed live d (drop count s.begun) (drop count s.copies) (s.marks ++ map mark_of (take count s.copies)) (spare_after count s) count (take count s.begun) (length-take-le count s.begun within) (omega (arith, is, below))
 
 -- a copy was started in a live one
 pub counted_begun : {B : Type 0} (contents : B → List ℕ) (layers : B → List Layer) (s t : Kept B) (p : ChunkCopy) → s.live ≡ true → StartsAt contents layers p s t → IsCounted s → IsCounted t

@@ -24,7 +24,7 @@ use Rattle.event_machine.specs.Due.{is_publishable}
 use Rattle.event_machine.specs.Again.{is_saved, is_clear, again, placed, rerouted}
 use Rattle.event_machine.specs.Stepping.{with_first, without_first, publish, mark_invalid, stepped}
 use Rattle.event_machine.specs.Seen.{going_of}
-use Rattle.snapshot.specs.Kept.{Kept, books_of as snap_books}
+use Rattle.snapshot.specs.Kept.{Kept, books_of as snap_books, unpublished}
 use Rattle.volume.specs.Volumed.{Volumed}
 use Rattle.snapshots.specs.Finding.{is_trying, is_mark_of, has_mark_at}
 use Rattle.volume.specs.Moved.{device_of, held_of, moving_of}
@@ -100,7 +100,7 @@ module _ {B : Type 0} (contents : B → List ℕ) (layers : B → List Layer) wh
 
     -- a mark is taken away
     pub publish_is : IsFirst (λ (x : Kept B). has_mark_at v.flights n x) k s v.snaps → (j : ℕ) (m : Mark) → IsFirst (λ (x : Mark). x.number == n) j m s.marks → (s' : Kept B) (flights : List Flight)
-        → s' ≡ record s { marks = remove s.marks j }
+        → s' ≡ record s { marks = remove s.marks j; merging = unpublished m.number s.merging }
         → flights ≡ map (again_of None (is_clear_in (map (snap_books contents layers) (set v.snaps k s')))) (map (placed_of (snap_books contents layers s')) v.flights)
         → stepped (Publish n) (moving_of contents layers replied v) ≡ moving_of contents layers replied (changed v v.origin k s' flights)
     publish_is found j m mine s' flights is routed =

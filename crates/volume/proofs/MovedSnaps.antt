@@ -23,7 +23,7 @@ changed v o k s flights = record v { origin = o; snaps = set v.snaps k s; flight
 
 -- a snapshot that is spoiled
 abbrev pub spoilt : {B : Type 0} → Kept B → Kept B
-spoilt s = record s { live = false; untried = true; state = record s.state { copying = false }; begun = []; copies = []; marks = [] }
+spoilt s = record s { live = false; untried = true; state = record s.state { copying = false }; begun = []; copies = []; marks = []; kept_back = 0; spare = false; merging = None }
 
 module _ {B : Type 0} (contents : B → List ℕ) (layers : B → List Layer) where
   -- the devices after an operation

@@ -30,7 +30,7 @@ use Rattle.event_machine.specs.Held.{Copying, Held, Moving, with_store}
 use Rattle.event_machine.specs.Due.{batch_of as batch_in, can_commit, can_zero}
 use Rattle.event_machine.specs.Stepping.{spoil, store_write, zero_next, all_paired, commit, stepped, pair_of as pair_of_copying, mark_of as mark_of_copying}
 use Rattle.event_machine.specs.Seen.{copying_of}
-use Rattle.snapshot.specs.Kept.{Kept, batch_of}
+use Rattle.snapshot.specs.Kept.{Kept, batch_of, spare_after}
 use Rattle.volume.specs.Volumed.{Volumed}
 use Rattle.snapshots.specs.Finding.{is_committing, is_zeroing}
 use Rattle.volume.specs.Whole.{IsCounted}
@@ -161,7 +161,7 @@ module _ {B : Type 0} (contents : B → List ℕ) (layers : B → List Layer) (r
     -- the first copies are committed
     pub write_area_done : (s' : Kept B) → IsOneOperation op true (layers s.device) (layers d) faults faults' done done'
         → contents d ≡ with_part (contents s.device) (slot_start s.state.chunk s.state.current s.state.filled) (pairs_bytes (take count s.begun))
-        → s' ≡ record s { device = d; state = after_commit s.state count; pairs = s.pairs ++ take count s.begun; begun = drop count s.begun; copies = drop count s.copies; marks = s.marks ++ map mark_of (take count s.copies) }
+        → s' ≡ record s { device = d; state = after_commit s.state count; pairs = s.pairs ++ take count s.begun; begun = drop count s.begun; copies = drop count s.copies; marks = s.marks ++ map mark_of (take count s.copies); spare = spare_after count s }
         → stepped (WriteArea n) (moving_of contents layers replied v) ≡ moving_of contents layers replied (changed v v.origin k s' v.flights)
     write_area_done s' one new is =
         let h : Held = with_store (held_of contents layers s) (device_of contents layers d) in

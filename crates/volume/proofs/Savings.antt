@@ -25,7 +25,7 @@ use Rattle.snapshots.specs.Starting.{lacks, is_full_of, starts, overflows, overf
 use Rattle.snapshots.proofs.Overflowing.{overflowing_full, overflowing_fine, starts_fine}
 use Rattle.volume.proofs.Changing.{same_disk, changed, changes, spoils_one, whole_changed, books_within, books_is}
 use Rattle.volume.proofs.Sums.{count_cons}
-use Rattle.volume.proofs.Begins.{begun, whole_begun, numbers_pushed}
+use Rattle.volume.proofs.Begins.{begun, count_more, whole_begun, numbers_pushed}
 use Rattle.volume.proofs.StartsLeft.{left_spoilt, left_started}
 use Rattle.volume.proofs.MovedCounts.{counted_begun, counted_spoilt}
 
@@ -78,7 +78,7 @@ module _ {B : Type 0} (contents : B → List ℕ) (layers : B → List Layer) (s
         let prepared = prepared_start which k p (snap_books contents layers s) (snap_books contents layers t) (books_of contents layers size v0) (books_of contents layers size v) (books_of contents layers size (begun contents layers size v k s t within is)) h.prepared change at.event live in
         record {
           whole = whole_begun contents layers size v k s t within is h.whole (ap (λ (x : Kept B). x.number) at.fields) (ap (λ (x : Kept B). x.state.chunk) at.fields) (ap (λ (x : Kept B). x.state.origin) at.fields)
-              (numbers_pushed s t p (ap (λ (x : Kept B). x.marks) at.fields) (ap (λ (x : Kept B). x.copies) at.fields)) (λ counts. counted_begun contents layers s t p live at counts) (left_started contents layers c s t p (subst IsCounted (sym is) (h.whole.counted k s within)).some starting live at) room prepared.holds prepared.waits;
+              (numbers_pushed s t p (ap (λ (x : Kept B). x.marks) at.fields) (ap (λ (x : Kept B). x.copies) at.fields)) (ap (λ (x : Kept B). x.merging) at.fields) (λ counts. counted_begun contents layers s t p live at counts) (left_started contents layers c s t p (subst IsCounted (sym is) (h.whole.counted k s within)).some starting live at) room prepared.holds prepared.waits;
           prepared = prepared;
           saving = saved_now t (begun contents layers size v k s t within is) refl
               (saving_set c k (snap_books contents layers s) (snap_books contents layers t) (map (snap_books contents layers) v.snaps) h.saving (books_within contents layers size v v.origin k s t within is) (λ _. saving_started c p (snap_books contents layers s) (snap_books contents layers t) at.event refl));
@@ -145,7 +145,7 @@ module _ {B : Type 0} (contents : B → List ℕ) (layers : B → List Layer) (s
     | inl begins ↦
         (let (buffer, at, m_is, g) = MatchBool-at_true _ _ begins e in
         let p = started (n + 1) c s.next buffer in
-        let more : count_in t ≡ count_in s + 1 = ap length (numbers_pushed s t p (ap (λ (x : Kept B). x.marks) at.fields) (ap (λ (x : Kept B). x.copies) at.fields)) ∙ length-append (numbers_in s) (p.number ∷ []) in
+        let more : count_in t ≤ count_in s + 1 = count_more s t p.number (numbers_pushed s t p (ap (λ (x : Kept B). x.marks) at.fields) (ap (λ (x : Kept B). x.copies) at.fields)) (ap (λ (x : Kept B). x.merging) at.fields) in
         rw begins (omega (arith, more)))
     | inr unsaid ↦ rw unsaid (elim (cases_Bool (overflows c s)) [
       | inl over ↦ (let (same, m_is, g) = MatchBool-at_true _ _ over (MatchBool-at_false _ _ unsaid e) in omega (arith, ap count_in same))

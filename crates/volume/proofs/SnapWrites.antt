@@ -133,7 +133,7 @@ module _ {B : Type 0} (contents : B → List ℕ) (layers : B → List Layer) (s
 
     whole_copying : IsWhole contents layers size copying
     whole_copying = whole_begun contents layers size roomy k s1 t within_roomy is_roomy roomy_whole (ap (λ (x : Kept B). x.number) at.fields) (ap (λ (x : Kept B). x.state.chunk) at.fields) (ap (λ (x : Kept B). x.state.origin) at.fields)
-        (numbers_pushed s1 t copy (ap (λ (x : Kept B). x.marks) at.fields) (ap (λ (x : Kept B). x.copies) at.fields)) (λ counts. counted_begun contents layers s1 t copy live_roomy at counts)
+        (numbers_pushed s1 t copy (ap (λ (x : Kept B). x.marks) at.fields) (ap (λ (x : Kept B). x.copies) at.fields)) (ap (λ (x : Kept B). x.merging) at.fields) (λ counts. counted_begun contents layers s1 t copy live_roomy at counts)
         (left_started contents layers (f.request.range.first / piece_of v.snaps) s1 t copy (subst IsCounted (sym is_roomy) (roomy_whole.counted k s1 within_roomy)).some begins live_roomy at) few_copies prepared_copying.holds prepared_copying.waits
 
     piece_copying : piece_of (set (set v.snaps k s1) k t) ≡ piece_of v.snaps

@@ -1,5 +1,5 @@
 -- What became of a snapshot that was spoiled, and the place of a snapshot in its volume.
-use Rattle.std.proofs.Common.{◌≡◌, ℕ, ◌<◌, true, false, List, [], length, get_or, sym, ◌∙◌, ap, subst}
+use Rattle.std.proofs.Common.{◌≡◌, ℕ, ◌<◌, true, false, List, [], None, length, get_or, sym, ◌∙◌, ap, subst}
 use Rattle.device.specs.Layers.{Layer}
 use Rattle.pending.specs.declared.copies.ChunkCopy.{ChunkCopy}
 use Rattle.snapshot.specs.Kept.{Kept}
@@ -10,7 +10,7 @@ use Rattle.volume.proofs.MovedCounts.{counted_device, counted_spoilt}
 
 -- a snapshot as a spoil leaves it
 abbrev pub spoilt : {B : Type 0} → Kept B → Kept B
-spoilt s = record s { live = false; untried = true; state = record s.state { copying = false }; begun = []; copies = []; marks = [] }
+spoilt s = record s { live = false; untried = true; state = record s.state { copying = false }; begun = []; copies = []; marks = []; kept_back = 0; spare = false; merging = None }
 
 -- after a read into one of its copies
 pub spoilt_copies : {B : Type 0} (s u s' : Kept B) (copies : List ChunkCopy) → u ≡ record s { copies = copies } → s' ≡ spoilt u → SpoiltTo s s' × (s'.device ≡ s.device)

@@ -21,12 +21,12 @@ use Rattle.volume_laws.proofs.WholeOne.{snap_holds, live_by_copy, zero_event, co
 use Rattle.volume_laws.proofs.Keeping.{zero_keeps, commit_keeps}
 use Rattle.volume_laws.proofs.Waiting.{waits_changed}
 use Rattle.volume_laws.proofs.Left.{zero_left, commit_left}
-use Rattle.snapshot.specs.Kept.{Kept, books_of as snap_books, due_of_kept, batch_of, needs_area}
+use Rattle.snapshot.specs.Kept.{Kept, books_of as snap_books, due_of_kept, batch_of, needs_area, spare_after}
 use Rattle.volume.specs.Volumed.{Volumed, books_of}
 use Rattle.snapshots.specs.Numbers.{numbers_in}
 use Rattle.volume.specs.Whole.{IsWhole, IsCounted}
 use Rattle.snapshots.specs.Finding.{is_committing, is_zeroing}
-use Rattle.volume.proofs.Changing.{SameDisk, same_disk, StaysAttached, changed, books_within, books_is, changes}
+use Rattle.volume.proofs.Changing.{SameDisk, same_disk, StaysAttached, few_same, changed, books_within, books_is, changes}
 use Rattle.volume.proofs.Counting.{counts_same, counts_store, store_within, lives_same, lives_spoiled, lived}
 use Rattle.volume.proofs.CopyEvents.{both_left, both_right}
 use Rattle.volume.proofs.Good.{IsGood, SpoiltTo, silent_good, spoilt_good}
@@ -130,6 +130,7 @@ module _ {B : Type 0} (contents : B → List ℕ) (layers : B → List Layer) (s
         chunk_is = ap (λ (x : Kept B). x.state.chunk) f;
         origin = ap (λ (x : Kept B). x.state.origin) f;
         numbers = inl (ap (λ (x : Kept B). numbers_in x) f);
+        few = few_same s s' (ap (λ (x : Kept B). numbers_in x) f) (ap (λ (x : Kept B). x.merging) f);
         counted = λ counts. subst IsCounted (sym f) (counted_zeroed s counts d);
         left = left_same s s' (ap (λ (x : Kept B). x.live) f) (ap (λ (x : Kept B). x.state.size) f) (ap (λ (x : Kept B). x.next) f);
       } in
@@ -175,7 +176,7 @@ module _ {B : Type 0} (contents : B → List ℕ) (layers : B → List Layer) (s
       (inl (counts_same v v.origin k s s' flights within is done refl (ap done device)))
 
   pub commit_good : is_committing number s ≡ true → (d : B) (count : ℕ) → count ≡ batch_of s.state s.copies
-      → s' ≡ record s { device = d; state = after_commit s.state count; pairs = s.pairs ++ take count s.begun; begun = drop count s.begun; copies = drop count s.copies; marks = s.marks ++ map mark_of (take count s.copies) }
+      → s' ≡ record s { device = d; state = after_commit s.state count; pairs = s.pairs ++ take count s.begun; begun = drop count s.begun; copies = drop count s.copies; marks = s.marks ++ map mark_of (take count s.copies); spare = spare_after count s }
       → Commits count s.state.current (snap_books contents layers s) (snap_books contents layers s')
       → is_loud (layers d) ≡ is_loud (layers s.device) → size d ≡ size s.device → faults d ≡ faults s.device → done d ≡ next_count (done s.device) → IsGood contents layers size faults done (WriteArea number) Done v (changed v v.origin k s' v.flights)
   commit_good found d count batched f r loud sized faulty counted =
@@ -192,6 +193,7 @@ module _ {B : Type 0} (contents : B → List ℕ) (layers : B → List Layer) (s
         chunk_is = ap (λ (x : Kept B). x.state.chunk) f ∙ sizes.0;
         origin = ap (λ (x : Kept B). x.state.origin) f ∙ sizes.1;
         numbers = inl (ap (λ (x : Kept B). numbers_in x) f ∙ commit_numbers count s.marks s.copies);
+        few = few_same s s' (ap (λ (x : Kept B). numbers_in x) f ∙ commit_numbers count s.marks s.copies) (ap (λ (x : Kept B). x.merging) f);
         counted = λ counts. subst IsCounted (sym f) (counted_first s counts live d count batched (holds_live live).agree);
         left = left_same s s' (ap (λ (x : Kept B). x.live) f) (ap (λ (x : Kept B). x.state.size) f ∙ sizes.2) (ap (λ (x : Kept B). x.next) f);
       } in

@@ -45,7 +45,7 @@ use Rattle.volume.specs.Whole.{IsWhole, IsCounted}
 use Rattle.volume.specs.Causes.{HasReplied, IsFaultless, FailsAlone, GoesTo}
 use Rattle.std.proofs.lemmas.List.Folds.{list_any-from_Any}
 use Rattle.snapshots.proofs.Finds.{position_within, any_of}
-use Rattle.volume.proofs.Changing.{same_disk, StaysAttached, changed, books_within, books_is, changes, snaps_changed, snaps_fit, loud_changed}
+use Rattle.volume.proofs.Changing.{same_disk, StaysAttached, few_same, changed, books_within, books_is, changes, snaps_changed, snaps_fit, loud_changed}
 use Rattle.volume.proofs.Counting.{counts_same, counts_store, store_within, lives_same, kept_changed}
 use Rattle.volume.proofs.Good.{IsGood}
 use Rattle.volume.proofs.IssueEvents.{reply_good, taken_out, fits_read, fits_write}
@@ -186,7 +186,7 @@ module _ {B : Type 0} (contents : B → List ℕ) (layers : B → List Layer) (s
       loud_now = ap (λ x. is_loud (layers x)) device ∙ loud
 
       stays : StaysAttached s s'
-      stays = record { number = ap (λ (x : Kept B). x.number) f; chunk_is = ap (λ (x : Kept B). x.state.chunk) f; origin = ap (λ (x : Kept B). x.state.origin) f; numbers = inl (ap (λ (x : Kept B). numbers_in x) f); counted = λ counts. subst IsCounted (sym f) (counted_device s counts d); left = left_same s s' (ap (λ (x : Kept B). x.live) f) (ap (λ (x : Kept B). x.state.size) f) (ap (λ (x : Kept B). x.next) f) }
+      stays = record { number = ap (λ (x : Kept B). x.number) f; chunk_is = ap (λ (x : Kept B). x.state.chunk) f; origin = ap (λ (x : Kept B). x.state.origin) f; numbers = inl (ap (λ (x : Kept B). numbers_in x) f); few = few_same s s' (ap (λ (x : Kept B). numbers_in x) f) (ap (λ (x : Kept B). x.merging) f); counted = λ counts. subst IsCounted (sym f) (counted_device s counts d); left = left_same s s' (ap (λ (x : Kept B). x.live) f) (ap (λ (x : Kept B). x.state.size) f) (ap (λ (x : Kept B). x.next) f) }
 
       keeps : KeepsWaiting (snap_books contents layers s) (snap_books contents layers s')
       keeps = subst (λ (x : Kept B). KeepsWaiting (snap_books contents layers s) (snap_books contents layers x)) (sym f)

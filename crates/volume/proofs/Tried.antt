@@ -29,10 +29,10 @@ module _ {B : Type 0} (contents : B → List ℕ) (layers : B → List Layer) (s
   device = ap (λ (x : Kept B). x.device) f
 
   abbrev Kept-parts : Type 0
-  Kept-parts = (s'.number ≡ s.number) × (s'.live ≡ s.live) × (s'.untried ≡ false) × ((s'.state.chunk ≡ s.state.chunk) × (s'.state.origin ≡ s.state.origin)) × (s'.copies ≡ s.copies) × (s'.marks ≡ s.marks)
+  Kept-parts = (s'.number ≡ s.number) × (s'.live ≡ s.live) × (s'.untried ≡ false) × ((s'.state.chunk ≡ s.state.chunk) × (s'.state.origin ≡ s.state.origin)) × (s'.copies ≡ s.copies) × (s'.marks ≡ s.marks) × (s'.merging ≡ s.merging)
 
   parts : Kept-parts
-  parts = (ap (λ (x : Kept B). x.number) f, ap (λ (x : Kept B). x.live) f, ap (λ (x : Kept B). x.untried) f, (ap (λ (x : Kept B). x.state.chunk) f, ap (λ (x : Kept B). x.state.origin) f), ap (λ (x : Kept B). x.copies) f, ap (λ (x : Kept B). x.marks) f)
+  parts = (ap (λ (x : Kept B). x.number) f, ap (λ (x : Kept B). x.live) f, ap (λ (x : Kept B). x.untried) f, (ap (λ (x : Kept B). x.state.chunk) f, ap (λ (x : Kept B). x.state.origin) f), ap (λ (x : Kept B). x.copies) f, ap (λ (x : Kept B). x.marks) f, ap (λ (x : Kept B). x.merging) f)
 
   counts : IsCounted s → IsCounted s'
   counts was = subst IsCounted (sym f) (counted_tried s was d stale stale)

@@ -21,7 +21,7 @@ use snapshots::{
 /// Spoils a snapshot whose device failed, and refuses its requests.
 fn spoil<B: Block>(snap: &mut Snapshot<B>, flights: &mut Vec<Flight>)
     requires { snap.old.live ≡ true }
-    ensures fields { snap.new ≡ record snap.old { live = false; untried = true; state = record snap.old.state { copying = false }; begun = []; copies = []; marks = [] } }
+    ensures fields { snap.new ≡ record snap.old { live = false; untried = true; state = record snap.old.state { copying = false }; begun = []; copies = []; marks = []; kept_back = 0; spare = false; merging = None } }
     ensures spoils { SpoilsSnap (books_of B.contents B.layers snap.old) (books_of B.contents B.layers snap.new) }
     ensures flights { flights.new.items ≡ map (refused_of (snap.old.number ∷ [])) flights.old.items }
 {

@@ -1,4 +1,4 @@
-use Rattle.std.proofs.Common.{sym, arith, ◌+◌, ◌-◌, ◌/◌, ◌<◌, ◌≤◌, length}
+use Rattle.std.proofs.Common.{sym, arith, ◌+◌, ◌-◌, ◌/◌, ◌<◌, length}
 use Rattle.cow_map.proofs.Places.{below_middle, above_middle, place_past, place_between, place_here}
 use Rattle.cow_map.proofs.finding.place_in.Goals as goal
 

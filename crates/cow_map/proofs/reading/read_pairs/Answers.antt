@@ -5,14 +5,14 @@ use Rattle.cow_map.proofs.Loads.{prefix_more, prefix_low, pairs-loaded, area_far
 use Rattle.cow_map.proofs.reading.read_pairs.Goals as goal
 
 pub returns-then-size-chunk-clause-listed : goal.returns-then-size-chunk-clause-listed
-returns-then-size-chunk-clause-listed g c = λ b is origin.
+returns-then-size-chunk-clause-listed g c = λ b is.
     let a = c.args.area.now in
     let i = c.loop-current.invariant in
     let past : c.args.size < a.chunk * (area_place a.chunk c.loop-current.current + 1) = let h = c.if-size-chunk.true in omega arith in
     (prefix_low a.chunk c.loop-current.current b c.loop-current.pairs.items a.some (i.prefix b is), past)
 
 pub returns-clause-listed : goal.returns-clause-listed
-returns-clause-listed g c = λ b is origin.
+returns-clause-listed g c = λ b is.
     let a = c.args.area.now in
     let low = prefix_low a.chunk c.loop-current.current b c.loop-current.pairs.items a.some (c.loop-current.invariant.prefix b is) in
     let end = c.loop-current-test.false in

@@ -36,8 +36,9 @@ route_placed-requires g c =
     let within : k < length v.snaps.items = omega (arith, c.in-Some.ensures.found.0, ap length c.deref.ensures.value) in
     let is = c.index_mut-snap.ensures.value in
     let found : position (is_mark_of s v.flights.items c.args.number) s.marks ≡ Some j = mark_found c.args.number k j v.snaps.items c.deref.result.now v.flights.items c.deref-2.result.now s c.deref.ensures.value c.deref-2.ensures.value is (c.in-Some.ensures.found.1 s) in
+    let m = mark_is c.args.number j v.flights.items s found in
     let old : 0 < s.state.chunk = subst (λ (x : Kept _). 0 < x.state.chunk) (sym is) (chunks_all g.B.Block.contents g.B.Block.layers g.B.Block.size _ c.self.invariant k s within) in
-    subst (λ n. 0 < n) (sym (ap (λ (x : Kept _). x.state.chunk) c.publish.ensures.fields)) old
+    subst (λ n. 0 < n) (sym (ap (λ (x : Kept _). x.state.chunk) (c.publish.ensures.fields m.0 m.1))) old
 
 pub route_again-requires : goal.route_again-requires
 route_again-requires g c =
@@ -48,7 +49,8 @@ route_again-requires g c =
     let within : k < length v.snaps.items = omega (arith, c.in-Some.ensures.found.0, ap length c.deref.ensures.value) in
     let is = c.index_mut-snap.ensures.value in
     let found : position (is_mark_of s v.flights.items c.args.number) s.marks ≡ Some j = mark_found c.args.number k j v.snaps.items c.deref.result.now v.flights.items c.deref-2.result.now s c.deref.ensures.value c.deref-2.ensures.value is (c.in-Some.ensures.found.1 s) in
-    subst (All (λ (x : Kept _). 0 < x.state.chunk)) (sym c.deref-in-Some.ensures.value) (chunks_set g.B.Block.contents g.B.Block.layers g.B.Block.size _ c.self.invariant k s c.publish.new.self within is (ap (λ (x : Kept _). x.state.chunk) c.publish.ensures.fields))
+    let m = mark_is c.args.number j v.flights.items s found in
+    subst (All (λ (x : Kept _). 0 < x.state.chunk)) (sym c.deref-in-Some.ensures.value) (chunks_set g.B.Block.contents g.B.Block.layers g.B.Block.size _ c.self.invariant k s c.publish.new.self within is (ap (λ (x : Kept _). x.state.chunk) (c.publish.ensures.fields m.0 m.1)))
 
 pub invariant_of-self : goal.invariant_of-self
 invariant_of-self g c =
@@ -60,7 +62,7 @@ invariant_of-self g c =
     let is = c.index_mut-snap.ensures.value in
     let found : position (is_mark_of s v.flights.items c.args.number) s.marks ≡ Some j = mark_found c.args.number k j v.snaps.items c.deref.result.now v.flights.items c.deref-2.result.now s c.deref.ensures.value c.deref-2.ensures.value is (c.in-Some.ensures.found.1 s) in
     let m = mark_is c.args.number j v.flights.items s found in
-    let good = published_good g.B.Block.contents g.B.Block.layers g.B.Block.size g.B.Block.fault_count g.B.Block.done_count _ c.self.invariant c.args.number k s c.publish.new.self within is j m.0 found c.publish.ensures.fields (c.publish.ensures.publishes m.0 m.1) in
+    let good = published_good g.B.Block.contents g.B.Block.layers g.B.Block.size g.B.Block.fault_count g.B.Block.done_count _ c.self.invariant c.args.number k s c.publish.new.self within is j m.0 found (c.publish.ensures.fields m.0 m.1) (c.publish.ensures.publishes m.0 m.1) in
     let flights : c.route_again.new.flights.items ≡ map (again_of None (is_clear (map (books_of g.B.Block.contents g.B.Block.layers) (slice_set v.snaps.items k c.publish.new.self)))) (map (placed_of (books_of g.B.Block.contents g.B.Block.layers c.publish.new.self)) v.flights.items) =
     c.route_again.ensures ∙ ap (λ xs. map (again_of None (is_clear (map (books_of g.B.Block.contents g.B.Block.layers) xs))) c.route_placed.new.flights.items) c.deref-in-Some.ensures.value
     ∙ ap (map (again_of None (is_clear (map (books_of g.B.Block.contents g.B.Block.layers) (slice_set v.snaps.items k c.publish.new.self))))) c.route_placed.ensures in
@@ -76,7 +78,7 @@ returns-in-Some-clause-step g c =
     let is = c.index_mut-snap.ensures.value in
     let found : position (is_mark_of s v.flights.items c.args.number) s.marks ≡ Some j = mark_found c.args.number k j v.snaps.items c.deref.result.now v.flights.items c.deref-2.result.now s c.deref.ensures.value c.deref-2.ensures.value is (c.in-Some.ensures.found.1 s) in
     let m = mark_is c.args.number j v.flights.items s found in
-    let good = published_good g.B.Block.contents g.B.Block.layers g.B.Block.size g.B.Block.fault_count g.B.Block.done_count _ c.self.invariant c.args.number k s c.publish.new.self within is j m.0 found c.publish.ensures.fields (c.publish.ensures.publishes m.0 m.1) in
+    let good = published_good g.B.Block.contents g.B.Block.layers g.B.Block.size g.B.Block.fault_count g.B.Block.done_count _ c.self.invariant c.args.number k s c.publish.new.self within is j m.0 found (c.publish.ensures.fields m.0 m.1) (c.publish.ensures.publishes m.0 m.1) in
     let flights : c.route_again.new.flights.items ≡ map (again_of None (is_clear (map (books_of g.B.Block.contents g.B.Block.layers) (slice_set v.snaps.items k c.publish.new.self)))) (map (placed_of (books_of g.B.Block.contents g.B.Block.layers c.publish.new.self)) v.flights.items) =
     c.route_again.ensures ∙ ap (λ xs. map (again_of None (is_clear (map (books_of g.B.Block.contents g.B.Block.layers) xs))) c.route_placed.new.flights.items) c.deref-in-Some.ensures.value
     ∙ ap (map (again_of None (is_clear (map (books_of g.B.Block.contents g.B.Block.layers) (slice_set v.snaps.items k c.publish.new.self))))) c.route_placed.ensures in
@@ -95,7 +97,7 @@ returns-in-Some-clause-exact g c =
     let flights : c.route_again.new.flights.items ≡ map (again_of None (is_clear (map (books_of g.B.Block.contents g.B.Block.layers) (slice_set v.snaps.items k c.publish.new.self)))) (map (placed_of (books_of g.B.Block.contents g.B.Block.layers c.publish.new.self)) v.flights.items) =
     c.route_again.ensures ∙ ap (λ xs. map (again_of None (is_clear (map (books_of g.B.Block.contents g.B.Block.layers) xs))) c.route_placed.new.flights.items) c.deref-in-Some.ensures.value
     ∙ ap (map (again_of None (is_clear (map (books_of g.B.Block.contents g.B.Block.layers) (slice_set v.snaps.items k c.publish.new.self))))) c.route_placed.ensures in
-    rw (← c.self.view_is) (publish_exact g.B.Block.contents g.B.Block.layers g.B.Block.size _ c.self.invariant c.args.number k s within c.index_mut-snap.ensures.value c.publish.new.self j m.0 c.route_again.new.flights.items found m.1 c.publish.ensures.fields flights)
+    rw (← c.self.view_is) (publish_exact g.B.Block.contents g.B.Block.layers g.B.Block.size _ c.self.invariant c.args.number k s within c.index_mut-snap.ensures.value c.publish.new.self j m.0 c.route_again.new.flights.items found m.1 (c.publish.ensures.fields m.0 m.1) flights)
 
 pub returns-in-Some-clause-due : goal.returns-in-Some-clause-due
 returns-in-Some-clause-due g c =

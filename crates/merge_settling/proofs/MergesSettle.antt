@@ -12,7 +12,7 @@ use Rattle.plain.specs.declared.request.Reply.{Reply}
 use Rattle.model.specs.Places.{area_place}
 use Rattle.volume_laws.specs.MergeDue.{one_of, due_or}
 use Rattle.settled.specs.Devices.{answers, met}
-use Rattle.settled.specs.Snaps.{Snap}
+use Rattle.settled.specs.Snaps.{Snap, Volume}
 use Rattle.settled.specs.Merges.{Merge, Merged, Merging, merged_of as in_one, pairs_in, with_store, in_area, read_before, merge_step, merge_steps, merge_all, merged}
 use Rattle.settled.specs.MergeShown.{IsMerging}
 use Rattle.event_machine.specs.Held.{Held, Going, MergeHeld, Moving}
@@ -28,8 +28,8 @@ use Rattle.settling.proofs.MergeStages.{ungrouped, area_read, area_lost}
 use Rattle.settling.proofs.Primed.{resting_idle}
 use Rattle.settling.proofs.SavesSettle.{snap_of}
 use Rattle.merge_laws.proofs.MergeEnds.{step_steps, merge_ends, merge_unseen}
-use Rattle.merge_laws.proofs.SettlesCopies.{Reaches, reaches_after}
-use Rattle.merge_laws.proofs.SettlesGroups.{free_at, group_settles}
+use Rattle.merge_settling.proofs.PairsSettle.{Reaches, reaches_after}
+use Rattle.merge_settling.proofs.GroupsSettle.{free_at, group_settles}
 
 module _ (sectors : ℕ) (a : Option Reply) where
   -- a volume with a merge goes on to one where that is done
@@ -170,3 +170,19 @@ merge_settles sectors v rest is = settles_from v.merge refl
     settles_from : (o : Option MergeHeld) → v.merge ≡ o → SettlesToMerged sectors v (merged (merged_of v))
     settles_from None alone = alone_settles sectors v rest alone
     settles_from (Some h) begun = begun_settles h begun
+
+-- what is left of a merge that settled: it is that of the big step, and under way still
+pub merge_left : (sectors : ℕ) (v : Moving) (h : MergeHeld) → v.merge ≡ Some h → IsMerging sectors (in_big_steps h v) → (to : SettlesToMerged sectors v (merged (merged_of v))) → (k : MergeHeld) → to.last.merge ≡ Some k →
+    (in_big_steps k to.last ≡ merge_all (in_big_steps h v)) × IsMerging sectors (in_big_steps k to.last)
+merge_left sectors v h begun is to k left =
+    let m : Merging = in_big_steps h v in
+    let after : Merging = merge_all m in
+    let here : Option Merge → Volume → Merged = λ (o : Option Merge) (x : Volume). record { volume = x; merge = o } in
+    let big : merged (merged_of v) ≡ in_one after = ap (λ o. merged (here (merge_in o) (volume_of v))) begun in
+    let all : here (Some k.merge) (volume_of to.last) ≡ in_one after = ap (λ o. here (merge_in o) (volume_of to.last)) (sym left) ∙ to.is ∙ big in
+    let volume : volume_of to.last ≡ after.volume = ap (λ (x : Merged). x.volume) all in
+    let some_merge : Some k.merge ≡ Some after.merge = ap (λ (x : Merged). x.merge) all in
+    let merge : k.merge ≡ after.merge = cc in
+    let mk : Merge → Volume → Merging = λ (g : Merge) (x : Volume). record { volume = x; merge = g } in
+    let same : in_big_steps k to.last ≡ after = ap (mk k.merge) volume ∙ ap (λ g. mk g after.volume) merge in
+    (same, subst (IsMerging sectors) (sym same) (merge_unseen sectors m is).holds)

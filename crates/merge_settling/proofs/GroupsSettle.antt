@@ -25,7 +25,7 @@ use Rattle.merge_laws.proofs.MergeRuns.{run_filled}
 use Rattle.merge_laws.proofs.MergeCopies.{copies_back, pair_inside, pair_holds}
 use Rattle.merge_laws.proofs.MergeShows.{CopiesAll, copies_all}
 use Rattle.merge_laws.proofs.MergeEnds.{group_ends, group_clears}
-use Rattle.merge_laws.proofs.SettlesCopies.{merging_at, Reaches, reaches_after, Parts, parts_after, now_waiting, copies_one}
+use Rattle.merge_settling.proofs.PairsSettle.{merging_at, Reaches, reaches_after, Parts, parts_after, now_waiting, copies_one}
 
 -- pairs turned round, before others
 abbrev pub turned : List Pair → List Pair → List Pair

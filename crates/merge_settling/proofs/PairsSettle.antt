@@ -1,6 +1,6 @@
 -- The chunks of a group, event by event: each is saved in the other snapshots, read from the merging store and written to the
 -- origin disk, from the last pair backwards. They leave what the big step says, and the first operation that fails ends it.
-use Rattle.std.proofs.Common.{◌≡◌, ◌⊎◌, inl, inr, ℕ, ◌+◌, ◌*◌, ◌/◌, ◌<◌, true, false, List, [], ◌∷◌, ◌++◌, length, map, Option, Some, refl, ap, ◌∙◌, sym, subst}
+use Rattle.std.proofs.Common.{◌≡◌, ◌⊎◌, inl, inr, ℕ, ◌*◌, ◌/◌, ◌<◌, true, false, List, [], ◌∷◌, ◌++◌, length, map, Option, Some, refl, ap, ◌∙◌, sym, subst}
 use Rattle.std.proofs.lemmas.Bool.{cases_Bool, cond-true, cond-false}
 use Rattle.sector.specs.Bytes.{sectors_at, with_sectors}
 use Rattle.sector.specs.declared.pair.Pair.{Pair}

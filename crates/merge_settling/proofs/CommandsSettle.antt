@@ -30,7 +30,7 @@ use Rattle.settling.proofs.SavesSettle.{snap_of}
 use Rattle.merge_laws.proofs.MergeCommands.{least_is}
 use Rattle.merge_laws.proofs.MergeLaws.{snap_bytes}
 use Rattle.merge_laws.proofs.MergeServes.{reads_through, writes_through}
-use Rattle.merge_laws.proofs.SettlesParts.{part_settles}
+use Rattle.merge_settling.proofs.PartsSettle.{part_settles}
 
 -- what a command has left of a volume with a merge
 pub record IsLeftBeside (sectors chunk : ℕ) (w : Moving) (reply : Reply) (answer : Replied) : Type 0 where

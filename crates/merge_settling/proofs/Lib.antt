@@ -1,0 +1,5 @@
+pub mod PairsSettle
+pub mod GroupsSettle
+pub mod MergesSettle
+pub mod PartsSettle
+pub mod CommandsSettle
