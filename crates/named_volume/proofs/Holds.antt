@@ -15,12 +15,11 @@ same_many before after same =
     sym (length-map after.snaps number) ∙ ap length same ∙ length-map before.snaps number
 
 -- a call that gives no numbers
-pub stays_held : (names : List Names) (before after : Rested Stack) (asked : ℕ) (sound : Bool) → IsHeld names before asked sound → KeepsDevices stack_layers stack_size before after → after.requests ≡ before.requests → after.copies ≡ before.copies → IsHeld names after asked sound
-stays_held names before after asked sound held kept requests copies =
+pub stays_held : (names : List Names) (before after : Rested Stack) (asked : ℕ) (sound : Bool) → IsHeld names before asked sound → KeepsDevices stack_layers stack_size before after → after.requests ≡ before.requests → IsHeld names after asked sound
+stays_held names before after asked sound held kept requests =
     record {
       many = held.many ∙ sym (same_many before after kept.numbers);
       requests = rw requests held.requests;
-      copies = rw copies held.copies;
       few = held.few;
       loud = λ is. kept.loud ∙ held.loud is;
     }

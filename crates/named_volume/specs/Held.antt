@@ -1,5 +1,5 @@
 -- What holds of a volume with the names of its devices. This project's own.
-use Rattle.std.specs.Prelude.{◌≡◌, ◌*◌, ◌<◌, ◌≤◌, ℕ, Bool, true, List, length, Option, Some, None, if◌then◌else◌}
+use Rattle.std.specs.Prelude.{◌≡◌, ◌<◌, ◌≤◌, ℕ, Bool, true, List, length, Option, Some, None, if◌then◌else◌}
 use Rattle.layers.specs.declared.stack.Stack.{Stack}
 use Rattle.layers.specs.Stack.{stack_contents, stack_layers, stack_size}
 use Rattle.event_machine.specs.Held.{Moving}
@@ -21,11 +21,10 @@ flying_in events = if is_quiet_of events then None else Some (flying_of stack_co
 abbrev pub IsSettledIn : Rested Stack → Type 0
 IsSettledIn volume = IsSettled stack_contents stack_layers stack_size volume
 
--- There is a name for each snapshot; all numbers that were given are bounded by the sectors that were asked for; and where the
+-- There is a name for each snapshot; the numbers of requests are bounded by the sectors that were asked for; and where the
 -- volume is said to be sound, no device drops writes.
 pub record IsHeld (names : List Names) (volume : Rested Stack) (asked : ℕ) (sound : Bool) : Type 0 where
   pub many : length names ≡ length volume.snaps
   pub requests : volume.requests ≤ asked
-  pub copies : volume.copies ≤ 8 * asked
   pub few : asked < 1_152_921_504_606_846_976
   pub loud : sound ≡ true → is_loud_in stack_layers volume ≡ true

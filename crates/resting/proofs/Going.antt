@@ -78,7 +78,6 @@ module _ {B : Type 0} (contents : B → List ℕ) (layers : B → List Layer) (s
         pos = subst (λ (n : ℕ). 0 < n) (sym same) (is_chunk-some (piece_of old.snaps) chunk);
         chunks = subst (λ (n : ℕ). All (λ (s : Kept B). s.state.chunk ≡ n) new.snaps) (sym same) (all_chunks (piece_of old.snaps) new.snaps old.snaps (snap_chunks_kept size layers old new so.kept) all);
         requests = omega (arith, so.requests, can.requests, is.bytes);
-        copies = omega (arith, so.copies, can.copies, is.bytes);
       }
 
   -- one piece more

@@ -110,8 +110,7 @@ module _ {B : Type 0} (size : B → ℕ) (request : Request) (v : Volumed B) (ca
       let a : nat_le 64 (length v.flights) ≡ false = le-false 64 (length v.flights) (omega (arith, flights)) in
       let b : nat_le 18_446_744_073_709_551_615 v.requests ≡ false = le-false 18_446_744_073_709_551_615 v.requests (omega (arith, can.requests)) in
       let c : nat_lt 256 (sum_by count_in v.snaps + new) ≡ false = lt-false 256 (sum_by count_in v.snaps + new) (omega (arith, counts, started, few)) in
-      let d : nat_lt 18_446_744_073_709_551_607 v.copies ≡ false = lt-false 18_446_744_073_709_551_607 v.copies (omega (arith, can.copies)) in
-      let many : are_too_many new v ≡ false = rw (a, b, c, d) refl in
+      let many : are_too_many new v ≡ false = rw (a, b, c) refl in
       rw many refl
 
   -- its snapshot is spoiled

@@ -30,7 +30,6 @@ pub record CanServe {B : Type 0} (size : B → ℕ) (dev : Dev) (op : Op) (range
   pub pos : 0 < piece_of v.snaps
   pub chunks : All (λ s. s.state.chunk ≡ piece_of v.snaps) v.snaps
   pub requests : v.requests < 9_223_372_036_854_775_808
-  pub copies : v.copies < 9_223_372_036_854_775_808
 
 -- What is asked of a command: its device is there, its range has a sector and lies inside the origin, and there are
 -- numbers for all its pieces.
@@ -39,7 +38,6 @@ pub record CanAsk {B : Type 0} (size : B → ℕ) (dev : Dev) (range : Range) (v
   pub some : 0 < range.count
   pub inside : range.first + range.count ≤ size v.origin
   pub requests : v.requests + range.count < 9_223_372_036_854_775_808
-  pub copies : v.copies + 8 * range.count < 9_223_372_036_854_775_808
 
 -- a reply after which a command goes on
 abbrev pub IsGood : Reply → Type 0

@@ -101,7 +101,6 @@ fn write_pieces_among<B: Block>(
     ended: &mut Vec<Replied>,
 ) -> Result<(), Refusal>
     requires room { length bytes.now ≡ 512 * range.count }
-    requires copies { volume.old.copies + 8 * range.count < 9_223_372_036_854_775_808 }
     ensures written { OnOk result (AreWrittenAmong B.contents B.layers dev (pieces_of (piece_of volume.old.snaps) (span_of range)) bytes.now volume.old volume.new ended.old.items ended.new.items) }
     ensures stopped { IfErr result (λ refusal. IsWriteStopped B.contents B.layers B.size dev (pieces_of (piece_of volume.old.snaps) (span_of range)) bytes.now refusal volume.old volume.new ended.old.items ended.new.items) }
     ensures kept { KeepsDevices B.layers B.size (rested_of volume.old) (rested_of volume.new) }
@@ -136,7 +135,6 @@ fn read_pieces_among<B: Block>(
     requires empty { out.old.items ≡ [] }
     requires none { vec_len out.old ≡ 0 }
     requires room { 512 * range.count ≤ vec_capacity out.old }
-    requires copies { volume.old.copies + 8 * range.count < 9_223_372_036_854_775_808 }
     ensures read { OnOk result (AreReadAmong B.contents B.layers dev (pieces_of (piece_of volume.old.snaps) (span_of range)) out.new.items volume.old volume.new ended.old.items ended.new.items) }
     ensures stopped { IfErr result (λ refusal. IsReadStopped B.contents B.layers B.size dev (pieces_of (piece_of volume.old.snaps) (span_of range)) refusal volume.old volume.new ended.old.items ended.new.items) }
     ensures kept { KeepsDevices B.layers B.size (rested_of volume.old) (rested_of volume.new) }
@@ -173,7 +171,6 @@ impl<B: Block> Resting<B> {
         requires some { 0 < range.count }
         requires inside { range.first + range.count ≤ B.size self.old.origin }
         requires requests { self.old.requests + range.count < 9_223_372_036_854_775_808 }
-        requires copies { self.old.copies + 8 * range.count < 9_223_372_036_854_775_808 }
         ensures read { IfOk result (λ bytes. AreReadAmong B.contents B.layers dev (pieces_among (span_of range) self.old) bytes self.old.events self.new.events ended.old.items ended.new.items) }
         ensures refused { IfErr result (λ refusal. IsReadRefusedAmong B.contents B.layers B.size dev (pieces_among (span_of range) self.old) refusal self.old self.new ended.old.items ended.new.items) }
         ensures there { OnOk result (has_dev dev self.old ≡ true) }
@@ -210,7 +207,6 @@ impl<B: Block> Resting<B> {
         requires inside { range.first + range.count ≤ B.size self.old.origin }
         requires room { length bytes.now ≡ 512 * range.count }
         requires requests { self.old.requests + range.count < 9_223_372_036_854_775_808 }
-        requires copies { self.old.copies + 8 * range.count < 9_223_372_036_854_775_808 }
         ensures written { OnOk result (AreWrittenAmong B.contents B.layers dev (pieces_among (span_of range) self.old) bytes.now self.old.events self.new.events ended.old.items ended.new.items) }
         ensures refused { IfErr result (λ refusal. IsWriteRefusedAmong B.contents B.layers B.size dev (pieces_among (span_of range) self.old) bytes.now refusal self.old self.new ended.old.items ended.new.items) }
         ensures there { OnOk result (has_dev dev self.old ≡ true) }

@@ -75,7 +75,6 @@ impl<B: Block> Resting<B> {
         requires some { 0 < range.count }
         requires inside { range.first + range.count ≤ B.size self.old.origin }
         requires requests { self.old.requests + range.count < 9_223_372_036_854_775_808 }
-        requires copies { self.old.copies + 8 * range.count < 9_223_372_036_854_775_808 }
         ensures quiet { is_quiet_of self.new.events ≡ true }
         ensures settled { IsSettled B.contents B.layers B.size self.old → IsSettled B.contents B.layers B.size self.new }
         ensures done { IfOk result (λ bytes. IsDoneBy B.contents B.layers B.size (read dev (span_of range)) (Data bytes) self.old self.new) }
@@ -114,7 +113,6 @@ impl<B: Block> Resting<B> {
         requires inside { range.first + range.count ≤ B.size self.old.origin }
         requires room { length bytes.now ≡ 512 * range.count }
         requires requests { self.old.requests + range.count < 9_223_372_036_854_775_808 }
-        requires copies { self.old.copies + 8 * range.count < 9_223_372_036_854_775_808 }
         ensures quiet { is_quiet_of self.new.events ≡ true }
         ensures settled { IsSettled B.contents B.layers B.size self.old → IsSettled B.contents B.layers B.size self.new }
         ensures done { OnOk result (IsDoneBy B.contents B.layers B.size (written dev (span_of range) bytes.now) Written self.old self.new) }

@@ -1,5 +1,5 @@
 // A volume by calls that meet what its commands require: it is quiet, and not more is asked of it than it has numbers for.
-ghost use Rattle.std.specs.Prelude.{◌≡◌, ◌+◌, ◌*◌, ◌<◌, ◌≤◌, length, IfOk, OnOk, true};
+ghost use Rattle.std.specs.Prelude.{◌≡◌, ◌+◌, ◌<◌, ◌≤◌, ◌*◌, length, IfOk, OnOk, true};
 ghost use Rattle.volume.specs.Leaving.{is_quiet_of};
 
 use device::Block;
@@ -19,7 +19,6 @@ pub struct Asked<B: Block> {
     pub volume: Resting<B>,
     left: u64,
     ghost requests: { volume.requests + left < 9_223_372_036_854_775_808 },
-    ghost copies: { volume.copies + 8 * left < 9_223_372_036_854_775_808 },
 }
 
 impl<B: Block + Drop> Asked<B> {

@@ -65,7 +65,6 @@ pub record IsAdmitted {B : Type 0} (size : B → ℕ) (request : Request) (v : V
   pub flights : length v.flights < 64
   pub requests : v.requests < 18_446_744_073_709_551_615
   pub few : sum_by count_in v.snaps + starting (kind_of request) (request.range.first / piece_of v.snaps) v.snaps ≤ 256
-  pub copies : v.copies ≤ 18_446_744_073_709_551_607
 
 pub admitted : {B : Type 0} (size : B → ℕ) (request : Request) (v : Volumed B) → submit_refusal size request v ≡ None → IsAdmitted size request v
 admitted size request v e =
@@ -82,8 +81,7 @@ admitted size request v e =
     let a : Bool = nat_le 64 (length v.flights) in
     let b : Bool = nat_le 18_446_744_073_709_551_615 v.requests in
     let d : Bool = nat_lt 256 (sum_by count_in v.snaps + starting (kind_of request) (request.range.first / piece_of v.snaps) v.snaps) in
-    let limit_three = or_first (a || b || d) (nat_lt 18_446_744_073_709_551_607 v.copies) limits in
-    let limit_two = or_first (a || b) d limit_three in
+    let limit_two = or_first (a || b) d limits in
     let within : request.range.first % piece_of v.snaps + request.range.count ≤ piece_of v.snaps = leb-true (request.range.first % piece_of v.snaps + request.range.count) (piece_of v.snaps) range_last in
     let whole : request.range.first / piece_of v.snaps * piece_of v.snaps + request.range.first % piece_of v.snaps ≡ request.range.first = div-add-mod' request.range.first (piece_of v.snaps) in
     record {
@@ -93,8 +91,7 @@ admitted size request v e =
       piece = record { within = inside_piece request.range.first request.range.count (piece_of v.snaps) (request.range.first / piece_of v.snaps) (request.range.first % piece_of v.snaps) within whole };
       flights = leb_false 64 (length v.flights) (or_first a b limit_two);
       requests = leb_false 18_446_744_073_709_551_615 v.requests (or_second a b limit_two);
-      few = ltb-false 256 (sum_by count_in v.snaps + starting (kind_of request) (request.range.first / piece_of v.snaps) v.snaps) (or_second (a || b) d limit_three);
-      copies = ltb-false 18_446_744_073_709_551_607 v.copies (or_second (a || b || d) (nat_lt 18_446_744_073_709_551_607 v.copies) limits);
+      few = ltb-false 256 (sum_by count_in v.snaps + starting (kind_of request) (request.range.first / piece_of v.snaps) v.snaps) (or_second (a || b) d limits);
     }
 
 -- a request of the origin has an origin's kind

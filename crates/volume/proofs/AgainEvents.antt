@@ -39,6 +39,7 @@ use Rattle.volume.proofs.Changing.{SameDisk, same_disk, StaysAttached, changed, 
 use Rattle.volume.proofs.Counting.{counts_same, counts_store, store_within, lives_same}
 use Rattle.volume.proofs.CopyEvents.{both_left, both_right}
 use Rattle.volume.proofs.Good.{IsGood, Spoiling, Staying, silent_good}
+use Rattle.volume.proofs.StartsLeft.{left_same, left_spoilt}
 use Rattle.volume.proofs.MovedCounts.{counted_marks}
 use Rattle.merge.specs.Merging.{Merging}
 
@@ -124,6 +125,7 @@ module _ {B : Type 0} (contents : B → List ℕ) (layers : B → List Layer) (s
           numbers = inl (ap (λ ms. map number_of_mark ms ++ map number_of_copy s'.copies) f.5 ∙ ap (λ cs. map number_of_mark s.marks ++ map number_of_copy cs) f.4);
           few = few_same s s' (ap (λ ms. map number_of_mark ms ++ map number_of_copy s'.copies) f.5 ∙ ap (λ cs. map number_of_mark s.marks ++ map number_of_copy cs) f.4) f.6;
           counted = counts;
+          left = left_spoilt s s' (f.1 ∙ t.was);
         } in
         silent_good contents layers size faults done v h (WriteInvalid number) outcome told still v.origin k s s' within is disk loud sized (again v.flights) (again_flown (merge_books contents layers true v.merge) clear v.flights) stays
         (silent_then vb ub wb one two (loud_one k (snap_books contents layers s) (snap_books contents layers s') vb ub e_is loud))
@@ -176,6 +178,7 @@ module _ {B : Type 0} (contents : B → List ℕ) (layers : B → List Layer) (s
           ));
           few = few_less s s' fewer;
           counted = λ counts. subst IsCounted (sym f) (counted_marks s counts (remove s.marks j) (unpublished m.number s.merging));
+          left = left_same s s' (ap (λ (x : Kept B). x.live) f) (ap (λ (x : Kept B). x.state.size) f) (ap (λ (x : Kept B). x.next) f);
         } in
         silent_good contents layers size faults done v h (Publish number) Done (λ p q x. x) (λ xs ys e. e) v.origin k s s' within is disk loud (ap size device) (again placed) (again_flown (merge_books contents layers true v.merge) clear placed ∙ placed_flown b v.flights) stays
         (silent_then vb ub wb one (silent_then ub xb wb two three (same_loud v.flights placed)) (loud_one k a b vb ub e_is loud))

@@ -218,6 +218,13 @@ module _ {B : Type 0} (contents : B → List ℕ) (layers : B → List Layer) wh
       store_at b = record { device = device_of contents layers back.device; stale = b }
 
   -- no area of the new one is zeroed ahead
+  pub size_opened : (number line origin size : ℕ) (device : B) (s : Kept B) → IsOpened contents layers number line origin size device s → s.state.size ≡ size
+  size_opened number line origin size device s o = ap (λ (x : Kept B). x.state.size) o.fields ∙ of_loaded o.opened
+    where
+      of_loaded : IsOpenedAs line origin size (contents device) o.loaded s.pairs → o.loaded.size ≡ size
+      of_loaded (inl fresh) = ap (λ (t : State). t.size) fresh.state
+      of_loaded (inr written) = written.rest.1
+
   pub unzeroed_of : (number line origin size : ℕ) (device : B) (s : Kept B) → IsOpened contents layers number line origin size device s → s.state.zeroed ≡ false
   unzeroed_of number line origin size device s o = ap (λ (x : Kept B). x.state.zeroed) o.fields ∙ of_loaded o.opened
     where

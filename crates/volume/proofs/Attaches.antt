@@ -20,9 +20,10 @@ use Rattle.snapshot.specs.Kept.{Kept, books_of as snap_books}
 use Rattle.snapshot.specs.Opening.{IsWanted}
 use Rattle.volume.specs.Volumed.{Volumed, books_of, piece_of, plain_of}
 use Rattle.snapshots.specs.Numbers.{number_of_snap, numbers_in, count_in}
-use Rattle.volume.specs.Whole.{AreNumbers, SharesNone, IsAttached, IsWhole, IsCounted}
+use Rattle.volume.specs.Whole.{AreNumbers, SharesNone, IsAttached, IsWhole, IsCounted, starts_left}
 use Rattle.volume.specs.Taking.{wanted_of, taking_refusal}
 use Rattle.volume.proofs.Shown.{shown}
+use Rattle.volume.proofs.StartsLeft.{left_whole}
 use Rattle.volume.proofs.Sums.{sum_cons}
 
 -- the next number is no other snapshot's
@@ -77,8 +78,8 @@ module _ {B : Type 0} (contents : B → List ℕ) (layers : B → List Layer) (s
     merge = refl;
   }
 
-  pub whole_taken : length v.snaps < 8 → s.state.origin ≡ size v.origin → IsWanted (wanted_of v.snaps) s.state.chunk → numbers_in s ≡ [] → IsCounted s → IsWhole contents layers size taken
-  whole_taken room origin wanted idle counts =
+  pub whole_taken : length v.snaps < 8 → s.state.size ≤ 16_777_216 → s.state.origin ≡ size v.origin → IsWanted (wanted_of v.snaps) s.state.chunk → numbers_in s ≡ [] → IsCounted s → IsWhole contents layers size taken
+  whole_taken room small origin wanted idle counts =
       let all_numbers : AreNumbers v.copies (numbers_in s) = subst (AreNumbers v.copies) (sym idle) (record { given = All-nil (λ n. n ≤ v.copies); ascending = λ i j d lt within. absurd (omega (arith, within)) }) in
       record {
         alone = h.alone;
@@ -95,6 +96,7 @@ module _ {B : Type 0} (contents : B → List ℕ) (layers : B → List Layer) (s
         few = omega (arith, room, length-append v.snaps (s ∷ []));
         few_copies = let sums = sum_by-append count_in v.snaps (s ∷ []) in let one = sum_cons count_in s [] in omega (arith, h.few_copies, sums, one, ap length idle);
         few_requests = h.few_requests;
+        numbers_left = let sums = sum_by-append starts_left v.snaps (s ∷ []) in let one = sum_cons starts_left s [] in let most = left_whole s 16_777_216 small in omega (arith, h.numbers_left, sums, one, most);
       }
 
   pub plain_taken : (array : List ℕ) → picture s.state.chunk (contents v.origin) (contents s.device) ≡ array → IsTaken (plain_of contents layers v) (v.attached + 1) array (plain_of contents layers taken)

@@ -16,7 +16,7 @@ use Rattle.volume_laws.specs.Waits.{Waits}
 use Rattle.snapshot.specs.Kept.{Kept}
 use Rattle.volume.specs.Volumed.{Volumed, books_of, piece_of}
 use Rattle.snapshots.specs.Numbers.{number_of_snap, numbers_in, count_in, merged_count}
-use Rattle.volume.specs.Whole.{AreNumbers, SharesNone, IsAttached, IsWhole, IsCounted}
+use Rattle.volume.specs.Whole.{AreNumbers, SharesNone, IsAttached, IsWhole, IsCounted, starts_left}
 use Rattle.volume.proofs.Changing.{piece_set}
 
 map_push : {X : Type 0} (f : X → ℕ) (xs : List X) (x : X) → map f (xs ++ x ∷ []) ≡ map f xs ++ f x ∷ []
@@ -61,9 +61,9 @@ module _ {B : Type 0} (contents : B → List ℕ) (layers : B → List Layer) (s
   abbrev pub begun : Volumed B
   begun = record v { snaps = set v.snaps k s'; copies = v.copies + 1 }
 
-  pub whole_begun : IsWhole contents layers size v → s'.number ≡ s.number → s'.state.chunk ≡ s.state.chunk → s'.state.origin ≡ s.state.origin → numbers_in s' ≡ numbers_in s ++ (v.copies + 1) ∷ [] → s'.merging ≡ s.merging → (IsCounted s → IsCounted s') → sum_by count_in v.snaps < 256
+  pub whole_begun : IsWhole contents layers size v → s'.number ≡ s.number → s'.state.chunk ≡ s.state.chunk → s'.state.origin ≡ s.state.origin → numbers_in s' ≡ numbers_in s ++ (v.copies + 1) ∷ [] → s'.merging ≡ s.merging → (IsCounted s → IsCounted s') → starts_left s' + 1 ≤ starts_left s → sum_by count_in v.snaps < 256
       → Holds (books_of contents layers size begun) → Waits (books_of contents layers size begun) → IsWhole contents layers size begun
-  whole_begun h number chunk origin numbers merging counts room holds waits =
+  whole_begun h number chunk origin numbers merging counts fewer room holds waits =
       let old : IsAttached v.copies (size v.origin) (piece_of v.snaps) s = subst (IsAttached v.copies (size v.origin) (piece_of v.snaps)) (sym is) (h.snaps k s within) in
       let piece : piece_of (set v.snaps k s') ≡ piece_of v.snaps = piece_set v.snaps k s s' is chunk in
       let more : v.copies ≤ v.copies + 1 = omega arith in
@@ -81,6 +81,8 @@ module _ {B : Type 0} (contents : B → List ℕ) (layers : B → List Layer) (s
       let all : All (IsAttached (v.copies + 1) (size v.origin) (piece_of v.snaps)) v.snaps =
       All-weaker (IsAttached v.copies (size v.origin) (piece_of v.snaps)) (IsAttached (v.copies + 1) (size v.origin) (piece_of v.snaps)) (λ x. given_more v.copies (v.copies + 1) (size v.origin) (piece_of v.snaps) x more) v.snaps h.snaps in
       let sums = sum_by-set count_in v.snaps k s' s within in
+      let lefts = sum_by-set starts_left v.snaps k s' s within in
+      let left : starts_left (get_or v.snaps k s) ≡ starts_left s = ap starts_left (sym is) in
       let at : count_in (get_or v.snaps k s) ≡ count_in s = ap count_in (sym is) in
       let one : count_in s' ≤ count_in s + 1 = count_more s s' (v.copies + 1) numbers merging in
       record {
@@ -102,6 +104,7 @@ module _ {B : Type 0} (contents : B → List ℕ) (layers : B → List Layer) (s
         few = omega (arith, h.few, length-set v.snaps k s');
         few_copies = omega (arith, sums, at, one, room);
         few_requests = h.few_requests;
+        numbers_left = omega (arith, lefts, left, fewer, h.numbers_left);
       }
 
 -- the numbers of a snapshot's copies, with one more

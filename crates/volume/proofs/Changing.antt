@@ -1,5 +1,5 @@
 -- One snapshot of a volume changes, and with it maybe what its requests wait for.
-use Rattle.std.proofs.Common.{◌≡◌, ◌≢◌, Option, None, Some, ℕ, zero, suc, ◌+◌, ◌<◌, ◌≤◌, List, [], ◌∷◌, length, get_or, set, map, refl, sym, ◌∙◌, ap, subst, arith}
+use Rattle.std.proofs.Common.{◌≡◌, ◌≢◌, Option, None, Some, ℕ, zero, suc, ◌+◌, ◌*◌, ◌<◌, ◌≤◌, List, [], ◌∷◌, length, get_or, set, map, refl, sym, ◌∙◌, ap, subst, arith}
 use Rattle.std.specs.Prelude.{◌&&◌, AllPairs, sum_by}
 use Rattle.std.specs.List.{All, list_all}
 use Rattle.std.proofs.lemmas.List.{map-set, length-map, get_or-map, length-set}
@@ -19,7 +19,7 @@ use Rattle.volume_laws.proofs.Left.{one_left}
 use Rattle.snapshot.specs.Kept.{Kept, books_of as snap_books, due_of_kept}
 use Rattle.volume.specs.Volumed.{Volumed, books_of, piece_of, is_loud_in_all, left_in_all, merge_books, dues_of, is_loud_with}
 use Rattle.snapshots.specs.Numbers.{number_of_snap, numbers_in, count_in, merged_count}
-use Rattle.volume.specs.Whole.{AreNumbers, SharesNone, IsAttached, IsWhole, IsCounted}
+use Rattle.volume.specs.Whole.{AreNumbers, SharesNone, IsAttached, IsWhole, IsCounted, starts_left}
 use Rattle.volume.proofs.Lists.{all_pairs_set, list_all_set, IsFewer, fewer_all, fewer_pairs}
 
 -- an origin disk that holds the same
@@ -53,6 +53,7 @@ pub record StaysAttached {B : Type 0} (s s' : Kept B) : Type 0 where
   pub numbers : IsFewer (numbers_in s) (numbers_in s')
   pub few : count_in s' ≤ count_in s
   pub counted : IsCounted s → IsCounted s'
+  pub left : starts_left s' ≤ starts_left s
 
 abbrev pub changed : {B : Type 0} → Volumed B → B → ℕ → Kept B → List Flight → Volumed B
 changed v o k s flights = record v { origin = o; snaps = set v.snaps k s; flights = flights }
@@ -70,6 +71,7 @@ pub record SnapsFit {B : Type 0} (copies attached sectors : ℕ) (all : List (Ke
   pub numbers : AreNumbers attached (map number_of_snap all)
   pub few : length all ≤ 8
   pub few_copies : sum_by count_in all ≤ 256
+  pub numbers_left : copies + sum_by starts_left all ≤ 16_777_216 * attached
 
 pub snaps_fit : {B : Type 0} (contents : B → List ℕ) (layers : B → List Layer) (size : B → ℕ) (v : Volumed B) (sectors : ℕ) → IsWhole contents layers size v → sectors ≡ size v.origin → SnapsFit v.copies v.attached sectors v.snaps
 snaps_fit contents layers size v sectors h same = record {
@@ -79,6 +81,7 @@ snaps_fit contents layers size v sectors h same = record {
   numbers = h.numbers;
   few = h.few;
   few_copies = h.few_copies;
+  numbers_left = h.numbers_left;
 }
 
 module _ {B : Type 0} (contents : B → List ℕ) (layers : B → List Layer) (size : B → ℕ) (v : Volumed B) (o' : B) (k : ℕ) (s s' : Kept B) (within : k < length v.snaps) (is : s ≡ get_or v.snaps k s) where
@@ -134,6 +137,8 @@ module _ {B : Type 0} (contents : B → List ℕ) (layers : B → List Layer) (s
       let sums = sum_by-set count_in v.snaps k s' s within in
       let at : count_in (get_or v.snaps k s) ≡ count_in s = ap count_in (sym is) in
       let less = stays.few in
+      let lefts = sum_by-set starts_left v.snaps k s' s within in
+      let left : starts_left (get_or v.snaps k s) ≡ starts_left s = ap starts_left (sym is) in
       record {
         snaps = subst (λ n. All (IsAttached v.copies n (piece_of (set v.snaps k s'))) (set v.snaps k s')) (sym same.sectors)
             (subst (λ n. All (IsAttached v.copies (size v.origin) n) (set v.snaps k s')) (sym piece) (All-set (IsAttached v.copies (size v.origin) (piece_of v.snaps)) v.snaps k s' mine h.snaps));
@@ -145,6 +150,7 @@ module _ {B : Type 0} (contents : B → List ℕ) (layers : B → List Layer) (s
         numbers = subst (AreNumbers v.attached) (sym (map-set_same number_of_snap v.snaps k s' s (stays.number ∙ ap number_of_snap is))) h.numbers;
         few = omega (arith, h.few, length-set v.snaps k s');
         few_copies = omega (arith, sums, at, less, h.few_copies);
+        numbers_left = omega (arith, lefts, left, stays.left, h.numbers_left);
       }
 
   -- the volume is whole again
@@ -163,6 +169,7 @@ module _ {B : Type 0} (contents : B → List ℕ) (layers : B → List Layer) (s
         requests = subst (AreNumbers v.requests) (sym numbers) h.requests;
         few = fit.few;
         few_copies = fit.few_copies;
+        numbers_left = fit.numbers_left;
         few_requests = omega (arith, h.few_requests, ap length numbers, length-map flights number_of_flight, length-map v.flights number_of_flight);
       }
 

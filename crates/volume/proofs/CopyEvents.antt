@@ -31,6 +31,7 @@ use Rattle.volume.proofs.Changing.{SameDisk, StaysAttached, few_same, changed, b
 use Rattle.volume.proofs.Counting.{counts_same, counts_origin, counts_store, store_within, lives_same, lives_spoiled, lived, origin_within}
 use Rattle.snapshots.proofs.Finds.{position_within, position_any}
 use Rattle.volume.proofs.Good.{IsGood, SpoiltTo, silent_good, spoilt_good}
+use Rattle.volume.proofs.StartsLeft.{left_same}
 use Rattle.volume.proofs.MovedCounts.{counted_copies}
 
 -- a stage by its test
@@ -110,6 +111,7 @@ module _ {B : Type 0} (contents : B → List ℕ) (layers : B → List Layer) (s
           numbers = inl (same_numbers s s' j p q r.copy.was e.copy.number r.marks r.copy.copies);
           few = few_same s s' (same_numbers s s' j p q r.copy.was e.copy.number r.marks r.copy.copies) (ap (λ (x : Kept B). x.merging) f);
           counted = λ counts. subst IsCounted (sym f) (counted_copies s counts s.device j q);
+          left = left_same s s' (ap (λ (x : Kept B). x.live) f) (ap (λ (x : Kept B). x.state.size) f) (ap (λ (x : Kept B). x.next) f);
         } in
         silent_good contents layers size faults done v h (CopyRead number) Done (λ a b x. x) (λ xs ys e. e) o' k s s' within is same (ap (λ d. is_loud (layers d)) device) (ap size device) v.flights refl stays
         (copy_read_event k (sb s) (sb s') (books_of contents layers size v) (books_of contents layers size w) h.holds e_is j p q r)
@@ -132,6 +134,7 @@ module _ {B : Type 0} (contents : B → List ℕ) (layers : B → List Layer) (s
           numbers = inl (same_numbers s s' j p q r.copy.was e.copy.number r.marks r.copy.copies);
           few = few_same s s' (same_numbers s s' j p q r.copy.was e.copy.number r.marks r.copy.copies) (ap (λ (x : Kept B). x.merging) f);
           counted = λ counts. subst IsCounted (sym f) (counted_copies s counts s'.device j q);
+          left = left_same s s' (ap (λ (x : Kept B). x.live) f) (ap (λ (x : Kept B). x.state.size) f) (ap (λ (x : Kept B). x.next) f);
         } in
         silent_good contents layers size faults done v h (CopyWrite number) Done (λ a b x. x) (λ xs ys e. e) o' k s s' within is same loud sized v.flights refl stays
         (copy_write_event k (sb s) (sb s') (books_of contents layers size v) (books_of contents layers size w) h.holds e_is j p q r)

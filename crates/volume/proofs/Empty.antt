@@ -33,6 +33,7 @@ empty_whole contents layers size origin whole = record {
   few = omega arith;
   few_copies = omega arith;
   few_requests = omega arith;
+  numbers_left = omega arith;
 }
 
 pub quiet_none : {B : Type 0} (contents : B → List ℕ) (layers : B → List Layer) (size : B → ℕ) (v : Volumed B) (found : Option Event) → IsWhole contents layers size v → found ≡ next_of contents layers v → IfNone found (IsQuiet (books_of contents layers size v))

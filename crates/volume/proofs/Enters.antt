@@ -58,6 +58,7 @@ module _ {B : Type 0} (contents : B → List ℕ) (layers : B → List Layer) (s
     });
     few = h.few;
     few_copies = h.few_copies;
+    numbers_left = h.numbers_left;
     few_requests = omega (arith, room, length-append u.flights (f ∷ []));
   }
 

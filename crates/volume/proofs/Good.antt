@@ -29,6 +29,7 @@ use Rattle.volume.specs.Flying.{IsFlown}
 use Rattle.volume.specs.Stepping.{IsStepped, KeepsAll}
 use Rattle.volume.proofs.Counting.{kept_changed}
 use Rattle.volume.proofs.Shown.{shown, loud_books}
+use Rattle.volume.proofs.StartsLeft.{left_spoilt}
 use Rattle.volume.proofs.Changing.{SameDisk, StaysAttached, few_none, changed, spoils_one, whole_changed, lower_changed, loud_changed}
 
 pub record IsGood {B : Type 0} (contents : B → List ℕ) (layers : B → List Layer) (size faults done : B → ℕ) (event : Event) (outcome : Outcome) (v w : Volumed B) : Type 0 where
@@ -115,7 +116,7 @@ module _ {B : Type 0} (contents : B → List ℕ) (layers : B → List Layer) (s
       let spoil = spoil_event k (sb s) (sb s') (books_of contents layers size v) (books_of contents layers size w) h.holds e in
       let gone : numbers_in s' ≡ [] = ap (λ (x : List Mark). map number_of_mark x ++ map number_of_copy s'.copies) t.marks ∙ ap (map number_of_copy) t.copies in
       record {
-        whole = whole_changed contents layers size v o' k s s' within is flights h same (record { number = t.number; chunk_is = t.chunk_is; origin = t.origin; numbers = inr (inr gone); few = few_none s s' gone; counted = t.counted }) numbers spoil.holds
+        whole = whole_changed contents layers size v o' k s s' within is flights h same (record { number = t.number; chunk_is = t.chunk_is; origin = t.origin; numbers = inr (inr gone); few = few_none s s' gone; counted = t.counted; left = left_spoilt s s' t.live }) numbers spoil.holds
             (waits_spoiled k (sb s) (sb s') (books_of contents layers size v) (books_of contents layers size w) h.waits e t.untried);
         stepped = record {
           legal = λ l. told (plain_of contents layers v) (plain_of contents layers w) (legal_by contents layers size v w (s.number ∷ []) spoil.step l);

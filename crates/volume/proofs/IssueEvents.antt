@@ -1,5 +1,5 @@
 -- A request is answered and taken out: what a step promises of it.
-use Rattle.std.proofs.Common.{◌≡◌, ℕ, ◌*◌, ◌<◌, ◌≤◌, List, length, get_or, map, refl, sym, ap, subst, arith, ◌∙◌}
+use Rattle.std.proofs.Common.{◌≡◌, ℕ, ◌+◌, ◌*◌, ◌<◌, ◌≤◌, List, length, get_or, map, refl, sym, ap, subst, arith, ◌∙◌}
 use Rattle.std.specs.Prelude.{sum_by}
 use Rattle.std.specs.List.{All, remove}
 use Rattle.std.proofs.lemmas.List.{length-map}
@@ -28,7 +28,7 @@ use Rattle.volume_laws.specs.Outcomes.{IsReply}
 use Rattle.volume_laws.proofs.Lists.{All-remove, map-remove}
 use Rattle.volume.specs.Volumed.{Volumed, books_of, plain_of, dues_of, piece_of, is_loud_in_all, merge_due, left_by}
 use Rattle.snapshots.specs.Numbers.{number_of_snap}
-use Rattle.volume.specs.Whole.{AreNumbers, IsAttached, IsWhole}
+use Rattle.volume.specs.Whole.{AreNumbers, IsAttached, IsWhole, starts_left}
 use Rattle.volume.specs.Causes.{HasReplied, IsOneAtMost}
 use Rattle.volume.specs.Stepping.{KeepsAll}
 use Rattle.volume.proofs.Shown.{shown, loud_books}
@@ -59,6 +59,7 @@ module _ {B : Type 0} (contents : B → List ℕ) (layers : B → List Layer) (s
       requests = subst (λ n. AreNumbers n (map number_of_flight w.flights)) (sym requests) (subst (λ fs. AreNumbers v.requests (map number_of_flight fs)) (sym flights) (fewer_numbers v.requests v.flights place in_list h.requests));
       few = fit.few;
       few_copies = fit.few_copies;
+      numbers_left = subst (λ n. n + sum_by starts_left w.snaps ≤ 16_777_216 * w.attached) (sym copies) (subst (λ n. v.copies + sum_by starts_left w.snaps ≤ 16_777_216 * n) (sym attached) fit.numbers_left);
       few_requests = omega (arith, h.few_requests, ap length flights, length-remove v.flights place in_list);
     };
     stepped = record {

@@ -18,7 +18,7 @@ use Rattle.snapshot.specs.Kept.{Kept, books_of as snap_books}
 use Rattle.snapshot.specs.declared.opening.StoreDev.{StoreDev}
 use Rattle.volume.specs.Volumed.{Volumed, books_of, is_loud_in_all, piece_of, plain_of, is_loud_with}
 use Rattle.snapshots.specs.Numbers.{number_of_snap, count_in}
-use Rattle.volume.specs.Whole.{AreNumbers, SharesNone, IsAttached, IsWhole, IsCounted}
+use Rattle.volume.specs.Whole.{AreNumbers, SharesNone, IsAttached, IsWhole, IsCounted, starts_left}
 use Rattle.volume.proofs.Changing.{books_within, books_is}
 use Rattle.snapshots.specs.Finding.{place_of_snap}
 use Rattle.volume.specs.Leaving.{IsWithout, is_done_of, is_quiet_of}
@@ -60,6 +60,7 @@ module _ {B : Type 0} (contents : B → List ℕ) (layers : B → List Layer) (s
   whole_left h =
       let fewer = length-remove v.snaps k within in
       let sums = sum_left count_in v.snaps k in
+      let lefts = sum_left starts_left v.snaps k in
       record {
         alone = h.alone;
         holds = (detach_event k (snap_books contents layers s) (books_of contents layers size v) (books_of contents layers size left) h.holds detaches).0;
@@ -75,6 +76,7 @@ module _ {B : Type 0} (contents : B → List ℕ) (layers : B → List Layer) (s
         few = omega (arith, fewer, h.few);
         few_copies = omega (arith, sums, h.few_copies);
         few_requests = h.few_requests;
+        numbers_left = omega (arith, lefts, h.numbers_left);
       }
 
   pub plain_left : IsWhole contents layers size v → IsDetached (plain_of contents layers v) s.number (plain_of contents layers left)

@@ -18,7 +18,7 @@ use Rattle.volume_laws.specs.Waits.{Waits}
 use Rattle.snapshot.specs.Kept.{Kept, books_of as snap_books, due_of_kept}
 use Rattle.volume.specs.Volumed.{Volumed, books_of, dues_of, piece_of, merge_books, is_loud_with}
 use Rattle.snapshots.specs.Numbers.{number_of_snap, count_in}
-use Rattle.volume.specs.Whole.{IsWhole, IsAttached, IsCounted, SharesNone, AreNumbers}
+use Rattle.volume.specs.Whole.{IsWhole, IsAttached, IsCounted, SharesNone, AreNumbers, starts_left}
 use Rattle.volume.specs.Moved.{moving_of, held_of}
 use Rattle.volume.specs.Layering.{Measures, IsLater, IsSnapLater, IsTicked, held_relayered, moving_relayered, IsMergeLater}
 use Rattle.merge.specs.Merging.{Merging, books_of as merging_books}
@@ -148,6 +148,9 @@ module _ {B : Type 0} (contents : B → List ℕ) (layers : B → List Layer) (s
     numbers_map : map number_of_snap w.snaps ≡ map number_of_snap v.snaps
     numbers_map = map_at number_of_snap number_of_snap v.snaps w.snaps h.count (λ k d lt. ap number_of_snap (h.snaps k d lt).same)
 
+    lefts_map : map starts_left w.snaps ≡ map starts_left v.snaps
+    lefts_map = map_at starts_left starts_left v.snaps w.snaps h.count (λ k d lt. ap starts_left (h.snaps k d lt).same)
+
     counts_map : map count_in w.snaps ≡ map count_in v.snaps
     counts_map = map_at count_in count_in v.snaps w.snaps h.count (λ k d lt. ap count_in (h.snaps k d lt).same)
 
@@ -167,6 +170,7 @@ module _ {B : Type 0} (contents : B → List ℕ) (layers : B → List Layer) (s
       few = omega (arith, h.count, whole.few);
       few_copies = omega (arith, sum_at count_in v.snaps w.snaps counts_map, whole.few_copies);
       few_requests = subst (λ (x : Volumed B). length x.flights ≤ 64) (sym h.becomes) whole.few_requests;
+      numbers_left = omega (arith, sum_at starts_left v.snaps w.snaps lefts_map, ap (λ (x : Volumed B). x.copies) h.becomes, ap (λ (x : Volumed B). x.attached) h.becomes, whole.numbers_left);
     }
       where
         inside : (k : ℕ) → k < length w.snaps → k < length v.snaps

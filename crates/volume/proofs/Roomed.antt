@@ -9,7 +9,7 @@ use Rattle.snapshot.specs.Kept.{Kept, books_of as snap_books}
 use Rattle.snapshots.proofs.Roomed.{roomed, roomed_length, roomed_at}
 use Rattle.volume.specs.Volumed.{Volumed, books_of, piece_of}
 use Rattle.snapshots.specs.Numbers.{number_of_snap, count_in}
-use Rattle.volume.specs.Whole.{AreNumbers, SharesNone, IsAttached, IsWhole, IsCounted}
+use Rattle.volume.specs.Whole.{AreNumbers, SharesNone, IsAttached, IsWhole, IsCounted, starts_left}
 use Rattle.snapshots.specs.Starting.{unroomed, starts}
 use Rattle.volume.proofs.Sums.{sum_cons}
 
@@ -37,6 +37,7 @@ module _ {B : Type 0} (contents : B → List ℕ) (layers : B → List Layer) (s
       let piece = roomed_piece snaps v.snaps e in
       let len = roomed_length snaps v.snaps e in
       let sums = roomed_sum count_in snaps v.snaps e (λ s. refl) in
+      let lefts = roomed_sum starts_left snaps v.snaps e (λ s. refl) in
       record {
         alone = h.alone;
         holds = subst (λ (xs : List SnapBooks). let b : Books = record bs { snaps = xs } in Holds b) (sym books_roomed) h.holds;
@@ -57,6 +58,7 @@ module _ {B : Type 0} (contents : B → List ℕ) (layers : B → List Layer) (s
         few = omega (arith, h.few, len);
         few_copies = omega (arith, h.few_copies, sums);
         few_requests = h.few_requests;
+        numbers_left = omega (arith, h.numbers_left, lefts);
       }
     where
       hidden : (copies sectors chunk : ℕ) (s : Kept B) → IsAttached copies sectors chunk s → IsAttached copies sectors chunk (unroomed s)

@@ -25,7 +25,7 @@ use Rattle.snapshot.specs.Kept.{Kept, books_of as snap_books}
 use Rattle.snapshot.specs.Calls.{StartsAt, started}
 use Rattle.volume.specs.Volumed.{Volumed, books_of, piece_of, plain_of}
 use Rattle.snapshots.specs.Numbers.{count_in}
-use Rattle.volume.specs.Whole.{IsWhole}
+use Rattle.volume.specs.Whole.{IsWhole, IsCounted}
 use Rattle.plain.specs.declared.request.Reply.{Reply}
 use Rattle.event_machine.specs.Held.{Held as Seen, Moving}
 use Rattle.event_machine.specs.Submitting.{submitted}
@@ -52,6 +52,7 @@ use Rattle.volume.proofs.MovedAccepts.{snap_write_held_is, unroomed_seen}
 use Rattle.volume.proofs.MovedLists.{IsFirst}
 use Rattle.volume.proofs.MovedSubmits.{IsSized, with_copy_is}
 use Rattle.volume.proofs.Submitted.{lacking_unpublished, named_first, sized_at}
+use Rattle.volume.proofs.StartsLeft.{left_spoilt, left_started}
 use Rattle.volume.proofs.MovedCounts.{counted_begun, counted_spoilt}
 
 and_first : (a b : Bool) → (a && b) ≡ true → a ≡ true
@@ -132,7 +133,8 @@ module _ {B : Type 0} (contents : B → List ℕ) (layers : B → List Layer) (s
 
     whole_copying : IsWhole contents layers size copying
     whole_copying = whole_begun contents layers size roomy k s1 t within_roomy is_roomy roomy_whole (ap (λ (x : Kept B). x.number) at.fields) (ap (λ (x : Kept B). x.state.chunk) at.fields) (ap (λ (x : Kept B). x.state.origin) at.fields)
-        (numbers_pushed s1 t copy (ap (λ (x : Kept B). x.marks) at.fields) (ap (λ (x : Kept B). x.copies) at.fields)) (ap (λ (x : Kept B). x.merging) at.fields) (λ counts. counted_begun contents layers s1 t copy live_roomy at counts) few_copies prepared_copying.holds prepared_copying.waits
+        (numbers_pushed s1 t copy (ap (λ (x : Kept B). x.marks) at.fields) (ap (λ (x : Kept B). x.copies) at.fields)) (ap (λ (x : Kept B). x.merging) at.fields) (λ counts. counted_begun contents layers s1 t copy live_roomy at counts)
+        (left_started contents layers (f.request.range.first / piece_of v.snaps) s1 t copy (subst IsCounted (sym is_roomy) (roomy_whole.counted k s1 within_roomy)).some begins live_roomy at) few_copies prepared_copying.holds prepared_copying.waits
 
     piece_copying : piece_of (set (set v.snaps k s1) k t) ≡ piece_of v.snaps
     piece_copying = piece_set (set v.snaps k s1) k s1 t is_roomy (ap (λ (x : Kept B). x.state.chunk) at.fields) ∙ roomed_piece (set v.snaps k s1) v.snaps one_roomed
@@ -204,7 +206,7 @@ module _ {B : Type 0} (contents : B → List ℕ) (layers : B → List Layer) (s
 
   pub filled_whole : IsWhole contents layers size filled
   filled_whole = whole_changed contents layers size roomy v.origin k s1 (spoilt_of s1) within_roomy is_roomy (map (refused_of (s1.number ∷ [])) v.flights) roomy_whole (same_disk contents layers size v.origin)
-      (record { number = refl; chunk_is = refl; origin = refl; numbers = inr (inr refl); counted = λ counts. counted_spoilt s1 counts }) (refused_numbers (s1.number ∷ []) v.flights) prepared_filled.holds prepared_filled.waits
+      (record { number = refl; chunk_is = refl; origin = refl; numbers = inr (inr refl); counted = λ counts. counted_spoilt s1 counts; left = left_spoilt s1 (spoilt_of s1) refl }) (refused_numbers (s1.number ∷ []) v.flights) prepared_filled.holds prepared_filled.waits
 
   pub found_full : (c : ℕ) → overflows c s1 ≡ true → place_of_snap id v.snaps ≡ Some k → IsFoundFull contents layers id c v filled
   found_full c over found = record {

@@ -30,6 +30,7 @@ use Rattle.volume.proofs.Changing.{SameDisk, same_disk, StaysAttached, few_same,
 use Rattle.volume.proofs.Counting.{counts_same, counts_store, store_within, lives_same, lives_spoiled, lived}
 use Rattle.volume.proofs.CopyEvents.{both_left, both_right}
 use Rattle.volume.proofs.Good.{IsGood, SpoiltTo, silent_good, spoilt_good}
+use Rattle.volume.proofs.StartsLeft.{left_same}
 use Rattle.volume.proofs.MovedCounts.{counted_zeroed, counted_first}
 
 -- the first copy is written
@@ -74,12 +75,12 @@ module _ {B : Type 0} (number : ℕ) (s : Kept B) where
       at false b f k = absurd (false≢true f)
 
 -- a commit keeps the store's sizes
-state_parts : (b : Bool) (s x y : State) → x.chunk ≡ s.chunk → y.chunk ≡ s.chunk → x.origin ≡ s.origin → y.origin ≡ s.origin → ((if b then x else y).chunk ≡ s.chunk) × ((if b then x else y).origin ≡ s.origin)
-state_parts true s x y xc yc xo yo = (xc, xo)
-state_parts false s x y xc yc xo yo = (yc, yo)
+state_parts : (b : Bool) (s x y : State) → x.chunk ≡ s.chunk → y.chunk ≡ s.chunk → x.origin ≡ s.origin → y.origin ≡ s.origin → x.size ≡ s.size → y.size ≡ s.size → ((if b then x else y).chunk ≡ s.chunk) × ((if b then x else y).origin ≡ s.origin) × ((if b then x else y).size ≡ s.size)
+state_parts true s x y xc yc xo yo xs ys = (xc, xo, xs)
+state_parts false s x y xc yc xo yo xs ys = (yc, yo, ys)
 
-commit_sizes : (s : State) (count : ℕ) → ((after_commit s count).chunk ≡ s.chunk) × ((after_commit s count).origin ≡ s.origin)
-commit_sizes s count = state_parts (nat_eq (s.filled + count) (32 * s.chunk)) s (record s { current = s.current + 1; filled = 0; zeroed = false }) (record s { filled = s.filled + count }) refl refl refl refl
+commit_sizes : (s : State) (count : ℕ) → ((after_commit s count).chunk ≡ s.chunk) × ((after_commit s count).origin ≡ s.origin) × ((after_commit s count).size ≡ s.size)
+commit_sizes s count = state_parts (nat_eq (s.filled + count) (32 * s.chunk)) s (record s { current = s.current + 1; filled = 0; zeroed = false }) (record s { filled = s.filled + count }) refl refl refl refl refl refl
 
 -- and the copies' numbers
 commit_front : (count : ℕ) (copies : List ChunkCopy) → map number_of_mark (map mark_of (take count copies)) ++ map number_of_copy (drop count copies) ≡ map number_of_copy copies
@@ -131,6 +132,7 @@ module _ {B : Type 0} (contents : B → List ℕ) (layers : B → List Layer) (s
         numbers = inl (ap (λ (x : Kept B). numbers_in x) f);
         few = few_same s s' (ap (λ (x : Kept B). numbers_in x) f) (ap (λ (x : Kept B). x.merging) f);
         counted = λ counts. subst IsCounted (sym f) (counted_zeroed s counts d);
+        left = left_same s s' (ap (λ (x : Kept B). x.live) f) (ap (λ (x : Kept B). x.state.size) f) (ap (λ (x : Kept B). x.next) f);
       } in
       silent_good contents layers size faults done v h (ZeroNext number) Done (λ a b x. x) (λ xs ys e. e) v.origin k s s' within is disk (ap (λ x. is_loud (layers x)) device ∙ loud) (ap size device ∙ sized) v.flights refl stays
       (zero_event k (sb s) (sb s') (books_of contents layers size v) (books_of contents layers size w) h.holds e_is (s.state.current + 1) live r)
@@ -193,6 +195,7 @@ module _ {B : Type 0} (contents : B → List ℕ) (layers : B → List Layer) (s
         numbers = inl (ap (λ (x : Kept B). numbers_in x) f ∙ commit_numbers count s.marks s.copies);
         few = few_same s s' (ap (λ (x : Kept B). numbers_in x) f ∙ commit_numbers count s.marks s.copies) (ap (λ (x : Kept B). x.merging) f);
         counted = λ counts. subst IsCounted (sym f) (counted_first s counts live d count batched (holds_live live).agree);
+        left = left_same s s' (ap (λ (x : Kept B). x.live) f) (ap (λ (x : Kept B). x.state.size) f ∙ sizes.2) (ap (λ (x : Kept B). x.next) f);
       } in
       silent_good contents layers size faults done v h (WriteArea number) Done (λ a b x. x) (λ xs ys e. e) v.origin k s s' within is disk (ap (λ x. is_loud (layers x)) device ∙ loud) (ap size device ∙ sized) v.flights refl stays
       (commit_event k (sb s) (sb s') (books_of contents layers size v) (books_of contents layers size w) h.holds e_is count s.state.current live r)

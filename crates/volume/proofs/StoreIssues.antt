@@ -50,6 +50,7 @@ use Rattle.volume.proofs.Counting.{counts_same, counts_store, store_within, live
 use Rattle.volume.proofs.Good.{IsGood}
 use Rattle.volume.proofs.IssueEvents.{reply_good, taken_out, fits_read, fits_write}
 use Rattle.volume.proofs.DiskIssues.{read_kinds, write_kinds}
+use Rattle.volume.proofs.StartsLeft.{left_same}
 use Rattle.volume.proofs.MovedCounts.{counted_device}
 use Rattle.volume.proofs.Alone.{alone_books}
 
@@ -185,7 +186,7 @@ module _ {B : Type 0} (contents : B → List ℕ) (layers : B → List Layer) (s
       loud_now = ap (λ x. is_loud (layers x)) device ∙ loud
 
       stays : StaysAttached s s'
-      stays = record { number = ap (λ (x : Kept B). x.number) f; chunk_is = ap (λ (x : Kept B). x.state.chunk) f; origin = ap (λ (x : Kept B). x.state.origin) f; numbers = inl (ap (λ (x : Kept B). numbers_in x) f); few = few_same s s' (ap (λ (x : Kept B). numbers_in x) f) (ap (λ (x : Kept B). x.merging) f); counted = λ counts. subst IsCounted (sym f) (counted_device s counts d) }
+      stays = record { number = ap (λ (x : Kept B). x.number) f; chunk_is = ap (λ (x : Kept B). x.state.chunk) f; origin = ap (λ (x : Kept B). x.state.origin) f; numbers = inl (ap (λ (x : Kept B). numbers_in x) f); few = few_same s s' (ap (λ (x : Kept B). numbers_in x) f) (ap (λ (x : Kept B). x.merging) f); counted = λ counts. subst IsCounted (sym f) (counted_device s counts d); left = left_same s s' (ap (λ (x : Kept B). x.live) f) (ap (λ (x : Kept B). x.state.size) f) (ap (λ (x : Kept B). x.next) f) }
 
       keeps : KeepsWaiting (snap_books contents layers s) (snap_books contents layers s')
       keeps = subst (λ (x : Kept B). KeepsWaiting (snap_books contents layers s) (snap_books contents layers x)) (sym f)

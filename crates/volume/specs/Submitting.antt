@@ -53,10 +53,9 @@ starting OriginWrite c snaps = count_by (starts c) snaps
 starting (SnapRead number) c snaps = 0
 starting (SnapWrite number) c snaps = count_by (λ s. (s.number == number) && starts c s) snaps
 
--- One request too many, or one copy, with so many new ones. A request starts one copy in each snapshot at most, and so eight:
--- with more than 2^64 - 9 numbers of copies given, one may be past the last.
+-- One request too many, or one copy, with so many new ones. (The numbers of copies never run out.)
 abbrev pub are_too_many : {B : Type 0} → ℕ → Volumed B → Bool
-are_too_many new v = nat_le 64 (length v.flights) || nat_le 18_446_744_073_709_551_615 v.requests || nat_lt 256 (sum_by count_in v.snaps + new) || nat_lt 18_446_744_073_709_551_607 v.copies
+are_too_many new v = nat_le 64 (length v.flights) || nat_le 18_446_744_073_709_551_615 v.requests || nat_lt 256 (sum_by count_in v.snaps + new)
 
 abbrev pub limit_refusal : {B : Type 0} → ℕ → Volumed B → Option Refusal
 limit_refusal new v = if are_too_many new v then Some TooMany else None

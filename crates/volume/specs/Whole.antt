@@ -1,5 +1,5 @@
 -- What a volume keeps true.
-use Rattle.std.specs.Prelude.{◌≡◌, ◌≢◌, ℕ, ◌+◌, ◌*◌, ◌<◌, ◌≤◌, true, false, List, [], None, length, map, AllPairs, sum_by}
+use Rattle.std.specs.Prelude.{◌≡◌, ◌≢◌, ℕ, ◌+◌, ◌-◌, ◌*◌, ◌<◌, ◌≤◌, true, false, List, [], None, length, map, AllPairs, sum_by, if◌then◌else◌}
 use Rattle.std.specs.List.{All}
 use Rattle.device.specs.Layers.{Layer}
 use Rattle.pending.specs.Due.{number_of_flight}
@@ -34,6 +34,11 @@ pub record IsCounted {B : Type 0} (s : Kept B) : Type 0 where
   pub fits : s.live ≡ true → s.state.filled < 32 * s.state.chunk
   pub idle : s.live ≡ false → s.copies ≡ []
 
+-- How many copies a snapshot can still start, at most: each takes a place of its store, the next one or one after it.
+abbrev pub starts_left : {B : Type 0} → Kept B → ℕ
+starts_left s = if s.live then s.state.size - s.next else 0
+
+-- numbers_left: a store has 2^24 sectors at most, so each snapshot that was ever attached starts fewer than 2^24 copies
 pub record IsWhole {B : Type 0} (contents : B → List ℕ) (layers : B → List Layer) (size : B → ℕ) (v : Volumed B) : Type 0 where
   -- no call begins a merge yet
   pub alone : v.merge ≡ None
@@ -47,3 +52,4 @@ pub record IsWhole {B : Type 0} (contents : B → List ℕ) (layers : B → List
   pub few : length v.snaps ≤ 8
   pub few_copies : sum_by count_in v.snaps ≤ 256
   pub few_requests : length v.flights ≤ 64
+  pub numbers_left : v.copies + sum_by starts_left v.snaps ≤ 16_777_216 * v.attached

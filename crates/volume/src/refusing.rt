@@ -79,6 +79,5 @@ impl<B: Block> Volume<B> {
         self.flights.len() >= MAX_REQUESTS
             || self.requests >= u64::MAX
             || new > MAX_COPIES - pending_count(self.snaps.as_slice())
-            || self.copies > u64::MAX - 8
     }
 }

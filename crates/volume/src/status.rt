@@ -1,5 +1,5 @@
 // What callers may ask of a volume and of its snapshots: whether it is quiet, a snapshot by its place, its store, its usage.
-ghost use Rattle.std.specs.Prelude.{◌≡◌, ◌<◌, IfErr, IfOk, None, Option, Some, length, slice_index_or, true, ℕ};
+ghost use Rattle.std.specs.Prelude.{◌≡◌, ◌*◌, ◌<◌, ◌≤◌, IfErr, IfOk, None, Option, Some, length, slice_index_or, true, ℕ};
 ghost use Rattle.std.specs.List.{All, list_all};
 ghost use Rattle.sector.specs.declared.refusal.Refusal.TheVariants.{NoSuchDevice};
 ghost use Rattle.plain.specs.declared.request.Reply.{Reply};
@@ -14,7 +14,7 @@ ghost use Rattle.volume.specs.Whole.{IsCounted};
 use crate::Volume;
 use chunk_alloc::Usage;
 use device::Block;
-use plain::{ReqId, SnapId};
+use plain::{CopyId, ReqId, SnapId};
 use sector::Refusal;
 use snapshot::Snapshot;
 use snapshots::snap_at;
@@ -55,6 +55,15 @@ impl<B: Block> Volume<B> {
         ensures { result ≡ self.now.requests }
     {
         self.requests
+    }
+
+    /// The number of the copy that was started last: so many were started so far. The numbers never run out: each copy takes
+    /// a place of a store of 2^24 sectors at most, and fewer than 2^32 snapshots are ever attached.
+    pub fn last_copy(&self) -> CopyId
+        ensures value { result ≡ self.now.copies }
+        ensures few { result ≤ 16_777_216 * self.now.attached }
+    {
+        self.copies
     }
 
     /// The snapshot at a place, counted from 0 in order of attaching.

@@ -32,7 +32,7 @@ pub overflow_add-to : goal.overflow_add-to
 overflow_add-to g c =
     let is = first_piece _ _ _ _ _ _ _ c.loop-piece.invariant.stands c.in-Some.ensures.steps in
     let bytes = is.bytes in
-    let copies = c.requires.can.copies in
+    let room = c.requires.room in
     omega arith
 
 pub slice_bounds-write_piece-end : goal.slice_bounds-write_piece-end

@@ -37,7 +37,6 @@ invariant_of-self c =
     record {
       many = omega (arith, many, names, snaps, left, gone);
       requests = rw out.requests old.requests;
-      copies = rw out.copies old.copies;
       few = old.few;
       loud = λ sound. (c.detach.ensures.settled (c.is_quiet.ensures.rest c.if-not-is_quiet.false (old.loud sound))).loud;
     }

@@ -7,7 +7,7 @@ use Rattle.named_volume.proofs.origin.NamedVolume.tell.Goals as goal
 pub invariant_of-self : goal.invariant_of-self
 invariant_of-self c =
     let told = c.tell_role.ensures in
-    stays_held _ c.self.inside.volume c.tell_role.new.volume _ _ c.self.invariant told.kept told.requests told.copies
+    stays_held _ c.self.inside.volume c.tell_role.new.volume _ _ c.self.invariant told.kept told.requests
 
 pub returns : goal.returns
 returns c =

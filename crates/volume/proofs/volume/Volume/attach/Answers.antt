@@ -17,7 +17,7 @@ use Rattle.snapshot.specs.Attaching.{AreSized}
 use Rattle.settled.specs.Attaching.{open_store, done}
 use Rattle.volume.specs.Moved.{device_of}
 use Rattle.volume.specs.Attached.{store_of, volume_in}
-use Rattle.volume.proofs.AttachedAs.{number_left, refused_before, admitted, count_in, sized, resting, attached_is, back_is, unzeroed_of, loud_taken_as}
+use Rattle.volume.proofs.AttachedAs.{number_left, refused_before, admitted, count_in, sized, resting, attached_is, back_is, unzeroed_of, size_opened, loud_taken_as}
 use Rattle.volume.proofs.volume.Volume.attach.Goals as goal
 
 pub push_reserved-requires : goal.push_reserved-requires
@@ -36,11 +36,13 @@ invariant_of-self-in-Ok-open_snapshot g c =
     let number : s.number ≡ v.attached + 1 = ap (λ (x : Kept g.row.B.Denot). x.number) o.fields in
     let new : IsNewSnap (g.B.Block.contents v.origin) (snap_books g.B.Block.contents g.B.Block.layers s) = c.in-Ok-open_snapshot.ensures.new (g.B.Block.contents v.origin) (g.met.B.Block.whole v.origin ∙ ap (λ n. 512 * n) (sym c.sectors.ensures)) in
     let origin : s.state.origin ≡ g.B.Block.size v.origin = ap (λ (x : Kept g.row.B.Denot). x.state.origin) o.fields ∙ opened_origin c.args.chunk c.sectors.result (g.B.Block.size c.args.store.device) (g.B.Block.contents c.args.store.device) o.loaded s.pairs o.opened ∙ c.sectors.ensures in
+    let sized : s.state.size ≡ g.B.Block.size c.args.store.device = size_opened g.B.Block.contents g.B.Block.layers (v.attached + 1) c.args.chunk c.sectors.result (g.B.Block.size c.args.store.device) c.args.store.device s o in
+    let small : s.state.size ≤ 16777216 = omega (arith, sized, g.met.B.Block.small c.args.store.device) in
     let wanted : IsWanted (wanted_of v.snaps) s.state.chunk = subst (λ (w : Option ℕ). IsWanted w s.state.chunk) (c.wanted.ensures ∙ ap wanted_of c.reserve.ensures.items) c.in-Ok-open_snapshot.ensures.wanted in
     let idle : numbers_in s ≡ [] = ap (λ (x : Kept g.row.B.Denot). numbers_in x) o.fields in
     let copies : s.copies ≡ [] = ap (λ (x : Kept g.row.B.Denot). x.copies) o.fields in
     let counts : IsCounted s = record { some = new.text.some; count = c.in-Ok-open_snapshot.ensures.counted; fits = λ _. c.in-Ok-open_snapshot.ensures.unfilled; idle = λ _. copies } in
-    rw (c.push_reserved.ensures.items, c.reserve.ensures.items) (whole_taken g.B.Block.contents g.B.Block.layers g.B.Block.size v s none c.self.invariant number new room origin wanted idle counts)
+    rw (c.push_reserved.ensures.items, c.reserve.ensures.items) (whole_taken g.B.Block.contents g.B.Block.layers g.B.Block.size v s none c.self.invariant number new room small origin wanted idle counts)
 
 pub returns-in-Ok-open_snapshot-clause-taken : goal.returns-in-Ok-open_snapshot-clause-taken
 returns-in-Ok-open_snapshot-clause-taken g c = λ _ loud.

@@ -1,8 +1,8 @@
 -- A request that no limit, range or missing snapshot refuses is taken by its kind.
-use Rattle.std.proofs.Common.{◌/◌, [], inl, refl, sym, ◌∙◌, ap, subst, arith}
+use Rattle.std.proofs.Common.{◌≡◌, ◌/◌, [], inl, refl, sym, ◌∙◌, ap, subst, arith}
 use Rattle.pending.specs.Kinds.{kind_of, room_of}
 use Rattle.volume_laws.proofs.Preparing.{prepared_none}
-use Rattle.volume.specs.Volumed.{books_of, piece_of}
+use Rattle.volume.specs.Volumed.{Volumed, books_of, piece_of}
 use Rattle.volume.specs.Submitting.{starting, IsAsked}
 use Rattle.volume.proofs.Admits.{admitted}
 use Rattle.volume.proofs.ByKind.{origin_read_enters}
@@ -48,8 +48,9 @@ submit_origin_write-requires-clause-room g c =
 
 pub submit_origin_write-requires-clause-copies : goal.submit_origin_write-requires-clause-copies
 submit_origin_write-requires-clause-copies g c =
-    let a = admitted g.B.Block.size c.args.request c.args.self.now (sym c.in-None.ensures) in
-    omega (arith, a.copies)
+    let whole : IsWhole g.B.Block.contents g.B.Block.layers g.B.Block.size c.args.self.now = subst (IsWhole g.B.Block.contents g.B.Block.layers g.B.Block.size) c.self.view_is c.self.invariant in
+    let same : c.self.inside.attached ≡ c.args.self.now.attached = ap (λ (x : Volumed g.row.B.Denot). x.attached) c.self.view_is in
+    omega (arith, whole.numbers_left, same, c.self.ranges)
 
 pub submit_origin_write-requires-clause-few : goal.submit_origin_write-requires-clause-few
 submit_origin_write-requires-clause-few g c =
@@ -107,8 +108,9 @@ submit_snap_write-requires-clause-found g c =
 
 pub submit_snap_write-requires-clause-copies : goal.submit_snap_write-requires-clause-copies
 submit_snap_write-requires-clause-copies g c =
-    let a = admitted g.B.Block.size c.args.request c.args.self.now (sym c.in-None.ensures) in
-    omega (arith, a.copies)
+    let whole : IsWhole g.B.Block.contents g.B.Block.layers g.B.Block.size c.args.self.now = subst (IsWhole g.B.Block.contents g.B.Block.layers g.B.Block.size) c.self.view_is c.self.invariant in
+    let same : c.self.inside.attached ≡ c.args.self.now.attached = ap (λ (x : Volumed g.row.B.Denot). x.attached) c.self.view_is in
+    omega (arith, whole.numbers_left, same, c.self.ranges)
 
 pub submit_snap_write-requires-clause-few : goal.submit_snap_write-requires-clause-few
 submit_snap_write-requires-clause-few g c =
