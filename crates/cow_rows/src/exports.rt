@@ -2,7 +2,7 @@
 
 use crate::images::{WRITTEN_ORIGIN, WRITTEN_SHOWN, WRITTEN_STORE, bytes_of, image_of};
 use cow_map::{CowMap, Told, read_store};
-use cow_shown::{Stopped, export};
+use cow_shown::{Stopped, export, export_fresh};
 use image::{FailingImage, MemSink};
 use std::alloc::Global;
 use std::process::Abort;
@@ -32,6 +32,16 @@ fn a_kernel_s_snapshot_is_exported_as_it_showed_it(rt: HostRuntime) -> Result<()
     let mut sink = empty(rt.alloc(), 65536);
     export(rt.alloc(), &mut origin, &mut cow, &map, 128, &mut sink)?;
     let wanted = bytes_of(rt.alloc(), WRITTEN_SHOWN)?;
+    assert_eq!(rt; sink.bytes.as_slice(), wanted.as_slice());
+    Ok(())
+}
+
+#[test]
+fn a_fresh_store_shows_its_origin(rt: HostRuntime) -> Result<(), Fail> {
+    let mut origin = image_of(rt.alloc(), WRITTEN_ORIGIN)?;
+    let mut sink = empty(rt.alloc(), 65536);
+    export_fresh(rt.alloc(), &mut origin, 128, &mut sink)?;
+    let wanted = bytes_of(rt.alloc(), WRITTEN_ORIGIN)?;
     assert_eq!(rt; sink.bytes.as_slice(), wanted.as_slice());
     Ok(())
 }

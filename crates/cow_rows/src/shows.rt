@@ -1,9 +1,10 @@
 // What is printed of a store.
 
 use crate::images::{FIRST_STORE, image_of};
-use cow_map::{Failure, Fault, Listed, Reason, Told, read_slots, read_store, sectors_of};
+use cow_map::{Failure, Fault, Listed, Reason, Told, faults, read_slots, read_store, sectors_of};
 use cow_words::{
-    Numbers, push_numbers, push_runs, push_sectors, push_slots, push_told, push_usage,
+    Numbers, push_faults, push_json, push_numbers, push_runs, push_sectors, push_show, push_slots,
+    push_told, push_usage,
 };
 use image::{FailingImage, Image, MemImage};
 use sector::Refusal;
@@ -178,5 +179,94 @@ fn an_image_is_whole_sectors(rt: HostRuntime) -> Result<(), Fail> {
     );
     let mut fresh = image_of(rt.alloc(), &[(1024, 0)])?;
     assert!(rt; matches!(read_store(rt.alloc(), &mut fresh, 8)?, Told::Fresh));
+    Ok(())
+}
+
+// A store of 128 sectors with chunks of 8: its second pair has the first one's chunks, its third begins past the origin
+// and lies past the store.
+const FAULTY: &[(usize, u8)] = &[
+    (1, 0x53),
+    (1, 0x6e),
+    (1, 0x41),
+    (1, 0x70),
+    (1, 1),
+    (3, 0),
+    (1, 1),
+    (3, 0),
+    (1, 8),
+    (4083, 0),
+    (1, 3),
+    (7, 0),
+    (1, 2),
+    (7, 0),
+    (1, 3),
+    (7, 0),
+    (1, 2),
+    (7, 0),
+    (1, 40),
+    (7, 0),
+    (1, 90),
+    (61399, 0),
+];
+
+#[test]
+fn all_faults_are_told_the_first_as_the_reason(rt: HostRuntime) -> Result<(), Fail> {
+    let mut cow = image_of(rt.alloc(), FAULTY)?;
+    let told = read_store(rt.alloc(), &mut cow, 128)?;
+    let pair = sector::Pair { old: 3, new: 2 };
+    let first = Fault::OldTwice { slot: 1, pair };
+    assert!(rt; matches!(&told, Told::Refused(Reason::Pairs(fault)) if *fault == first));
+    let (slots, listed) = read_slots(rt.alloc(), &mut cow, 8)?;
+    assert_eq!(rt; listed, Listed::Ends(0));
+    let found = faults(rt.alloc(), 8, 128, 128, slots.as_slice(), usize::MAX)?;
+    let mut text = Vec::new(rt.alloc());
+    push_faults(&mut text, 256, found.as_slice())?;
+    assert_eq!(rt;
+        text.as_slice(),
+        b"fault area 0 slot 1: old chunk 3 stands in an earlier slot\nfault area 0 slot 1: new chunk 2 stands in an earlier slot\nfault area 0 slot 2: old chunk 40 begins past the origin's end\nfault area 0 slot 2: new chunk 90 does not lie inside the store\n".as_slice()
+    );
+    Ok(())
+}
+
+#[test]
+fn a_store_is_shown_in_lines_and_as_an_object(rt: HostRuntime) -> Result<(), Fail> {
+    let mut cow = image_of(rt.alloc(), FIRST_STORE)?;
+    let told = read_store(rt.alloc(), &mut cow, 200)?;
+    let numbers = Some(Numbers {
+        magic: 1_883_336_275,
+        valid: 1,
+        version: 1,
+        chunk: 8,
+    });
+    let mut text = Vec::new(rt.alloc());
+    push_show(&mut text, 200, numbers, &told)?;
+    assert_eq!(rt;
+        text.as_slice(),
+        b"sectors 200\nmagic 1883336275\nvalid 1\nversion 1\nchunk 8\npairs 1\narea 0\nslot 1\nstatus 24/200 16\n".as_slice()
+    );
+    let mut text = Vec::new(rt.alloc());
+    push_json(&mut text, 200, numbers, &told)?;
+    assert_eq!(rt;
+        text.as_slice(),
+        b"{\"sectors\":200,\"magic\":1883336275,\"valid\":1,\"version\":1,\"chunk\":8,\"pairs\":1,\"area\":0,\"slot\":1,\"allocated\":24,\"total\":200,\"metadata\":16}\n".as_slice()
+    );
+    let mut text = Vec::new(rt.alloc());
+    push_json(&mut text, 0, None, &Told::Refused(Reason::Empty))?;
+    assert_eq!(rt;
+        text.as_slice(),
+        b"{\"sectors\":0,\"refused\":\"StoreTooSmall\",\"reason\":\"the store has no sector\"}\n".as_slice()
+    );
+    Ok(())
+}
+
+#[test]
+fn a_fresh_store_has_two_sectors(rt: HostRuntime) -> Result<(), Fail> {
+    let mut small = image_of(rt.alloc(), &[(512, 0)])?;
+    assert!(rt;
+        matches!(
+            read_store(rt.alloc(), &mut small, 8)?,
+            Told::Refused(Reason::NoRoom)
+        )
+    );
     Ok(())
 }

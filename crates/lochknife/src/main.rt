@@ -10,9 +10,10 @@ mod files;
 mod looking;
 mod rolling;
 mod trouble;
+mod unmarked;
 
 use crate::looking::{check, map, raw_map, show, show_json};
-use crate::rolling::export;
+use crate::rolling::{export, salvage};
 use crate::trouble::Trouble;
 use std::io;
 use std::process::ExitCode;
@@ -32,6 +33,8 @@ enum Asked<'a> {
     Check(&'a str, &'a str),
     /// The snapshot's array: the origin's image, the store's image, and the file that is made.
     Export(&'a str, &'a str, &'a str),
+    /// What is known of the array where the store is invalid.
+    Salvage(&'a str, &'a str, &'a str),
 }
 
 /// What the words of the command line say. `None` where they are wrong.
@@ -58,6 +61,10 @@ fn words_ask(words: &[String]) -> Option<Asked<'_>> {
     if words.len() == 5 && (command == "export" || command == "rollback") {
         return Some(Asked::Export(first, second, third));
     }
+    let fourth = words.get(5)?.as_str();
+    if words.len() == 6 && command == "export" && fourth == "--salvage" {
+        return Some(Asked::Salvage(first, second, third));
+    }
     None
 }
 
@@ -70,6 +77,7 @@ fn done(rt: &HostRuntime, asked: Asked<'_>) -> Result<bool, Trouble> {
         Asked::RawMap(cow) => raw_map(rt, cow),
         Asked::Check(origin, cow) => check(rt, origin, cow),
         Asked::Export(origin, cow, out) => export(rt, origin, cow, out),
+        Asked::Salvage(origin, cow, out) => salvage(rt, origin, cow, out),
     }
 }
 
@@ -77,7 +85,7 @@ fn main(rt: HostRuntime) -> io::Result<ExitCode> {
     let words: Vec<String> = std::env::args(&rt)?.collect(rt.alloc())?;
     let Some(asked) = words_ask(&words) else {
         eprintln!(rt;
-            "lochknife: usage: lochknife show COW [--json] | map COW [--raw] | check ORIGIN COW | export ORIGIN COW OUT | rollback ORIGIN COW OUT"
+            "lochknife: usage: lochknife show COW [--json] | map COW [--raw] | check ORIGIN COW | export ORIGIN COW OUT [--salvage] | rollback ORIGIN COW OUT"
         )?;
         return Ok(ExitCode::from(2));
     };

@@ -3,11 +3,18 @@
 ghost use Rattle.std.specs.Prelude.{◌≤◌};
 
 use crate::files::{kept, made, opened, partial_name};
-use crate::looking::{Seen, look, put_seen};
+use crate::looking::{Seen, look, printed, put_seen};
 use crate::trouble::Trouble;
-use cow_map::{MAX_IMAGE, Told, read_store, sectors_of};
-use image::{FileImage, FileSink};
+use crate::unmarked::Unmarked;
+use cow_map::{MAX_IMAGE, Reason, Told, read_store, sectors_of};
+use cow_words::push_runs;
+use image::{FileImage, FileSink, Image};
+use sector::Refusal;
 use std::fs;
+
+/// What a salvaged array is, before the runs of its copies.
+const SALVAGED: &[u8] =
+    b"salvaged the runs below are the chunks that have copies: OLD NEW COUNT\nunknown every other chunk is the origin's of today, and may be newer than the snapshot\n";
 
 /// Writes a snapshot's array to a new file, or prints why its store is refused. With no other snapshot of the origin this
 /// is also what the origin holds once the snapshot was merged into it.
@@ -19,13 +26,49 @@ pub fn export(rt: &HostRuntime, origin: &str, cow: &str, out: &str) -> Result<bo
     if let Told::Refused(_) = seen.told {
         return put_seen(rt, &seen);
     }
+    write_out(rt, &mut origin, &mut cow, &seen, size, out)?;
+    Ok(true)
+}
+
+/// Writes what is known of the array of a snapshot whose store is marked as invalid: its copies, and today's origin. It
+/// prints which chunks have copies, and that the others may be newer than the snapshot. Any other store is exported.
+pub fn salvage(rt: &HostRuntime, origin: &str, cow: &str, out: &str) -> Result<bool, Trouble> {
+    let mut below = opened(rt, cow)?;
+    let marked = look(rt, &mut below, u64::MAX)?;
+    match marked.told {
+        Told::Refused(Reason::Header(Refusal::Invalid)) => {}
+        _ => return export(rt, origin, cow, out),
+    }
+    let mut origin = opened(rt, origin)?;
+    let mut cow = Unmarked { below };
+    let size = sectors_of(&mut origin)?;
+    let seen = look(rt, &mut cow, size)?;
+    let Told::Written(map) = &seen.told else {
+        return put_seen(rt, &seen);
+    };
+    write_out(rt, &mut origin, &mut cow, &seen, size, out)?;
+    let mut text = Vec::new(rt.alloc());
+    text.extend_from_slice(SALVAGED)?;
+    push_runs(&mut text, map.pairs.as_slice())?;
+    printed(rt, text.as_slice())?;
+    Ok(true)
+}
+
+/// Writes the array of a store that is good to a new file.
+fn write_out<C: Image>(
+    rt: &HostRuntime,
+    origin: &mut FileImage,
+    cow: &mut C,
+    seen: &Seen,
+    size: u64,
+    out: &str,
+) -> Result<(), Trouble>
+    requires { size ≤ MAX_IMAGE }
+{
     let partial = partial_name(rt, out)?;
     let mut sink = made(rt, out, partial.as_str())?;
-    match rolled(rt, &mut origin, &mut cow, &seen, size, &mut sink) {
-        Ok(()) => {
-            kept(rt, &mut sink, partial.as_str(), out)?;
-            Ok(true)
-        }
+    match rolled(rt, origin, cow, seen, size, &mut sink) {
+        Ok(()) => kept(rt, &mut sink, partial.as_str(), out),
         Err(trouble) => {
             fs::remove_file(rt, partial.as_str())?;
             Err(trouble)
@@ -34,10 +77,10 @@ pub fn export(rt: &HostRuntime, origin: &str, cow: &str, out: &str) -> Result<bo
 }
 
 /// Writes the array, and sees that the store is still as it was read.
-fn rolled(
+fn rolled<C: Image>(
     rt: &HostRuntime,
     origin: &mut FileImage,
-    cow: &mut FileImage,
+    cow: &mut C,
     seen: &Seen,
     size: u64,
     sink: &mut FileSink,
