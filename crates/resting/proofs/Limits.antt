@@ -65,11 +65,11 @@ counts_none (s ∷ snaps) e =
     let rest = counts_none snaps (and_second (is_done_of s) (list_all is_done_of snaps) e) in
     omega (arith, sum_cons count_in s snaps, here, rest)
 
-starting_few : {B : Type 0} (kind : Kind) (c : ℕ) (snaps : List (Kept B)) → starting kind c snaps ≤ length snaps
-starting_few OriginRead c snaps = omega arith
-starting_few OriginWrite c snaps = count_by-le-length (starts c) snaps
-starting_few (SnapRead number) c snaps = omega arith
-starting_few (SnapWrite number) c snaps = count_by-le-length (λ s. nat_eq s.number number && starts c s) snaps
+starting_few : {B : Type 0} (kind : Kind) (first : ℕ) (snaps : List (Kept B)) → starting kind c snaps ≤ length snaps
+starting_few OriginRead first snaps = omega arith
+starting_few OriginWrite first snaps = count_by-le-length (starts first) snaps
+starting_few (SnapRead number) first snaps = omega arith
+starting_few (SnapWrite number) first snaps = count_by-le-length (λ s. nat_eq s.number number && starts first s) snaps
 
 within_piece : (first count piece q r : ℕ) → first + count ≤ piece * q + piece → q * piece + r ≡ first → r + count ≤ piece
 within_piece first count piece q r high whole = let turned : q * piece ≡ piece * q = grind arith in omega (arith, high, whole, turned)
@@ -101,12 +101,12 @@ module _ {B : Type 0} (size : B → ℕ) (request : Request) (v : Volumed B) (ca
       ∙ le-true (request.range.first % piece_of v.snaps + request.range.count) (piece_of v.snaps) within in
       rw fits refl
 
-  limit_none : limit_refusal (starting (kind_of request) (request.range.first / piece_of v.snaps) v.snaps) v ≡ None
+  limit_none : limit_refusal (starting (kind_of request) request.range.first v.snaps) v ≡ None
   limit_none =
-      let new : ℕ = starting (kind_of request) (request.range.first / piece_of v.snaps) v.snaps in
+      let new : ℕ = starting (kind_of request) request.range.first v.snaps in
       let flights : length v.flights ≡ 0 = ap length (quiet_none v quiet) in
       let counts : sum_by count_in v.snaps ≡ 0 = counts_none v.snaps (and_second (nat_eq (length v.flights) 0) (list_all is_done_of v.snaps) quiet) in
-      let started : new ≤ length v.snaps = starting_few (kind_of request) (request.range.first / piece_of v.snaps) v.snaps in
+      let started : new ≤ length v.snaps = starting_few (kind_of request) request.range.first v.snaps in
       let a : nat_le 64 (length v.flights) ≡ false = le-false 64 (length v.flights) (omega (arith, flights)) in
       let b : nat_le 18_446_744_073_709_551_615 v.requests ≡ false = le-false 18_446_744_073_709_551_615 v.requests (omega (arith, can.requests)) in
       let c : nat_lt 256 (sum_by count_in v.snaps + new) ≡ false = lt-false 256 (sum_by count_in v.snaps + new) (omega (arith, counts, started, few)) in
@@ -116,5 +116,5 @@ module _ {B : Type 0} (size : B → ℕ) (request : Request) (v : Volumed B) (ca
   -- its snapshot is spoiled
   pub only_invalid : (refusal : Refusal) → submit_refusal size request v ≡ Some refusal → refusal ≡ Invalid
   only_invalid refusal e =
-      let later : first_of_two (range_refusal (piece_of v.snaps) (size v.origin) request.range) (limit_refusal (starting (kind_of request) (request.range.first / piece_of v.snaps) v.snaps) v) ≡ None = rw range_none limit_none in
+      let later : first_of_two (range_refusal (piece_of v.snaps) (size v.origin) request.range) (limit_refusal (starting (kind_of request) request.range.first v.snaps) v) ≡ None = rw range_none limit_none in
       dev_refused request.dev v refusal can.there (first_only (dev_refusal request.dev v.snaps) _ refusal later e)

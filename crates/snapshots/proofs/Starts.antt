@@ -1,10 +1,11 @@
 -- Room is made in one snapshot after another, and copies are started in one after another.
-use Rattle.std.proofs.Common.{◌≡◌, inl, inr, ℕ, suc, ◌+◌, ◌*◌, ◌<◌, ◌≤◌, List, [], ◌∷◌, ◌++◌, length, get_or, set, map, take, drop, true, false, refl, sym, ◌∙◌, ap, subst, arith, length-append}
+use Rattle.std.proofs.Common.{◌≡◌, inl, inr, ℕ, suc, ◌+◌, ◌*◌, ◌/◌, ◌%◌, ◌<◌, ◌≤◌, List, [], ◌∷◌, ◌++◌, length, get_or, set, map, take, drop, true, false, refl, sym, ◌∙◌, ap, subst, arith, length-append}
 use Rattle.std.specs.List.{remove}
 use Rattle.std.specs.Global.{Vec}
 use Rattle.std.proofs.lemmas.Bool.{cases_eq, cases_Bool, le-ltb, MatchBool-at_true, MatchBool-at_false}
 use Rattle.std.proofs.lemmas.List.{get_or-set_same, get_or-set_other, get_or_append_left, get_or-append-add, get_or-drop, drop-set-lt, get_or_default}
 use Rattle.std.proofs.lemmas.List.Edits.{get_or-remove_above, length-remove}
+use Rattle.std.proofs.lemmas.Nat.{div-add-mod'}
 use Rattle.std.proofs.lemmas.Grind.{drop_more_same}
 use Rattle.std.proofs.Math.Seq.{map-set_same, take-suc-set, take-suc}
 use Rattle.device.specs.Layers.{Layer}
@@ -13,69 +14,76 @@ use Rattle.snapshot.specs.Kept.{Kept}
 use Rattle.snapshot.specs.Calls.{StartsAt, started}
 use Rattle.snapshots.specs.Starting.{unroomed, HasRoomFor, HaveRooms, IsSavedIn, AreSavedIn, lacks, starts, overflows, is_full_of}
 
+-- a chunk begins at its sector or before it
+pub own_begins : (p first : ℕ) → p * (first / p) ≤ first
+own_begins p first =
+    let whole : first / p * p + first % p ≡ first = div-add-mod' first p in
+    let turned : first / p * p ≡ p * (first / p) = grind arith in
+    omega (arith, whole, turned)
+
 pub unroomed_set : {B : Type 0} (snaps : List (Kept B)) (k : ℕ) (s t : Kept B) → s ≡ get_or snaps k s → unroomed t ≡ unroomed s → map unroomed (set snaps k t) ≡ map unroomed snaps
 unroomed_set snaps k s t is same = map-set_same unroomed snaps k t s (same ∙ ap unroomed is)
 
 -- the first snapshots have room
-pub record HaveRoomBelow {B : Type 0} (c k : ℕ) (snaps : List (Kept B)) (rooms : List (Vec ℕ)) : Type 0 where
+pub record HaveRoomBelow {B : Type 0} (first k : ℕ) (snaps : List (Kept B)) (rooms : List (Vec ℕ)) : Type 0 where
   pub len : length rooms ≡ k
-  pub each : (j : ℕ) (d : Kept B) (e : Vec ℕ) → j < k → HasRoomFor c (get_or snaps j d) (get_or rooms j e)
+  pub each : (j : ℕ) (d : Kept B) (e : Vec ℕ) → j < k → HasRoomFor first (get_or snaps j d) (get_or rooms j e)
 
-pub rooms_none : {B : Type 0} (c : ℕ) (snaps : List (Kept B)) → HaveRoomBelow c 0 snaps []
-rooms_none c snaps = record { len = refl; each = λ j d e lt. absurd (omega (arith, lt)) }
+pub rooms_none : {B : Type 0} (first : ℕ) (snaps : List (Kept B)) → HaveRoomBelow first 0 snaps []
+rooms_none first snaps = record { len = refl; each = λ j d e lt. absurd (omega (arith, lt)) }
 
-pub rooms_more : {B : Type 0} (c k : ℕ) (snaps : List (Kept B)) (rooms : List (Vec ℕ)) (t : Kept B) (room : Vec ℕ) → HaveRoomBelow c k snaps rooms → k < length snaps → HasRoomFor c t room → HaveRoomBelow c (k + 1) (set snaps k t) (rooms ++ room ∷ [])
-rooms_more c k snaps rooms t room h within has = record {
+pub rooms_more : {B : Type 0} (first k : ℕ) (snaps : List (Kept B)) (rooms : List (Vec ℕ)) (t : Kept B) (room : Vec ℕ) → HaveRoomBelow first k snaps rooms → k < length snaps → HasRoomFor first t room → HaveRoomBelow first (k + 1) (set snaps k t) (rooms ++ room ∷ [])
+rooms_more first k snaps rooms t room h within has = record {
   len = length-append rooms (room ∷ []) ∙ ap (λ n. n + 1) h.len;
   each = λ j d e lt. elim (cases_eq j k) [
     | inl same ↦
         (let one : get_or (set snaps k t) j d ≡ t = ap (λ i. get_or (set snaps k t) i d) same ∙ get_or-set_same snaps k t d within in
         let at : j ≡ length rooms + 0 = omega (arith, same, h.len) in
         let two : get_or (rooms ++ room ∷ []) j e ≡ room = ap (λ i. get_or (rooms ++ room ∷ []) i e) at ∙ get_or-append-add rooms (room ∷ []) 0 e in
-        subst (λ (x : Kept _). HasRoomFor c x (get_or (rooms ++ room ∷ []) j e)) (sym one) (subst (HasRoomFor c t) (sym two) has))
+        subst (λ (x : Kept _). HasRoomFor first x (get_or (rooms ++ room ∷ []) j e)) (sym one) (subst (HasRoomFor first t) (sym two) has))
     | inr other ↦
         (let below : j < length rooms = omega (arith, lt, other, h.len) in
-        subst (λ (x : Kept _). HasRoomFor c x (get_or (rooms ++ room ∷ []) j e)) (sym (get_or-set_other snaps k j t d other))
-        (subst (HasRoomFor c (get_or snaps j d)) (sym (get_or_append_left rooms (room ∷ []) e j below)) (h.each j d e (omega (arith, lt, other)))))
+        subst (λ (x : Kept _). HasRoomFor first x (get_or (rooms ++ room ∷ []) j e)) (sym (get_or-set_other snaps k j t d other))
+        (subst (HasRoomFor first (get_or snaps j d)) (sym (get_or_append_left rooms (room ∷ []) e j below)) (h.each j d e (omega (arith, lt, other)))))
   ];
 }
 
-pub rooms_done : {B : Type 0} (c k : ℕ) (snaps : List (Kept B)) (rooms : List (Vec ℕ)) → HaveRoomBelow c k snaps rooms → k ≡ length snaps → HaveRooms c snaps rooms
-rooms_done c k snaps rooms h whole = record { len = h.len ∙ whole; each = λ j d e lt. h.each j d e (omega (arith, lt, whole)) }
+pub rooms_done : {B : Type 0} (first k : ℕ) (snaps : List (Kept B)) (rooms : List (Vec ℕ)) → HaveRoomBelow first k snaps rooms → k ≡ length snaps → HaveRooms first snaps rooms
+rooms_done first k snaps rooms h whole = record { len = h.len ∙ whole; each = λ j d e lt. h.each j d e (omega (arith, lt, whole)) }
 
 -- the snapshots from one on have room
-pub record HaveRoomFrom {B : Type 0} (c k : ℕ) (snaps : List (Kept B)) (rooms : List (Vec ℕ)) : Type 0 where
+pub record HaveRoomFrom {B : Type 0} (first k : ℕ) (snaps : List (Kept B)) (rooms : List (Vec ℕ)) : Type 0 where
   pub len : length rooms + k ≡ length snaps
-  pub each : (j : ℕ) (d : Kept B) (e : Vec ℕ) → k + j < length snaps → HasRoomFor c (get_or snaps (k + j) d) (get_or rooms j e)
+  pub each : (j : ℕ) (d : Kept B) (e : Vec ℕ) → k + j < length snaps → HasRoomFor first (get_or snaps (k + j) d) (get_or rooms j e)
 
-pub rooms_all : {B : Type 0} (c : ℕ) (snaps : List (Kept B)) (rooms : List (Vec ℕ)) → HaveRooms c snaps rooms → HaveRoomFrom c 0 snaps rooms
-rooms_all c snaps rooms h = record {
+pub rooms_all : {B : Type 0} (first : ℕ) (snaps : List (Kept B)) (rooms : List (Vec ℕ)) → HaveRooms first snaps rooms → HaveRoomFrom first 0 snaps rooms
+rooms_all first snaps rooms h = record {
   len = omega (arith, h.len);
-  each = λ j d e lt. (let at : j ≡ 0 + j = omega arith in subst (λ (i : ℕ). HasRoomFor c (get_or snaps i d) (get_or rooms j e)) at (h.each j d e (omega (arith, lt))));
+  each = λ j d e lt. (let at : j ≡ 0 + j = omega arith in subst (λ (i : ℕ). HasRoomFor first (get_or snaps i d) (get_or rooms j e)) at (h.each j d e (omega (arith, lt))));
 }
 
-pub rooms_fewer : {B : Type 0} (c k : ℕ) (snaps : List (Kept B)) (rooms : List (Vec ℕ)) → HaveRoomFrom c k snaps rooms → k < length snaps → HaveRoomFrom c (k + 1) snaps (remove rooms 0)
-rooms_fewer c k snaps rooms h within =
+pub rooms_fewer : {B : Type 0} (first k : ℕ) (snaps : List (Kept B)) (rooms : List (Vec ℕ)) → HaveRoomFrom first k snaps rooms → k < length snaps → HaveRoomFrom first (k + 1) snaps (remove rooms 0)
+rooms_fewer first k snaps rooms h within =
     let some : 0 < length rooms = omega (arith, h.len, within) in
     record {
       len = omega (arith, h.len, length-remove rooms 0 some);
       each = λ j d e lt.
           (let at : k + (j + 1) ≡ k + 1 + j = omega arith in
-          subst (HasRoomFor c (get_or snaps (k + 1 + j) d)) (sym (get_or-remove_above rooms 0 e j (omega arith) some))
-          (subst (λ (i : ℕ). HasRoomFor c (get_or snaps i d) (get_or rooms (j + 1) e)) at (h.each (j + 1) d e (omega (arith, lt)))));
+          subst (HasRoomFor first (get_or snaps (k + 1 + j) d)) (sym (get_or-remove_above rooms 0 e j (omega arith) some))
+          (subst (λ (i : ℕ). HasRoomFor first (get_or snaps i d) (get_or rooms (j + 1) e)) at (h.each (j + 1) d e (omega (arith, lt)))));
     }
 
-module _ {B : Type 0} (contents : B → List ℕ) (layers : B → List Layer) (c : ℕ) where
-  pub saved_push : (ss ts : List (Kept B)) (s t : Kept B) (n m k : ℕ) (fs gs hs : List Flight) → AreSavedIn contents layers c ss ts n m fs gs → IsSavedIn contents layers c s t m k gs hs → AreSavedIn contents layers c (ss ++ s ∷ []) (ts ++ t ∷ []) n k fs hs
+module _ {B : Type 0} (contents : B → List ℕ) (layers : B → List Layer) (first : ℕ) where
+  pub saved_push : (ss ts : List (Kept B)) (s t : Kept B) (n m k : ℕ) (fs gs hs : List Flight) → AreSavedIn contents layers first ss ts n m fs gs → IsSavedIn contents layers first s t m k gs hs → AreSavedIn contents layers first (ss ++ s ∷ []) (ts ++ t ∷ []) n k fs hs
   saved_push [] [] s t n m k fs gs hs (m_is, g_is) one =
-      (k, hs, subst (λ (x : ℕ). IsSavedIn contents layers c s t x k fs hs) m_is (subst (λ (x : List Flight). IsSavedIn contents layers c s t m k x hs) g_is one), (refl, refl))
+      (k, hs, subst (λ (x : ℕ). IsSavedIn contents layers first s t x k fs hs) m_is (subst (λ (x : List Flight). IsSavedIn contents layers first s t m k x hs) g_is one), (refl, refl))
   saved_push [] (y ∷ ts) s t n m k fs gs hs e one = absurd e
   saved_push (x ∷ ss) [] s t n m k fs gs hs e one = absurd e
-  saved_push (x ∷ ss) (y ∷ ts) s t n m k fs gs hs (n', fs', first, rest) one = (n', fs', first, saved_push ss ts s t n' m k fs' gs hs rest one)
+  saved_push (x ∷ ss) (y ∷ ts) s t n m k fs gs hs (n', fs', begun, rest) one = (n', fs', begun, saved_push ss ts s t n' m k fs' gs hs rest one)
 
   -- so far: the snapshots before place k are as they become, the others as they were
   pub record IsSavedBelow (k : ℕ) (olds news : List (Kept B)) (n m : ℕ) (fs gs : List Flight) : Type 0 where
-    pub saved : AreSavedIn contents layers c (take k olds) (take k news) n m fs gs
+    pub saved : AreSavedIn contents layers first (take k olds) (take k news) n m fs gs
     pub rest : drop k news ≡ drop k olds
     pub few : m ≤ n + k
 
@@ -87,7 +95,7 @@ module _ {B : Type 0} (contents : B → List ℕ) (layers : B → List Layer) (c
       let at : k ≡ k + 0 = omega arith in
       ap (λ i. get_or news i d) at ∙ sym (get_or-drop k news 0 d) ∙ ap (λ xs. get_or xs 0 d) h.rest ∙ get_or-drop k olds 0 d ∙ ap (λ i. get_or olds i d) (sym at)
 
-  pub saved_more : (k : ℕ) (olds news : List (Kept B)) (s t : Kept B) (n m m' : ℕ) (fs gs hs : List Flight) → k < length olds → length news ≡ length olds → s ≡ get_or olds k s → IsSavedBelow k olds news n m fs gs → IsSavedIn contents layers c s t m m' gs hs → m' ≤ m + 1
+  pub saved_more : (k : ℕ) (olds news : List (Kept B)) (s t : Kept B) (n m m' : ℕ) (fs gs hs : List Flight) → k < length olds → length news ≡ length olds → s ≡ get_or olds k s → IsSavedBelow k olds news n m fs gs → IsSavedIn contents layers first s t m m' gs hs → m' ≤ m + 1
       → IsSavedBelow (k + 1) olds (set news k t) n m' fs hs
   saved_more k olds news s t n m m' fs gs hs within len is h one step =
       let inside : k < length news = omega (arith, within, len) in
@@ -95,24 +103,24 @@ module _ {B : Type 0} (contents : B → List ℕ) (layers : B → List Layer) (c
       let front : take (k + 1) olds ≡ take k olds ++ s ∷ [] = ap (λ i. take i olds) (sym up) ∙ take-suc olds k s within ∙ ap (λ x. take k olds ++ x ∷ []) (sym is) in
       let back : take (k + 1) (set news k t) ≡ take k news ++ t ∷ [] = ap (λ i. take i (set news k t)) (sym up) ∙ take-suc-set news k t inside in
       record {
-        saved = subst (λ (x : List (Kept B)). AreSavedIn contents layers c x (take (k + 1) (set news k t)) n m' fs hs) (sym front)
-            (subst (λ (x : List (Kept B)). AreSavedIn contents layers c (take k olds ++ s ∷ []) x n m' fs hs) (sym back) (saved_push (take k olds) (take k news) s t n m m' fs gs hs h.saved one));
+        saved = subst (λ (x : List (Kept B)). AreSavedIn contents layers first x (take (k + 1) (set news k t)) n m' fs hs) (sym front)
+            (subst (λ (x : List (Kept B)). AreSavedIn contents layers first (take k olds ++ s ∷ []) x n m' fs hs) (sym back) (saved_push (take k olds) (take k news) s t n m m' fs gs hs h.saved one));
         rest = drop-set-lt (k + 1) news k t (omega arith) ∙ drop_more_same news olds k h.rest;
         few = omega (arith, h.few, step);
       }
 
   -- a copy is started
-  pub saved_started : (s t : Kept B) (n : ℕ) (fs : List Flight) (buffer : Vec ℕ) → lacks c s ≡ true → s.state.chunk * (s.next + 1) ≤ s.state.size → StartsAt contents layers (started (n + 1) c s.next buffer) s t → IsSavedIn contents layers c s t n (n + 1) fs fs
+  pub saved_started : (s t : Kept B) (n : ℕ) (fs : List Flight) (buffer : Vec ℕ) → lacks first s ≡ true → s.state.chunk * (s.next + 1) ≤ s.state.size → StartsAt contents layers (started (n + 1) (first / s.state.chunk) s.next buffer) s t → IsSavedIn contents layers first s t n (n + 1) fs fs
   saved_started s t n fs buffer lacking fits at =
       let room : is_full_of s ≡ false = le-ltb s.state.size (s.state.chunk * (s.next + 1)) fits in
-      let begins : starts c s ≡ true = rw (lacking, room) refl in
+      let begins : starts first s ≡ true = rw (lacking, room) refl in
       rw begins (buffer, at, refl, refl)
 
   -- at most one number is given
-  pub saved_step : (s t : Kept B) (n m : ℕ) (fs gs : List Flight) → IsSavedIn contents layers c s t n m fs gs → m ≤ n + 1
-  saved_step s t n m fs gs e = elim (cases_Bool (starts c s)) [
+  pub saved_step : (s t : Kept B) (n m : ℕ) (fs gs : List Flight) → IsSavedIn contents layers first s t n m fs gs → m ≤ n + 1
+  saved_step s t n m fs gs e = elim (cases_Bool (starts first s)) [
     | inl begins ↦ (let (buffer, at, m_is, g) = MatchBool-at_true _ _ begins e in omega (arith, m_is))
-    | inr unsaid ↦ elim (cases_Bool (overflows c s)) [
+    | inr unsaid ↦ elim (cases_Bool (overflows first s)) [
       | inl over ↦ (let (same, m_is, g) = MatchBool-at_true _ _ over (MatchBool-at_false _ _ unsaid e) in omega (arith, m_is))
       | inr fine ↦ (let (same, m_is, g) = MatchBool-at_false _ _ fine (MatchBool-at_false _ _ unsaid e) in omega (arith, m_is))
     ]

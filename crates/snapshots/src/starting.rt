@@ -1,41 +1,48 @@
-// Which copies a write needs: the room for them is taken, and then they are started.
-ghost use Rattle.std.specs.Prelude.{◌≡◌, ◌==◌, ◌&&◌, ◌+◌, ◌*◌, ◌^◌, ◌<◌, ◌≤◌, IfErr, IfOk, count_by, length, map, sum_by};
+// Which copies a write at a sector of the origin needs, each snapshot of its own chunk: the room for them is taken, and then
+// they are started.
+ghost use Rattle.std.specs.Prelude.{◌≡◌, ◌==◌, ◌&&◌, ◌+◌, ◌*◌, ◌/◌, ◌^◌, ◌<◌, ◌≤◌, IfErr, IfOk, count_by, length, map, sum_by};
 ghost use Rattle.std.specs.List.{All};
 ghost use Rattle.sector.specs.declared.refusal.Refusal.TheVariants.{NoMemory};
-ghost use Rattle.pending.specs.Copies.{count_of};
 ghost use Rattle.snapshots.specs.Numbers.{count_in};
 ghost use Rattle.snapshots.specs.Starting.{AreSavedIn, HasRoomFor, HaveRooms, IsSavedIn, lacks, starts, unroomed};
 
 use device::Block;
-use pending::{Flight, has_copy, refuse};
+use pending::{Flight, has_copy, refuse, sectors_of};
 use plain::SnapId;
 use sector::{Chunk, Refusal};
 use snapshot::Snapshot;
 use std::alloc::Global;
 
-/// Whether a snapshot is live, and has neither a chunk nor a copy of it under way.
-pub fn is_lacking<B: Block>(snap: &Snapshot<B>, chunk: Chunk) -> bool
-    ensures { result ≡ lacks chunk snap.now }
+/// A snapshot's chunk of a sector of the origin.
+pub fn own_chunk<B: Block>(snap: &Snapshot<B>, first: u64) -> Chunk
+    ensures { result ≡ first / snap.now.state.chunk }
 {
+    first / snap.chunk() as u64
+}
+
+/// Whether a snapshot is live, and has neither its chunk of a sector nor a copy of it under way.
+pub fn is_lacking<B: Block>(snap: &Snapshot<B>, first: u64) -> bool
+    ensures { result ≡ lacks first snap.now }
+{
+    let chunk = own_chunk(snap, first);
     snap.is_live() && !snap.place_of(chunk).is_some() && !has_copy(snap.copies(), chunk)
 }
 
-/// Makes room for the copy of a chunk of so many sectors, where a snapshot lacks it: the buffer is as long as the chunk, or
+/// Makes room for the copy of a snapshot's chunk of a sector, where it lacks it: the buffer is as long as the chunk, or
 /// empty where none is needed. Nothing else of the snapshot changes. `NoMemory` where room is refused, and nothing else.
 pub fn take_room<B: Block>(
     alloc: Global,
     snap: &mut Snapshot<B>,
-    chunk: Chunk,
-    sectors: u32,
+    first: u64,
 ) -> Result<Vec<u8>, Refusal>
-    requires { sectors ≡ count_of snap.old.state.chunk snap.old.state.origin chunk }
     ensures same { unroomed snap.new ≡ unroomed snap.old }
-    ensures ok { IfOk result (λ room. HasRoomFor chunk snap.new room) }
+    ensures ok { IfOk result (λ room. HasRoomFor first snap.new room) }
     ensures refusal { IfErr result (λ e. e ≡ NoMemory) }
 {
-    if !is_lacking(snap, chunk) {
+    if !is_lacking(snap, first) {
         return Ok(Vec::new(alloc));
     }
+    let sectors = sectors_of(snap.chunk(), snap.sectors(), own_chunk(snap, first));
     match snap.reserve() {
         Ok(()) => {}
         Err(refusal) => return Err(refusal),
@@ -46,22 +53,20 @@ pub fn take_room<B: Block>(
     }
 }
 
-/// Makes the room for the copies of a chunk of so many sectors, in all snapshots: a buffer for each, in their order.
+/// Makes the room for the copies of the chunks of a sector, in all snapshots: a buffer for each, in their order.
 /// `NoMemory` where room is refused; the snapshots before may then have more room, and nothing else changed.
 pub fn take_rooms<B: Block>(
     alloc: Global,
     snaps: &mut [Snapshot<B>],
-    chunk: Chunk,
-    sectors: u32,
+    first: u64,
 ) -> Result<Vec<Vec<u8>>, Refusal>
-    requires { All (λ s. sectors ≡ count_of s.state.chunk s.state.origin chunk) snaps.old }
     ensures same { map unroomed snaps.new ≡ map unroomed snaps.old }
-    ensures ok { IfOk result (λ rooms. HaveRooms chunk snaps.new rooms.items) }
+    ensures ok { IfOk result (λ rooms. HaveRooms first snaps.new rooms.items) }
     ensures refusal { IfErr result (λ e. e ≡ NoMemory) }
 {
     let mut rooms: Vec<Vec<u8>> = Vec::new(alloc);
     for k in 0..snaps.len() {
-        let room = match take_room(alloc, &mut snaps[k], chunk, sectors) {
+        let room = match take_room(alloc, &mut snaps[k], first) {
             Ok(room) => room,
             Err(refusal) => return Err(refusal),
         };
@@ -73,23 +78,24 @@ pub fn take_rooms<B: Block>(
     Ok(rooms)
 }
 
-/// Starts the copy of a chunk in one snapshot, where it lacks it, under the next number, and tells how many numbers were
-/// given then. A snapshot whose store is full is spoiled, and its requests are refused.
+/// Starts the copy of a snapshot's chunk of a sector, where it lacks it, under the next number, and tells how many numbers
+/// were given then. A snapshot whose store is full is spoiled, and its requests are refused.
 pub fn save_in<B: Block>(
     snap: &mut Snapshot<B>,
     flights: &mut [Flight],
     copies: u64,
-    chunk: Chunk,
+    first: u64,
     room: Vec<u8>,
 ) -> u64
-    requires begins { snap.old.state.chunk * chunk < snap.old.state.origin }
-    requires room { HasRoomFor chunk snap.old room }
+    requires begins { first < snap.old.state.origin }
+    requires room { HasRoomFor first snap.old room }
     requires few { copies + 1 < 2 ^ 64 }
-    ensures saved { IsSavedIn B.contents B.layers chunk snap.old snap.new copies result flights.old flights.new }
+    ensures saved { IsSavedIn B.contents B.layers first snap.old snap.new copies result flights.old flights.new }
 {
-    if !is_lacking(snap, chunk) {
+    if !is_lacking(snap, first) {
         return copies;
     }
+    let chunk = own_chunk(snap, first);
     if snap.start(copies + 1, chunk, room) {
         copies + 1
     } else {
@@ -100,23 +106,24 @@ pub fn save_in<B: Block>(
     }
 }
 
-/// Starts the copies of a chunk in all snapshots that lack it, in their order, and tells how many numbers were given then.
+/// Starts the copies of the chunks of a sector in all snapshots that lack theirs, in their order, and tells how many numbers
+/// were given then.
 pub fn save_in_all<B: Block>(
     snaps: &mut [Snapshot<B>],
     flights: &mut [Flight],
     copies: u64,
-    chunk: Chunk,
+    first: u64,
     mut rooms: Vec<Vec<u8>>,
 ) -> u64
-    requires begins { All (λ s. s.state.chunk * chunk < s.state.origin) snaps.old }
-    requires rooms { HaveRooms chunk snaps.old rooms.items }
+    requires begins { All (λ s. first < s.state.origin) snaps.old }
+    requires rooms { HaveRooms first snaps.old rooms.items }
     requires few { copies + length snaps.old < 2 ^ 64 }
-    ensures saved { AreSavedIn B.contents B.layers chunk snaps.old snaps.new copies result flights.old flights.new }
+    ensures saved { AreSavedIn B.contents B.layers first snaps.old snaps.new copies result flights.old flights.new }
 {
     let mut given = copies;
     for k in 0..snaps.len() {
         let room = rooms.remove(0);
-        given = save_in(&mut snaps[k], flights, given, chunk, room);
+        given = save_in(&mut snaps[k], flights, given, first, room);
     }
     given
 }
@@ -146,33 +153,33 @@ pub fn pending_count<B: Block>(snaps: &[Snapshot<B>]) -> usize
     count
 }
 
-/// Whether a snapshot starts a copy of a chunk.
-fn is_starting<B: Block>(snap: &Snapshot<B>, chunk: Chunk) -> bool
-    ensures { result ≡ starts chunk snap.now }
+/// Whether a snapshot starts a copy of its chunk of a sector.
+fn is_starting<B: Block>(snap: &Snapshot<B>, first: u64) -> bool
+    ensures { result ≡ starts first snap.now }
 {
-    is_lacking(snap, chunk) && !snap.is_full()
+    is_lacking(snap, first) && !snap.is_full()
 }
 
-/// How many snapshots start a copy of a chunk.
-pub fn starting_count<B: Block>(snaps: &[Snapshot<B>], chunk: Chunk) -> usize
-    ensures { result ≡ count_by (starts chunk) snaps.now }
+/// How many snapshots start a copy of their chunk of a sector.
+pub fn starting_count<B: Block>(snaps: &[Snapshot<B>], first: u64) -> usize
+    ensures { result ≡ count_by (starts first) snaps.now }
 {
-    snaps.iter().filter(|s| is_starting(s, chunk)).count()
+    snaps.iter().filter(|s| is_starting(s, first)).count()
 }
 
-/// Whether a snapshot is the one with a number, and starts a copy of a chunk.
-fn is_starting_as<B: Block>(snap: &Snapshot<B>, number: SnapId, chunk: Chunk) -> bool
-    ensures { result ≡ ((snap.now.number == number) && starts chunk snap.now) }
+/// Whether a snapshot is the one with a number, and starts a copy of its chunk of a sector.
+fn is_starting_as<B: Block>(snap: &Snapshot<B>, number: SnapId, first: u64) -> bool
+    ensures { result ≡ ((snap.now.number == number) && starts first snap.now) }
 {
-    snap.number() == number && is_starting(snap, chunk)
+    snap.number() == number && is_starting(snap, first)
 }
 
-/// How many snapshots with a number start a copy of a chunk.
-pub fn starting_count_of<B: Block>(snaps: &[Snapshot<B>], number: SnapId, chunk: Chunk) -> usize
-    ensures { result ≡ count_by (λ s. (s.number == number) && starts chunk s) snaps.now }
+/// How many snapshots with a number start a copy of their chunk of a sector.
+pub fn starting_count_of<B: Block>(snaps: &[Snapshot<B>], number: SnapId, first: u64) -> usize
+    ensures { result ≡ count_by (λ s. (s.number == number) && starts first s) snaps.now }
 {
     snaps
         .iter()
-        .filter(|s| is_starting_as(s, number, chunk))
+        .filter(|s| is_starting_as(s, number, first))
         .count()
 }

@@ -1,6 +1,6 @@
 -- A request that was put in flight was accepted; where nothing changed, nothing but room was made.
 use Rattle.std.specs.Prelude.{Result, Ok, Err, IfOk, IfErr}
-use Rattle.std.proofs.Common.{◌≡◌, ◌/◌, ℕ, List, [], ◌∷◌, ◌++◌, map, refl, sym, ◌∙◌, ap, subst}
+use Rattle.std.proofs.Common.{◌≡◌, ℕ, List, [], ◌∷◌, ◌++◌, map, refl, sym, ◌∙◌, ap, subst}
 use Rattle.device.specs.Layers.{Layer}
 use Rattle.plain.specs.Legal.{IsSubmitted}
 use Rattle.plain.specs.declared.request.Request.{Request}
@@ -9,7 +9,7 @@ use Rattle.pending.specs.Kinds.{in_flight, kind_of}
 use Rattle.pending.specs.declared.flights.Flight.{Flight}
 use Rattle.pending.specs.declared.flights.Kind.{Kind}
 use Rattle.pending.specs.declared.flights.Route.{Route}
-use Rattle.volume.specs.Volumed.{Volumed, is_loud_in_all, piece_of, plain_of}
+use Rattle.volume.specs.Volumed.{Volumed, is_loud_in_all, plain_of}
 use Rattle.volume.specs.Causes.{lives_of}
 use Rattle.volume.specs.Submitting.{IsEntered, IsAcceptedAs, SameButRoom, lives_after, spoiled_by}
 use Rattle.volume.specs.Exact.{IsSubmittedAs}
@@ -24,7 +24,7 @@ entered_flown rs qs f same = pushed qs ∙ ap (λ xs. xs ++ in_flight f ∷ []) 
     pushed (x ∷ xs) = ap (λ ys. in_flight x ∷ ys) (pushed xs)
 
 -- one that spoils nothing
-pub entered_accepted : {B : Type 0} (contents : B → List ℕ) (layers : B → List Layer) (request : Request) (route : Route) (number : ℕ) (v w : Volumed B) (kind : Kind) → kind_of request ≡ kind → ((c : ℕ) → spoiled_by kind c v.snaps ≡ []) → ((c : ℕ) → lives_of v ≡ lives_after kind c v.snaps)
+pub entered_accepted : {B : Type 0} (contents : B → List ℕ) (layers : B → List Layer) (request : Request) (route : Route) (number : ℕ) (v w : Volumed B) (kind : Kind) → kind_of request ≡ kind → ((first : ℕ) → spoiled_by kind first v.snaps ≡ []) → ((first : ℕ) → lives_of v ≡ lives_after kind first v.snaps)
     → IsEntered contents layers request route number v w → IsSubmittedAs contents layers request number v w → IsAcceptedAs contents layers request number v w
 entered_accepted contents layers request route number v w kind is_kind none live e exact = record {
   next = e.next;
@@ -33,11 +33,11 @@ entered_accepted contents layers request route number v w kind is_kind none live
   fresh = e.fresh;
   loud = ap (is_loud_in_all layers) e.becomes;
   legal = λ loud.
-      (let c = request.range.first / piece_of v.snaps in
-      subst (λ (ns : List ℕ). IsSubmitted ns (plain_of contents layers v) number request (plain_of contents layers w)) (sym (none c) ∙ sym (ap (λ (q : Kind). spoiled_by q c v.snaps) is_kind)) (e.legal loud));
+      (let first = request.range.first in
+      subst (λ (ns : List ℕ). IsSubmitted ns (plain_of contents layers v) number request (plain_of contents layers w)) (sym (none first) ∙ sym (ap (λ (q : Kind). spoiled_by q first v.snaps) is_kind)) (e.legal loud));
   lives =
-      (let c = request.range.first / piece_of v.snaps in
-      ap lives_of e.becomes ∙ live c ∙ sym (ap (λ (q : Kind). lives_after q c v.snaps) is_kind));
+      (let first = request.range.first in
+      ap lives_of e.becomes ∙ live first ∙ sym (ap (λ (q : Kind). lives_after q first v.snaps) is_kind));
   flown = ap (λ (x : Volumed _). map in_flight x.flights) e.becomes ∙ entered_flown v.flights v.flights e.flight refl
       ∙ ap (λ (x : InFlight). map in_flight v.flights ++ x ∷ []) (ap (λ (n : ℕ). let x : InFlight = record { number = n; request = e.flight.request } in x) e.number_is ∙ ap (λ (q : Request). let x : InFlight = record { number = number; request = q } in x) e.request_is);
   exact = exact;

@@ -64,11 +64,11 @@ pub record IsAdmitted {B : Type 0} (size : B → ℕ) (request : Request) (v : V
   pub piece : IsPiece (piece_of v.snaps) request.range
   pub flights : length v.flights < 64
   pub requests : v.requests < 18_446_744_073_709_551_615
-  pub few : sum_by count_in v.snaps + starting (kind_of request) (request.range.first / piece_of v.snaps) v.snaps ≤ 256
+  pub few : sum_by count_in v.snaps + starting (kind_of request) request.range.first v.snaps ≤ 256
 
 pub admitted : {B : Type 0} (size : B → ℕ) (request : Request) (v : Volumed B) → submit_refusal size request v ≡ None → IsAdmitted size request v
 admitted size request v e =
-    let new = starting (kind_of request) (request.range.first / piece_of v.snaps) v.snaps in
+    let new = starting (kind_of request) request.range.first v.snaps in
     let one = both_none (dev_refusal request.dev v.snaps) _ e in
     let two = both_none (range_refusal (piece_of v.snaps) (size v.origin) request.range) _ one.1 in
     let range = range_fits (piece_of v.snaps) (size v.origin) request.range two.0 in
@@ -80,7 +80,7 @@ admitted size request v e =
     let range_last = and_second (nat_lt 0 request.range.count && nat_le (request.range.first + request.range.count) (size v.origin)) (nat_le (request.range.first % piece_of v.snaps + request.range.count) (piece_of v.snaps)) range in
     let a : Bool = nat_le 64 (length v.flights) in
     let b : Bool = nat_le 18_446_744_073_709_551_615 v.requests in
-    let d : Bool = nat_lt 256 (sum_by count_in v.snaps + starting (kind_of request) (request.range.first / piece_of v.snaps) v.snaps) in
+    let d : Bool = nat_lt 256 (sum_by count_in v.snaps + starting (kind_of request) request.range.first v.snaps) in
     let limit_two = or_first (a || b) d limits in
     let within : request.range.first % piece_of v.snaps + request.range.count ≤ piece_of v.snaps = leb-true (request.range.first % piece_of v.snaps + request.range.count) (piece_of v.snaps) range_last in
     let whole : request.range.first / piece_of v.snaps * piece_of v.snaps + request.range.first % piece_of v.snaps ≡ request.range.first = div-add-mod' request.range.first (piece_of v.snaps) in
@@ -91,7 +91,7 @@ admitted size request v e =
       piece = record { within = inside_piece request.range.first request.range.count (piece_of v.snaps) (request.range.first / piece_of v.snaps) (request.range.first % piece_of v.snaps) within whole };
       flights = leb_false 64 (length v.flights) (or_first a b limit_two);
       requests = leb_false 18_446_744_073_709_551_615 v.requests (or_second a b limit_two);
-      few = ltb-false 256 (sum_by count_in v.snaps + starting (kind_of request) (request.range.first / piece_of v.snaps) v.snaps) (or_second (a || b) d limits);
+      few = ltb-false 256 (sum_by count_in v.snaps + starting (kind_of request) request.range.first v.snaps) (or_second (a || b) d limits);
     }
 
 -- a request of the origin has an origin's kind

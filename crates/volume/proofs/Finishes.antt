@@ -1,11 +1,10 @@
 -- An origin write is accepted, once the copies of its chunk are started.
 use Rattle.std.specs.Prelude.{if◌then◌else◌, ◌&&◌, sum_by, count_by}
-use Rattle.std.proofs.Common.{◌≡◌, inl, inr, ℕ, ◌+◌, ◌*◌, ◌/◌, ◌%◌, ◌<◌, ◌≤◌, Bool, true, false, List, [], ◌∷◌, ◌++◌, None, length, get_or, map, take, drop, refl, sym, ◌∙◌, ap, subst, arith}
+use Rattle.std.proofs.Common.{◌≡◌, inl, inr, ℕ, ◌+◌, ◌<◌, ◌≤◌, Bool, true, false, List, [], ◌∷◌, ◌++◌, None, length, map, take, drop, refl, sym, ◌∙◌, ap, subst, arith}
 use Rattle.std.specs.List.{All, list_all}
 use Rattle.std.proofs.lemmas.Bool.{cases_Bool, MatchBool-at_true, MatchBool-at_false}
-use Rattle.std.proofs.lemmas.List.{length-map, get_or-map}
-use Rattle.std.proofs.lemmas.List.Elements.{All-map, All-nil, All-cons, All-head, All-tail}
-use Rattle.std.proofs.lemmas.Nat.{div-add-mod'}
+use Rattle.std.proofs.lemmas.List.{length-map}
+use Rattle.std.proofs.lemmas.List.Elements.{All-nil, All-cons, All-head, All-tail}
 use Rattle.std.proofs.lemmas.List.{take_at}
 use Rattle.device.specs.Layers.{Layer, is_loud}
 use Rattle.plain.specs.Plain.{Plain}
@@ -20,7 +19,7 @@ use Rattle.volume_laws.specs.Published.{chunk_of, is_clear}
 use Rattle.volume_laws.specs.Waits.{IsSaving}
 use Rattle.volume_laws.specs.Whole.{plain_of as plain_books}
 use Rattle.volume_laws.specs.Accepting.{IsTakenIn}
-use Rattle.volume_laws.proofs.Preparing.{prepared_none, saving_none}
+use Rattle.volume_laws.proofs.Preparing.{prepared_none}
 use Rattle.snapshot.specs.Kept.{Kept, books_of as snap_books}
 use Rattle.volume.specs.Volumed.{Volumed, books_of, piece_of, plain_of, is_loud_in_all, is_loud_with}
 use Rattle.snapshots.specs.Numbers.{count_in}
@@ -33,6 +32,7 @@ use Rattle.volume.proofs.Accepts.{entered_flown}
 use Rattle.volume.proofs.ByKind.{origin_write_enters}
 use Rattle.volume.proofs.Enters.{fresh_plain, whole_entered, plain_entered}
 use Rattle.volume.proofs.Roomed.{roomed_piece, roomed_sum, books_roomed, whole_roomed, starts_roomed}
+use Rattle.volume.proofs.SavingAt.{AreSavingAt, saving_none_at, saving_asked}
 use Rattle.volume.proofs.Savings.{AreDone, done_all}
 use Rattle.volume.proofs.Shown.{shown}
 use Rattle.volume.proofs.Keeping.{keeps_saved}
@@ -40,40 +40,40 @@ use Rattle.volume.proofs.MovedAccepts.{origin_write_is}
 use Rattle.volume.proofs.MovedSubmits.{IsSized}
 use Rattle.volume.proofs.Submitted.{sized_all}
 
-module _ {B : Type 0} (contents : B → List ℕ) (layers : B → List Layer) (c : ℕ) where
-  same_chunk : (s t : Kept B) (n m : ℕ) (fs gs : List Flight) → IsSavedIn contents layers c s t n m fs gs → t.state.chunk ≡ s.state.chunk
-  same_chunk s t n m fs gs e = elim (cases_Bool (starts c s)) [
+module _ {B : Type 0} (contents : B → List ℕ) (layers : B → List Layer) (first : ℕ) where
+  same_chunk : (s t : Kept B) (n m : ℕ) (fs gs : List Flight) → IsSavedIn contents layers first s t n m fs gs → t.state.chunk ≡ s.state.chunk
+  same_chunk s t n m fs gs e = elim (cases_Bool (starts first s)) [
     | inl begins ↦ (let (buffer, at, m_is, g) = MatchBool-at_true _ _ begins e in ap (λ (x : Kept B). x.state.chunk) at.fields)
-    | inr unsaid ↦ elim (cases_Bool (overflows c s)) [
+    | inr unsaid ↦ elim (cases_Bool (overflows first s)) [
       | inl over ↦ (let (same, m_is, g) = MatchBool-at_true _ _ over (MatchBool-at_false _ _ unsaid e) in ap (λ (x : Kept B). x.state.chunk) same)
       | inr fine ↦ (let (same, m_is, g) = MatchBool-at_false _ _ fine (MatchBool-at_false _ _ unsaid e) in ap (λ (x : Kept B). x.state.chunk) same)
     ]
   ]
 
-  same_loud : (s t : Kept B) (n m : ℕ) (fs gs : List Flight) → IsSavedIn contents layers c s t n m fs gs → is_loud (layers t.device) ≡ is_loud (layers s.device)
-  same_loud s t n m fs gs e = elim (cases_Bool (starts c s)) [
+  same_loud : (s t : Kept B) (n m : ℕ) (fs gs : List Flight) → IsSavedIn contents layers first s t n m fs gs → is_loud (layers t.device) ≡ is_loud (layers s.device)
+  same_loud s t n m fs gs e = elim (cases_Bool (starts first s)) [
     | inl begins ↦ (let (buffer, at, m_is, g) = MatchBool-at_true _ _ begins e in ap (λ (x : Kept B). is_loud (layers x.device)) at.fields)
-    | inr unsaid ↦ elim (cases_Bool (overflows c s)) [
+    | inr unsaid ↦ elim (cases_Bool (overflows first s)) [
       | inl over ↦ (let (same, m_is, g) = MatchBool-at_true _ _ over (MatchBool-at_false _ _ unsaid e) in ap (λ (x : Kept B). is_loud (layers x.device)) same)
       | inr fine ↦ (let (same, m_is, g) = MatchBool-at_false _ _ fine (MatchBool-at_false _ _ unsaid e) in ap (λ (x : Kept B). is_loud (layers x.device)) same)
     ]
   ]
 
   -- the devices are as loud as they were
-  pub saved_loud : (ss ts : List (Kept B)) (n m : ℕ) (fs gs : List Flight) → AreSavedIn contents layers c ss ts n m fs gs → list_all (λ s. is_loud (layers s.device)) ts ≡ list_all (λ s. is_loud (layers s.device)) ss
+  pub saved_loud : (ss ts : List (Kept B)) (n m : ℕ) (fs gs : List Flight) → AreSavedIn contents layers first ss ts n m fs gs → list_all (λ s. is_loud (layers s.device)) ts ≡ list_all (λ s. is_loud (layers s.device)) ss
   saved_loud [] [] n m fs gs e = refl
   saved_loud [] (t ∷ ts) n m fs gs e = absurd e
   saved_loud (s ∷ ss) [] n m fs gs e = absurd e
   saved_loud (s ∷ ss) (t ∷ ts) n m fs gs (k, hs, one, rest) = ap (λ b. b && list_all (λ x. is_loud (layers x.device)) ts) (same_loud s t n k fs hs one)
       ∙ ap (λ b. is_loud (layers s.device) && b) (saved_loud ss ts k m hs gs rest)
 
-  pub saved_piece : (ss ts : List (Kept B)) (n m : ℕ) (fs gs : List Flight) → AreSavedIn contents layers c ss ts n m fs gs → piece_of ts ≡ piece_of ss
+  pub saved_piece : (ss ts : List (Kept B)) (n m : ℕ) (fs gs : List Flight) → AreSavedIn contents layers first ss ts n m fs gs → piece_of ts ≡ piece_of ss
   saved_piece [] [] n m fs gs e = refl
   saved_piece [] (t ∷ ts) n m fs gs e = absurd e
   saved_piece (s ∷ ss) [] n m fs gs e = absurd e
   saved_piece (s ∷ ss) (t ∷ ts) n m fs gs (k, hs, one, rest) = same_chunk s t n k fs hs one
 
-  pub saved_length : (ss ts : List (Kept B)) (n m : ℕ) (fs gs : List Flight) → AreSavedIn contents layers c ss ts n m fs gs → length ts ≡ length ss
+  pub saved_length : (ss ts : List (Kept B)) (n m : ℕ) (fs gs : List Flight) → AreSavedIn contents layers first ss ts n m fs gs → length ts ≡ length ss
   saved_length [] [] n m fs gs e = refl
   saved_length [] (t ∷ ts) n m fs gs e = absurd e
   saved_length (s ∷ ss) [] n m fs gs e = absurd e
@@ -95,7 +95,7 @@ module _ {B : Type 0} (contents : B → List ℕ) (layers : B → List Layer) (s
       (sym (unseen_all (λ s. is_loud (layers s.device)) snaps (λ s. refl)) ∙ ap (list_all (λ s. is_loud (layers s.device))) e ∙ unseen_all (λ s. is_loud (layers s.device)) v.snaps (λ s. refl))
 
 module _ {B : Type 0} (contents : B → List ℕ) (layers : B → List Layer) (size : B → ℕ) (v : Volumed B) (h : IsWhole contents layers size v) (before after : List (Kept B)) (e : map unroomed before ≡ map unroomed v.snaps) (m : ℕ) (gs : List Flight) (f : Flight)
-    (at : AreSavedIn contents layers (f.request.range.first / piece_of v.snaps) before after v.copies m v.flights gs) (few : sum_by count_in v.snaps + count_by (starts (f.request.range.first / piece_of v.snaps)) v.snaps ≤ 256)
+    (at : AreSavedIn contents layers f.request.range.first before after v.copies m v.flights gs) (few : sum_by count_in v.snaps + count_by (starts f.request.range.first) v.snaps ≤ 256)
     (number : f.number ≡ v.requests + 1) (asked : IsAsked (size v.origin) (piece_of v.snaps) f.request) (room : length f.room.items ≡ room_of f.request) (kind : kind_of f.request ≡ OriginWrite)
     (route : f.route ≡ write_route_of false None (is_clear (map (snap_books contents layers) after) f.request.range.first)) (space : length v.flights < 64) where
   abbrev roomy : Volumed B
@@ -111,34 +111,28 @@ module _ {B : Type 0} (contents : B → List ℕ) (layers : B → List Layer) (s
   roomy_whole = whole_roomed contents layers size v before e h
 
   abbrev which : List ℕ
-  which = overflowing (f.request.range.first / piece_of v.snaps) before
+  which = overflowing f.request.range.first before
 
-  done : AreDone contents layers size (f.request.range.first / piece_of v.snaps) (length {A = Kept B} [] + length before) which roomy saved
+  done : AreDone contents layers size f.request.range.first (length {A = Kept B} [] + length before) which roomy saved
   done =
-      let c = f.request.range.first / piece_of v.snaps in
+      let first = f.request.range.first in
       let sums = roomed_sum count_in before v.snaps e (λ s. refl) in
-      let counts = starts_roomed contents layers size v before e c in
-      let start : AreDone contents layers size c (length {A = Kept B} []) [] roomy roomy = record {
+      let counts = starts_roomed contents layers size v before e first in
+      let start : AreDone contents layers size first (length {A = Kept B} []) [] roomy roomy = record {
         whole = roomy_whole;
         prepared = prepared_none (books_of contents layers size roomy) roomy_whole.holds roomy_whole.waits;
-        saving = saving_none c (books_of contents layers size roomy).snaps;
+        saving = saving_none_at first (books_of contents layers size roomy).snaps;
       } in
-      done_all contents layers size c roomy before after [] roomy [] m gs refl at (omega (arith, few, sums, counts)) start
+      done_all contents layers size first roomy before after [] roomy [] m gs refl at (omega (arith, few, sums, counts)) start
 
   piece_same : piece_of after ≡ piece_of v.snaps
-  piece_same = saved_piece contents layers (f.request.range.first / piece_of v.snaps) before after v.copies m v.flights gs at ∙ roomed_piece before v.snaps e
+  piece_same = saved_piece contents layers f.request.range.first before after v.copies m v.flights gs at ∙ roomed_piece before v.snaps e
 
   saving_all : All (λ s. s.live ≡ true → IsSaving (chunk_of s.chunk f) s) (map (snap_books contents layers) after)
-  saving_all = All-map (λ (s : SnapBooks). s.live ≡ true → IsSaving (chunk_of s.chunk f) s) (snap_books contents layers) after
-      (λ k d lt live.
-      (let c = f.request.range.first / piece_of v.snaps in
-      let s : Kept B = get_or after k d in
-      let len = saved_length contents layers (f.request.range.first / piece_of v.snaps) before after v.copies m v.flights gs at in
-      let is = get_or-map (snap_books contents layers) after k d (snap_books contents layers d) lt in
-      let j_in : k < length {A = Kept B} [] + length before = let none : ◌≡◌ {A = ℕ} (length {A = Kept B} []) 0 = refl in omega (arith, lt, len, none) in
-      let here = subst (IsSaving (f.request.range.first / piece_of v.snaps)) is (done.saving.each k (snap_books contents layers d) j_in (ap (λ (x : SnapBooks). x.live) is ∙ live)) in
-      let same : f.request.range.first / piece_of v.snaps ≡ f.request.range.first / (get_or after k d).state.chunk = ap (λ n. f.request.range.first / n) (sym piece_same ∙ sym (done.whole.snaps k d lt).chunk_is) in
-      subst (λ (n : ℕ). IsSaving n (snap_books contents layers (get_or after k d))) same here))
+  saving_all =
+      let len = saved_length contents layers f.request.range.first before after v.copies m v.flights gs at in
+      let all : length {A = Kept B} [] + length before ≡ length (map (snap_books contents layers) after) = (let none : ◌≡◌ {A = ℕ} (length {A = Kept B} []) 0 = refl in omega (arith, len, none, length-map after (snap_books contents layers))) in
+      saving_asked f (map (snap_books contents layers) after) (subst (λ (i : ℕ). AreSavingAt f.request.range.first i (map (snap_books contents layers) after)) all done.saving)
 
   taken : IsTakenIn which f.number f.request (books_of contents layers size roomy) (books_of contents layers size written)
   taken = origin_write_enters contents layers size roomy saved which done.prepared done.whole f number (subst (λ (n : ℕ). IsAsked (size v.origin) n f.request) (sym piece_same) asked) room kind
@@ -149,8 +143,8 @@ module _ {B : Type 0} (contents : B → List ℕ) (layers : B → List Layer) (s
       let len : length gs ≡ length v.flights = sym (length-map gs in_flight) ∙ ap length done.prepared.requests ∙ length-map v.flights in_flight in
       whole_entered contents layers size saved f done.whole number which roomy (omega (arith, space, len)) taken
 
-  sized : All (IsSized contents f.request.range.first (f.request.range.first / piece_of v.snaps)) before
-  sized = subst (λ (n : ℕ). All (IsSized contents f.request.range.first (f.request.range.first / n)) before) (roomed_piece before v.snaps e) (sized_all contents layers size roomy roomy_whole f.request.range.first)
+  sized : All (IsSized contents) before
+  sized = sized_all contents layers size roomy roomy_whole
 
   pub written_accepted : IsAcceptedAs contents layers f.request f.number v written
   written_accepted = record {
@@ -158,46 +152,41 @@ module _ {B : Type 0} (contents : B → List ℕ) (layers : B → List Layer) (s
     origin = refl;
     given = sym number;
     fresh = fresh_plain contents layers size v f h number;
-    loud = ap (λ b. is_loud_with layers v.merge (is_loud (layers v.origin) && b)) (saved_loud contents layers (f.request.range.first / piece_of v.snaps) before after v.copies m v.flights gs at) ∙ loud_roomed contents layers size v before e;
+    loud = ap (λ b. is_loud_with layers v.merge (is_loud (layers v.origin) && b)) (saved_loud contents layers f.request.range.first before after v.copies m v.flights gs at) ∙ loud_roomed contents layers size v before e;
     legal = λ loud.
-        (let c = f.request.range.first / piece_of v.snaps in
+        (let first = f.request.range.first in
         subst (λ (ns : List ℕ). IsSubmitted ns (plain_of contents layers v) f.number f.request (plain_of contents layers written))
-        (overflowing_roomed c before v.snaps e ∙ sym (ap (λ (q : Kind). spoiled_by q c v.snaps) kind))
+        (overflowing_roomed first before v.snaps e ∙ sym (ap (λ (q : Kind). spoiled_by q first v.snaps) kind))
         (subst (λ (p : Plain). IsSubmitted which p f.number f.request (plain_of contents layers written)) (plain_roomed contents layers size v before e)
         (plain_entered contents layers size roomy written which f.number f.request taken (loud_roomed contents layers size v before e ∙ loud))));
     lives =
-        (let c = f.request.range.first / piece_of v.snaps in
-        saved_lives contents layers c before after v.copies m v.flights gs at
-        ∙ roomed (λ (s : Kept B). if overflows c s then false else s.live) before v.snaps e (λ s. refl)
-        ∙ sym (ap (λ (q : Kind). lives_after q c v.snaps) kind));
+        (let first = f.request.range.first in
+        saved_lives contents layers first before after v.copies m v.flights gs at
+        ∙ roomed (λ (s : Kept B). if overflows first s then false else s.live) before v.snaps e (λ s. refl)
+        ∙ sym (ap (λ (q : Kind). lives_after q first v.snaps) kind));
     flown = entered_flown v.flights gs f done.prepared.requests;
-    exact = λ replied. origin_write_is contents layers replied f.number f.request f refl refl v written (f.request.range.first / piece_of v.snaps) m before after gs kind e sized at route refl;
-    kept = keeps_saved contents layers v written (f.request.range.first / piece_of v.snaps) v.copies m before v.flights gs refl refl refl e at;
+    exact = λ replied. origin_write_is contents layers replied f.number f.request f refl refl v written m before after gs kind e sized at route refl;
+    kept = keeps_saved contents layers v written f.request.range.first v.copies m before v.flights gs refl refl refl e at;
   }
 
 -- a list that was written back through a slice
 pub back : {X : Type 0} (n : ℕ) (x y : List X) → length x ≡ n → take n (x ++ drop (length x) y) ≡ x
 back n x y len = take_at x (drop (length x) y) n len
 
-first_below : (p q r first count sectors : ℕ) → q * p + r ≡ first → 0 < count → first + count ≤ sectors → p * q < sectors
-first_below p q r first count sectors whole some inside = let turned : q * p ≡ p * q = grind arith in omega (arith, whole, some, inside, turned)
-
 module _ {B : Type 0} (contents : B → List ℕ) (layers : B → List Layer) (size : B → ℕ) (v : Volumed B) (h : IsWhole contents layers size v) (before : List (Kept B)) (e : map unroomed before ≡ map unroomed v.snaps) where
-  -- the chunk begins inside of the origin
-  pub begins_all : (first count : ℕ) → 0 < count → first + count ≤ size v.origin → All (λ s. s.state.chunk * (first / piece_of v.snaps) < s.state.origin) before
+  -- a request's first sector lies inside of the origin
+  pub begins_all : (first count : ℕ) → 0 < count → first + count ≤ size v.origin → All (λ s. first < s.state.origin) before
   begins_all first count some inside k d lt =
       let a = (whole_roomed contents layers size v before e h).snaps k d lt in
-      let below = first_below (piece_of v.snaps) (first / piece_of v.snaps) (first % piece_of v.snaps) first count (size v.origin) (div-add-mod' first (piece_of v.snaps)) some inside in
-      subst (λ (n : ℕ). n * (first / piece_of v.snaps) < (get_or before k d).state.origin) (sym (a.chunk_is ∙ roomed_piece before v.snaps e))
-      (subst (λ (n : ℕ). piece_of v.snaps * (first / piece_of v.snaps) < n) (sym a.origin) below)
+      omega (arith, a.origin, some, inside)
 
-  pub some_all : (c : ℕ) (after : List (Kept B)) (n m : ℕ) (fs gs : List Flight) → AreSavedIn contents layers c before after n m fs gs → All (λ s. 0 < s.state.chunk) after
-  some_all c after n m fs gs at = saved_some c before after n m fs gs at (λ k d lt. ((whole_roomed contents layers size v before e h).snaps k d lt).some)
+  pub some_all : (first : ℕ) (after : List (Kept B)) (n m : ℕ) (fs gs : List Flight) → AreSavedIn contents layers first before after n m fs gs → All (λ s. 0 < s.state.chunk) after
+  some_all first after n m fs gs at = saved_some first before after n m fs gs at (λ k d lt. ((whole_roomed contents layers size v before e h).snaps k d lt).some)
     where
-      saved_some : (c : ℕ) (ss ts : List (Kept B)) (n m : ℕ) (fs gs : List Flight) → AreSavedIn contents layers c ss ts n m fs gs → All (λ s. 0 < s.state.chunk) ss → All (λ s. 0 < s.state.chunk) ts
-      saved_some c [] [] n m fs gs at all = All-nil (λ s. 0 < s.state.chunk)
-      saved_some c [] (t ∷ ts) n m fs gs at all = absurd at
-      saved_some c (s ∷ ss) [] n m fs gs at all = absurd at
-      saved_some c (s ∷ ss) (t ∷ ts) n m fs gs (k, hs, one, rest) all =
-          All-cons (λ x. 0 < x.state.chunk) t ts (subst (λ (i : ℕ). 0 < i) (sym (same_chunk contents layers c s t n k fs hs one)) (All-head (λ x. 0 < x.state.chunk) s ss all))
-          (saved_some c ss ts k m hs gs rest (All-tail (λ x. 0 < x.state.chunk) s ss all))
+      saved_some : (first : ℕ) (ss ts : List (Kept B)) (n m : ℕ) (fs gs : List Flight) → AreSavedIn contents layers first ss ts n m fs gs → All (λ s. 0 < s.state.chunk) ss → All (λ s. 0 < s.state.chunk) ts
+      saved_some first [] [] n m fs gs at all = All-nil (λ s. 0 < s.state.chunk)
+      saved_some first [] (t ∷ ts) n m fs gs at all = absurd at
+      saved_some first (s ∷ ss) [] n m fs gs at all = absurd at
+      saved_some first (s ∷ ss) (t ∷ ts) n m fs gs (k, hs, one, rest) all =
+          All-cons (λ x. 0 < x.state.chunk) t ts (subst (λ (i : ℕ). 0 < i) (sym (same_chunk contents layers first s t n k fs hs one)) (All-head (λ x. 0 < x.state.chunk) s ss all))
+          (saved_some first ss ts k m hs gs rest (All-tail (λ x. 0 < x.state.chunk) s ss all))

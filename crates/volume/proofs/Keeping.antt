@@ -1,5 +1,5 @@
 -- A request changes no device, and neither which snapshots there are nor their chunks.
-use Rattle.std.proofs.Common.{◌≡◌, inl, inr, ℕ, ◌+◌, List, [], ◌∷◌, get_or, set, map, refl, sym, ◌∙◌, ap, subst}
+use Rattle.std.proofs.Common.{◌≡◌, inl, inr, ℕ, ◌+◌, ◌/◌, List, [], ◌∷◌, get_or, set, map, refl, sym, ◌∙◌, ap, subst}
 use Rattle.std.specs.Prelude.{Result, Ok, Err, IfOk, IfErr}
 use Rattle.std.proofs.lemmas.Bool.{cases_Bool, MatchBool-at_true, MatchBool-at_false}
 use Rattle.std.proofs.Math.Seq.{map-set_same}
@@ -53,20 +53,20 @@ module _ {B : Type 0} (contents : B → List ℕ) (layers : B → List Layer) wh
   fixed_chunk = record { room = λ s. refl; begun = λ s t p at. ap (λ (x : Kept B). x.state.chunk) at.fields; spoilt = λ s. refl }
 
   module _ {X : Type 0} (f : Kept B → X) (fixed : IsFixed contents layers f) where
-    one_fixed : (c : ℕ) (s t : Kept B) (n m : ℕ) (fs gs : List Flight) → IsSavedIn contents layers c s t n m fs gs → f t ≡ f s
-    one_fixed c s t n m fs gs e = elim (cases_Bool (starts c s)) [
-      | inl begins ↦ (let (buffer, at, m_is, g) = MatchBool-at_true _ _ begins e in fixed.begun s t (started (n + 1) c s.next buffer) at)
-      | inr unsaid ↦ elim (cases_Bool (overflows c s)) [
+    one_fixed : (first : ℕ) (s t : Kept B) (n m : ℕ) (fs gs : List Flight) → IsSavedIn contents layers first s t n m fs gs → f t ≡ f s
+    one_fixed first s t n m fs gs e = elim (cases_Bool (starts first s)) [
+      | inl begins ↦ (let (buffer, at, m_is, g) = MatchBool-at_true _ _ begins e in fixed.begun s t (started (n + 1) (first / s.state.chunk) s.next buffer) at)
+      | inr unsaid ↦ elim (cases_Bool (overflows first s)) [
         | inl over ↦ (let (same, m_is, g) = MatchBool-at_true _ _ over (MatchBool-at_false _ _ unsaid e) in ap f same ∙ fixed.spoilt s)
         | inr fine ↦ (let (same, m_is, g) = MatchBool-at_false _ _ fine (MatchBool-at_false _ _ unsaid e) in ap f same)
       ]
     ]
 
-    all_fixed : (c : ℕ) (ss ts : List (Kept B)) (n m : ℕ) (fs gs : List Flight) → AreSavedIn contents layers c ss ts n m fs gs → map f ts ≡ map f ss
-    all_fixed c [] [] n m fs gs e = refl
-    all_fixed c [] (t ∷ ts) n m fs gs e = absurd e
-    all_fixed c (s ∷ ss) [] n m fs gs e = absurd e
-    all_fixed c (s ∷ ss) (t ∷ ts) n m fs gs (k, hs, one, rest) = ap (λ x. x ∷ map f ts) (one_fixed c s t n k fs hs one) ∙ ap (λ xs. f s ∷ xs) (all_fixed c ss ts k m hs gs rest)
+    all_fixed : (first : ℕ) (ss ts : List (Kept B)) (n m : ℕ) (fs gs : List Flight) → AreSavedIn contents layers first ss ts n m fs gs → map f ts ≡ map f ss
+    all_fixed first [] [] n m fs gs e = refl
+    all_fixed first [] (t ∷ ts) n m fs gs e = absurd e
+    all_fixed first (s ∷ ss) [] n m fs gs e = absurd e
+    all_fixed first (s ∷ ss) (t ∷ ts) n m fs gs (k, hs, one, rest) = ap (λ x. x ∷ map f ts) (one_fixed first s t n k fs hs one) ∙ ap (λ xs. f s ∷ xs) (all_fixed first ss ts k m hs gs rest)
 
     -- one of them changes
     set_fixed : (xs : List (Kept B)) (k : ℕ) (s t : Kept B) → s ≡ get_or xs k s → f t ≡ f s → map f (set xs k t) ≡ map f xs
@@ -90,8 +90,8 @@ module _ {B : Type 0} (contents : B → List ℕ) (layers : B → List Layer) wh
   keeps_entered v w f e = subst (λ (x : Volumed B). KeepsDevices v x) (sym e) (keeps_by v (entered_of f v) refl refl refl (λ X g fixed. refl))
 
   -- room was made, and copies were started
-  pub keeps_saved : (v w : Volumed B) (c n m : ℕ) (before : List (Kept B)) (fs gs : List Flight) → w.origin ≡ v.origin → w.merge ≡ v.merge → w.attached ≡ v.attached → map unroomed before ≡ map unroomed v.snaps → AreSavedIn contents layers c before w.snaps n m fs gs → KeepsDevices v w
-  keeps_saved v w c n m before fs gs origin merge attached room saved = keeps_by v w origin merge attached (λ X f fixed. all_fixed f fixed c before w.snaps n m fs gs saved ∙ roomed f before v.snaps room fixed.room)
+  pub keeps_saved : (v w : Volumed B) (first n m : ℕ) (before : List (Kept B)) (fs gs : List Flight) → w.origin ≡ v.origin → w.merge ≡ v.merge → w.attached ≡ v.attached → map unroomed before ≡ map unroomed v.snaps → AreSavedIn contents layers first before w.snaps n m fs gs → KeepsDevices v w
+  keeps_saved v w first n m before fs gs origin merge attached room saved = keeps_by v w origin merge attached (λ X f fixed. all_fixed f fixed first before w.snaps n m fs gs saved ∙ roomed f before v.snaps room fixed.room)
 
   -- in one of them
   pub keeps_begun : (v w : Volumed B) (k : ℕ) (before : List (Kept B)) (s t : Kept B) (p : ChunkCopy) → w.origin ≡ v.origin → w.merge ≡ v.merge → w.attached ≡ v.attached → w.snaps ≡ set before k t → map unroomed before ≡ map unroomed v.snaps → s ≡ get_or before k s
@@ -102,13 +102,13 @@ module _ {B : Type 0} (contents : B → List ℕ) (layers : B → List Layer) wh
   keeps_room : (v w : Volumed B) → SameButRoom v w → KeepsDevices v w
   keeps_room v w e = keeps_by v w (ap (λ (x : Volumed B). x.origin) e.becomes) (ap (λ (x : Volumed B). x.merge) e.becomes) (ap (λ (x : Volumed B). x.attached) e.becomes) (λ X f fixed. roomed f w.snaps v.snaps e.roomed fixed.room)
 
-  keeps_full : (number c : ℕ) (v w : Volumed B) → IsFoundFull contents layers number c v w → KeepsDevices v w
-  keeps_full number c v w e = keeps_by v w (ap (λ (x : Volumed B). x.origin) e.becomes) (ap (λ (x : Volumed B). x.merge) e.becomes) (ap (λ (x : Volumed B). x.attached) e.becomes)
+  keeps_full : (number first : ℕ) (v w : Volumed B) → IsFoundFull contents layers number first v w → KeepsDevices v w
+  keeps_full number first v w e = keeps_by v w (ap (λ (x : Volumed B). x.origin) e.becomes) (ap (λ (x : Volumed B). x.merge) e.becomes) (ap (λ (x : Volumed B). x.attached) e.becomes)
       (λ X f fixed. roomed f w.snaps (set v.snaps e.place (spoilt_of e.snap)) e.spoilt fixed.room ∙ set_fixed f fixed v.snaps e.place e.snap (spoilt_of e.snap) e.is (fixed.spoilt e.snap))
 
   pub keeps_refused : (size : B → ℕ) (request : Request) (refusal : Refusal) (v w : Volumed B) → IsRefusedAs contents layers size request refusal v w → KeepsDevices v w
   keeps_refused size request refusal v w e = elim e [
-    | inl first ↦ keeps_same v w first.1
+    | inl early ↦ keeps_same v w early.1
     | inr later ↦ elim later [
       | inl lacking ↦ (let (free, memory, same) = lacking in keeps_room v w same)
       | inr full ↦ (let (free, invalid, rest) = full in let (number, kind, found) = rest in keeps_full number _ v w found)

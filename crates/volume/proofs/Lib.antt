@@ -32,6 +32,7 @@ pub mod ExactIssues
 pub mod Reaches
 pub mod Sums
 pub mod StartsLeft
+pub mod SavingAt
 pub mod Leaves
 pub mod Attaches
 pub mod AttachedAs

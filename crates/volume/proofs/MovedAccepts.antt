@@ -59,16 +59,16 @@ module _ {B : Type 0} (contents : B → List ℕ) (layers : B → List Layer) wh
       origin_read_is kind is becomes = ap (λ (x : Kind). submitted_as x number request (moving_of contents layers replied v)) kind ∙ accepted_is v w Origin is becomes
 
       -- the copies that it waits for were started, over snapshots that are seen as those of the volume
-      pub origin_write_is : (c m : ℕ) (before after : List (Kept B)) (gs : List Flight) → kind_of request ≡ OriginWrite → map unroomed before ≡ map unroomed v.snaps
-          → All (IsSized contents request.range.first c) before → AreSavedIn contents layers c before after v.copies m v.flights gs
+      pub origin_write_is : (m : ℕ) (before after : List (Kept B)) (gs : List Flight) → kind_of request ≡ OriginWrite → map unroomed before ≡ map unroomed v.snaps
+          → All (IsSized contents) before → AreSavedIn contents layers request.range.first before after v.copies m v.flights gs
           → f.route ≡ write_route_of false None (is_clear_in (map (snap_books contents layers) after) request.range.first) → w ≡ entered_of f (record v { snaps = after; flights = gs; copies = m })
           → submitted number request (moving_of contents layers replied v) ≡ moving_of contents layers replied w
-      origin_write_is c m before after gs kind roomed sized saved is becomes =
+      origin_write_is m before after gs kind roomed sized saved is becomes =
           let held : Kept B → Held = held_of contents layers in
           let m0 : Moving = moving_of contents layers replied v in
           let first : ℕ = request.range.first in
           let u : Volumed B = record v { snaps = after; flights = gs; copies = m } in
-          let all : AreAll contents layers first c before after v.copies m v.flights gs = all_are contents layers first c before after v.copies m v.flights gs sized saved in
+          let all : AreAll contents layers first before after v.copies m v.flights gs = all_are contents layers first before after v.copies m v.flights gs sized saved in
           let route : Route = write_route_of false None (is_clear (map held after) first) in
           let made : List Held → List Going → ℕ → Moving = λ (hs : List Held) (rs : List Going) (j : ℕ). accepted number request (write_route_of false None (is_clear hs first)) (record m0 { snaps = hs; requests = rs; started = j }) in
           ap (λ (x : Kind). submitted_as x number request m0) kind
@@ -107,34 +107,34 @@ module _ {B : Type 0} (contents : B → List ℕ) (layers : B → List Layer) wh
         snap_write_placed_is place kind live at is becomes = write_found kind live (Some place) at ∙ accepted_is v w (Store place) is becomes
 
         -- of one whose copy is under way
-        pub snap_write_waits_is : (c : ℕ) → request.range.first / s.state.chunk ≡ c → kind_of request ≡ SnapWrite n → s.live ≡ true → published_place s.pairs s.marks (request.range.first / s.state.chunk) ≡ None → lacks c s ≡ false → f.route ≡ Waits
+        pub snap_write_waits_is : kind_of request ≡ SnapWrite n → s.live ≡ true → published_place s.pairs s.marks (request.range.first / s.state.chunk) ≡ None → lacks request.range.first s ≡ false → f.route ≡ Waits
             → w ≡ entered_of f v → submitted number request (moving_of contents layers replied v) ≡ moving_of contents layers replied w
-        snap_write_waits_is c chunk kind live at has is becomes =
+        snap_write_waits_is kind live at has is becomes =
             let m : Moving = moving_of contents layers replied v in
             let h : Held = held_of contents layers s in
             let test : Held → Bool = λ (x : Held). x.snap.number == n in
             let h' : Held = with_copy (v.copies + 1) (request.range.first / s.state.chunk) h in
             write_found kind live None at
             ∙ if_true (needs_none (request.range.first / s.state.chunk) h) (accepted number request Waits m) (if is_filled h then declined (spoil test h m) else accepted number request Waits (put test h' (record m { started = v.copies + 1 })))
-            (yes_of (needs_none (request.range.first / s.state.chunk) h) (lacks c s) (needs_is contents layers request.range.first c s chunk) has)
+            (yes_of (needs_none (request.range.first / s.state.chunk) h) (lacks request.range.first s) (needs_is contents layers request.range.first s) has)
             ∙ accepted_is v w Waits is becomes
 
         -- of one that it lacks: a copy is started, and the write waits
-        pub snap_write_held_is : (c : ℕ) (t : Kept B) → kind_of request ≡ SnapWrite n → published_place s.pairs s.marks (request.range.first / s.state.chunk) ≡ None → IsSized contents request.range.first c s → lacks c s ≡ true → is_full_of s ≡ false
+        pub snap_write_held_is : (t : Kept B) → kind_of request ≡ SnapWrite n → published_place s.pairs s.marks (request.range.first / s.state.chunk) ≡ None → IsSized contents s → lacks request.range.first s ≡ true → is_full_of s ≡ false
             → held_of contents layers t ≡ with_copy (v.copies + 1) (request.range.first / s.state.chunk) (held_of contents layers s) → f.route ≡ Waits
             → w ≡ entered_of f (record v { snaps = set v.snaps k t; copies = v.copies + 1 })
             → submitted number request (moving_of contents layers replied v) ≡ moving_of contents layers replied w
-        snap_write_held_is c t kind at sized lacking room copy is becomes =
+        snap_write_held_is t kind at sized lacking room copy is becomes =
             let m : Moving = moving_of contents layers replied v in
             let h : Held = held_of contents layers s in
             let test : Held → Bool = λ (x : Held). x.snap.number == n in
             let h' : Held = with_copy (v.copies + 1) (request.range.first / s.state.chunk) h in
             let u : Volumed B = record v { snaps = set v.snaps k t; copies = v.copies + 1 } in
-            let live : s.live ≡ true = lacks_live c s lacking in
+            let live : s.live ≡ true = lacks_live request.range.first s lacking in
             write_found kind live None at
             ∙ if_false (needs_none (request.range.first / s.state.chunk) h) (accepted number request Waits m) (if is_filled h then declined (spoil test h m) else accepted number request Waits (put test h' (record m { started = v.copies + 1 })))
-            (not_of (needs_none (request.range.first / s.state.chunk) h) (lacks c s) (needs_is contents layers request.range.first c s sized.chunk_is) lacking)
-            ∙ if_false (is_filled h) (declined (spoil test h m)) (accepted number request Waits (put test h' (record m { started = v.copies + 1 }))) (filled_is contents layers request.range.first c s sized live ∙ room)
+            (not_of (needs_none (request.range.first / s.state.chunk) h) (lacks request.range.first s) (needs_is contents layers request.range.first s) lacking)
+            ∙ if_false (is_filled h) (declined (spoil test h m)) (accepted number request Waits (put test h' (record m { started = v.copies + 1 }))) (filled_is contents layers request.range.first s sized live ∙ room)
             ∙ ap (λ (x : Held). accepted number request Waits (put test x (record m { started = v.copies + 1 }))) (sym copy)
             ∙ ap (λ (hs : List Held). accepted number request Waits (record m { snaps = hs; started = v.copies + 1 })) (with_is (held_of contents layers) test k s t v.snaps found)
             ∙ accepted_is u w Waits is becomes
@@ -157,19 +157,19 @@ module _ {B : Type 0} (contents : B → List ℕ) (layers : B → List Layer) wh
         ]
 
     -- a store that is found full: the snapshot is spoiled, its requests are refused, and so is this one
-    pub snap_write_full_is : (c : ℕ) → kind_of request ≡ SnapWrite n → published_place s.pairs s.marks (request.range.first / s.state.chunk) ≡ None → IsSized contents request.range.first c s → lacks c s ≡ true → is_full_of s ≡ true
+    pub snap_write_full_is : kind_of request ≡ SnapWrite n → published_place s.pairs s.marks (request.range.first / s.state.chunk) ≡ None → IsSized contents s → lacks request.range.first s ≡ true → is_full_of s ≡ true
         → submitted number request (moving_of contents layers replied v) ≡ moving_of contents layers (Some (Declined Invalid)) (record v { snaps = set v.snaps k (spoilt_of s); flights = map (refused_of (s.number ∷ [])) v.flights })
-    snap_write_full_is c kind at sized lacking full =
+    snap_write_full_is kind at sized lacking full =
         let m : Moving = moving_of contents layers replied v in
         let h : Held = held_of contents layers s in
         let test : Held → Bool = λ (x : Held). x.snap.number == n in
         let h' : Held = with_copy (v.copies + 1) (request.range.first / s.state.chunk) h in
-        let live : s.live ≡ true = lacks_live c s lacking in
+        let live : s.live ≡ true = lacks_live request.range.first s lacking in
         ap (λ (x : Kind). submitted_as x number request m) kind
         ∙ ap (λ (x : Option Held). for_some x (λ y. write_snap number request test y m) (declined m)) (first_is (held_of contents layers) test k s v.snaps found)
         ∙ if_true s.live (write_placed number request test h (published_place s.pairs s.marks (request.range.first / s.state.chunk)) m) (declined m) live
         ∙ ap (λ (x : Option ℕ). write_placed number request test h x m) at
         ∙ if_false (needs_none (request.range.first / s.state.chunk) h) (accepted number request Waits m) (if is_filled h then declined (spoil test h m) else accepted number request Waits (put test h' (record m { started = v.copies + 1 })))
-        (not_of (needs_none (request.range.first / s.state.chunk) h) (lacks c s) (needs_is contents layers request.range.first c s sized.chunk_is) lacking)
-        ∙ if_true (is_filled h) (declined (spoil test h m)) (accepted number request Waits (put test h' (record m { started = v.copies + 1 }))) (filled_is contents layers request.range.first c s sized live ∙ full)
+        (not_of (needs_none (request.range.first / s.state.chunk) h) (lacks request.range.first s) (needs_is contents layers request.range.first s) lacking)
+        ∙ if_true (is_filled h) (declined (spoil test h m)) (accepted number request Waits (put test h' (record m { started = v.copies + 1 }))) (filled_is contents layers request.range.first s sized live ∙ full)
         ∙ ap declined (spoil_is contents layers replied v k s test found v.origin m.origin (spoilt_of s) h refl refl refl)

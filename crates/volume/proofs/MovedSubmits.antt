@@ -24,9 +24,8 @@ use Rattle.volume.specs.Moved.{held_of}
 use Rattle.volume.proofs.MovedLists.{any_seen, if_true, if_false}
 use Rattle.volume.proofs.MovedSnaps.{refused_seen}
 
--- a snapshot whose chunk of a sector is this one, and whose store has the size that it is told
-pub record IsSized {B : Type 0} (contents : B → List ℕ) (first c : ℕ) (s : Kept B) : Type 0 where
-  pub chunk_is : first / s.state.chunk ≡ c
+-- a snapshot whose store has the size that it is told
+pub record IsSized {B : Type 0} (contents : B → List ℕ) (s : Kept B) : Type 0 where
   pub sized : s.live ≡ true → length (contents s.device) ≡ 512 * s.state.size
 
 full_alike : (bytes size x : ℕ) → bytes ≡ 512 * size → nat_lt bytes (512 * x) ≡ nat_lt size x
@@ -72,9 +71,9 @@ either_first a b p = ap (λ x. x || b) p
 either_then : (a b c : Bool) → a ≡ false → b ≡ c → (a || b) ≡ c
 either_then a b c p q = ap (λ x. x || b) p ∙ q
 
--- one that lacks a chunk is live
-pub lacks_live : {B : Type 0} (c : ℕ) (s : Kept B) → lacks c s ≡ true → s.live ≡ true
-lacks_live c s e = first_of s.live (not (is_some (place_of s.pairs c))) (first_of (s.live && not (is_some (place_of s.pairs c))) (not (list_any (λ p. p.pair.old == c) s.copies)) e)
+-- one that lacks its chunk is live
+pub lacks_live : {B : Type 0} (first : ℕ) (s : Kept B) → lacks first s ≡ true → s.live ≡ true
+lacks_live first s e = first_of s.live (not (is_some (place_of s.pairs (first / s.state.chunk)))) (first_of (s.live && not (is_some (place_of s.pairs (first / s.state.chunk)))) (not (list_any (λ p. p.pair.old == first / s.state.chunk) s.copies)) e)
 
 -- what becomes of a snapshot, before the others
 abbrev one_of : ℕ → ℕ → Held → (ℕ → List Held) → List Held
@@ -91,30 +90,28 @@ count_one first n h rest = if needs_none (first / h.snap.chunk) h || is_filled h
 abbrev refuse_one : ℕ → Held → List Going → (List Going → List Going) → List Going
 refuse_one first h rs rest = if needs_none (first / h.snap.chunk) h || not (is_filled h) then rest rs else rest (map (refused h.snap.number) rs)
 
-module _ {B : Type 0} (contents : B → List ℕ) (layers : B → List Layer) (first c : ℕ) where
+module _ {B : Type 0} (contents : B → List ℕ) (layers : B → List Layer) (first : ℕ) where
   abbrev held : Kept B → Held
   held = held_of contents layers
 
-  pub needs_is : (s : Kept B) → first / s.state.chunk ≡ c → needs_none (first / s.state.chunk) (held s) ≡ not (lacks c s)
-  needs_is s chunk =
-      ap (λ x. needs_none x (held s)) chunk
-      ∙ ap (λ b. not s.live || is_some (place_of s.pairs c) || b) (any_seen copying_of (λ (p : Copying). p.pair.old == c) (λ (p : ChunkCopy). p.pair.old == c) s.copies (λ p. refl))
-      ∙ needs_lacks s.live (is_some (place_of s.pairs c)) (list_any (λ p. p.pair.old == c) s.copies)
+  pub needs_is : (s : Kept B) → needs_none (first / s.state.chunk) (held s) ≡ not (lacks first s)
+  needs_is s =
+      ap (λ b. not s.live || is_some (place_of s.pairs (first / s.state.chunk)) || b) (any_seen copying_of (λ (p : Copying). p.pair.old == first / s.state.chunk) (λ (p : ChunkCopy). p.pair.old == first / s.state.chunk) s.copies (λ p. refl))
+      ∙ needs_lacks s.live (is_some (place_of s.pairs (first / s.state.chunk))) (list_any (λ p. p.pair.old == first / s.state.chunk) s.copies)
 
-  pub filled_is : (s : Kept B) → IsSized contents first c s → s.live ≡ true → is_filled (held s) ≡ is_full_of s
+  pub filled_is : (s : Kept B) → IsSized contents s → s.live ≡ true → is_filled (held s) ≡ is_full_of s
   filled_is s i live = full_alike (length (contents s.device)) s.state.size (s.state.chunk * (s.next + 1)) (i.sized live)
 
   -- a copy is started
-  pub with_copy_is : (s t : Kept B) (n : ℕ) (buffer : Vec ℕ) → first / s.state.chunk ≡ c → StartsAt contents layers (started (n + 1) c s.next buffer) s t → with_copy (n + 1) (first / s.state.chunk) (held s) ≡ held t
-  with_copy_is s t n buffer chunk starts_at =
-      let p : ChunkCopy = started (n + 1) c s.next buffer in
+  pub with_copy_is : (s t : Kept B) (n : ℕ) (buffer : Vec ℕ) → StartsAt contents layers (started (n + 1) (first / s.state.chunk) s.next buffer) s t → with_copy (n + 1) (first / s.state.chunk) (held s) ≡ held t
+  with_copy_is s t n buffer starts_at =
+      let p : ChunkCopy = started (n + 1) (first / s.state.chunk) s.next buffer in
       let next : ℕ = stepped_place s.state.chunk (s.next + 1) in
-      ap (λ x. with_copy (n + 1) x (held s)) chunk
-      ∙ ap (λ (cs : List Copying). record (held s) { next = next; copies = cs }) (sym (map-append copying_of s.copies (p ∷ [])))
+      ap (λ (cs : List Copying). record (held s) { next = next; copies = cs }) (sym (map-append copying_of s.copies (p ∷ [])))
       ∙ sym (ap (held_of contents layers) starts_at.fields)
 
   abbrev Starts : Kept B → Kept B → ℕ → ℕ → List Flight → List Flight → Type 0
-  Starts s t n k fs gs = (buffer : Vec ℕ) × StartsAt contents layers (started (n + 1) c s.next buffer) s t × (k ≡ n + 1) × (gs ≡ fs)
+  Starts s t n k fs gs = (buffer : Vec ℕ) × StartsAt contents layers (started (n + 1) (first / s.state.chunk) s.next buffer) s t × (k ≡ n + 1) × (gs ≡ fs)
 
   abbrev Spoils : Kept B → Kept B → ℕ → ℕ → List Flight → List Flight → Type 0
   Spoils s t n k fs gs = (t ≡ spoilt_of s) × (k ≡ n) × (gs ≡ map (refused_of (s.number ∷ [])) fs)
@@ -128,7 +125,7 @@ module _ {B : Type 0} (contents : B → List ℕ) (layers : B → List Layer) (f
     pub count : count_one first n (held s) more ≡ more k
     pub requests : refuse_one first (held s) (map going_of fs) next ≡ next (map going_of gs)
 
-  module _ (s t : Kept B) (n k : ℕ) (fs gs : List Flight) (rest : ℕ → List Held) (more : ℕ → ℕ) (next : List Going → List Going) (i : IsSized contents first c s) where
+  module _ (s t : Kept B) (n k : ℕ) (fs gs : List Flight) (rest : ℕ → List Held) (more : ℕ → ℕ) (next : List Going → List Going) (i : IsSized contents s) where
     abbrev needs : Bool
     needs = needs_none (first / s.state.chunk) (held s)
 
@@ -138,22 +135,22 @@ module _ {B : Type 0} (contents : B → List ℕ) (layers : B → List Layer) (f
     abbrev rs : List Going
     rs = map going_of fs
 
-    one_started : lacks c s ≡ true → is_full_of s ≡ false → Starts s t n k fs gs → IsOne s t n k fs gs rest more next
+    one_started : lacks first s ≡ true → is_full_of s ≡ false → Starts s t n k fs gs → IsOne s t n k fs gs rest more next
     one_started lacking room h =
-        let some : needs ≡ false = not_of needs (lacks c s) (needs_is s i.chunk_is) lacking in
-        let free : filled ≡ false = filled_is s i (lacks_live c s lacking) ∙ room in
+        let some : needs ≡ false = not_of needs (lacks first s) (needs_is s) lacking in
+        let free : filled ≡ false = filled_is s i (lacks_live first s lacking) ∙ room in
         record {
           seen = if_false needs (held s ∷ rest n) (if filled then spoiled (held s) ∷ rest n else with_copy (n + 1) (first / s.state.chunk) (held s) ∷ rest (n + 1)) some
               ∙ if_false filled (spoiled (held s) ∷ rest n) (with_copy (n + 1) (first / s.state.chunk) (held s) ∷ rest (n + 1)) free
-              ∙ ap (λ (x : Held). x ∷ rest (n + 1)) (with_copy_is s t n h.0 i.chunk_is h.1) ∙ ap (λ j. held t ∷ rest j) (sym h.2);
+              ∙ ap (λ (x : Held). x ∷ rest (n + 1)) (with_copy_is s t n h.0 h.1) ∙ ap (λ j. held t ∷ rest j) (sym h.2);
           count = if_false (needs || filled) (more n) (more (n + 1)) (either_then needs filled false some free) ∙ ap more (sym h.2);
           requests = if_true (needs || not filled) (next rs) (next (map (refused s.number) rs)) (either_then needs (not filled) true some (ap not free)) ∙ ap (λ (xs : List Flight). next (map going_of xs)) (sym h.3);
         }
 
-    one_spoilt : lacks c s ≡ true → is_full_of s ≡ true → Spoils s t n k fs gs → IsOne s t n k fs gs rest more next
+    one_spoilt : lacks first s ≡ true → is_full_of s ≡ true → Spoils s t n k fs gs → IsOne s t n k fs gs rest more next
     one_spoilt lacking full h =
-        let some : needs ≡ false = not_of needs (lacks c s) (needs_is s i.chunk_is) lacking in
-        let none : filled ≡ true = filled_is s i (lacks_live c s lacking) ∙ full in
+        let some : needs ≡ false = not_of needs (lacks first s) (needs_is s) lacking in
+        let none : filled ≡ true = filled_is s i (lacks_live first s lacking) ∙ full in
         record {
           seen = if_false needs (held s ∷ rest n) (if filled then spoiled (held s) ∷ rest n else with_copy (n + 1) (first / s.state.chunk) (held s) ∷ rest (n + 1)) some
               ∙ if_true filled (spoiled (held s) ∷ rest n) (with_copy (n + 1) (first / s.state.chunk) (held s) ∷ rest (n + 1)) none
@@ -163,9 +160,9 @@ module _ {B : Type 0} (contents : B → List ℕ) (layers : B → List Layer) (f
               ∙ ap next (refused_seen contents layers s.number fs) ∙ ap (λ (xs : List Flight). next (map going_of xs)) (sym h.2);
         }
 
-    one_stays : lacks c s ≡ false → Stays s t n k fs gs → IsOne s t n k fs gs rest more next
+    one_stays : lacks first s ≡ false → Stays s t n k fs gs → IsOne s t n k fs gs rest more next
     one_stays has h =
-        let none : needs ≡ true = yes_of needs (lacks c s) (needs_is s i.chunk_is) has in
+        let none : needs ≡ true = yes_of needs (lacks first s) (needs_is s) has in
         record {
           seen = if_true needs (held s ∷ rest n) (if filled then spoiled (held s) ∷ rest n else with_copy (n + 1) (first / s.state.chunk) (held s) ∷ rest (n + 1)) none
               ∙ ap (λ (x : Kept B). held x ∷ rest n) (sym h.0) ∙ ap (λ j. held t ∷ rest j) (sym h.1);
@@ -173,20 +170,20 @@ module _ {B : Type 0} (contents : B → List ℕ) (layers : B → List Layer) (f
           requests = if_true (needs || not filled) (next rs) (next (map (refused s.number) rs)) (either_first needs (not filled) none) ∙ ap (λ (xs : List Flight). next (map going_of xs)) (sym h.2);
         }
 
-    one_is : IsSavedIn contents layers c s t n k fs gs → IsOne s t n k fs gs rest more next
+    one_is : IsSavedIn contents layers first s t n k fs gs → IsOne s t n k fs gs rest more next
     one_is saved =
-        let or_else : Type 0 = MatchBool (overflows c s) (Spoils s t n k fs gs) (Stays s t n k fs gs) in
-        elim (cases_Bool (lacks c s)) [
+        let or_else : Type 0 = MatchBool (overflows first s) (Spoils s t n k fs gs) (Stays s t n k fs gs) in
+        elim (cases_Bool (lacks first s)) [
           | inl lacking ↦ elim (cases_Bool (is_full_of s)) [
             | inl full ↦ one_spoilt lacking full
-                (MatchBool-at_true (Spoils s t n k fs gs) (Stays s t n k fs gs) (both (lacks c s) (is_full_of s) lacking full)
-                (MatchBool-at_false (Starts s t n k fs gs) or_else (then_no (lacks c s) (not (is_full_of s)) lacking (ap not full)) saved))
+                (MatchBool-at_true (Spoils s t n k fs gs) (Stays s t n k fs gs) (both (lacks first s) (is_full_of s) lacking full)
+                (MatchBool-at_false (Starts s t n k fs gs) or_else (then_no (lacks first s) (not (is_full_of s)) lacking (ap not full)) saved))
             | inr room ↦ one_started lacking room
-                (MatchBool-at_true (Starts s t n k fs gs) or_else (both (lacks c s) (not (is_full_of s)) lacking (ap not room)) saved)
+                (MatchBool-at_true (Starts s t n k fs gs) or_else (both (lacks first s) (not (is_full_of s)) lacking (ap not room)) saved)
           ]
           | inr has ↦ one_stays has
-              (MatchBool-at_false (Spoils s t n k fs gs) (Stays s t n k fs gs) (first_no (lacks c s) (is_full_of s) has)
-              (MatchBool-at_false (Starts s t n k fs gs) or_else (first_no (lacks c s) (not (is_full_of s)) has) saved))
+              (MatchBool-at_false (Spoils s t n k fs gs) (Stays s t n k fs gs) (first_no (lacks first s) (is_full_of s) has)
+              (MatchBool-at_false (Starts s t n k fs gs) or_else (first_no (lacks first s) (not (is_full_of s)) has) saved))
         ]
 
   -- all snapshots, what they are seen as, which number was given last, and the requests
@@ -195,7 +192,7 @@ module _ {B : Type 0} (contents : B → List ℕ) (layers : B → List Layer) (f
     pub count : started_by first n (map held snaps) ≡ m
     pub requests : refused_by first (map held snaps) (map going_of fs) ≡ map going_of gs
 
-  pub all_are : (snaps snaps' : List (Kept B)) (n m : ℕ) (fs gs : List Flight) → All (IsSized contents first c) snaps → AreSavedIn contents layers c snaps snaps' n m fs gs → AreAll snaps snaps' n m fs gs
+  pub all_are : (snaps snaps' : List (Kept B)) (n m : ℕ) (fs gs : List Flight) → All (IsSized contents) snaps → AreSavedIn contents layers first snaps snaps' n m fs gs → AreAll snaps snaps' n m fs gs
   all_are [] [] n m fs gs sized saved = record { seen = refl; count = sym saved.0; requests = ap (map going_of) (sym saved.1) }
   all_are [] (t ∷ ts) n m fs gs sized saved = absurd saved
   all_are (s ∷ ss) [] n m fs gs sized saved = absurd saved
@@ -205,6 +202,6 @@ module _ {B : Type 0} (contents : B → List ℕ) (layers : B → List Layer) (f
       let rest : ℕ → List Held = λ j. started_all first j (map held ss) in
       let more : ℕ → ℕ = λ j. started_by first j (map held ss) in
       let next : List Going → List Going = λ xs. refused_by first (map held ss) xs in
-      let here : IsOne s t n k fs hs rest more next = one_is s t n k fs hs rest more next (All-head (IsSized contents first c) s ss sized) saved.2 in
-      let later : AreAll ss ts k m hs gs = all_are ss ts k m hs gs (All-tail (IsSized contents first c) s ss sized) saved.3 in
+      let here : IsOne s t n k fs hs rest more next = one_is s t n k fs hs rest more next (All-head (IsSized contents) s ss sized) saved.2 in
+      let later : AreAll ss ts k m hs gs = all_are ss ts k m hs gs (All-tail (IsSized contents) s ss sized) saved.3 in
       record { seen = here.seen ∙ ap (λ (xs : List Held). held t ∷ xs) later.seen; count = here.count ∙ later.count; requests = here.requests ∙ later.requests }

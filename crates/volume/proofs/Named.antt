@@ -1,5 +1,5 @@
 -- The snapshot that a request names.
-use Rattle.std.proofs.Common.{◌≡◌, ◌≢◌, inl, inr, ℕ, ◌+◌, ◌/◌, ◌<◌, true, false, List, [], ◌∷◌, Option, Some, None, length, get_or, map, refl, sym, ◌∙◌, ap, subst, nat_eq}
+use Rattle.std.proofs.Common.{◌≡◌, ◌≢◌, inl, inr, ℕ, ◌+◌, ◌/◌, ◌<◌, true, false, List, [], ◌∷◌, Option, Some, None, length, get_or, map, refl, sym, ◌∙◌, ap, nat_eq}
 use Rattle.std.specs.Prelude.{IfSome, IfNone}
 use Rattle.std.specs.List.{list_any}
 use Rattle.std.proofs.lemmas.Bool.{cases_Bool, true≢false, eqb-true}
@@ -11,7 +11,7 @@ use Rattle.pending.specs.declared.copies.Mark.{Mark}
 use Rattle.pending.specs.declared.flights.Flight.{Flight}
 use Rattle.pending.specs.declared.flights.Route.TheVariants.{Held}
 use Rattle.pending.specs.Routes.{read_route_of}
-use Rattle.volume_laws.specs.Published.{IsPublished, is_published}
+use Rattle.volume_laws.specs.Published.{is_published}
 use Rattle.volume_laws.specs.Waits.{IsCopying}
 use Rattle.volume_laws.proofs.Clear.{published_true}
 use Rattle.volume_laws.specs.Accepting.{IsPrepared, IsTakenIn}
@@ -118,46 +118,41 @@ place_published pairs marks c e = at (place_of pairs c) refl
     at None is = (let got : is_published pairs marks c ≡ false = rw is refl in absurd (true≢false (sym e ∙ got)))
 
 -- a chunk that is not published, and not lacking either, is under way
-copying_held : {B : Type 0} (contents : B → List ℕ) (layers : B → List Layer) (c : ℕ) (s : Kept B) → s.live ≡ true → is_published s.pairs s.marks c ≡ false → lacks c s ≡ false → IsCopying c (snap_books contents layers s)
-copying_held contents layers c s live unpublished has = at (place_of s.pairs c) refl
+copying_held : {B : Type 0} (contents : B → List ℕ) (layers : B → List Layer) (first : ℕ) (s : Kept B) → s.live ≡ true → is_published s.pairs s.marks (first / s.state.chunk) ≡ false → lacks first s ≡ false → IsCopying (first / s.state.chunk) (snap_books contents layers s)
+copying_held contents layers first s live unpublished has = at (place_of s.pairs (first / s.state.chunk)) refl
   where
     some_ne_none : (n : ℕ) → Some n ≢ None
     some_ne_none n is = cc
 
-    at : (found : Option ℕ) → place_of s.pairs c ≡ found → IsCopying c (snap_books contents layers s)
-    at (Some n) is = elim (cases_Bool (list_any (λ m. nat_eq m.chunk c) s.marks)) [
-      | inl any ↦ (let (k, m, lt, m_is, same) = Any-from_list_any (λ m. nat_eq m.chunk c) s.marks any in inr ((λ none. some_ne_none n (sym is ∙ none)), (k, m, lt, m_is, eqb-true m.chunk c same)))
-      | inr free ↦ (let got : is_published s.pairs s.marks c ≡ true = rw (is, free) refl in absurd (true≢false (sym got ∙ unpublished)))
-    ]
-    at None is = elim (not_lacking c s has live) [ inl placed ↦ absurd (placed is) | inr any ↦ inl any ]
+    at : (found : Option ℕ) → place_of s.pairs (first / s.state.chunk) ≡ found → IsCopying (first / s.state.chunk) (snap_books contents layers s)
+    at (Some n) is =
+        let c = first / s.state.chunk in
+        elim (cases_Bool (list_any (λ m. nat_eq m.chunk c) s.marks)) [
+          | inl any ↦ (let (k, m, lt, m_is, same) = Any-from_list_any (λ m. nat_eq m.chunk c) s.marks any in inr ((λ none. some_ne_none n (sym is ∙ none)), (k, m, lt, m_is, eqb-true m.chunk c same)))
+          | inr free ↦ (let got : is_published s.pairs s.marks c ≡ true = rw (is, free) refl in absurd (true≢false (sym got ∙ unpublished)))
+        ]
+    at None is = elim (not_lacking first s has live) [ inl placed ↦ absurd (placed is) | inr any ↦ inl any ]
 
 module _ {B : Type 0} (contents : B → List ℕ) (layers : B → List Layer) (size : B → ℕ) (v : Volumed B) (h : IsWhole contents layers size v) (f : Flight) (number : f.number ≡ v.requests + 1) (asked : IsAsked (size v.origin) (piece_of v.snaps) f.request)
     (room : length f.room.items ≡ room_of f.request) (id k : ℕ) (s : Kept B) (n : IsNamed v id k s) where
   none : IsPrepared [] (books_of contents layers size v) (books_of contents layers size v)
   none = prepared_none (books_of contents layers size v) h.holds h.waits
 
-  pub chunk_named : piece_of v.snaps ≡ s.state.chunk
-  chunk_named = sym (ap (λ (x : Kept B). x.state.chunk) n.is ∙ (h.snaps k s n.within).chunk_is)
-
-  pub snap_read_goes : kind_of f.request ≡ SnapRead id → f.route ≡ read_route_of (place_of s.pairs (f.request.range.first / piece_of v.snaps)) → IsTakenIn [] f.number f.request (books_of contents layers size v) (books_of contents layers size (entered_of f v))
-  snap_read_goes kind route = snap_read_enters contents layers size v v [] none h f number asked room k s n.within n.is n.live (kind ∙ ap SnapRead (sym n.number))
-      (route ∙ ap (λ c. read_route_of (place_of s.pairs (f.request.range.first / c))) chunk_named)
+  pub snap_read_goes : kind_of f.request ≡ SnapRead id → f.route ≡ read_route_of (place_of s.pairs (f.request.range.first / s.state.chunk)) → IsTakenIn [] f.number f.request (books_of contents layers size v) (books_of contents layers size (entered_of f v))
+  snap_read_goes kind route = snap_read_enters contents layers size v v [] none h f number asked room k s n.within n.is n.live (kind ∙ ap SnapRead (sym n.number)) route
 
   -- a write of a chunk that has its place
-  pub snap_write_placed_goes : kind_of f.request ≡ SnapWrite id → is_published s.pairs s.marks (f.request.range.first / piece_of v.snaps) ≡ true → f.route ≡ read_route_of (place_of s.pairs (f.request.range.first / piece_of v.snaps))
+  pub snap_write_placed_goes : kind_of f.request ≡ SnapWrite id → is_published s.pairs s.marks (f.request.range.first / s.state.chunk) ≡ true → f.route ≡ read_route_of (place_of s.pairs (f.request.range.first / s.state.chunk))
       → IsTakenIn [] f.number f.request (books_of contents layers size v) (books_of contents layers size (entered_of f v))
   snap_write_placed_goes kind published route =
-      let (place, at) = place_published s.pairs s.marks (f.request.range.first / piece_of v.snaps) published in
-      let c : f.request.range.first / piece_of v.snaps ≡ f.request.range.first / s.state.chunk = ap (λ (c : ℕ). f.request.range.first / c) chunk_named in
+      let (place, at) = place_published s.pairs s.marks (f.request.range.first / s.state.chunk) published in
       snap_write_placed_enters contents layers size v v [] none h f number asked room k s n.within n.is n.live place (kind ∙ ap SnapWrite (sym n.number))
       (route ∙ ap read_route_of at)
-      (ap (place_of s.pairs) (sym c) ∙ at)
-      (subst (IsPublished s.pairs s.marks) c (published_true s.pairs s.marks (f.request.range.first / piece_of v.snaps) published))
+      at (published_true s.pairs s.marks (f.request.range.first / s.state.chunk) published)
 
   -- a write of a chunk whose copy is under way
-  pub snap_write_held_goes : kind_of f.request ≡ SnapWrite id → is_published s.pairs s.marks (f.request.range.first / piece_of v.snaps) ≡ false → lacks (f.request.range.first / piece_of v.snaps) s ≡ false → f.route ≡ Held
+  pub snap_write_held_goes : kind_of f.request ≡ SnapWrite id → is_published s.pairs s.marks (f.request.range.first / s.state.chunk) ≡ false → lacks f.request.range.first s ≡ false → f.route ≡ Held
       → IsTakenIn [] f.number f.request (books_of contents layers size v) (books_of contents layers size (entered_of f v))
   snap_write_held_goes kind unpublished has route =
-      let c : f.request.range.first / piece_of v.snaps ≡ f.request.range.first / s.state.chunk = ap (λ (c : ℕ). f.request.range.first / c) chunk_named in
       snap_write_held_enters contents layers size v v [] none h f number asked room k s n.within n.is n.live (kind ∙ ap SnapWrite (sym n.number)) route
-      (subst (λ (x : ℕ). IsCopying x (snap_books contents layers s)) c (copying_held contents layers (f.request.range.first / piece_of v.snaps) s n.live unpublished has))
+      (copying_held contents layers f.request.range.first s n.live unpublished has)

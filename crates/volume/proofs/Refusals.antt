@@ -1,5 +1,5 @@
 -- A refused request, as the event machine has it.
-use Rattle.std.proofs.Common.{◌≡◌, ◌≢◌, ◌⊎◌, inl, inr, ℕ, zero, suc, ◌/◌, ◌<◌, Bool, true, false, List, [], ◌∷◌, Option, Some, None, length, get_or, set, map, refl, sym, ◌∙◌, ap, arith, nat_eq, eq-eqb, eqb-true}
+use Rattle.std.proofs.Common.{◌≡◌, ◌≢◌, ◌⊎◌, inl, inr, ℕ, zero, suc, ◌<◌, Bool, true, false, List, [], ◌∷◌, Option, Some, None, length, get_or, set, map, refl, sym, ◌∙◌, ap, arith, nat_eq, eq-eqb, eqb-true}
 use Rattle.std.specs.Prelude.{◌&&◌, if◌then◌else◌}
 use Rattle.std.proofs.lemmas.Bool.{true≢false}
 use Rattle.std.proofs.lemmas.List.{get_or-map}
@@ -20,7 +20,6 @@ use Rattle.pending.specs.declared.flights.Flight.{Flight}
 use Rattle.pending.specs.declared.flights.Kind.TheVariants.{SnapRead, SnapWrite}
 use Rattle.event_machine.specs.Held.{Held, Moving}
 use Rattle.event_machine.specs.Submitting.{submitted}
-use Rattle.volume_laws.specs.Again.{published_place}
 use Rattle.snapshot.specs.Kept.{Kept}
 use Rattle.volume.specs.Volumed.{Volumed, piece_of}
 use Rattle.volume.specs.Whole.{IsWhole}
@@ -57,7 +56,7 @@ module _ {B : Type 0} (size : B → ℕ) (v : Volumed B) where
   -- of the device's own reason
   dev_invalid : (request : Request) → submit_refusal size request v ≡ Some Invalid → dev_refusal request.dev v.snaps ≡ Some Invalid
   dev_invalid request e =
-      by (dev_refusal request.dev v.snaps) (is_piece_of (piece_of v.snaps) (size v.origin) request.range) (are_too_many (starting (kind_of request) (request.range.first / piece_of v.snaps) v.snaps) v) e
+      by (dev_refusal request.dev v.snaps) (is_piece_of (piece_of v.snaps) (size v.origin) request.range) (are_too_many (starting (kind_of request) request.range.first v.snaps) v) e
     where
       by : (o : Option Refusal) (a b : Bool) → first_of_two o (first_of_two (if a then None else Some OutOfRange) (if b then Some TooMany else None)) ≡ Some Invalid → o ≡ Some Invalid
       by None a b e = absurd (by_range a b e)
@@ -109,23 +108,23 @@ module _ {B : Type 0} (contents : B → List ℕ) (layers : B → List Layer) (s
       snap_dead_is contents layers replied number request v n k s (first_found n k s place is) (snap_kind request.dev request.op n dev) out
 
   -- a write that finds the store of its snapshot full
-  full_declined : (request : Request) (n : ℕ) → kind_of request ≡ SnapWrite n → IsFoundFull contents layers n (request.range.first / piece_of v.snaps) v w → (number : ℕ) (replied : Option Reply)
+  full_declined : (request : Request) (n : ℕ) → kind_of request ≡ SnapWrite n → IsFoundFull contents layers n request.range.first v w → (number : ℕ) (replied : Option Reply)
       → submitted number request (moving_of contents layers replied v) ≡ moving_of contents layers (Some (Declined IsInvalid)) w
   full_declined request n kind e number replied =
       let k : ℕ = e.place in
       let s : Kept B = e.snap in
-      let c : ℕ = request.range.first / piece_of v.snaps in
+      let first : ℕ = request.range.first in
       let place : Some e.place ≡ place_of_snap n v.snaps = sym e.found in
       let found = found_place n v.snaps e.place e.snap place in
       let named : e.snap.number ≡ n = ap (λ (x : Kept B). x.number) e.is ∙ found.1 in
-      let sized = sized_at contents layers size v h e.place e.snap found.0 e.is request.range.first in
-      let lacking = both_left (lacks c e.snap) (is_full_of e.snap) e.full in
-      let full = both_right (lacks c e.snap) (is_full_of e.snap) e.full in
+      let sized = sized_at contents layers size v h e.place e.snap found.0 e.is in
+      let lacking = both_left (lacks first e.snap) (is_full_of e.snap) e.full in
+      let full = both_right (lacks first e.snap) (is_full_of e.snap) e.full in
       let last : Option Reply = Some (Declined IsInvalid) in
       let u : List Flight → Volumed B = λ (fs : List Flight). record v { snaps = set v.snaps e.place (spoilt_of e.snap); flights = fs } in
       let fs : List Flight = map (refused_of (n ∷ [])) v.flights in
-      snap_write_full_is contents layers replied number request v n e.place e.snap (first_found n e.place e.snap place e.is) c kind
-      (ap (published_place e.snap.pairs e.snap.marks) sized.chunk_is ∙ lacking_unpublished c e.snap lacking) sized lacking full
+      snap_write_full_is contents layers replied number request v n e.place e.snap (first_found n e.place e.snap place e.is) kind
+      (lacking_unpublished first e.snap lacking) sized lacking full
       ∙ ap (λ (m : ℕ). moving_of contents layers last (u (map (refused_of (m ∷ [])) v.flights))) named
       ∙ ap (λ (hs : List Held). let m : Moving = record (moving_of contents layers last (u fs)) { snaps = hs } in m) (sym (unroomed_seen contents layers w.snaps (set v.snaps e.place (spoilt_of e.snap)) e.spoilt))
       ∙ sym (ap (moving_of contents layers last) e.becomes)
@@ -166,7 +165,7 @@ module _ {B : Type 0} (contents : B → List ℕ) (layers : B → List Layer) (s
   same_refused e = inr (inl (free, e.0, same_roomed v w e.1))
 
   -- or a write of a snapshot found its store full
-  pub write_refused : (n : ℕ) → kind_of request ≡ SnapWrite n → ((refusal ≡ NoMemory) × SameButRoom v w) ⊎ ((refusal ≡ Invalid) × IsFoundFull contents layers n (request.range.first / piece_of v.snaps) v w) → IsRefusedAs contents layers size request refusal v w
+  pub write_refused : (n : ℕ) → kind_of request ≡ SnapWrite n → ((refusal ≡ NoMemory) × SameButRoom v w) ⊎ ((refusal ≡ Invalid) × IsFoundFull contents layers n request.range.first v w) → IsRefusedAs contents layers size request refusal v w
   write_refused n kind e = elim e [
     | inl starved ↦ starved_refused starved
     | inr full ↦ inr (inr (free, full.0, (n, kind, full.1)))

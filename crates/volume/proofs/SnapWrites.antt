@@ -29,7 +29,6 @@ use Rattle.volume.specs.Whole.{IsWhole, IsCounted}
 use Rattle.plain.specs.declared.request.Reply.{Reply}
 use Rattle.event_machine.specs.Held.{Held as Seen, Moving}
 use Rattle.event_machine.specs.Submitting.{submitted}
-use Rattle.volume_laws.specs.Again.{published_place}
 use Rattle.volume.specs.Exact.{IsSubmittedAs}
 use Rattle.snapshots.specs.Finding.{place_of_snap}
 use Rattle.volume.specs.Moved.{moving_of}
@@ -96,9 +95,6 @@ module _ {B : Type 0} (contents : B → List ℕ) (layers : B → List Layer) (s
   prepared_roomy : IsPrepared [] (books_of contents layers size roomy) (books_of contents layers size roomy)
   prepared_roomy = prepared_none (books_of contents layers size roomy) roomy_whole.holds roomy_whole.waits
 
-  chunk_roomy : piece_of v.snaps ≡ s1.state.chunk
-  chunk_roomy = sym (ap (λ (x : Kept B). x.state.chunk) (e1 ∙ ap unroomed n.is) ∙ (h.snaps k s n.within).chunk_is)
-
   -- it is seen as the same, and the snapshot is the first with its number
   moving_roomed : (replied : Option Reply) → moving_of contents layers replied v ≡ moving_of contents layers replied roomy
   moving_roomed replied = ap (λ (hs : List Seen). let m : Moving = record (moving_of contents layers replied v) { snaps = hs } in m) (sym (unroomed_seen contents layers (set v.snaps k s1) v.snaps one_roomed))
@@ -107,10 +103,10 @@ module _ {B : Type 0} (contents : B → List ℕ) (layers : B → List Layer) (s
   first_roomy = named_first contents layers size roomy roomy_whole id k s1 (record { within = within_roomy; is = is_roomy; live = live_roomy; number = number_roomy })
 
   module _ (f : Flight) (number : f.number ≡ v.requests + 1) (asked : IsAsked (size v.origin) (piece_of v.snaps) f.request) (room : length f.room.items ≡ room_of f.request) (kind : kind_of f.request ≡ SnapWrite id) (route : f.route ≡ Held)
-      (space : length v.flights < 64) (few : sum_by count_in v.snaps + count_by (λ x. nat_eq x.number id && starts (f.request.range.first / piece_of v.snaps) x) v.snaps ≤ 256)
-      (t : Kept B) (buffer : Vec ℕ) (begins : starts (f.request.range.first / piece_of v.snaps) s1 ≡ true) (at : StartsAt contents layers (started (v.copies + 1) (f.request.range.first / piece_of v.snaps) s1.next buffer) s1 t) where
+      (space : length v.flights < 64) (few : sum_by count_in v.snaps + count_by (λ x. nat_eq x.number id && starts f.request.range.first x) v.snaps ≤ 256)
+      (t : Kept B) (buffer : Vec ℕ) (begins : starts f.request.range.first s1 ≡ true) (at : StartsAt contents layers (started (v.copies + 1) (f.request.range.first / s1.state.chunk) s1.next buffer) s1 t) where
     abbrev copy : ChunkCopy
-    copy = started (v.copies + 1) (f.request.range.first / piece_of v.snaps) s1.next buffer
+    copy = started (v.copies + 1) (f.request.range.first / s1.state.chunk) s1.next buffer
 
     abbrev pub copying : Volumed B
     copying = record v { snaps = set (set v.snaps k s1) k t; copies = v.copies + 1 }
@@ -122,7 +118,7 @@ module _ {B : Type 0} (contents : B → List ℕ) (layers : B → List Layer) (s
     few_copies : sum_by count_in (set v.snaps k s1) < 256
     few_copies =
         let sums = roomed_sum count_in (set v.snaps k s1) v.snaps one_roomed (λ x. refl) in
-        let c = f.request.range.first / piece_of v.snaps in
+        let c = f.request.range.first in
         let here : (nat_eq s.number id && starts c s) ≡ true = both (nat_eq s.number id) (starts c s) (eq-eqb s.number id n.number) (sym (ap (starts c) e1) ∙ begins) in
         let one = count_some (λ x. nat_eq x.number id && starts c x) v.snaps k s n.within (sym (ap (λ (x : Kept B). nat_eq x.number id && starts c x) n.is) ∙ here) in
         omega (arith, few, sums, one)
@@ -134,7 +130,7 @@ module _ {B : Type 0} (contents : B → List ℕ) (layers : B → List Layer) (s
     whole_copying : IsWhole contents layers size copying
     whole_copying = whole_begun contents layers size roomy k s1 t within_roomy is_roomy roomy_whole (ap (λ (x : Kept B). x.number) at.fields) (ap (λ (x : Kept B). x.state.chunk) at.fields) (ap (λ (x : Kept B). x.state.origin) at.fields)
         (numbers_pushed s1 t copy (ap (λ (x : Kept B). x.marks) at.fields) (ap (λ (x : Kept B). x.copies) at.fields)) (ap (λ (x : Kept B). x.merging) at.fields) (λ counts. counted_begun contents layers s1 t copy live_roomy at counts)
-        (left_started contents layers (f.request.range.first / piece_of v.snaps) s1 t copy (subst IsCounted (sym is_roomy) (roomy_whole.counted k s1 within_roomy)).some begins live_roomy at) few_copies prepared_copying.holds prepared_copying.waits
+        (left_started contents layers f.request.range.first s1 t copy (subst IsCounted (sym is_roomy) (roomy_whole.counted k s1 within_roomy)).some begins live_roomy at) few_copies prepared_copying.holds prepared_copying.waits
 
     piece_copying : piece_of (set (set v.snaps k s1) k t) ≡ piece_of v.snaps
     piece_copying = piece_set (set v.snaps k s1) k s1 t is_roomy (ap (λ (x : Kept B). x.state.chunk) at.fields) ∙ roomed_piece (set v.snaps k s1) v.snaps one_roomed
@@ -144,9 +140,9 @@ module _ {B : Type 0} (contents : B → List ℕ) (layers : B → List Layer) (s
 
     is_copying : IsCopying (f.request.range.first / t.state.chunk) (snap_books contents layers t)
     is_copying =
-        let chunk : piece_of v.snaps ≡ t.state.chunk = chunk_roomy ∙ sym (ap (λ (x : Kept B). x.state.chunk) at.fields) in
+        let chunk : s1.state.chunk ≡ t.state.chunk = sym (ap (λ (x : Kept B). x.state.chunk) at.fields) in
         subst (λ (c : ℕ). IsCopying (f.request.range.first / c) (snap_books contents layers t)) chunk
-        (inl (subst (Any (λ (x : ChunkCopy). x.pair.old ≡ f.request.range.first / piece_of v.snaps)) (sym (ap (λ (x : Kept B). x.copies) at.fields)) (last_copy s1.copies copy)))
+        (inl (subst (Any (λ (x : ChunkCopy). x.pair.old ≡ f.request.range.first / s1.state.chunk)) (sym (ap (λ (x : Kept B). x.copies) at.fields)) (last_copy s1.copies copy)))
 
     taken : IsTakenIn [] f.number f.request (books_of contents layers size roomy) (books_of contents layers size (entered_of f copying))
     taken = snap_write_held_enters contents layers size roomy copying [] prepared_copying whole_copying f number (subst (λ (c : ℕ). IsAsked (size v.origin) c f.request) (sym piece_copying) asked) room
@@ -156,20 +152,18 @@ module _ {B : Type 0} (contents : B → List ℕ) (layers : B → List Layer) (s
     pub held_whole : IsWhole contents layers size (entered_of f copying)
     held_whole = whole_entered contents layers size copying f whole_copying number [] roomy space taken
 
-    lacking : lacks (f.request.range.first / piece_of v.snaps) s1 ≡ true
-    lacking = and_first (lacks (f.request.range.first / piece_of v.snaps) s1) (not (is_full_of s1)) begins
+    lacking : lacks f.request.range.first s1 ≡ true
+    lacking = and_first (lacks f.request.range.first s1) (not (is_full_of s1)) begins
 
     free : is_full_of s1 ≡ false
-    free = not_full (lacks (f.request.range.first / piece_of v.snaps) s1) (is_full_of s1) begins
+    free = not_full (lacks f.request.range.first s1) (is_full_of s1) begins
 
     held_submitted : IsSubmittedAs contents layers f.request f.number v (entered_of f copying)
     held_submitted replied =
-        let c : ℕ = f.request.range.first / piece_of v.snaps in
-        let chunk : f.request.range.first / s1.state.chunk ≡ c = ap (λ (x : ℕ). f.request.range.first / x) (sym chunk_roomy) in
-        let sized : IsSized contents f.request.range.first c s1 = record { chunk_is = chunk; sized = (sized_at contents layers size roomy roomy_whole k s1 within_roomy is_roomy f.request.range.first).sized } in
+        let sized : IsSized contents s1 = sized_at contents layers size roomy roomy_whole k s1 within_roomy is_roomy in
         ap (submitted f.number f.request) (moving_roomed replied)
-        ∙ snap_write_held_is contents layers replied f.number f.request f refl refl roomy (entered_of f copying) id k s1 first_roomy c t kind
-        (ap (published_place s1.pairs s1.marks) chunk ∙ lacking_unpublished c s1 lacking) sized lacking free (sym (with_copy_is contents layers f.request.range.first c s1 t v.copies buffer chunk at)) route refl
+        ∙ snap_write_held_is contents layers replied f.number f.request f refl refl roomy (entered_of f copying) id k s1 first_roomy t kind
+        (lacking_unpublished f.request.range.first s1 lacking) sized lacking free (sym (with_copy_is contents layers f.request.range.first s1 t v.copies buffer at)) route refl
 
     pub held_accepted : IsAcceptedAs contents layers f.request f.number v (entered_of f copying)
     held_accepted = record {
@@ -180,12 +174,12 @@ module _ {B : Type 0} (contents : B → List ℕ) (layers : B → List Layer) (s
       loud = loud_changed contents layers size roomy v.origin k s1 t within_roomy is_roomy v.flights (same_disk contents layers size v.origin) (ap (λ (x : Kept B). is_loud (layers x.device)) at.fields)
           ∙ loud_roomed contents layers size v (set v.snaps k s1) one_roomed;
       legal = λ loud.
-          (let c = f.request.range.first / piece_of v.snaps in
+          (let c = f.request.range.first in
           subst (λ (ns : List ℕ). IsSubmitted ns (plain_of contents layers v) f.number f.request (plain_of contents layers (entered_of f copying))) (sym (ap (λ (q : Kind). spoiled_by q c v.snaps) kind))
           (subst (λ (p : Plain). IsSubmitted [] p f.number f.request (plain_of contents layers (entered_of f copying))) (plain_roomed contents layers size v (set v.snaps k s1) one_roomed)
           (plain_entered contents layers size roomy (entered_of f copying) [] f.number f.request taken (loud_roomed contents layers size v (set v.snaps k s1) one_roomed ∙ loud))));
       lives =
-          (let c = f.request.range.first / piece_of v.snaps in
+          (let c = f.request.range.first in
           map-set_same (λ (x : Kept B). x.live) (set v.snaps k s1) k t s1 (ap (λ (x : Kept B). x.live) at.fields ∙ ap (λ (x : Kept B). x.live) is_roomy)
           ∙ roomed (λ (x : Kept B). x.live) (set v.snaps k s1) v.snaps one_roomed (λ x. refl)
           ∙ sym (ap (λ (q : Kind). lives_after q c v.snaps) kind));
@@ -250,19 +244,19 @@ saved_full contents layers c s t m l fs gs e lacking same = elim (cases_Bool (st
 module _ {B : Type 0} (contents : B → List ℕ) (layers : B → List Layer) (size : B → ℕ) (v : Volumed B) (h : IsWhole contents layers size v) (id k : ℕ) (s : Kept B) (n : IsNamed v id k s) (s1 : Kept B) (e1 : unroomed s1 ≡ unroomed s) (t : Kept B) (m : ℕ) (gs : List Flight) where
   -- a number was given: the write is in flight
   pub held_done : (f : Flight) (request : Request) → f.request ≡ request → f.number ≡ v.requests + 1 → f.route ≡ Held → length v.flights < 64 → IsAsked (size v.origin) (piece_of v.snaps) request → length f.room.items ≡ room_of request → kind_of request ≡ SnapWrite id
-      → sum_by count_in v.snaps + count_by (λ x. nat_eq x.number id && starts (request.range.first / piece_of v.snaps) x) v.snaps ≤ 256
-      → IsSavedIn contents layers (request.range.first / piece_of v.snaps) s1 t v.copies m v.flights gs → m ≢ v.copies
+      → sum_by count_in v.snaps + count_by (λ x. nat_eq x.number id && starts request.range.first x) v.snaps ≤ 256
+      → IsSavedIn contents layers request.range.first s1 t v.copies m v.flights gs → m ≢ v.copies
       → IsWhole contents layers size (entered_of f (record v { snaps = set (set v.snaps k s1) k t; copies = m; flights = gs }))
       × IsAcceptedAs contents layers request f.number v (entered_of f (record v { snaps = set (set v.snaps k s1) k t; copies = m; flights = gs }))
   held_done f request same number route space = subst
       (λ (r : Request). IsAsked (size v.origin) (piece_of v.snaps) r → length f.room.items ≡ room_of r → kind_of r ≡ SnapWrite id
-      → sum_by count_in v.snaps + count_by (λ x. nat_eq x.number id && starts (r.range.first / piece_of v.snaps) x) v.snaps ≤ 256
-      → IsSavedIn contents layers (r.range.first / piece_of v.snaps) s1 t v.copies m v.flights gs → m ≢ v.copies
+      → sum_by count_in v.snaps + count_by (λ x. nat_eq x.number id && starts r.range.first x) v.snaps ≤ 256
+      → IsSavedIn contents layers r.range.first s1 t v.copies m v.flights gs → m ≢ v.copies
       → IsWhole contents layers size (entered_of f (record v { snaps = set (set v.snaps k s1) k t; copies = m; flights = gs }))
       × IsAcceptedAs contents layers r f.number v (entered_of f (record v { snaps = set (set v.snaps k s1) k t; copies = m; flights = gs })))
       same
       (λ asked room kind few saved other.
-      (let begins = saved_begins contents layers (f.request.range.first / piece_of v.snaps) s1 t v.copies m v.flights gs saved other in
+      (let begins = saved_begins contents layers f.request.range.first s1 t v.copies m v.flights gs saved other in
       let (buffer, at, m_is, g_is) = MatchBool-at_true _ _ begins saved in
       subst (λ (x : List Flight). IsWhole contents layers size (entered_of f (record v { snaps = set (set v.snaps k s1) k t; copies = m; flights = x }))
       × IsAcceptedAs contents layers f.request f.number v (entered_of f (record v { snaps = set (set v.snaps k s1) k t; copies = m; flights = x }))) (sym g_is)

@@ -43,9 +43,9 @@ later chunk n = elim (cases_Bool (is_area_place chunk n)) [
 ]
 
 -- a copy is started
-pub left_started : {B : Type 0} (contents : B → List ℕ) (layers : B → List Layer) (c : ℕ) (s t : Kept B) (p : ChunkCopy) → 0 < s.state.chunk → starts c s ≡ true → s.live ≡ true → StartsAt contents layers p s t → starts_left t + 1 ≤ starts_left s
-left_started contents layers c s t p some begins live at =
-    let room = ltb-false s.state.size (s.state.chunk * (s.next + 1)) (not_full (lacks c s) (is_full_of s) begins) in
+pub left_started : {B : Type 0} (contents : B → List ℕ) (layers : B → List Layer) (first : ℕ) (s t : Kept B) (p : ChunkCopy) → 0 < s.state.chunk → starts first s ≡ true → s.live ≡ true → StartsAt contents layers p s t → starts_left t + 1 ≤ starts_left s
+left_started contents layers first s t p some begins live at =
+    let room = ltb-false s.state.size (s.state.chunk * (s.next + 1)) (not_full (lacks first s) (is_full_of s) begins) in
     let inside = fits s.state.chunk s.next s.state.size some room in
     let next = ap (λ (x : Kept _). x.next) at.fields in
     let past = later s.state.chunk (s.next + 1) in

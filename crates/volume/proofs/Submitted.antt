@@ -1,5 +1,5 @@
 -- A request that was put in flight is the event machine's: the facts of a whole volume, with what its calls promise.
-use Rattle.std.proofs.Common.{◌≡◌, ℕ, ◌/◌, ◌<◌, Bool, true, false, List, None, length, get_or, refl, sym, ◌∙◌, ap}
+use Rattle.std.proofs.Common.{◌≡◌, ℕ, ◌/◌, ◌<◌, Bool, true, false, List, None, length, get_or, refl, ◌∙◌, ap}
 use Rattle.std.specs.Prelude.{◌==◌, ◌&&◌, not, is_some}
 use Rattle.std.specs.List.{All, list_any}
 use Rattle.std.proofs.lemmas.Bool.{eqb-true, eq-eqb, false≢true}
@@ -17,7 +17,7 @@ use Rattle.pending.specs.declared.flights.Route.TheVariants.{Held, Origin}
 use Rattle.volume_laws.specs.Again.{published_place}
 use Rattle.volume_laws.specs.Published.{is_published}
 use Rattle.snapshot.specs.Kept.{Kept}
-use Rattle.volume.specs.Volumed.{Volumed, piece_of}
+use Rattle.volume.specs.Volumed.{Volumed}
 use Rattle.volume.specs.Whole.{IsWhole}
 use Rattle.snapshots.specs.Starting.{lacks}
 use Rattle.volume.specs.Submitting.{IsEntered}
@@ -36,9 +36,11 @@ published_some pairs marks c e = if_true (is_published pairs marks c) (place_of 
 pub published_none : (pairs : List Pair) (marks : List Mark) (c : ℕ) → is_published pairs marks c ≡ false → published_place pairs marks c ≡ None
 published_none pairs marks c e = if_false (is_published pairs marks c) (place_of pairs c) None e
 
--- a chunk that is lacking is not published
-pub lacking_unpublished : {B : Type 0} (c : ℕ) (s : Kept B) → lacks c s ≡ true → published_place s.pairs s.marks c ≡ None
-lacking_unpublished c s e = published_none s.pairs s.marks c (nowhere s.live (is_some (place_of s.pairs c)) (not (list_any (λ p. p.pair.old == c) s.copies)) (not (list_any (λ m. m.chunk == c) s.marks)) e)
+-- a chunk that is lacking at a sector is not published
+pub lacking_unpublished : {B : Type 0} (first : ℕ) (s : Kept B) → lacks first s ≡ true → published_place s.pairs s.marks (first / s.state.chunk) ≡ None
+lacking_unpublished first s e =
+    let c = first / s.state.chunk in
+    published_none s.pairs s.marks c (nowhere s.live (is_some (place_of s.pairs c)) (not (list_any (λ p. p.pair.old == c) s.copies)) (not (list_any (λ m. m.chunk == c) s.marks)) e)
   where
     nowhere : (live has other free : Bool) → (live && not has && other) ≡ true → (has && free) ≡ false
     nowhere live false other free e = refl
@@ -46,14 +48,11 @@ lacking_unpublished c s e = published_none s.pairs s.marks c (nowhere s.live (is
     nowhere false true other free e = absurd (false≢true e)
 
 module _ {B : Type 0} (contents : B → List ℕ) (layers : B → List Layer) (size : B → ℕ) (v : Volumed B) (h : IsWhole contents layers size v) where
-  pub sized_at : (k : ℕ) (s : Kept B) → k < length v.snaps → s ≡ get_or v.snaps k s → (first : ℕ) → IsSized contents first (first / piece_of v.snaps) s
-  sized_at k s within is first = record {
-    chunk_is = ap (λ (n : ℕ). first / n) (ap (λ (x : Kept B). x.state.chunk) is ∙ (h.snaps k s within).chunk_is);
-    sized = λ live. (holds_live contents layers size v h 0 k s within is live).text.whole;
-  }
+  pub sized_at : (k : ℕ) (s : Kept B) → k < length v.snaps → s ≡ get_or v.snaps k s → IsSized contents s
+  sized_at k s within is = record { sized = λ live. (holds_live contents layers size v h 0 k s within is live).text.whole }
 
-  pub sized_all : (first : ℕ) → All (IsSized contents first (first / piece_of v.snaps)) v.snaps
-  sized_all first k d lt = sized_at k (get_or v.snaps k d) lt (get_or_default v.snaps k d (get_or v.snaps k d) lt) first
+  pub sized_all : All (IsSized contents) v.snaps
+  sized_all k d lt = sized_at k (get_or v.snaps k d) lt (get_or_default v.snaps k d (get_or v.snaps k d) lt)
 
   -- no snapshot before the one that is named has its number
   pub named_first : (id k : ℕ) (s : Kept B) → IsNamed v id k s → IsFirst (λ (x : Kept B). x.number == id) k s v.snaps
@@ -66,25 +65,22 @@ module _ {B : Type 0} (contents : B → List ℕ) (layers : B → List Layer) (s
     -- of the snapshot that is named
     module _ (id k : ℕ) (s : Kept B) (n : IsNamed v id k s) where
       abbrev c : ℕ
-      c = request.range.first / piece_of v.snaps
+      c = request.range.first / s.state.chunk
 
-      chunk : request.range.first / s.state.chunk ≡ request.range.first / piece_of v.snaps
-      chunk = (sized_at k s n.within n.is request.range.first).chunk_is
-
-      pub snap_read_submitted : kind_of request ≡ SnapRead id → route ≡ read_route_of (place_of s.pairs (request.range.first / piece_of v.snaps)) → IsSubmittedAs contents layers request number v w
+      pub snap_read_submitted : kind_of request ≡ SnapRead id → route ≡ read_route_of (place_of s.pairs (request.range.first / s.state.chunk)) → IsSubmittedAs contents layers request number v w
       snap_read_submitted kind is replied = snap_read_is contents layers replied number request e.flight e.number_is e.request_is v w id k s (named_first id k s n) kind n.live
-          (e.route_is ∙ is ∙ ap (λ (x : ℕ). read_route_of (place_of s.pairs x)) (sym chunk)) e.becomes
+          (e.route_is ∙ is) e.becomes
 
       -- a write of a chunk that is published
-      pub snap_placed_submitted : kind_of request ≡ SnapWrite id → is_published s.pairs s.marks (request.range.first / piece_of v.snaps) ≡ true → route ≡ read_route_of (place_of s.pairs (request.range.first / piece_of v.snaps))
+      pub snap_placed_submitted : kind_of request ≡ SnapWrite id → is_published s.pairs s.marks (request.range.first / s.state.chunk) ≡ true → route ≡ read_route_of (place_of s.pairs (request.range.first / s.state.chunk))
           → IsSubmittedAs contents layers request number v w
       snap_placed_submitted kind published is replied =
-          let (place, at) = place_published s.pairs s.marks (request.range.first / piece_of v.snaps) published in
+          let (place, at) = place_published s.pairs s.marks (request.range.first / s.state.chunk) published in
           snap_write_placed_is contents layers replied number request e.flight e.number_is e.request_is v w id k s (named_first id k s n) place kind n.live
-          (ap (published_place s.pairs s.marks) chunk ∙ published_some s.pairs s.marks c published ∙ at) (e.route_is ∙ is ∙ ap read_route_of at) e.becomes
+          (published_some s.pairs s.marks c published ∙ at) (e.route_is ∙ is ∙ ap read_route_of at) e.becomes
 
       -- of one whose copy is under way
-      pub snap_waits_submitted : kind_of request ≡ SnapWrite id → is_published s.pairs s.marks (request.range.first / piece_of v.snaps) ≡ false → lacks (request.range.first / piece_of v.snaps) s ≡ false → route ≡ Held → IsSubmittedAs contents layers request number v w
+      pub snap_waits_submitted : kind_of request ≡ SnapWrite id → is_published s.pairs s.marks (request.range.first / s.state.chunk) ≡ false → lacks request.range.first s ≡ false → route ≡ Held → IsSubmittedAs contents layers request number v w
       snap_waits_submitted kind unpublished has is replied =
-          snap_write_waits_is contents layers replied number request e.flight e.number_is e.request_is v w id k s (named_first id k s n) c chunk kind n.live
-          (ap (published_place s.pairs s.marks) chunk ∙ published_none s.pairs s.marks c unpublished) has (e.route_is ∙ is) e.becomes
+          snap_write_waits_is contents layers replied number request e.flight e.number_is e.request_is v w id k s (named_first id k s n) kind n.live
+          (published_none s.pairs s.marks c unpublished) has (e.route_is ∙ is) e.becomes

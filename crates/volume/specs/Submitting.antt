@@ -1,7 +1,7 @@
 -- When a request is accepted, what it then leaves, and which snapshots it spoils. The limits and the order of the refusals
 -- are this project's own; that a full store makes its snapshot invalid is the kernel's rule, of its admin-guide page on
 -- snapshots.
-use Rattle.std.specs.Prelude.{◌≡◌, ◌≢◌, ◌⊎◌, ◌==◌, ◌&&◌, ◌||◌, nat_lt, nat_le, ℕ, ◌+◌, ◌*◌, ◌/◌, ◌%◌, ◌<◌, ◌≤◌, Bool, true, false, List, [], ◌∷◌, ◌++◌, length, map, sum_by, count_by, Option, Some, None, if◌then◌else◌, slice_index_or, slice_set}
+use Rattle.std.specs.Prelude.{◌≡◌, ◌≢◌, ◌⊎◌, ◌==◌, ◌&&◌, ◌||◌, nat_lt, nat_le, ℕ, ◌+◌, ◌*◌, ◌%◌, ◌<◌, ◌≤◌, Bool, true, false, List, [], ◌∷◌, ◌++◌, length, map, sum_by, count_by, Option, Some, None, if◌then◌else◌, slice_index_or, slice_set}
 use Rattle.std.specs.List.{All}
 use Rattle.sector.specs.declared.range.Range.{Range}
 use Rattle.sector.specs.declared.refusal.Refusal.{Refusal}
@@ -46,12 +46,12 @@ dev_refusal (Snap number) snaps = refusal_at snaps (place_of_snap number snaps)
 abbrev pub is_piece_of : ℕ → ℕ → Range → Bool
 is_piece_of piece sectors range = nat_lt 0 range.count && nat_le (range.first + range.count) sectors && nat_le (range.first % piece + range.count) piece
 
--- how many copies a request of chunk c starts
+-- how many copies a request at a sector starts
 abbrev pub starting : {B : Type 0} → Kind → ℕ → List (Kept B) → ℕ
-starting OriginRead c snaps = 0
-starting OriginWrite c snaps = count_by (starts c) snaps
-starting (SnapRead number) c snaps = 0
-starting (SnapWrite number) c snaps = count_by (λ s. (s.number == number) && starts c s) snaps
+starting OriginRead first snaps = 0
+starting OriginWrite first snaps = count_by (starts first) snaps
+starting (SnapRead number) first snaps = 0
+starting (SnapWrite number) first snaps = count_by (λ s. (s.number == number) && starts first s) snaps
 
 -- One request too many, or one copy, with so many new ones. (The numbers of copies never run out.)
 abbrev pub are_too_many : {B : Type 0} → ℕ → Volumed B → Bool
@@ -68,7 +68,7 @@ abbrev pub submit_refusal : {B : Type 0} → (B → ℕ) → Request → Volumed
 submit_refusal size request v =
     first_of_two (dev_refusal request.dev v.snaps)
     (first_of_two (range_refusal (piece_of v.snaps) (size v.origin) request.range)
-    (limit_refusal (starting (kind_of request) (request.range.first / piece_of v.snaps) v.snaps) v))
+    (limit_refusal (starting (kind_of request) request.range.first v.snaps) v))
 
 -- a request is in flight, under the next number
 abbrev pub entered_of : {B : Type 0} → Flight → Volumed B → Volumed B
@@ -91,21 +91,21 @@ pub record IsAsked (sectors chunk : ℕ) (request : Request) : Type 0 where
   pub piece : IsPiece chunk request.range
   pub bytes : (bytes : List ℕ) → request.op ≡ Write bytes → length bytes ≡ 512 * request.range.count
 
--- The numbers of the snapshots that an accepted request of chunk c spoils: a write of the origin spoils those live ones that
--- lack the chunk and whose stores have no place for its copy, and no other request spoils any. (A write of a snapshot whose
+-- The numbers of the snapshots that an accepted request at a sector spoils: a write of the origin spoils those live ones
+-- that lack their chunk there and whose stores have no place for its copy, and no other request spoils any. (A write of a snapshot whose
 -- own store is found full is refused, and spoils that one: IsFoundFull.)
 abbrev pub spoiled_by : {B : Type 0} → Kind → ℕ → List (Kept B) → List ℕ
-spoiled_by OriginRead c snaps = []
-spoiled_by OriginWrite c snaps = overflowing c snaps
-spoiled_by (SnapRead number) c snaps = []
-spoiled_by (SnapWrite number) c snaps = []
+spoiled_by OriginRead first snaps = []
+spoiled_by OriginWrite first snaps = overflowing first snaps
+spoiled_by (SnapRead number) first snaps = []
+spoiled_by (SnapWrite number) first snaps = []
 
 -- which snapshots are live afterwards, in their order: those that were, but for the spoiled ones
 abbrev pub lives_after : {B : Type 0} → Kind → ℕ → List (Kept B) → List Bool
-lives_after OriginRead c snaps = map (λ s. s.live) snaps
-lives_after OriginWrite c snaps = map (λ s. if overflows c s then false else s.live) snaps
-lives_after (SnapRead number) c snaps = map (λ s. s.live) snaps
-lives_after (SnapWrite number) c snaps = map (λ s. s.live) snaps
+lives_after OriginRead first snaps = map (λ s. s.live) snaps
+lives_after OriginWrite first snaps = map (λ s. if overflows first s then false else s.live) snaps
+lives_after (SnapRead number) first snaps = map (λ s. s.live) snaps
+lives_after (SnapWrite number) first snaps = map (λ s. s.live) snaps
 
 -- a request was accepted, under the next number; just the snapshots that it finds full were spoiled
 pub record IsAcceptedAs {B : Type 0} (contents : B → List ℕ) (layers : B → List Layer) (request : Request) (number : ℕ) (old new : Volumed B) : Type 0 where
@@ -115,8 +115,8 @@ pub record IsAcceptedAs {B : Type 0} (contents : B → List ℕ) (layers : B →
   pub fresh : All (λ r. r.number ≢ number) (plain_of contents layers old).requests
   pub loud : is_loud_in_all layers new ≡ is_loud_in_all layers old
   pub legal : is_loud_in_all layers old ≡ true
-      → IsSubmitted (spoiled_by (kind_of request) (request.range.first / piece_of old.snaps) old.snaps) (plain_of contents layers old) number request (plain_of contents layers new)
-  pub lives : lives_of new ≡ lives_after (kind_of request) (request.range.first / piece_of old.snaps) old.snaps
+      → IsSubmitted (spoiled_by (kind_of request) request.range.first old.snaps) (plain_of contents layers old) number request (plain_of contents layers new)
+  pub lives : lives_of new ≡ lives_after (kind_of request) request.range.first old.snaps
   pub flown : map in_flight new.flights ≡ map in_flight old.flights ++ record { number = number; request = request } ∷ []
   pub exact : IsSubmittedAs contents layers request number old new
   pub kept : KeepsDevices old new
@@ -126,14 +126,14 @@ pub record SameButRoom {B : Type 0} (old new : Volumed B) : Type 0 where
   pub roomed : map unroomed new.snaps ≡ map unroomed old.snaps
   pub becomes : new ≡ record old { snaps = new.snaps }
 
--- A write of chunk c of a snapshot found its store full: the snapshot with the number is spoiled, its requests are refused,
+-- A write of a snapshot at a sector found its store full: the snapshot with the number is spoiled, its requests are refused,
 -- and nothing else changes.
-pub record IsFoundFull {B : Type 0} (contents : B → List ℕ) (layers : B → List Layer) (number c : ℕ) (old new : Volumed B) : Type 0 where
+pub record IsFoundFull {B : Type 0} (contents : B → List ℕ) (layers : B → List Layer) (number first : ℕ) (old new : Volumed B) : Type 0 where
   pub place : ℕ
   pub snap : Kept B
   pub found : place_of_snap number old.snaps ≡ Some place
   pub is : snap ≡ slice_index_or old.snaps place snap
-  pub full : overflows c snap ≡ true
+  pub full : overflows first snap ≡ true
   pub spoilt : map unroomed new.snaps ≡ map unroomed (slice_set old.snaps place (spoilt_of snap))
   pub becomes : new ≡ record old { snaps = new.snaps; flights = map (refused_of (number ∷ [])) old.flights }
   pub loud : is_loud_in_all layers new ≡ is_loud_in_all layers old
@@ -145,4 +145,4 @@ abbrev pub IsRefusedAs : {B : Type 0} → (B → List ℕ) → (B → List Layer
 IsRefusedAs contents layers size request refusal old new =
     ((submit_refusal size request old ≡ Some refusal) × (new ≡ old))
     ⊎ ((submit_refusal size request old ≡ None) × (refusal ≡ NoMemory) × SameButRoom old new)
-    ⊎ ((submit_refusal size request old ≡ None) × (refusal ≡ Invalid) × ((number : ℕ) × (kind_of request ≡ SnapWrite number) × IsFoundFull contents layers number (request.range.first / piece_of old.snaps) old new))
+    ⊎ ((submit_refusal size request old ≡ None) × (refusal ≡ Invalid) × ((number : ℕ) × (kind_of request ≡ SnapWrite number) × IsFoundFull contents layers number request.range.first old new))

@@ -1,5 +1,5 @@
 // Why a request is refused, memory and full stores aside.
-ghost use Rattle.std.specs.Prelude.{◌≡◌, ◌/◌};
+ghost use Rattle.std.specs.Prelude.{◌≡◌};
 ghost use Rattle.pending.specs.Kinds.{kind_of};
 ghost use Rattle.volume.specs.Volumed.{piece_of};
 ghost use Rattle.volume.specs.Submitting.{are_too_many, dev_refusal, is_piece_of, starting as starting_of, submit_refusal};
@@ -60,15 +60,15 @@ impl<B: Block> Volume<B> {
 
     /// How many copies a request starts.
     fn starting(&self, request: &Request) -> usize
-        ensures { result ≡ starting_of (kind_of request.now) (request.now.range.first / piece_of self.now.snaps) self.now.snaps }
+        ensures { result ≡ starting_of (kind_of request.now) request.now.range.first self.now.snaps }
     {
         let snaps = self.snaps.as_slice();
-        let chunk = request.range.first / self.piece() as u64;
+        let first = request.range.first;
         match request_kind(request) {
             Kind::OriginRead => 0,
-            Kind::OriginWrite => starting_count(snaps, chunk),
+            Kind::OriginWrite => starting_count(snaps, first),
             Kind::SnapRead(_) => 0,
-            Kind::SnapWrite(number) => starting_count_of(snaps, number, chunk),
+            Kind::SnapWrite(number) => starting_count_of(snaps, number, first),
         }
     }
 

@@ -1,5 +1,5 @@
 // A request is accepted or refused: it is routed, and the copies that it waits for are started.
-ghost use Rattle.std.specs.Prelude.{◌≡◌, ◌≢◌, ◌*◌, ◌+◌, ◌/◌, ◌<◌, ◌^◌, ◌≤◌, IfErr, IfOk, List, None, Option, Some, [], count_by, length, sum_by, ℕ};
+ghost use Rattle.std.specs.Prelude.{◌≡◌, ◌≢◌, ◌*◌, ◌+◌, ◌<◌, ◌^◌, ◌≤◌, IfErr, IfOk, List, None, Option, Some, [], count_by, length, sum_by, ℕ};
 ghost use Rattle.sector.specs.declared.refusal.Refusal.TheVariants.{Invalid, NoMemory};
 ghost use Rattle.plain.specs.declared.request.Failure.TheVariants.{Invalid as IsInvalid};
 ghost use Rattle.plain.specs.declared.request.Op.TheVariants.{Write};
@@ -20,7 +20,7 @@ ghost use Rattle.volume.specs.Whole.{IsWhole};
 
 use crate::Volume;
 use device::Block;
-use pending::{Flight, Kind, Route, request_kind, sectors_of, write_route};
+use pending::{Flight, Kind, Route, request_kind, write_route};
 use plain::{ReqId, Request};
 use sector::Refusal;
 use snapshots::{is_clear, save_in_all, take_rooms};
@@ -86,8 +86,8 @@ impl<B: Block> Volume<B> {
         Ok(self.requests)
     }
 
-    /// Accepts a write of the origin: copies of its chunk are started in the live snapshots that lack it, and it is held
-    /// until each live snapshot has published the chunk. Snapshots whose stores are full are spoiled.
+    /// Accepts a write of the origin: each live snapshot that lacks its chunk there starts a copy of it, and the write
+    /// is held until each has published its own. Snapshots whose stores are full are spoiled.
     pub(crate) fn submit_origin_write(
         &mut self,
         alloc: Global,
@@ -98,16 +98,12 @@ impl<B: Block> Volume<B> {
         requires room { length self.old.flights < 64 }
         requires numbers { self.old.requests + 1 < 2 ^ 64 }
         requires copies { self.old.copies + 8 < 2 ^ 64 }
-        requires few { sum_by count_in self.old.snaps + count_by (starts (request.range.first / piece_of self.old.snaps)) self.old.snaps ≤ 256 }
+        requires few { sum_by count_in self.old.snaps + count_by (starts request.range.first) self.old.snaps ≤ 256 }
         ensures ok { IfOk result (λ number. IsAcceptedAs B.contents B.layers request number self.old self.new) }
         ensures err { IfErr result (λ e. (e ≡ NoMemory) × SameButRoom self.old self.new) }
     {
-        let sectors = self.origin.sectors();
-        let piece = self.piece();
         let first = request.range.first;
-        let chunk = first / piece as u64;
-        let count = sectors_of(piece, sectors, chunk);
-        let rooms = match take_rooms(alloc, self.snaps.as_mut_slice(), chunk, count) {
+        let rooms = match take_rooms(alloc, self.snaps.as_mut_slice(), first) {
             Ok(rooms) => rooms,
             Err(refusal) => return Err(refusal),
         };
@@ -122,7 +118,7 @@ impl<B: Block> Volume<B> {
             self.snaps.as_mut_slice(),
             self.flights.as_mut_slice(),
             self.copies,
-            chunk,
+            first,
             rooms,
         );
         flight.route = write_route(false, None, is_clear(self.snaps.as_slice(), first));

@@ -1,5 +1,5 @@
 // A request of a snapshot is accepted: it is routed, and the copy that a write waits for is started.
-ghost use Rattle.std.specs.Prelude.{◌≡◌, ◌⊎◌, ◌==◌, ◌&&◌, true, ℕ, ◌+◌, ◌*◌, ◌/◌, ◌^◌, ◌<◌, ◌≤◌, List, length, sum_by, count_by, slice_index_or, Some, None, IfOk, IfErr};
+ghost use Rattle.std.specs.Prelude.{◌≡◌, ◌⊎◌, ◌==◌, ◌&&◌, true, ℕ, ◌+◌, ◌*◌, ◌^◌, ◌<◌, ◌≤◌, List, length, sum_by, count_by, slice_index_or, Some, None, IfOk, IfErr};
 ghost use Rattle.sector.specs.declared.refusal.Refusal.TheVariants.{NoMemory, Invalid};
 ghost use Rattle.pending.specs.Kinds.{kind_of};
 ghost use Rattle.pending.specs.declared.flights.Kind.TheVariants.{SnapRead, SnapWrite};
@@ -12,10 +12,10 @@ ghost use Rattle.volume.specs.Submitting.{dev_refusal, IsAsked, IsAcceptedAs, Sa
 
 use crate::Volume;
 use device::Block;
-use pending::{Flight, Route, read_route, sectors_of};
+use pending::{Flight, Route, read_route};
 use plain::{ReqId, Request, SnapId};
 use sector::Refusal;
-use snapshots::{is_lacking, save_in, snap_at, take_room};
+use snapshots::{is_lacking, own_chunk, save_in, snap_at, take_room};
 use std::alloc::Global;
 
 impl<B: Block> Volume<B> {
@@ -37,8 +37,8 @@ impl<B: Block> Volume<B> {
         let Some(k) = snap_at(self.snaps.as_slice(), id) else {
             return Err(Refusal::NoSuchDevice);
         };
-        let chunk = request.range.first / self.piece() as u64;
-        let route = read_route(self.snaps[k].place_of(chunk));
+        let snap = &self.snaps[k];
+        let route = read_route(snap.place_of(own_chunk(snap, request.range.first)));
         self.enter(alloc, request, route)
     }
 
@@ -57,19 +57,20 @@ impl<B: Block> Volume<B> {
         requires room { length self.old.flights < 64 }
         requires numbers { self.old.requests + 1 < 2 ^ 64 }
         requires copies { self.old.copies + 8 < 2 ^ 64 }
-        requires few { sum_by count_in self.old.snaps + count_by (λ s. (s.number == id) && starts (request.range.first / piece_of self.old.snaps) s) self.old.snaps ≤ 256 }
+        requires few { sum_by count_in self.old.snaps + count_by (λ s. (s.number == id) && starts request.range.first s) self.old.snaps ≤ 256 }
         ensures ok { IfOk result (λ number. IsAcceptedAs B.contents B.layers request number self.old self.new) }
-        ensures err { IfErr result (λ e. ((e ≡ NoMemory) × SameButRoom self.old self.new) ⊎ ((e ≡ Invalid) × IsFoundFull B.contents B.layers id (request.range.first / piece_of self.old.snaps) self.old self.new)) }
+        ensures err { IfErr result (λ e. ((e ≡ NoMemory) × SameButRoom self.old self.new) ⊎ ((e ≡ Invalid) × IsFoundFull B.contents B.layers id request.range.first self.old self.new)) }
     {
         let Some(k) = snap_at(self.snaps.as_slice(), id) else {
             return Err(Refusal::NoSuchDevice);
         };
-        let chunk = request.range.first / self.piece() as u64;
-        if is_lacking(&self.snaps[k], chunk) {
+        let snap = &self.snaps[k];
+        if is_lacking(snap, request.range.first) {
             return self.start_and_enter(alloc, request, id, k);
         }
-        if self.snaps[k].is_published(chunk) {
-            let route = read_route(self.snaps[k].place_of(chunk));
+        let chunk = own_chunk(snap, request.range.first);
+        if snap.is_published(chunk) {
+            let route = read_route(snap.place_of(chunk));
             return self.enter(alloc, request, route);
         }
         self.enter(alloc, request, Route::Held)
@@ -86,19 +87,17 @@ impl<B: Block> Volume<B> {
         requires kind { kind_of request ≡ SnapWrite id }
         requires found { dev_refusal request.dev self.old.snaps ≡ None }
         requires place { Some k ≡ place_of_snap id self.old.snaps }
-        requires lacking { (s : Kept B) → s ≡ slice_index_or self.old.snaps k s → lacks (request.range.first / piece_of self.old.snaps) s ≡ true }
+        requires lacking { (s : Kept B) → s ≡ slice_index_or self.old.snaps k s → lacks request.range.first s ≡ true }
         requires asked { IsAsked (B.size self.old.origin) (piece_of self.old.snaps) request }
         requires room { length self.old.flights < 64 }
         requires numbers { self.old.requests + 1 < 2 ^ 64 }
         requires copies { self.old.copies + 8 < 2 ^ 64 }
-        requires few { sum_by count_in self.old.snaps + count_by (λ s. (s.number == id) && starts (request.range.first / piece_of self.old.snaps) s) self.old.snaps ≤ 256 }
+        requires few { sum_by count_in self.old.snaps + count_by (λ s. (s.number == id) && starts request.range.first s) self.old.snaps ≤ 256 }
         ensures ok { IfOk result (λ number. IsAcceptedAs B.contents B.layers request number self.old self.new) }
-        ensures err { IfErr result (λ e. ((e ≡ NoMemory) × SameButRoom self.old self.new) ⊎ ((e ≡ Invalid) × IsFoundFull B.contents B.layers id (request.range.first / piece_of self.old.snaps) self.old self.new)) }
+        ensures err { IfErr result (λ e. ((e ≡ NoMemory) × SameButRoom self.old self.new) ⊎ ((e ≡ Invalid) × IsFoundFull B.contents B.layers id request.range.first self.old self.new)) }
     {
-        let piece = self.piece();
-        let chunk = request.range.first / piece as u64;
-        let count = sectors_of(piece, self.origin.sectors(), chunk);
-        let room = match take_room(alloc, &mut self.snaps[k], chunk, count) {
+        let first = request.range.first;
+        let room = match take_room(alloc, &mut self.snaps[k], first) {
             Ok(room) => room,
             Err(refusal) => return Err(refusal),
         };
@@ -113,7 +112,7 @@ impl<B: Block> Volume<B> {
             &mut self.snaps[k],
             self.flights.as_mut_slice(),
             self.copies,
-            chunk,
+            first,
             room,
         );
         if given == self.copies {

@@ -1,7 +1,17 @@
--- The copy is started.
-use Rattle.std.proofs.Common.{sym}
-use Rattle.snapshots.proofs.Starts.{saved_started}
+-- The copy of the snapshot's own chunk is started.
+use Rattle.std.proofs.Common.{◌+◌, ◌*◌, ℕ, sym, ap, subst, arith}
+use Rattle.snapshot.specs.Calls.{StartsAt, started}
+use Rattle.snapshots.proofs.Starts.{saved_started, own_begins}
 use Rattle.snapshots.proofs.starting.save_in.Goals as goal
 
+pub start-requires-clause-begins : goal.start-requires-clause-begins
+start-requires-clause-begins g c =
+    let low = own_begins c.args.snap.now.state.chunk c.args.first in
+    let is = ap (λ (n : ℕ). c.args.snap.now.state.chunk * n) c.own_chunk-chunk.ensures in
+    omega (arith, low, is, c.requires.begins)
+
 pub returns-then-start : goal.returns-then-start
-returns-then-start g c = record { saved = saved_started g.B.Block.contents g.B.Block.layers c.args.chunk c.args.snap.now c.start.new.self c.args.copies c.args.flights.now c.args.room (sym c.if-not-is_lacking.ensures) c.if-start.ensures.place c.if-start.ensures.started }
+returns-then-start g c = record {
+  saved = saved_started g.B.Block.contents g.B.Block.layers c.args.first c.args.snap.now c.start.new.self c.args.copies c.args.flights.now c.args.room (sym c.if-not-is_lacking.ensures) c.if-start.ensures.place
+      (subst (λ (n : ℕ). StartsAt g.B.Block.contents g.B.Block.layers (started (c.args.copies + 1) n c.args.snap.now.next c.args.room) c.args.snap.now c.start.new.self) c.own_chunk-chunk.ensures c.if-start.ensures.started);
+}

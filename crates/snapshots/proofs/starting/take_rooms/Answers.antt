@@ -1,17 +1,8 @@
 -- One snapshot more has room.
-use Rattle.std.proofs.Common.{◌≡◌, ◌<◌, length, get_or, ◌∙◌, subst, arith}
-use Rattle.pending.specs.Copies.{count_of}
+use Rattle.std.proofs.Common.{◌<◌, length, get_or, ◌∙◌, arith}
 use Rattle.snapshot.specs.Kept.{Kept}
-use Rattle.snapshots.proofs.Roomed.{roomed_at, roomed_length}
 use Rattle.snapshots.proofs.Starts.{unroomed_set, rooms_more, rooms_done, element_is}
 use Rattle.snapshots.proofs.starting.take_rooms.Goals as goal
-
-pub take_room-requires : goal.take_room-requires
-take_room-requires g c =
-    let within : c.loop-k.k < length c.loop-k.snaps = omega (arith, c.loop-k-test.true, c.loop-k.auto.snaps, c.loop-k.auto.k-end) in
-    let len = roomed_length c.loop-k.snaps c.args.snaps.now c.loop-k.invariant.0 in
-    subst (λ (x : Kept g.row.B.Denot). c.args.sectors ≡ count_of x.state.chunk x.state.origin c.args.chunk) (roomed_at c.loop-k.snaps c.args.snaps.now c.loop-k.k c.index-snaps-k.result c.loop-k.invariant.0 within)
-    (c.requires c.loop-k.k c.index-snaps-k.result (omega (arith, within, len)))
 
 pub returns-in-Err-clause-same : goal.returns-in-Err-clause-same
 returns-in-Err-clause-same g c =
@@ -30,8 +21,8 @@ loop-k-preserved g c =
     let within : c.loop-k.k < length c.loop-k.snaps = omega (arith, c.loop-k-test.true, c.loop-k.auto.snaps, c.loop-k.auto.k-end) in
     let s : Kept g.row.B.Denot = get_or c.loop-k.snaps c.loop-k.k c.index-snaps-k.result in (
       unroomed_set c.loop-k.snaps c.loop-k.k s c.take_room.new.snap (element_is c.loop-k.snaps c.loop-k.k c.index-snaps-k.result within) c.take_room.ensures.same ∙ c.loop-k.invariant.0,
-      rw (c.in-Ok-push.ensures.items) (rooms_more c.args.chunk c.loop-k.k c.loop-k.snaps c.loop-k.rooms.items c.take_room.new.snap c.in-Ok.room c.loop-k.invariant.1 within c.in-Ok.ensures.ok),
+      rw (c.in-Ok-push.ensures.items) (rooms_more c.args.first c.loop-k.k c.loop-k.snaps c.loop-k.rooms.items c.take_room.new.snap c.in-Ok.room c.loop-k.invariant.1 within c.in-Ok.ensures.ok),
     )
 
 pub returns-clause-ok : goal.returns-clause-ok
-returns-clause-ok g c = rooms_done c.args.chunk c.loop-k.k c.loop-k.snaps c.loop-k.rooms.items c.loop-k.invariant.1 (omega (arith, c.loop-k-test.false, c.loop-k.auto.snaps, c.loop-k.auto.k-end))
+returns-clause-ok g c = rooms_done c.args.first c.loop-k.k c.loop-k.snaps c.loop-k.rooms.items c.loop-k.invariant.1 (omega (arith, c.loop-k-test.false, c.loop-k.auto.snaps, c.loop-k.auto.k-end))

@@ -5,4 +5,4 @@ use Rattle.snapshots.proofs.Starts.{HaveRoomBelow}
 use Rattle.snapshots.proofs.starting.take_rooms.Given as goal
 
 abbrev pub invariant-loop-k : goal.invariant-loop-k
-invariant-loop-k g l = (map unroomed l.snaps ≡ map unroomed l.fn.snaps) × HaveRoomBelow l.chunk l.k l.snaps l.rooms.items
+invariant-loop-k g l = (map unroomed l.snaps ≡ map unroomed l.fn.snaps) × HaveRoomBelow l.first l.k l.snaps l.rooms.items

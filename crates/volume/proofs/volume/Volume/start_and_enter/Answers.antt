@@ -1,8 +1,7 @@
 -- Room for the copy is made first; then it is started, and the write is the last in flight.
-use Rattle.std.proofs.Common.{◌≡◌, ◌+◌, ◌*◌, ◌/◌, ◌<◌, ◌≤◌, ◌++◌, ◌∷◌, [], inl, inr, ℕ, true, List, Some, None, length, get_or, set, refl, sym, ◌∙◌, ap, subst, arith, nat_eq}
+use Rattle.std.proofs.Common.{◌≡◌, ◌+◌, ◌<◌, ◌≤◌, ◌++◌, ◌∷◌, [], inl, inr, ℕ, true, List, Some, None, length, get_or, set, refl, sym, ◌∙◌, ap, subst, arith, nat_eq}
 use Rattle.std.specs.Prelude.{◌&&◌, sum_by, count_by}
 use Rattle.std.proofs.lemmas.List.{get_or-set_same}
-use Rattle.pending.specs.Copies.{count_of}
 use Rattle.pending.specs.declared.flights.Flight.{Flight}
 use Rattle.snapshot.specs.Kept.{Kept}
 use Rattle.volume.specs.Volumed.{Volumed, piece_of}
@@ -11,8 +10,7 @@ use Rattle.snapshots.specs.Finding.{place_of_snap}
 use Rattle.snapshots.specs.Starting.{lacks, starts, HasRoomFor, IsSavedIn}
 use Rattle.volume.specs.Submitting.{dev_refusal, IsAsked, IsAcceptedAs, IsFoundFull}
 use Rattle.volume.proofs.Finishes.{back, begins_all}
-use Rattle.volume.proofs.Named.{IsNamed, dev_of_write, found_within, is_named}
-use Rattle.volume.proofs.Spoilt.{attached_at}
+use Rattle.volume.proofs.Named.{IsNamed, dev_of_write, is_named}
 use Rattle.volume.proofs.SnapWrites.{one_roomed, roomy_whole, within_roomy, held_done, full_done}
 use Rattle.volume.proofs.volume.Volume.start_and_enter.Goals as goal
 
@@ -24,17 +22,6 @@ invariant_of-self g c =
     let free : dev_refusal c.args.request.dev c.self.inside.snaps.items ≡ None = ap (λ (x : Volumed g.row.B.Denot). dev_refusal c.args.request.dev x.snaps) c.self.view_is ∙ c.requires.found in
     let named : IsNamed v c.args.id c.args.k s = is_named v c.self.inside.snaps.items c.args.request.dev c.args.id c.args.k s refl c.index_mut.ensures.value free (dev_of_write c.args.request c.args.id c.requires.kind) place in
     roomy_whole g.B.Block.contents g.B.Block.layers g.B.Block.size v c.self.invariant c.args.id c.args.k s named c.take_room.new.snap c.take_room.ensures.same
-
-pub take_room-requires : goal.take_room-requires
-take_room-requires g c =
-    let v : Volumed g.row.B.Denot = record { origin = c.self.inside.origin; snaps = c.self.inside.snaps.items; merge = c.self.inside.merge; flights = c.self.inside.flights.items; requests = c.self.inside.requests; copies = c.self.inside.copies; attached = c.self.inside.attached } in
-    let s : Kept g.row.B.Denot = c.index_mut.result.now in
-    let place : Some c.args.k ≡ place_of_snap c.args.id c.self.inside.snaps.items = c.requires.place ∙ sym (ap (λ (x : Volumed g.row.B.Denot). place_of_snap c.args.id x.snaps) c.self.view_is) in
-    let within : c.args.k < length c.self.inside.snaps.items = found_within c.args.id c.self.inside.snaps.items c.args.k place in
-    let attached = attached_at g.B.Block.contents g.B.Block.layers g.B.Block.size v c.self.invariant c.args.k s within c.index_mut.ensures.value in
-    let piece : c.piece-piece.result ≡ s.state.chunk = c.piece-piece.ensures.piece ∙ sym (ap (λ (x : Volumed g.row.B.Denot). piece_of x.snaps) c.self.view_is) ∙ sym attached.chunk_is in
-    let sectors : c.sectors.result ≡ s.state.origin = c.sectors.ensures ∙ sym attached.origin in
-    c.sectors_of-count.ensures ∙ ap (λ (n : ℕ). count_of n c.sectors.result (c.args.request.range.first / c.piece-piece.result)) piece ∙ ap (λ (m : ℕ). count_of s.state.chunk m (c.args.request.range.first / c.piece-piece.result)) sectors
 
 pub returns-in-Err-clause-err : goal.returns-in-Err-clause-err
 returns-in-Err-clause-err g c =
@@ -99,14 +86,12 @@ save_in-given-requires-clause-begins g c =
     let place : Some c.args.k ≡ place_of_snap c.args.id c.self.inside.snaps.items = c.requires.place ∙ sym (ap (λ (x : Volumed g.row.B.Denot). place_of_snap c.args.id x.snaps) c.self.view_is) in
     let free : dev_refusal c.args.request.dev c.self.inside.snaps.items ≡ None = ap (λ (x : Volumed g.row.B.Denot). dev_refusal c.args.request.dev x.snaps) c.self.view_is ∙ c.requires.found in
     let named : IsNamed v c.args.id c.args.k s = is_named v c.self.inside.snaps.items c.args.request.dev c.args.id c.args.k s refl c.index_mut.ensures.value free (dev_of_write c.args.request c.args.id c.requires.kind) place in
-    let piece : c.piece-piece.result ≡ piece_of c.self.inside.snaps.items = c.piece-piece.ensures.piece ∙ sym (ap (λ (x : Volumed g.row.B.Denot). piece_of x.snaps) c.self.view_is) in
     let roomy = one_roomed g.B.Block.contents g.B.Block.layers g.B.Block.size v c.self.invariant c.args.id c.args.k s named c.take_room.new.snap c.take_room.ensures.same in
     let within = within_roomy g.B.Block.contents g.B.Block.layers g.B.Block.size v c.self.invariant c.args.id c.args.k s named c.take_room.new.snap c.take_room.ensures.same in
     let now2 : c.index_mut-2.result.now ≡ c.take_room.new.snap = c.index_mut-2.ensures.value ∙ get_or-set_same c.self.inside.snaps.items c.args.k c.take_room.new.snap c.index_mut-2.result.now named.within in
     let asked : IsAsked (g.B.Block.size c.self.inside.origin) (piece_of c.self.inside.snaps.items) c.args.request = subst (λ (x : Volumed g.row.B.Denot). IsAsked (g.B.Block.size x.origin) (piece_of x.snaps) c.args.request) (sym c.self.view_is) c.requires.asked in
     let all = begins_all g.B.Block.contents g.B.Block.layers g.B.Block.size v c.self.invariant (set c.self.inside.snaps.items c.args.k c.take_room.new.snap) roomy c.args.request.range.first c.args.request.range.count asked.some asked.inside in
-    subst (λ (n : ℕ). c.index_mut-2.result.now.state.chunk * (c.args.request.range.first / n) < c.index_mut-2.result.now.state.origin) (sym piece)
-    (subst (λ (x : Kept g.row.B.Denot). x.state.chunk * (c.args.request.range.first / piece_of c.self.inside.snaps.items) < x.state.origin) (sym c.index_mut-2.ensures.value) (all c.args.k c.index_mut-2.result.now within))
+    subst (λ (x : Kept g.row.B.Denot). c.args.request.range.first < x.state.origin) (sym c.index_mut-2.ensures.value) (all c.args.k c.index_mut-2.result.now within)
 
 pub save_in-given-requires-clause-room : goal.save_in-given-requires-clause-room
 save_in-given-requires-clause-room g c =
@@ -115,12 +100,11 @@ save_in-given-requires-clause-room g c =
     let place : Some c.args.k ≡ place_of_snap c.args.id c.self.inside.snaps.items = c.requires.place ∙ sym (ap (λ (x : Volumed g.row.B.Denot). place_of_snap c.args.id x.snaps) c.self.view_is) in
     let free : dev_refusal c.args.request.dev c.self.inside.snaps.items ≡ None = ap (λ (x : Volumed g.row.B.Denot). dev_refusal c.args.request.dev x.snaps) c.self.view_is ∙ c.requires.found in
     let named : IsNamed v c.args.id c.args.k s = is_named v c.self.inside.snaps.items c.args.request.dev c.args.id c.args.k s refl c.index_mut.ensures.value free (dev_of_write c.args.request c.args.id c.requires.kind) place in
-    let piece : c.piece-piece.result ≡ piece_of c.self.inside.snaps.items = c.piece-piece.ensures.piece ∙ sym (ap (λ (x : Volumed g.row.B.Denot). piece_of x.snaps) c.self.view_is) in
     let roomy = one_roomed g.B.Block.contents g.B.Block.layers g.B.Block.size v c.self.invariant c.args.id c.args.k s named c.take_room.new.snap c.take_room.ensures.same in
     let within = within_roomy g.B.Block.contents g.B.Block.layers g.B.Block.size v c.self.invariant c.args.id c.args.k s named c.take_room.new.snap c.take_room.ensures.same in
     let now2 : c.index_mut-2.result.now ≡ c.take_room.new.snap = c.index_mut-2.ensures.value ∙ get_or-set_same c.self.inside.snaps.items c.args.k c.take_room.new.snap c.index_mut-2.result.now named.within in
     let asked : IsAsked (g.B.Block.size c.self.inside.origin) (piece_of c.self.inside.snaps.items) c.args.request = subst (λ (x : Volumed g.row.B.Denot). IsAsked (g.B.Block.size x.origin) (piece_of x.snaps) c.args.request) (sym c.self.view_is) c.requires.asked in
-    subst (λ (x : Kept g.row.B.Denot). HasRoomFor (c.args.request.range.first / c.piece-piece.result) x c.in-Ok.room) (sym now2) c.in-Ok.ensures.ok
+    subst (λ (x : Kept g.row.B.Denot). HasRoomFor c.args.request.range.first x c.in-Ok.room) (sym now2) c.in-Ok.ensures.ok
 
 pub invariant_of-self-then-given-self : goal.invariant_of-self-then-given-self
 invariant_of-self-then-given-self g c =
@@ -129,7 +113,6 @@ invariant_of-self-then-given-self g c =
     let place : Some c.args.k ≡ place_of_snap c.args.id c.self.inside.snaps.items = c.requires.place ∙ sym (ap (λ (x : Volumed g.row.B.Denot). place_of_snap c.args.id x.snaps) c.self.view_is) in
     let free : dev_refusal c.args.request.dev c.self.inside.snaps.items ≡ None = ap (λ (x : Volumed g.row.B.Denot). dev_refusal c.args.request.dev x.snaps) c.self.view_is ∙ c.requires.found in
     let named : IsNamed v c.args.id c.args.k s = is_named v c.self.inside.snaps.items c.args.request.dev c.args.id c.args.k s refl c.index_mut.ensures.value free (dev_of_write c.args.request c.args.id c.requires.kind) place in
-    let piece : c.piece-piece.result ≡ piece_of c.self.inside.snaps.items = c.piece-piece.ensures.piece ∙ sym (ap (λ (x : Volumed g.row.B.Denot). piece_of x.snaps) c.self.view_is) in
     let roomy = one_roomed g.B.Block.contents g.B.Block.layers g.B.Block.size v c.self.invariant c.args.id c.args.k s named c.take_room.new.snap c.take_room.ensures.same in
     let within = within_roomy g.B.Block.contents g.B.Block.layers g.B.Block.size v c.self.invariant c.args.id c.args.k s named c.take_room.new.snap c.take_room.ensures.same in
     let now2 : c.index_mut-2.result.now ≡ c.take_room.new.snap = c.index_mut-2.ensures.value ∙ get_or-set_same c.self.inside.snaps.items c.args.k c.take_room.new.snap c.index_mut-2.result.now named.within in
@@ -138,13 +121,12 @@ invariant_of-self-then-given-self g c =
     let gs = c.save_in-given.new.flights in
     let t = c.save_in-given.new.snap in
     let m = c.save_in-given.result in
-    let saved : IsSavedIn g.B.Block.contents g.B.Block.layers (c.args.request.range.first / piece_of c.self.inside.snaps.items) c.take_room.new.snap t c.self.inside.copies m c.self.inside.flights.items gs =
-    subst (λ (n : ℕ). IsSavedIn g.B.Block.contents g.B.Block.layers (c.args.request.range.first / n) c.take_room.new.snap t c.self.inside.copies m c.self.inside.flights.items gs) piece
-    (subst (λ (x : Kept g.row.B.Denot). IsSavedIn g.B.Block.contents g.B.Block.layers (c.args.request.range.first / c.piece-piece.result) x t c.self.inside.copies m c.self.inside.flights.items gs) now2
-    (subst (λ (x : List Flight). IsSavedIn g.B.Block.contents g.B.Block.layers (c.args.request.range.first / c.piece-piece.result) c.index_mut-2.result.now t c.self.inside.copies m x gs) slice c.save_in-given.ensures.saved)) in
+    let saved : IsSavedIn g.B.Block.contents g.B.Block.layers c.args.request.range.first c.take_room.new.snap t c.self.inside.copies m c.self.inside.flights.items gs =
+    subst (λ (x : Kept g.row.B.Denot). IsSavedIn g.B.Block.contents g.B.Block.layers c.args.request.range.first x t c.self.inside.copies m c.self.inside.flights.items gs) now2
+    (subst (λ (x : List Flight). IsSavedIn g.B.Block.contents g.B.Block.layers c.args.request.range.first c.index_mut-2.result.now t c.self.inside.copies m x gs) slice c.save_in-given.ensures.saved) in
     let back_flights = back c.reserve.new.self.len gs c.reserve.new.self.items (c.save_in-given.auto.flights ∙ c.as_mut_slice.ensures.len) in
-    let lacking : lacks (c.args.request.range.first / piece_of c.self.inside.snaps.items) s ≡ true = subst (λ (x : Volumed g.row.B.Denot). (y : Kept g.row.B.Denot) → y ≡ get_or x.snaps c.args.k y → lacks (c.args.request.range.first / piece_of x.snaps) y ≡ true) (sym c.self.view_is) c.requires.lacking s c.index_mut.ensures.value in
-    let done = full_done g.B.Block.contents g.B.Block.layers g.B.Block.size v c.self.invariant c.args.id c.args.k s named c.take_room.new.snap c.take_room.ensures.same t m gs (c.args.request.range.first / piece_of c.self.inside.snaps.items) saved lacking c.if-given-self.true (sym place) in
+    let lacking : lacks c.args.request.range.first s ≡ true = subst (λ (x : Volumed g.row.B.Denot). (y : Kept g.row.B.Denot) → y ≡ get_or x.snaps c.args.k y → lacks c.args.request.range.first y ≡ true) (sym c.self.view_is) c.requires.lacking s c.index_mut.ensures.value in
+    let done = full_done g.B.Block.contents g.B.Block.layers g.B.Block.size v c.self.invariant c.args.id c.args.k s named c.take_room.new.snap c.take_room.ensures.same t m gs c.args.request.range.first saved lacking c.if-given-self.true (sym place) in
     rw (back_flights) done.0
 
 pub returns-then-given-self-clause-err : goal.returns-then-given-self-clause-err
@@ -154,7 +136,6 @@ returns-then-given-self-clause-err g c =
     let place : Some c.args.k ≡ place_of_snap c.args.id c.self.inside.snaps.items = c.requires.place ∙ sym (ap (λ (x : Volumed g.row.B.Denot). place_of_snap c.args.id x.snaps) c.self.view_is) in
     let free : dev_refusal c.args.request.dev c.self.inside.snaps.items ≡ None = ap (λ (x : Volumed g.row.B.Denot). dev_refusal c.args.request.dev x.snaps) c.self.view_is ∙ c.requires.found in
     let named : IsNamed v c.args.id c.args.k s = is_named v c.self.inside.snaps.items c.args.request.dev c.args.id c.args.k s refl c.index_mut.ensures.value free (dev_of_write c.args.request c.args.id c.requires.kind) place in
-    let piece : c.piece-piece.result ≡ piece_of c.self.inside.snaps.items = c.piece-piece.ensures.piece ∙ sym (ap (λ (x : Volumed g.row.B.Denot). piece_of x.snaps) c.self.view_is) in
     let roomy = one_roomed g.B.Block.contents g.B.Block.layers g.B.Block.size v c.self.invariant c.args.id c.args.k s named c.take_room.new.snap c.take_room.ensures.same in
     let within = within_roomy g.B.Block.contents g.B.Block.layers g.B.Block.size v c.self.invariant c.args.id c.args.k s named c.take_room.new.snap c.take_room.ensures.same in
     let now2 : c.index_mut-2.result.now ≡ c.take_room.new.snap = c.index_mut-2.ensures.value ∙ get_or-set_same c.self.inside.snaps.items c.args.k c.take_room.new.snap c.index_mut-2.result.now named.within in
@@ -163,14 +144,13 @@ returns-then-given-self-clause-err g c =
     let gs = c.save_in-given.new.flights in
     let t = c.save_in-given.new.snap in
     let m = c.save_in-given.result in
-    let saved : IsSavedIn g.B.Block.contents g.B.Block.layers (c.args.request.range.first / piece_of c.self.inside.snaps.items) c.take_room.new.snap t c.self.inside.copies m c.self.inside.flights.items gs =
-    subst (λ (n : ℕ). IsSavedIn g.B.Block.contents g.B.Block.layers (c.args.request.range.first / n) c.take_room.new.snap t c.self.inside.copies m c.self.inside.flights.items gs) piece
-    (subst (λ (x : Kept g.row.B.Denot). IsSavedIn g.B.Block.contents g.B.Block.layers (c.args.request.range.first / c.piece-piece.result) x t c.self.inside.copies m c.self.inside.flights.items gs) now2
-    (subst (λ (x : List Flight). IsSavedIn g.B.Block.contents g.B.Block.layers (c.args.request.range.first / c.piece-piece.result) c.index_mut-2.result.now t c.self.inside.copies m x gs) slice c.save_in-given.ensures.saved)) in
+    let saved : IsSavedIn g.B.Block.contents g.B.Block.layers c.args.request.range.first c.take_room.new.snap t c.self.inside.copies m c.self.inside.flights.items gs =
+    subst (λ (x : Kept g.row.B.Denot). IsSavedIn g.B.Block.contents g.B.Block.layers c.args.request.range.first x t c.self.inside.copies m c.self.inside.flights.items gs) now2
+    (subst (λ (x : List Flight). IsSavedIn g.B.Block.contents g.B.Block.layers c.args.request.range.first c.index_mut-2.result.now t c.self.inside.copies m x gs) slice c.save_in-given.ensures.saved) in
     let back_flights = back c.reserve.new.self.len gs c.reserve.new.self.items (c.save_in-given.auto.flights ∙ c.as_mut_slice.ensures.len) in
-    let lacking : lacks (c.args.request.range.first / piece_of c.self.inside.snaps.items) s ≡ true = subst (λ (x : Volumed g.row.B.Denot). (y : Kept g.row.B.Denot) → y ≡ get_or x.snaps c.args.k y → lacks (c.args.request.range.first / piece_of x.snaps) y ≡ true) (sym c.self.view_is) c.requires.lacking s c.index_mut.ensures.value in
-    let done = full_done g.B.Block.contents g.B.Block.layers g.B.Block.size v c.self.invariant c.args.id c.args.k s named c.take_room.new.snap c.take_room.ensures.same t m gs (c.args.request.range.first / piece_of c.self.inside.snaps.items) saved lacking c.if-given-self.true (sym place) in
-    rw (← c.self.view_is) (inr (refl, subst (λ (fs : List Flight). IsFoundFull g.B.Block.contents g.B.Block.layers c.args.id (c.args.request.range.first / piece_of c.self.inside.snaps.items) v (record v { snaps = set (set c.self.inside.snaps.items c.args.k c.take_room.new.snap) c.args.k t; flights = fs })) (sym back_flights) done.1))
+    let lacking : lacks c.args.request.range.first s ≡ true = subst (λ (x : Volumed g.row.B.Denot). (y : Kept g.row.B.Denot) → y ≡ get_or x.snaps c.args.k y → lacks c.args.request.range.first y ≡ true) (sym c.self.view_is) c.requires.lacking s c.index_mut.ensures.value in
+    let done = full_done g.B.Block.contents g.B.Block.layers g.B.Block.size v c.self.invariant c.args.id c.args.k s named c.take_room.new.snap c.take_room.ensures.same t m gs c.args.request.range.first saved lacking c.if-given-self.true (sym place) in
+    rw (← c.self.view_is) (inr (refl, subst (λ (fs : List Flight). IsFoundFull g.B.Block.contents g.B.Block.layers c.args.id c.args.request.range.first v (record v { snaps = set (set c.self.inside.snaps.items c.args.k c.take_room.new.snap) c.args.k t; flights = fs })) (sym back_flights) done.1))
 
 pub invariant_of-self-2 : goal.invariant_of-self-2
 invariant_of-self-2 g c =
@@ -179,7 +159,6 @@ invariant_of-self-2 g c =
     let place : Some c.args.k ≡ place_of_snap c.args.id c.self.inside.snaps.items = c.requires.place ∙ sym (ap (λ (x : Volumed g.row.B.Denot). place_of_snap c.args.id x.snaps) c.self.view_is) in
     let free : dev_refusal c.args.request.dev c.self.inside.snaps.items ≡ None = ap (λ (x : Volumed g.row.B.Denot). dev_refusal c.args.request.dev x.snaps) c.self.view_is ∙ c.requires.found in
     let named : IsNamed v c.args.id c.args.k s = is_named v c.self.inside.snaps.items c.args.request.dev c.args.id c.args.k s refl c.index_mut.ensures.value free (dev_of_write c.args.request c.args.id c.requires.kind) place in
-    let piece : c.piece-piece.result ≡ piece_of c.self.inside.snaps.items = c.piece-piece.ensures.piece ∙ sym (ap (λ (x : Volumed g.row.B.Denot). piece_of x.snaps) c.self.view_is) in
     let roomy = one_roomed g.B.Block.contents g.B.Block.layers g.B.Block.size v c.self.invariant c.args.id c.args.k s named c.take_room.new.snap c.take_room.ensures.same in
     let within = within_roomy g.B.Block.contents g.B.Block.layers g.B.Block.size v c.self.invariant c.args.id c.args.k s named c.take_room.new.snap c.take_room.ensures.same in
     let now2 : c.index_mut-2.result.now ≡ c.take_room.new.snap = c.index_mut-2.ensures.value ∙ get_or-set_same c.self.inside.snaps.items c.args.k c.take_room.new.snap c.index_mut-2.result.now named.within in
@@ -188,14 +167,13 @@ invariant_of-self-2 g c =
     let gs = c.save_in-given.new.flights in
     let t = c.save_in-given.new.snap in
     let m = c.save_in-given.result in
-    let saved : IsSavedIn g.B.Block.contents g.B.Block.layers (c.args.request.range.first / piece_of c.self.inside.snaps.items) c.take_room.new.snap t c.self.inside.copies m c.self.inside.flights.items gs =
-    subst (λ (n : ℕ). IsSavedIn g.B.Block.contents g.B.Block.layers (c.args.request.range.first / n) c.take_room.new.snap t c.self.inside.copies m c.self.inside.flights.items gs) piece
-    (subst (λ (x : Kept g.row.B.Denot). IsSavedIn g.B.Block.contents g.B.Block.layers (c.args.request.range.first / c.piece-piece.result) x t c.self.inside.copies m c.self.inside.flights.items gs) now2
-    (subst (λ (x : List Flight). IsSavedIn g.B.Block.contents g.B.Block.layers (c.args.request.range.first / c.piece-piece.result) c.index_mut-2.result.now t c.self.inside.copies m x gs) slice c.save_in-given.ensures.saved)) in
+    let saved : IsSavedIn g.B.Block.contents g.B.Block.layers c.args.request.range.first c.take_room.new.snap t c.self.inside.copies m c.self.inside.flights.items gs =
+    subst (λ (x : Kept g.row.B.Denot). IsSavedIn g.B.Block.contents g.B.Block.layers c.args.request.range.first x t c.self.inside.copies m c.self.inside.flights.items gs) now2
+    (subst (λ (x : List Flight). IsSavedIn g.B.Block.contents g.B.Block.layers c.args.request.range.first c.index_mut-2.result.now t c.self.inside.copies m x gs) slice c.save_in-given.ensures.saved) in
     let back_flights = back c.reserve.new.self.len gs c.reserve.new.self.items (c.save_in-given.auto.flights ∙ c.as_mut_slice.ensures.len) in
     let f : Flight = c.in-Ok-new.flight in
-    let few : sum_by count_in c.self.inside.snaps.items + count_by (λ x. nat_eq x.number c.args.id && starts (c.args.request.range.first / piece_of c.self.inside.snaps.items) x) c.self.inside.snaps.items ≤ 256 =
-    subst (λ (x : Volumed g.row.B.Denot). sum_by count_in x.snaps + count_by (λ y. nat_eq y.number c.args.id && starts (c.args.request.range.first / piece_of x.snaps) y) x.snaps ≤ 256) (sym c.self.view_is) c.requires.few in
+    let few : sum_by count_in c.self.inside.snaps.items + count_by (λ x. nat_eq x.number c.args.id && starts c.args.request.range.first x) c.self.inside.snaps.items ≤ 256 =
+    subst (λ (x : Volumed g.row.B.Denot). sum_by count_in x.snaps + count_by (λ y. nat_eq y.number c.args.id && starts c.args.request.range.first y) x.snaps ≤ 256) (sym c.self.view_is) c.requires.few in
     let space : length c.self.inside.flights.items < 64 = omega (arith, c.requires.room, ap (λ (x : Volumed g.row.B.Denot). length x.flights) c.self.view_is) in
     let done = held_done g.B.Block.contents g.B.Block.layers g.B.Block.size v c.self.invariant c.args.id c.args.k s named c.take_room.new.snap c.take_room.ensures.same t m gs f c.args.request c.in-Ok-new.ensures.request c.in-Ok-new.ensures.number c.in-Ok-new.ensures.route space asked
     c.in-Ok-new.ensures.room c.requires.kind few saved c.if-given-self.false in
@@ -209,7 +187,6 @@ returns-clause-ok g c =
     let place : Some c.args.k ≡ place_of_snap c.args.id c.self.inside.snaps.items = c.requires.place ∙ sym (ap (λ (x : Volumed g.row.B.Denot). place_of_snap c.args.id x.snaps) c.self.view_is) in
     let free : dev_refusal c.args.request.dev c.self.inside.snaps.items ≡ None = ap (λ (x : Volumed g.row.B.Denot). dev_refusal c.args.request.dev x.snaps) c.self.view_is ∙ c.requires.found in
     let named : IsNamed v c.args.id c.args.k s = is_named v c.self.inside.snaps.items c.args.request.dev c.args.id c.args.k s refl c.index_mut.ensures.value free (dev_of_write c.args.request c.args.id c.requires.kind) place in
-    let piece : c.piece-piece.result ≡ piece_of c.self.inside.snaps.items = c.piece-piece.ensures.piece ∙ sym (ap (λ (x : Volumed g.row.B.Denot). piece_of x.snaps) c.self.view_is) in
     let roomy = one_roomed g.B.Block.contents g.B.Block.layers g.B.Block.size v c.self.invariant c.args.id c.args.k s named c.take_room.new.snap c.take_room.ensures.same in
     let within = within_roomy g.B.Block.contents g.B.Block.layers g.B.Block.size v c.self.invariant c.args.id c.args.k s named c.take_room.new.snap c.take_room.ensures.same in
     let now2 : c.index_mut-2.result.now ≡ c.take_room.new.snap = c.index_mut-2.ensures.value ∙ get_or-set_same c.self.inside.snaps.items c.args.k c.take_room.new.snap c.index_mut-2.result.now named.within in
@@ -218,14 +195,13 @@ returns-clause-ok g c =
     let gs = c.save_in-given.new.flights in
     let t = c.save_in-given.new.snap in
     let m = c.save_in-given.result in
-    let saved : IsSavedIn g.B.Block.contents g.B.Block.layers (c.args.request.range.first / piece_of c.self.inside.snaps.items) c.take_room.new.snap t c.self.inside.copies m c.self.inside.flights.items gs =
-    subst (λ (n : ℕ). IsSavedIn g.B.Block.contents g.B.Block.layers (c.args.request.range.first / n) c.take_room.new.snap t c.self.inside.copies m c.self.inside.flights.items gs) piece
-    (subst (λ (x : Kept g.row.B.Denot). IsSavedIn g.B.Block.contents g.B.Block.layers (c.args.request.range.first / c.piece-piece.result) x t c.self.inside.copies m c.self.inside.flights.items gs) now2
-    (subst (λ (x : List Flight). IsSavedIn g.B.Block.contents g.B.Block.layers (c.args.request.range.first / c.piece-piece.result) c.index_mut-2.result.now t c.self.inside.copies m x gs) slice c.save_in-given.ensures.saved)) in
+    let saved : IsSavedIn g.B.Block.contents g.B.Block.layers c.args.request.range.first c.take_room.new.snap t c.self.inside.copies m c.self.inside.flights.items gs =
+    subst (λ (x : Kept g.row.B.Denot). IsSavedIn g.B.Block.contents g.B.Block.layers c.args.request.range.first x t c.self.inside.copies m c.self.inside.flights.items gs) now2
+    (subst (λ (x : List Flight). IsSavedIn g.B.Block.contents g.B.Block.layers c.args.request.range.first c.index_mut-2.result.now t c.self.inside.copies m x gs) slice c.save_in-given.ensures.saved) in
     let back_flights = back c.reserve.new.self.len gs c.reserve.new.self.items (c.save_in-given.auto.flights ∙ c.as_mut_slice.ensures.len) in
     let f : Flight = c.in-Ok-new.flight in
-    let few : sum_by count_in c.self.inside.snaps.items + count_by (λ x. nat_eq x.number c.args.id && starts (c.args.request.range.first / piece_of c.self.inside.snaps.items) x) c.self.inside.snaps.items ≤ 256 =
-    subst (λ (x : Volumed g.row.B.Denot). sum_by count_in x.snaps + count_by (λ y. nat_eq y.number c.args.id && starts (c.args.request.range.first / piece_of x.snaps) y) x.snaps ≤ 256) (sym c.self.view_is) c.requires.few in
+    let few : sum_by count_in c.self.inside.snaps.items + count_by (λ x. nat_eq x.number c.args.id && starts c.args.request.range.first x) c.self.inside.snaps.items ≤ 256 =
+    subst (λ (x : Volumed g.row.B.Denot). sum_by count_in x.snaps + count_by (λ y. nat_eq y.number c.args.id && starts c.args.request.range.first y) x.snaps ≤ 256) (sym c.self.view_is) c.requires.few in
     let space : length c.self.inside.flights.items < 64 = omega (arith, c.requires.room, ap (λ (x : Volumed g.row.B.Denot). length x.flights) c.self.view_is) in
     let done = held_done g.B.Block.contents g.B.Block.layers g.B.Block.size v c.self.invariant c.args.id c.args.k s named c.take_room.new.snap c.take_room.ensures.same t m gs f c.args.request c.in-Ok-new.ensures.request c.in-Ok-new.ensures.number c.in-Ok-new.ensures.route space asked
     c.in-Ok-new.ensures.room c.requires.kind few saved c.if-given-self.false in

@@ -1,5 +1,5 @@
 -- A request that no limit, range or missing snapshot refuses is taken by its kind.
-use Rattle.std.proofs.Common.{◌≡◌, ◌/◌, [], inl, refl, sym, ◌∙◌, ap, subst, arith}
+use Rattle.std.proofs.Common.{◌≡◌, [], inl, refl, sym, ◌∙◌, ap, subst, arith}
 use Rattle.pending.specs.Kinds.{kind_of, room_of}
 use Rattle.volume_laws.proofs.Preparing.{prepared_none}
 use Rattle.volume.specs.Volumed.{Volumed, books_of, piece_of}
@@ -55,7 +55,7 @@ submit_origin_write-requires-clause-copies g c =
 pub submit_origin_write-requires-clause-few : goal.submit_origin_write-requires-clause-few
 submit_origin_write-requires-clause-few g c =
     let a = admitted g.B.Block.size c.args.request c.args.self.now (sym c.in-None.ensures) in
-    let kind = ap (λ k. starting k (c.args.request.range.first / piece_of c.args.self.now.snaps) c.args.self.now.snaps) c.in-OriginWrite.ensures in
+    let kind = ap (λ k. starting k c.args.request.range.first c.args.self.now.snaps) c.in-OriginWrite.ensures in
     omega (arith, a.few, kind)
 
 pub submit_snap_read-requires-clause-numbers : goal.submit_snap_read-requires-clause-numbers
@@ -115,7 +115,7 @@ submit_snap_write-requires-clause-copies g c =
 pub submit_snap_write-requires-clause-few : goal.submit_snap_write-requires-clause-few
 submit_snap_write-requires-clause-few g c =
     let a = admitted g.B.Block.size c.args.request c.args.self.now (sym c.in-None.ensures) in
-    let kind = ap (λ k. starting k (c.args.request.range.first / piece_of c.args.self.now.snaps) c.args.self.now.snaps) c.in-SnapWrite.ensures in
+    let kind = ap (λ k. starting k c.args.request.range.first c.args.self.now.snaps) c.in-SnapWrite.ensures in
     omega (arith, a.few, kind)
 
 pub returns-in-Some-clause-declined : goal.returns-in-Some-clause-declined

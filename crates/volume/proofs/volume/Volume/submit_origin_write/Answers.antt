@@ -1,5 +1,5 @@
 -- The copies are started, and the write is the last in flight.
-use Rattle.std.proofs.Common.{◌≡◌, ◌+◌, ◌*◌, ◌/◌, ◌<◌, ◌≤◌, ◌++◌, ◌∷◌, [], ℕ, false, List, length, map, take, drop, sym, ◌∙◌, ap, subst, arith}
+use Rattle.std.proofs.Common.{◌≡◌, ◌+◌, ◌<◌, ◌≤◌, ◌++◌, ◌∷◌, [], ℕ, false, List, length, map, take, drop, sym, ◌∙◌, ap, subst, arith}
 use Rattle.std.specs.Prelude.{None, sum_by, count_by}
 use Rattle.std.specs.List.{All}
 use Rattle.plain.specs.declared.request.Request.{Request}
@@ -47,11 +47,9 @@ save_in_all-self-inside-requires-clause-begins g c =
     let same : map unroomed c.take_rooms.new.snaps ≡ map unroomed c.self.inside.snaps.items = c.take_rooms.ensures.same ∙ ap (map unroomed) c.as_mut_slice.ensures.value in
     let back_rooms = back c.self.inside.snaps.len c.take_rooms.new.snaps c.self.inside.snaps.items (c.take_rooms.auto.snaps ∙ c.as_mut_slice.ensures.len) in
     let now2 = c.as_mut_slice-2.ensures.value ∙ back_rooms in
-    let piece : c.piece-piece.result ≡ piece_of c.self.inside.snaps.items = c.piece-piece.ensures.piece ∙ sym (ap (λ (x : Volumed g.row.B.Denot). piece_of x.snaps) c.self.view_is) in
     let asked : IsAsked (g.B.Block.size c.self.inside.origin) (piece_of c.self.inside.snaps.items) c.args.request = subst (λ (x : Volumed g.row.B.Denot). IsAsked (g.B.Block.size x.origin) (piece_of x.snaps) c.args.request) (sym c.self.view_is) c.requires.asked in
     let all = begins_all g.B.Block.contents g.B.Block.layers g.B.Block.size v c.self.invariant c.take_rooms.new.snaps same c.args.request.range.first c.args.request.range.count asked.some asked.inside in
-    subst (λ (x : List (Kept g.row.B.Denot)). All (λ s. s.state.chunk * (c.args.request.range.first / c.piece-piece.result) < s.state.origin) x) (sym now2)
-    (subst (λ (n : ℕ). All (λ (s : Kept g.row.B.Denot). s.state.chunk * (c.args.request.range.first / n) < s.state.origin) c.take_rooms.new.snaps) (sym piece) all)
+    subst (λ (x : List (Kept g.row.B.Denot)). All (λ s. c.args.request.range.first < s.state.origin) x) (sym now2) all
 
 pub save_in_all-self-inside-requires-clause-rooms : goal.save_in_all-self-inside-requires-clause-rooms
 save_in_all-self-inside-requires-clause-rooms g c =
@@ -60,9 +58,8 @@ save_in_all-self-inside-requires-clause-rooms g c =
     let same : map unroomed c.take_rooms.new.snaps ≡ map unroomed c.self.inside.snaps.items = c.take_rooms.ensures.same ∙ ap (map unroomed) c.as_mut_slice.ensures.value in
     let back_rooms = back c.self.inside.snaps.len c.take_rooms.new.snaps c.self.inside.snaps.items (c.take_rooms.auto.snaps ∙ c.as_mut_slice.ensures.len) in
     let now2 = c.as_mut_slice-2.ensures.value ∙ back_rooms in
-    let piece : c.piece-piece.result ≡ piece_of c.self.inside.snaps.items = c.piece-piece.ensures.piece ∙ sym (ap (λ (x : Volumed g.row.B.Denot). piece_of x.snaps) c.self.view_is) in
     let asked : IsAsked (g.B.Block.size c.self.inside.origin) (piece_of c.self.inside.snaps.items) c.args.request = subst (λ (x : Volumed g.row.B.Denot). IsAsked (g.B.Block.size x.origin) (piece_of x.snaps) c.args.request) (sym c.self.view_is) c.requires.asked in
-    subst (λ (x : List (Kept g.row.B.Denot)). HaveRooms (c.args.request.range.first / c.piece-piece.result) x c.in-Ok.rooms.items) (sym now2) c.in-Ok.ensures.ok
+    subst (λ (x : List (Kept g.row.B.Denot)). HaveRooms c.args.request.range.first x c.in-Ok.rooms.items) (sym now2) c.in-Ok.ensures.ok
 
 pub is_clear-requires : goal.is_clear-requires
 is_clear-requires g c =
@@ -71,18 +68,16 @@ is_clear-requires g c =
     let same : map unroomed c.take_rooms.new.snaps ≡ map unroomed c.self.inside.snaps.items = c.take_rooms.ensures.same ∙ ap (map unroomed) c.as_mut_slice.ensures.value in
     let back_rooms = back c.self.inside.snaps.len c.take_rooms.new.snaps c.self.inside.snaps.items (c.take_rooms.auto.snaps ∙ c.as_mut_slice.ensures.len) in
     let now2 = c.as_mut_slice-2.ensures.value ∙ back_rooms in
-    let piece : c.piece-piece.result ≡ piece_of c.self.inside.snaps.items = c.piece-piece.ensures.piece ∙ sym (ap (λ (x : Volumed g.row.B.Denot). piece_of x.snaps) c.self.view_is) in
     let asked : IsAsked (g.B.Block.size c.self.inside.origin) (piece_of c.self.inside.snaps.items) c.args.request = subst (λ (x : Volumed g.row.B.Denot). IsAsked (g.B.Block.size x.origin) (piece_of x.snaps) c.args.request) (sym c.self.view_is) c.requires.asked in
     let gs = c.save_in_all-self-inside.new.flights in
     let after = c.save_in_all-self-inside.new.snaps in
     let flights3 = c.as_mut_slice-3.ensures.value ∙ c.reserve.ensures.items in
-    let saved : AreSavedIn g.B.Block.contents g.B.Block.layers (c.args.request.range.first / piece_of c.self.inside.snaps.items) c.take_rooms.new.snaps c.save_in_all-self-inside.new.snaps c.self.inside.copies c.save_in_all-self-inside.result c.self.inside.flights.items c.save_in_all-self-inside.new.flights =
-    subst (λ (n : ℕ). AreSavedIn g.B.Block.contents g.B.Block.layers (c.args.request.range.first / n) c.take_rooms.new.snaps c.save_in_all-self-inside.new.snaps c.self.inside.copies c.save_in_all-self-inside.result c.self.inside.flights.items c.save_in_all-self-inside.new.flights) piece
-    (subst (λ (x : List (Kept g.row.B.Denot)). AreSavedIn g.B.Block.contents g.B.Block.layers (c.args.request.range.first / c.piece-piece.result) x c.save_in_all-self-inside.new.snaps c.self.inside.copies c.save_in_all-self-inside.result c.self.inside.flights.items c.save_in_all-self-inside.new.flights) now2
-    (subst (λ (x : List Flight). AreSavedIn g.B.Block.contents g.B.Block.layers (c.args.request.range.first / c.piece-piece.result) c.as_mut_slice-2.result.now c.save_in_all-self-inside.new.snaps c.self.inside.copies c.save_in_all-self-inside.result x c.save_in_all-self-inside.new.flights) flights3 c.save_in_all-self-inside.ensures.saved)) in
+    let saved : AreSavedIn g.B.Block.contents g.B.Block.layers c.args.request.range.first c.take_rooms.new.snaps c.save_in_all-self-inside.new.snaps c.self.inside.copies c.save_in_all-self-inside.result c.self.inside.flights.items c.save_in_all-self-inside.new.flights =
+    subst (λ (x : List (Kept g.row.B.Denot)). AreSavedIn g.B.Block.contents g.B.Block.layers c.args.request.range.first x c.save_in_all-self-inside.new.snaps c.self.inside.copies c.save_in_all-self-inside.result c.self.inside.flights.items c.save_in_all-self-inside.new.flights) now2
+    (subst (λ (x : List Flight). AreSavedIn g.B.Block.contents g.B.Block.layers c.args.request.range.first c.as_mut_slice-2.result.now c.save_in_all-self-inside.new.snaps c.self.inside.copies c.save_in_all-self-inside.result x c.save_in_all-self-inside.new.flights) flights3 c.save_in_all-self-inside.ensures.saved) in
     let back_snaps = back c.self.inside.snaps.len c.save_in_all-self-inside.new.snaps (take c.self.inside.snaps.len (c.take_rooms.new.snaps ++ drop (length c.take_rooms.new.snaps) c.self.inside.snaps.items)) (c.save_in_all-self-inside.auto.snaps ∙ c.as_mut_slice-2.ensures.len) in
     subst (λ (x : List (Kept g.row.B.Denot)). All (λ s. 0 < s.state.chunk) x) (sym (c.as_slice.ensures.value ∙ back_snaps))
-    (some_all g.B.Block.contents g.B.Block.layers g.B.Block.size v c.self.invariant c.take_rooms.new.snaps same (c.args.request.range.first / piece_of c.self.inside.snaps.items) c.save_in_all-self-inside.new.snaps c.self.inside.copies c.save_in_all-self-inside.result c.self.inside.flights.items c.save_in_all-self-inside.new.flights saved)
+    (some_all g.B.Block.contents g.B.Block.layers g.B.Block.size v c.self.invariant c.take_rooms.new.snaps same c.args.request.range.first c.save_in_all-self-inside.new.snaps c.self.inside.copies c.save_in_all-self-inside.result c.self.inside.flights.items c.save_in_all-self-inside.new.flights saved)
 
 pub invariant_of-self-2 : goal.invariant_of-self-2
 invariant_of-self-2 g c =
@@ -91,23 +86,21 @@ invariant_of-self-2 g c =
     let same : map unroomed c.take_rooms.new.snaps ≡ map unroomed c.self.inside.snaps.items = c.take_rooms.ensures.same ∙ ap (map unroomed) c.as_mut_slice.ensures.value in
     let back_rooms = back c.self.inside.snaps.len c.take_rooms.new.snaps c.self.inside.snaps.items (c.take_rooms.auto.snaps ∙ c.as_mut_slice.ensures.len) in
     let now2 = c.as_mut_slice-2.ensures.value ∙ back_rooms in
-    let piece : c.piece-piece.result ≡ piece_of c.self.inside.snaps.items = c.piece-piece.ensures.piece ∙ sym (ap (λ (x : Volumed g.row.B.Denot). piece_of x.snaps) c.self.view_is) in
     let asked : IsAsked (g.B.Block.size c.self.inside.origin) (piece_of c.self.inside.snaps.items) c.args.request = subst (λ (x : Volumed g.row.B.Denot). IsAsked (g.B.Block.size x.origin) (piece_of x.snaps) c.args.request) (sym c.self.view_is) c.requires.asked in
     let gs = c.save_in_all-self-inside.new.flights in
     let after = c.save_in_all-self-inside.new.snaps in
     let flights3 = c.as_mut_slice-3.ensures.value ∙ c.reserve.ensures.items in
-    let saved : AreSavedIn g.B.Block.contents g.B.Block.layers (c.args.request.range.first / piece_of c.self.inside.snaps.items) c.take_rooms.new.snaps c.save_in_all-self-inside.new.snaps c.self.inside.copies c.save_in_all-self-inside.result c.self.inside.flights.items c.save_in_all-self-inside.new.flights =
-    subst (λ (n : ℕ). AreSavedIn g.B.Block.contents g.B.Block.layers (c.args.request.range.first / n) c.take_rooms.new.snaps c.save_in_all-self-inside.new.snaps c.self.inside.copies c.save_in_all-self-inside.result c.self.inside.flights.items c.save_in_all-self-inside.new.flights) piece
-    (subst (λ (x : List (Kept g.row.B.Denot)). AreSavedIn g.B.Block.contents g.B.Block.layers (c.args.request.range.first / c.piece-piece.result) x c.save_in_all-self-inside.new.snaps c.self.inside.copies c.save_in_all-self-inside.result c.self.inside.flights.items c.save_in_all-self-inside.new.flights) now2
-    (subst (λ (x : List Flight). AreSavedIn g.B.Block.contents g.B.Block.layers (c.args.request.range.first / c.piece-piece.result) c.as_mut_slice-2.result.now c.save_in_all-self-inside.new.snaps c.self.inside.copies c.save_in_all-self-inside.result x c.save_in_all-self-inside.new.flights) flights3 c.save_in_all-self-inside.ensures.saved)) in
+    let saved : AreSavedIn g.B.Block.contents g.B.Block.layers c.args.request.range.first c.take_rooms.new.snaps c.save_in_all-self-inside.new.snaps c.self.inside.copies c.save_in_all-self-inside.result c.self.inside.flights.items c.save_in_all-self-inside.new.flights =
+    subst (λ (x : List (Kept g.row.B.Denot)). AreSavedIn g.B.Block.contents g.B.Block.layers c.args.request.range.first x c.save_in_all-self-inside.new.snaps c.self.inside.copies c.save_in_all-self-inside.result c.self.inside.flights.items c.save_in_all-self-inside.new.flights) now2
+    (subst (λ (x : List Flight). AreSavedIn g.B.Block.contents g.B.Block.layers c.args.request.range.first c.as_mut_slice-2.result.now c.save_in_all-self-inside.new.snaps c.self.inside.copies c.save_in_all-self-inside.result x c.save_in_all-self-inside.new.flights) flights3 c.save_in_all-self-inside.ensures.saved) in
     let back_snaps = back c.self.inside.snaps.len c.save_in_all-self-inside.new.snaps (take c.self.inside.snaps.len (c.take_rooms.new.snaps ++ drop (length c.take_rooms.new.snaps) c.self.inside.snaps.items)) (c.save_in_all-self-inside.auto.snaps ∙ c.as_mut_slice-2.ensures.len) in
     let back_flights = back c.reserve.new.self.len c.save_in_all-self-inside.new.flights c.reserve.new.self.items (c.save_in_all-self-inside.auto.flights ∙ c.as_mut_slice-3.ensures.len) in
     let f : Flight = record c.in-Ok-new.flight { route = c.write_route-flight.result } in
     let request_is = c.in-Ok-new.ensures.request in
-    let saved_f = subst (λ (r : Request). AreSavedIn g.B.Block.contents g.B.Block.layers (r.range.first / piece_of c.self.inside.snaps.items) c.take_rooms.new.snaps c.save_in_all-self-inside.new.snaps c.self.inside.copies c.save_in_all-self-inside.result c.self.inside.flights.items c.save_in_all-self-inside.new.flights) (sym request_is) saved in
-    let few_v : sum_by count_in c.self.inside.snaps.items + count_by (starts (c.args.request.range.first / piece_of c.self.inside.snaps.items)) c.self.inside.snaps.items ≤ 256 =
-    subst (λ (x : Volumed g.row.B.Denot). sum_by count_in x.snaps + count_by (starts (c.args.request.range.first / piece_of x.snaps)) x.snaps ≤ 256) (sym c.self.view_is) c.requires.few in
-    let few_f = subst (λ (r : Request). sum_by count_in c.self.inside.snaps.items + count_by (starts (r.range.first / piece_of c.self.inside.snaps.items)) c.self.inside.snaps.items ≤ 256) (sym request_is) few_v in
+    let saved_f = subst (λ (r : Request). AreSavedIn g.B.Block.contents g.B.Block.layers r.range.first c.take_rooms.new.snaps c.save_in_all-self-inside.new.snaps c.self.inside.copies c.save_in_all-self-inside.result c.self.inside.flights.items c.save_in_all-self-inside.new.flights) (sym request_is) saved in
+    let few_v : sum_by count_in c.self.inside.snaps.items + count_by (starts c.args.request.range.first) c.self.inside.snaps.items ≤ 256 =
+    subst (λ (x : Volumed g.row.B.Denot). sum_by count_in x.snaps + count_by (starts c.args.request.range.first) x.snaps ≤ 256) (sym c.self.view_is) c.requires.few in
+    let few_f = subst (λ (r : Request). sum_by count_in c.self.inside.snaps.items + count_by (starts r.range.first) c.self.inside.snaps.items ≤ 256) (sym request_is) few_v in
     let asked_f = subst (IsAsked (g.B.Block.size c.self.inside.origin) (piece_of c.self.inside.snaps.items)) (sym request_is) asked in
     let room_f = c.in-Ok-new.ensures.room ∙ ap room_of (sym request_is) in
     let kind_f = ap kind_of request_is ∙ c.requires.kind in
@@ -124,23 +117,21 @@ returns-clause-ok g c =
     let same : map unroomed c.take_rooms.new.snaps ≡ map unroomed c.self.inside.snaps.items = c.take_rooms.ensures.same ∙ ap (map unroomed) c.as_mut_slice.ensures.value in
     let back_rooms = back c.self.inside.snaps.len c.take_rooms.new.snaps c.self.inside.snaps.items (c.take_rooms.auto.snaps ∙ c.as_mut_slice.ensures.len) in
     let now2 = c.as_mut_slice-2.ensures.value ∙ back_rooms in
-    let piece : c.piece-piece.result ≡ piece_of c.self.inside.snaps.items = c.piece-piece.ensures.piece ∙ sym (ap (λ (x : Volumed g.row.B.Denot). piece_of x.snaps) c.self.view_is) in
     let asked : IsAsked (g.B.Block.size c.self.inside.origin) (piece_of c.self.inside.snaps.items) c.args.request = subst (λ (x : Volumed g.row.B.Denot). IsAsked (g.B.Block.size x.origin) (piece_of x.snaps) c.args.request) (sym c.self.view_is) c.requires.asked in
     let gs = c.save_in_all-self-inside.new.flights in
     let after = c.save_in_all-self-inside.new.snaps in
     let flights3 = c.as_mut_slice-3.ensures.value ∙ c.reserve.ensures.items in
-    let saved : AreSavedIn g.B.Block.contents g.B.Block.layers (c.args.request.range.first / piece_of c.self.inside.snaps.items) c.take_rooms.new.snaps c.save_in_all-self-inside.new.snaps c.self.inside.copies c.save_in_all-self-inside.result c.self.inside.flights.items c.save_in_all-self-inside.new.flights =
-    subst (λ (n : ℕ). AreSavedIn g.B.Block.contents g.B.Block.layers (c.args.request.range.first / n) c.take_rooms.new.snaps c.save_in_all-self-inside.new.snaps c.self.inside.copies c.save_in_all-self-inside.result c.self.inside.flights.items c.save_in_all-self-inside.new.flights) piece
-    (subst (λ (x : List (Kept g.row.B.Denot)). AreSavedIn g.B.Block.contents g.B.Block.layers (c.args.request.range.first / c.piece-piece.result) x c.save_in_all-self-inside.new.snaps c.self.inside.copies c.save_in_all-self-inside.result c.self.inside.flights.items c.save_in_all-self-inside.new.flights) now2
-    (subst (λ (x : List Flight). AreSavedIn g.B.Block.contents g.B.Block.layers (c.args.request.range.first / c.piece-piece.result) c.as_mut_slice-2.result.now c.save_in_all-self-inside.new.snaps c.self.inside.copies c.save_in_all-self-inside.result x c.save_in_all-self-inside.new.flights) flights3 c.save_in_all-self-inside.ensures.saved)) in
+    let saved : AreSavedIn g.B.Block.contents g.B.Block.layers c.args.request.range.first c.take_rooms.new.snaps c.save_in_all-self-inside.new.snaps c.self.inside.copies c.save_in_all-self-inside.result c.self.inside.flights.items c.save_in_all-self-inside.new.flights =
+    subst (λ (x : List (Kept g.row.B.Denot)). AreSavedIn g.B.Block.contents g.B.Block.layers c.args.request.range.first x c.save_in_all-self-inside.new.snaps c.self.inside.copies c.save_in_all-self-inside.result c.self.inside.flights.items c.save_in_all-self-inside.new.flights) now2
+    (subst (λ (x : List Flight). AreSavedIn g.B.Block.contents g.B.Block.layers c.args.request.range.first c.as_mut_slice-2.result.now c.save_in_all-self-inside.new.snaps c.self.inside.copies c.save_in_all-self-inside.result x c.save_in_all-self-inside.new.flights) flights3 c.save_in_all-self-inside.ensures.saved) in
     let back_snaps = back c.self.inside.snaps.len c.save_in_all-self-inside.new.snaps (take c.self.inside.snaps.len (c.take_rooms.new.snaps ++ drop (length c.take_rooms.new.snaps) c.self.inside.snaps.items)) (c.save_in_all-self-inside.auto.snaps ∙ c.as_mut_slice-2.ensures.len) in
     let back_flights = back c.reserve.new.self.len c.save_in_all-self-inside.new.flights c.reserve.new.self.items (c.save_in_all-self-inside.auto.flights ∙ c.as_mut_slice-3.ensures.len) in
     let f : Flight = record c.in-Ok-new.flight { route = c.write_route-flight.result } in
     let request_is = c.in-Ok-new.ensures.request in
-    let saved_f = subst (λ (r : Request). AreSavedIn g.B.Block.contents g.B.Block.layers (r.range.first / piece_of c.self.inside.snaps.items) c.take_rooms.new.snaps c.save_in_all-self-inside.new.snaps c.self.inside.copies c.save_in_all-self-inside.result c.self.inside.flights.items c.save_in_all-self-inside.new.flights) (sym request_is) saved in
-    let few_v : sum_by count_in c.self.inside.snaps.items + count_by (starts (c.args.request.range.first / piece_of c.self.inside.snaps.items)) c.self.inside.snaps.items ≤ 256 =
-    subst (λ (x : Volumed g.row.B.Denot). sum_by count_in x.snaps + count_by (starts (c.args.request.range.first / piece_of x.snaps)) x.snaps ≤ 256) (sym c.self.view_is) c.requires.few in
-    let few_f = subst (λ (r : Request). sum_by count_in c.self.inside.snaps.items + count_by (starts (r.range.first / piece_of c.self.inside.snaps.items)) c.self.inside.snaps.items ≤ 256) (sym request_is) few_v in
+    let saved_f = subst (λ (r : Request). AreSavedIn g.B.Block.contents g.B.Block.layers r.range.first c.take_rooms.new.snaps c.save_in_all-self-inside.new.snaps c.self.inside.copies c.save_in_all-self-inside.result c.self.inside.flights.items c.save_in_all-self-inside.new.flights) (sym request_is) saved in
+    let few_v : sum_by count_in c.self.inside.snaps.items + count_by (starts c.args.request.range.first) c.self.inside.snaps.items ≤ 256 =
+    subst (λ (x : Volumed g.row.B.Denot). sum_by count_in x.snaps + count_by (starts c.args.request.range.first) x.snaps ≤ 256) (sym c.self.view_is) c.requires.few in
+    let few_f = subst (λ (r : Request). sum_by count_in c.self.inside.snaps.items + count_by (starts r.range.first) c.self.inside.snaps.items ≤ 256) (sym request_is) few_v in
     let asked_f = subst (IsAsked (g.B.Block.size c.self.inside.origin) (piece_of c.self.inside.snaps.items)) (sym request_is) asked in
     let room_f = c.in-Ok-new.ensures.room ∙ ap room_of (sym request_is) in
     let kind_f = ap kind_of request_is ∙ c.requires.kind in

@@ -1,5 +1,5 @@
 -- The snapshot that is found is live, and the write goes where its chunk is, or waits for its copy.
-use Rattle.std.proofs.Common.{◌≡◌, ◌/◌, ℕ, List, length, slice_index_or, refl, sym, ◌∙◌, ap, subst, arith}
+use Rattle.std.proofs.Common.{◌≡◌, ◌/◌, ℕ, List, slice_index_or, refl, sym, ◌∙◌, ap, subst, arith}
 use Rattle.model.specs.Picture.{place_of}
 use Rattle.pending.specs.declared.flights.Kind.TheVariants.{SnapWrite}
 use Rattle.pending.specs.Kinds.{kind_of, room_of}
@@ -20,78 +20,53 @@ use Rattle.volume.proofs.volume.Volume.submit_snap_write.Goals as goal
 
 pub enter-requires-clause-goes : goal.enter-requires-clause-goes
 enter-requires-clause-goes g c = λ f h number same route room.
-    let s : Kept g.row.B.Denot = c.index-2.result.now in
+    let s : Kept g.row.B.Denot = c.index-snap.result.now in
     let asked : IsAsked (g.B.Block.size c.args.self.now.origin) (piece_of c.args.self.now.snaps) f.request = subst (IsAsked (g.B.Block.size c.args.self.now.origin) (piece_of c.args.self.now.snaps)) (sym same) c.requires.asked in
-    let named = is_named c.args.self.now c.self.inside.snaps.items c.args.request.dev c.args.id c.in-Some.k s (ap (λ (x : Volumed g.row.B.Denot). x.snaps) c.self.view_is) c.index-2.ensures c.requires.found (dev_of_write c.args.request c.args.id c.requires.kind) (c.in-Some.ensures ∙ ap (place_of_snap c.args.id) c.as_slice.ensures.value) in
     let place = c.in-Some.ensures ∙ ap (place_of_snap c.args.id) c.as_slice.ensures.value in
-    let within = found_within c.args.id c.self.inside.snaps.items c.in-Some.k place in
-    let chunk : c.args.request.range.first / c.piece.result ≡ f.request.range.first / piece_of c.args.self.now.snaps = ap (λ (n : ℕ). c.args.request.range.first / n) c.piece.ensures.piece ∙ ap (λ (r : Request). r.range.first / piece_of c.args.self.now.snaps) (sym same) in
+    let named = is_named c.args.self.now c.self.inside.snaps.items c.args.request.dev c.args.id c.in-Some.k s (ap (λ (x : Volumed g.row.B.Denot). x.snaps) c.self.view_is) c.index-snap.ensures c.requires.found (dev_of_write c.args.request c.args.id c.requires.kind) place in
+    let chunk : c.own_chunk-chunk.result ≡ f.request.range.first / s.state.chunk = c.own_chunk-chunk.ensures ∙ ap (λ (r : Request). r.range.first / s.state.chunk) (sym same) in
     let published = sym (ap (is_published s.pairs s.marks) chunk) ∙ sym c.if-is_published.ensures in
-    let at : c.index-then-is_published.result.now ≡ s = index_same c.self.inside.snaps.items c.in-Some.k c.index-then-is_published.result.now s within c.index-then-is_published.ensures c.index-2.ensures in
     snap_write_placed_goes g.B.Block.contents g.B.Block.layers g.B.Block.size c.args.self.now h f number asked (room ∙ ap room_of (sym same)) c.args.id c.in-Some.k s named (ap kind_of same ∙ c.requires.kind) published
-    (route ∙ c.read_route-route.ensures ∙ ap read_route_of c.place_of.ensures ∙ ap (λ (x : Kept g.row.B.Denot). read_route_of (place_of x.pairs (c.args.request.range.first / c.piece.result))) at ∙ ap (λ (n : ℕ). read_route_of (place_of s.pairs n)) chunk)
+    (route ∙ c.read_route-route.ensures ∙ ap read_route_of c.place_of.ensures ∙ ap (λ (n : ℕ). read_route_of (place_of s.pairs n)) chunk)
 
 pub enter-requires-2-clause-goes : goal.enter-requires-2-clause-goes
 enter-requires-2-clause-goes g c = λ f h number same route room.
-    let s : Kept g.row.B.Denot = c.index-2.result.now in
+    let s : Kept g.row.B.Denot = c.index-snap.result.now in
     let asked : IsAsked (g.B.Block.size c.args.self.now.origin) (piece_of c.args.self.now.snaps) f.request = subst (IsAsked (g.B.Block.size c.args.self.now.origin) (piece_of c.args.self.now.snaps)) (sym same) c.requires.asked in
-    let named = is_named c.args.self.now c.self.inside.snaps.items c.args.request.dev c.args.id c.in-Some.k s (ap (λ (x : Volumed g.row.B.Denot). x.snaps) c.self.view_is) c.index-2.ensures c.requires.found (dev_of_write c.args.request c.args.id c.requires.kind) (c.in-Some.ensures ∙ ap (place_of_snap c.args.id) c.as_slice.ensures.value) in
     let place = c.in-Some.ensures ∙ ap (place_of_snap c.args.id) c.as_slice.ensures.value in
-    let within = found_within c.args.id c.self.inside.snaps.items c.in-Some.k place in
-    let chunk : c.args.request.range.first / c.piece.result ≡ f.request.range.first / piece_of c.args.self.now.snaps = ap (λ (n : ℕ). c.args.request.range.first / n) c.piece.ensures.piece ∙ ap (λ (r : Request). r.range.first / piece_of c.args.self.now.snaps) (sym same) in
+    let named = is_named c.args.self.now c.self.inside.snaps.items c.args.request.dev c.args.id c.in-Some.k s (ap (λ (x : Volumed g.row.B.Denot). x.snaps) c.self.view_is) c.index-snap.ensures c.requires.found (dev_of_write c.args.request c.args.id c.requires.kind) place in
+    let chunk : c.own_chunk-chunk.result ≡ f.request.range.first / s.state.chunk = c.own_chunk-chunk.ensures ∙ ap (λ (r : Request). r.range.first / s.state.chunk) (sym same) in
     let published = sym (ap (is_published s.pairs s.marks) chunk) ∙ sym c.if-is_published.ensures in
-    let at : c.index.result.now ≡ s = index_same c.self.inside.snaps.items c.in-Some.k c.index.result.now s within c.index.ensures c.index-2.ensures in
-    let has = sym (ap (λ (x : Kept g.row.B.Denot). lacks (c.args.request.range.first / c.piece.result) x) at ∙ ap (λ (n : ℕ). lacks n s) chunk) ∙ sym c.if-is_lacking.ensures in
+    let has = ap (λ (r : Request). lacks r.range.first s) same ∙ sym c.if-is_lacking.ensures in
     snap_write_held_goes g.B.Block.contents g.B.Block.layers g.B.Block.size c.args.self.now h f number asked (room ∙ ap room_of (sym same)) c.args.id c.in-Some.k s named (ap kind_of same ∙ c.requires.kind) published has route
 
 pub returns-then-is_published-clause-ok : goal.returns-then-is_published-clause-ok
 returns-then-is_published-clause-ok g c =
-    let s : Kept g.row.B.Denot = c.index-2.result.now in
+    let s : Kept g.row.B.Denot = c.index-snap.result.now in
     let place = c.in-Some.ensures ∙ ap (place_of_snap c.args.id) c.as_slice.ensures.value in
-    let named = is_named c.args.self.now c.self.inside.snaps.items c.args.request.dev c.args.id c.in-Some.k s (ap (λ (x : Volumed g.row.B.Denot). x.snaps) c.self.view_is) c.index-2.ensures c.requires.found (dev_of_write c.args.request c.args.id c.requires.kind) place in
-    let within = found_within c.args.id c.self.inside.snaps.items c.in-Some.k place in
-    let chunk : c.args.request.range.first / c.piece.result ≡ c.args.request.range.first / piece_of c.args.self.now.snaps = ap (λ (n : ℕ). c.args.request.range.first / n) c.piece.ensures.piece in
-    let published = sym (ap (is_published s.pairs s.marks) chunk) ∙ sym c.if-is_published.ensures in
-    let at : c.index-then-is_published.result.now ≡ s = index_same c.self.inside.snaps.items c.in-Some.k c.index-then-is_published.result.now s within c.index-then-is_published.ensures c.index-2.ensures in
+    let named = is_named c.args.self.now c.self.inside.snaps.items c.args.request.dev c.args.id c.in-Some.k s (ap (λ (x : Volumed g.row.B.Denot). x.snaps) c.self.view_is) c.index-snap.ensures c.requires.found (dev_of_write c.args.request c.args.id c.requires.kind) place in
+    let published = sym (ap (is_published s.pairs s.marks) c.own_chunk-chunk.ensures) ∙ sym c.if-is_published.ensures in
     let whole : IsWhole g.B.Block.contents g.B.Block.layers g.B.Block.size c.args.self.now = subst (IsWhole g.B.Block.contents g.B.Block.layers g.B.Block.size) c.self.view_is c.self.invariant in
-    let route = c.read_route-route.ensures ∙ ap read_route_of c.place_of.ensures ∙ ap (λ (x : Kept g.row.B.Denot). read_route_of (place_of x.pairs (c.args.request.range.first / c.piece.result))) at ∙ ap (λ (n : ℕ). read_route_of (place_of s.pairs n)) chunk in
+    let route = c.read_route-route.ensures ∙ ap read_route_of c.place_of.ensures ∙ ap (λ (n : ℕ). read_route_of (place_of s.pairs n)) c.own_chunk-chunk.ensures in
     if_ok c.enter.result _ _
     (λ number e. entered_accepted g.B.Block.contents g.B.Block.layers c.args.request c.read_route-route.result number c.args.self.now c.enter.new.self (SnapWrite c.args.id) c.requires.kind (λ n. refl) (λ n. refl) e
     (snap_placed_submitted g.B.Block.contents g.B.Block.layers g.B.Block.size c.args.self.now whole c.args.request c.read_route-route.result number c.enter.new.self e c.args.id c.in-Some.k s named c.requires.kind published route)) c.enter.ensures.ok
 
 pub returns-clause-ok : goal.returns-clause-ok
 returns-clause-ok g c =
-    let s : Kept g.row.B.Denot = c.index-2.result.now in
+    let s : Kept g.row.B.Denot = c.index-snap.result.now in
     let place = c.in-Some.ensures ∙ ap (place_of_snap c.args.id) c.as_slice.ensures.value in
-    let named = is_named c.args.self.now c.self.inside.snaps.items c.args.request.dev c.args.id c.in-Some.k s (ap (λ (x : Volumed g.row.B.Denot). x.snaps) c.self.view_is) c.index-2.ensures c.requires.found (dev_of_write c.args.request c.args.id c.requires.kind) place in
-    let within = found_within c.args.id c.self.inside.snaps.items c.in-Some.k place in
-    let chunk : c.args.request.range.first / c.piece.result ≡ c.args.request.range.first / piece_of c.args.self.now.snaps = ap (λ (n : ℕ). c.args.request.range.first / n) c.piece.ensures.piece in
-    let published = sym (ap (is_published s.pairs s.marks) chunk) ∙ sym c.if-is_published.ensures in
-    let at : c.index.result.now ≡ s = index_same c.self.inside.snaps.items c.in-Some.k c.index.result.now s within c.index.ensures c.index-2.ensures in
-    let has = sym (ap (λ (x : Kept g.row.B.Denot). lacks (c.args.request.range.first / c.piece.result) x) at ∙ ap (λ (n : ℕ). lacks n s) chunk) ∙ sym c.if-is_lacking.ensures in
+    let named = is_named c.args.self.now c.self.inside.snaps.items c.args.request.dev c.args.id c.in-Some.k s (ap (λ (x : Volumed g.row.B.Denot). x.snaps) c.self.view_is) c.index-snap.ensures c.requires.found (dev_of_write c.args.request c.args.id c.requires.kind) place in
+    let published = sym (ap (is_published s.pairs s.marks) c.own_chunk-chunk.ensures) ∙ sym c.if-is_published.ensures in
     let whole : IsWhole g.B.Block.contents g.B.Block.layers g.B.Block.size c.args.self.now = subst (IsWhole g.B.Block.contents g.B.Block.layers g.B.Block.size) c.self.view_is c.self.invariant in
     if_ok c.enter-2.result _ _
     (λ number e. entered_accepted g.B.Block.contents g.B.Block.layers c.args.request Held number c.args.self.now c.enter-2.new.self (SnapWrite c.args.id) c.requires.kind (λ n. refl) (λ n. refl) e
-    (snap_waits_submitted g.B.Block.contents g.B.Block.layers g.B.Block.size c.args.self.now whole c.args.request Held number c.enter-2.new.self e c.args.id c.in-Some.k s named c.requires.kind published has refl)) c.enter-2.ensures.ok
+    (snap_waits_submitted g.B.Block.contents g.B.Block.layers g.B.Block.size c.args.self.now whole c.args.request Held number c.enter-2.new.self e c.args.id c.in-Some.k s named c.requires.kind published (sym c.if-is_lacking.ensures) refl)) c.enter-2.ensures.ok
 
 pub start_and_enter-requires-clause-lacking : goal.start_and_enter-requires-clause-lacking
 start_and_enter-requires-clause-lacking g c = λ (s : Kept g.row.B.Denot) is.
     let place = c.in-Some.ensures ∙ ap (place_of_snap c.args.id) c.as_slice.ensures.value in
     let within = found_within c.args.id c.self.inside.snaps.items c.in-Some.k place in
     let snaps : c.args.self.now.snaps ≡ c.self.inside.snaps.items = sym (ap (λ (x : Volumed g.row.B.Denot). x.snaps) c.self.view_is) in
-    let at : c.index.result.now ≡ s = index_same c.self.inside.snaps.items c.in-Some.k c.index.result.now s within c.index.ensures (is ∙ ap (λ (xs : List (Kept g.row.B.Denot)). slice_index_or xs c.in-Some.k s) snaps) in
-    sym (ap (λ (n : ℕ). lacks (c.args.request.range.first / n) s) c.piece.ensures.piece)
-    ∙ sym (ap (λ (x : Kept g.row.B.Denot). lacks (c.args.request.range.first / c.piece.result) x) at)
-    ∙ sym c.if-is_lacking.ensures
-
-pub index-requires-2 : goal.index-requires-2
-index-requires-2 g c =
-    let place = c.in-Some.ensures ∙ ap (place_of_snap c.args.id) c.as_slice.ensures.value in
-    let within = found_within c.args.id c.self.inside.snaps.items c.in-Some.k place in
-    omega (arith, within, c.as_slice.ensures.len, ap length c.as_slice.ensures.value)
-
-pub index-requires-then-is_published : goal.index-requires-then-is_published
-index-requires-then-is_published g c =
-    let place = c.in-Some.ensures ∙ ap (place_of_snap c.args.id) c.as_slice.ensures.value in
-    let within = found_within c.args.id c.self.inside.snaps.items c.in-Some.k place in
-    omega (arith, within, c.as_slice.ensures.len, ap length c.as_slice.ensures.value)
+    let at : c.index-snap.result.now ≡ s = index_same c.self.inside.snaps.items c.in-Some.k c.index-snap.result.now s within c.index-snap.ensures (is ∙ ap (λ (xs : List (Kept g.row.B.Denot)). slice_index_or xs c.in-Some.k s) snaps) in
+    sym (ap (lacks c.args.request.range.first) at) ∙ sym c.if-is_lacking.ensures
