@@ -1,12 +1,12 @@
-// Held writes are routed again: after a publication, and after a spoiled snapshot's mark was tried.
-ghost use Rattle.std.specs.Prelude.{◌≡◌, ◌<◌, None, map};
+// Whether an origin write may go to the disk; and held writes of a snapshot are routed again, after a publication.
+ghost use Rattle.std.specs.Prelude.{◌≡◌, ◌<◌, map};
 ghost use Rattle.std.specs.List.{All, list_all, list_any};
-ghost use Rattle.volume_laws.specs.Again.{again_of, placed_of, published_place as place_if_published};
+ghost use Rattle.volume_laws.specs.Again.{placed_of, published_place as place_if_published};
 ghost use Rattle.volume_laws.specs.Published.{is_clear as is_clear_in, is_saved as is_saved_in};
 ghost use Rattle.snapshot.specs.Kept.{books_of};
 
 use device::Block;
-use pending::{Flight, Route, again_route, placed_route, request_kind, write_route};
+use pending::{Flight, placed_route, request_kind};
 use sector::Chunk;
 use snapshot::Snapshot;
 
@@ -50,33 +50,6 @@ pub fn is_clear<B: Block>(snaps: &[Snapshot<B>], first: u64) -> bool
     ensures { result ≡ is_clear_in (map (books_of B.contents B.layers) snaps.now) first }
 {
     are_saved(snaps, first) && !is_any_untried(snaps)
-}
-
-/// The route of a request after held origin writes were routed again.
-fn again_for<B: Block>(snaps: &[Snapshot<B>], flight: &Flight) -> Route
-    requires { All (λ s. 0 < s.state.chunk) snaps.now }
-    ensures { result ≡ (again_of None (is_clear_in (map (books_of B.contents B.layers) snaps.now)) flight.now).route }
-{
-    let new = write_route(false, None, is_clear(snaps, flight.request.range.first));
-    again_route(request_kind(&flight.request), flight.route, new)
-}
-
-/// Routes the held origin writes again: those that may go to the origin disk now go there.
-pub fn route_again<B: Block>(snaps: &[Snapshot<B>], flights: &mut Vec<Flight>)
-    requires { All (λ s. 0 < s.state.chunk) snaps.now }
-    ensures { flights.new.items ≡ map (again_of None (is_clear_in (map (books_of B.contents B.layers) snaps.now))) flights.old.items }
-{
-    route_all_again(snaps, flights);
-}
-
-/// The same, over a slice.
-fn route_all_again<B: Block>(snaps: &[Snapshot<B>], flights: &mut [Flight])
-    requires { All (λ s. 0 < s.state.chunk) snaps.now }
-    ensures { flights.new ≡ map (again_of None (is_clear_in (map (books_of B.contents B.layers) snaps.now))) flights.old }
-{
-    for f in flights.iter_mut() {
-        f.route = again_for(snaps, f);
-    }
 }
 
 /// The place of a chunk of the origin, where the snapshot has published it.
