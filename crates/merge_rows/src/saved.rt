@@ -4,7 +4,7 @@ ghost use Rattle.std.specs.List.{list_any};
 
 use crate::disks::{area_of, counted, sector_of};
 use crate::events::{Event, do_all};
-use device::{Io, MemDisk};
+use device::{Block, Io, MemDisk};
 use merge::Merge;
 use pending::{ChunkCopy, Stage, has_copy};
 use plain::CopyId;
