@@ -17,6 +17,26 @@ use Rattle.store.specs.Operations.{IsOneOperation}
 use Rattle.volume.proofs.ExactIssues.{origin_read_exact, origin_write_exact}
 use Rattle.volume.proofs.volume.Volume.issue_disk.Goals as goal
 
+pub read-requires-clause-some : goal.read-requires-clause-some
+read-requires-clause-some g c =
+    let v = c.self.inside in
+    let r = c.remove-flight.result in
+    let found : position (λ (f : Flight). nat_eq f.number c.args.number) v.flights.items ≡ Some c.args.place = ap (λ (x : Volumed _). position (λ (f : Flight). nat_eq f.number c.args.number) x.flights) c.self.view_is ∙ c.requires.found in
+    let within = position_within (λ (f : Flight). nat_eq f.number c.args.number) v.flights.items c.args.place found in
+    let was : r ≡ get_or v.flights.items c.args.place r = c.remove-flight.ensures.value in
+    let request = request_at g.B.Block.contents g.B.Block.layers g.B.Block.size _ c.self.invariant c.args.place r within was in
+    request.some
+
+pub read-requires-clause-inside : goal.read-requires-clause-inside
+read-requires-clause-inside g c =
+    let v = c.self.inside in
+    let r = c.remove-flight.result in
+    let found : position (λ (f : Flight). nat_eq f.number c.args.number) v.flights.items ≡ Some c.args.place = ap (λ (x : Volumed _). position (λ (f : Flight). nat_eq f.number c.args.number) x.flights) c.self.view_is ∙ c.requires.found in
+    let within = position_within (λ (f : Flight). nat_eq f.number c.args.number) v.flights.items c.args.place found in
+    let was : r ≡ get_or v.flights.items c.args.place r = c.remove-flight.ensures.value in
+    let request = request_at g.B.Block.contents g.B.Block.layers g.B.Block.size _ c.self.invariant c.args.place r within was in
+    request.inside
+
 pub read-requires-clause-room : goal.read-requires-clause-room
 read-requires-clause-room g c =
     let v = c.self.inside in

@@ -1,5 +1,6 @@
 -- A spoiled snapshot's mark is tried.
-use Rattle.std.proofs.Common.{◌≡◌, ◌<◌, true, false, refl, sym, ◌∙◌, ap, subst, length, arith, map, slice_set}
+use Rattle.std.proofs.Common.{◌≡◌, ◌<◌, true, false, refl, sym, ◌∙◌, ap, subst, length, arith, map, nat_eq, slice_set}
+use Rattle.std.proofs.lemmas.Bool.{and_parts}
 use Rattle.std.specs.List.{All}
 use Rattle.volume_laws.specs.Published.{is_clear}
 use Rattle.volume_laws.specs.Again.{again_of}
@@ -11,6 +12,15 @@ use Rattle.volume.proofs.Tried.{tried_done, tried_fault}
 use Rattle.volume.proofs.Exactly.{tried_exact, tried_fault_exact}
 use Rattle.volume.proofs.volume.Volume.write_invalid.Goals as goal
 use Rattle.volume.specs.Volumed.{merge_books}
+
+pub write_invalid-requires : goal.write_invalid-requires
+write_invalid-requires g c =
+    let v = c.self.inside in
+    let s = c.index_mut-snap.result.now in
+    let k = c.in-Some.place in
+    let is = c.index_mut-snap.ensures.value in
+    let found : is_trying c.args.number s ≡ true = snap_found (is_trying c.args.number) k v.snaps.items c.deref.result.now s c.deref.ensures.value is (c.in-Some.ensures.found.1 s) in
+    record { untried = (and_parts (nat_eq s.number c.args.number) s.untried found).1 }
 
 pub route_again-requires : goal.route_again-requires
 route_again-requires g c =
