@@ -13,10 +13,20 @@ use Rattle.volume.specs.Whole.{IsWhole}
 use Rattle.snapshots.specs.Finding.{place_of_snap}
 use Rattle.snapshots.specs.Starting.{lacks}
 use Rattle.volume.specs.Submitting.{IsAsked}
-use Rattle.volume.proofs.Named.{dev_of_write, found_within, is_named, index_same, snap_write_placed_goes, snap_write_held_goes}
+use Rattle.volume.proofs.Named.{dev_of_write, found_some, found_within, is_named, index_same, snap_write_placed_goes, snap_write_held_goes}
 use Rattle.volume.proofs.Accepts.{if_ok, entered_accepted}
 use Rattle.volume.proofs.Submitted.{snap_placed_submitted, snap_waits_submitted}
 use Rattle.volume.proofs.volume.Volume.submit_snap_write.Goals as goal
+
+pub returns-in_default-clause-err : goal.returns-in_default-clause-err
+returns-in_default-clause-err g c =
+    let snaps = c.as_slice.ensures.value ∙ ap (λ (x : Volumed g.row.B.Denot). x.snaps) c.self.view_is in
+    absurd (found_some c.args.self.now.snaps c.args.request.dev c.args.id c.requires.found (dev_of_write c.args.request c.args.id c.requires.kind) (c.in_default.ensures ∙ ap (place_of_snap c.args.id) snaps))
+
+pub index-snap-requires : goal.index-snap-requires
+index-snap-requires g c =
+    let below = found_within c.args.id c.as_slice.result.now c.in-Some.k c.in-Some.ensures in
+    omega (arith, below, c.as_slice.ensures.len)
 
 pub enter-requires-clause-goes : goal.enter-requires-clause-goes
 enter-requires-clause-goes g c = λ f h number same route room.
