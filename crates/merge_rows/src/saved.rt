@@ -68,6 +68,28 @@ fn save_first(
     snapshot.write_area(1)
 }
 
+// Publishes the first commit.
+fn publish_first(rt: &impl Abort, snapshot: &mut Snapshot<MemDisk>) {
+    assert!(rt; 0 < snapshot.marks().len());
+    snapshot.publish(0);
+}
+
+// Begins the merge of a snapshot of which nothing is under way.
+fn merge_of(
+    rt: &impl Abort,
+    alloc: Global,
+    snapshot: Snapshot<MemDisk>,
+) -> Result<Merge<MemDisk>, Fail> {
+    assert!(rt; snapshot.is_live());
+    assert_eq!(rt; snapshot.chunk(), 1);
+    let count = snapshot.copies().len() + snapshot.marks().len();
+    if 0 < count {
+        return Err(Refusal::OutOfRange.into());
+    }
+    let buffer = vec![in alloc; 0u8; SECTOR_BYTES]?;
+    Ok(Merge::begin(1, snapshot.into_store(), buffer))
+}
+
 #[test]
 fn a_snapshot_saves_for_a_merge_without_memory(rt: HostRuntime) -> Result<(), Fail> {
     let mut origin = counted(rt.alloc(), 16, 0)?;
@@ -81,19 +103,14 @@ fn a_snapshot_saves_for_a_merge_without_memory(rt: HostRuntime) -> Result<(), Fa
         assert_eq!(rt; snapshot.merging(), Some(chunk));
         assert!(rt; !snapshot.can_merge());
         save_first(&rt, &mut snapshot, &mut origin)?;
-        assert!(rt; !snapshot.can_merge() && 0 < snapshot.marks().len());
-        snapshot.publish(0);
+        assert!(rt; !snapshot.can_merge());
+        publish_first(&rt, &mut snapshot);
         assert_eq!(rt; snapshot.merging(), None);
     }
     assert!(rt; !snapshot.can_merge(), "two copies were kept back");
     snapshot.let_go();
     assert!(rt; snapshot.is_published(5) && snapshot.is_published(4));
-
-    assert!(rt; snapshot.is_live() && snapshot.copies().is_empty() && snapshot.marks().is_empty());
-    let store = snapshot.into_store();
-    assert_eq!(rt; store.chunk(), 1);
-    let room = vec![in rt.alloc(); 0u8; SECTOR_BYTES]?;
-    let mut merge = Merge::begin(1, store, room);
+    let mut merge = merge_of(&rt, rt.alloc(), snapshot)?;
     assert_eq!(rt;
         sector_of(merge.device(), 1)?,
         area_of(&rt, &[(5, 2), (4, 3)])
