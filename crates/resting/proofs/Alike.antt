@@ -99,6 +99,7 @@ module _ {B : Type 0} (contents : B → List ℕ) (layers : B → List Layer) (s
         whole = ap length h.origin.bytes ∙ settled.rest.whole ∙ ap (λ n. 512 * n) (sym h.origin.sectors);
         snaps = subst (λ (n : ℕ). All (IsResting n) (map (held_of contents layers) w.snaps)) (sym h.origin.sectors) (all_rest (size v.origin) v.snaps w.snaps h.count h.snaps settled.rest.snaps);
         requests = ap (λ (x : Volumed B). map going_of x.flights) h.becomes ∙ settled.rest.requests;
+        alone = refl;
       };
     }
 

@@ -65,7 +65,7 @@ counts_none (s ∷ snaps) e =
     let rest = counts_none snaps (and_second (is_done_of s) (list_all is_done_of snaps) e) in
     omega (arith, sum_cons count_in s snaps, here, rest)
 
-starting_few : {B : Type 0} (kind : Kind) (first : ℕ) (snaps : List (Kept B)) → starting kind c snaps ≤ length snaps
+starting_few : {B : Type 0} (kind : Kind) (first : ℕ) (snaps : List (Kept B)) → starting kind first snaps ≤ length snaps
 starting_few OriginRead first snaps = omega arith
 starting_few OriginWrite first snaps = count_by-le-length (starts first) snaps
 starting_few (SnapRead number) first snaps = omega arith

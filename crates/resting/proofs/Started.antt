@@ -1,6 +1,6 @@
 -- A request starts a copy for each snapshot at most.
 use Rattle.std.proofs.Common.{◌≡◌, inl, inr, ℕ, ◌+◌, ◌/◌, ◌≤◌, Bool, List, [], ◌∷◌, length, Option, Some, None, ap, sym, subst, arith}
-use Rattle.std.specs.Prelude.{◌||◌}
+use Rattle.std.specs.Prelude.{◌||◌, is_some}
 use Rattle.std.proofs.lemmas.Bool.{cases_Bool, cond-true, cond-false}
 use Rattle.std.proofs.lemmas.List.{length-map}
 use Rattle.device.specs.Layers.{Layer}
@@ -10,6 +10,7 @@ use Rattle.pending.specs.Kinds.{kind_of}
 use Rattle.pending.specs.declared.flights.Kind.{Kind}
 use Rattle.pending.specs.declared.flights.Kind.TheVariants.{OriginRead, OriginWrite, SnapRead, SnapWrite}
 use Rattle.event_machine.specs.Held.{Held, Moving}
+use Rattle.event_machine.specs.Again.{is_grouped, merged_place}
 use Rattle.event_machine.specs.Stepping.{for_some, first_that}
 use Rattle.event_machine.specs.Submitting.{needs_none, is_filled, started_by, read_snap, write_held, write_placed, write_snap, declined, submitted_as, submitted}
 use Rattle.volume_laws.specs.Again.{published_place}
@@ -57,7 +58,13 @@ some_one v (Some h) f each = each h
 
 kind_few : (kind : Kind) (number : ℕ) (request : Request) (v : Moving) → length v.snaps ≤ 8 → (submitted_as kind number request v).started ≤ v.started + 8
 kind_few OriginRead number request v few = omega arith
-kind_few OriginWrite number request v few = let most = started_most request.range.first v.started v.snaps in omega (arith, most, few)
+kind_few OriginWrite number request v few =
+    let first : ℕ = request.range.first in
+    let most = started_most first v.started v.snaps in
+    elim (cases_Bool (is_grouped v.merge first || is_some (merged_place v.merge first))) [
+      | inl none ↦ subst (λ (w : Moving). w.started ≤ v.started + 8) (sym (cond-true _ _ _ none)) (omega arith)
+      | inr one ↦ subst (λ (w : Moving). w.started ≤ v.started + 8) (sym (cond-false _ _ _ one)) (omega (arith, most, few))
+    ]
 kind_few (SnapRead n) number request v few =
     let one = some_one v (first_that (λ h. Rattle.std.specs.Prelude.◌==◌ h.snap.number n) v.snaps) (λ h. read_snap number request h v) (λ h. read_one number request h v) in omega (arith, one)
 kind_few (SnapWrite n) number request v few =

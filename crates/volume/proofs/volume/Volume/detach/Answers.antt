@@ -1,5 +1,5 @@
 -- The snapshot that is found leaves.
-use Rattle.std.proofs.Common.{◌≡◌, List, [], get_or, nat_eq, sym, ◌∙◌, ap, arith, vec_len}
+use Rattle.std.proofs.Common.{◌≡◌, List, [], get_or, nat_eq, sym, ◌∙◌, ap, arith}
 use Rattle.std.proofs.lemmas.List.{get_or_default}
 use Rattle.snapshot.specs.Kept.{Kept}
 use Rattle.volume.specs.Volumed.{Volumed}
@@ -9,7 +9,7 @@ use Rattle.volume.proofs.Leaves.{whole_left, plain_left_as, found_place, quiet_n
 use Rattle.volume.proofs.volume.Volume.detach.Goals as goal
 
 pub remove-snap-requires : goal.remove-snap-requires
-remove-snap-requires g c = let within = position_within (λ (s : Kept g.row.B.Denot). nat_eq s.number c.args.number) c.self.inside.snaps.items c.in-Some.k (sym (c.in-Some.ensures ∙ ap (place_of_snap c.args.number) c.as_slice.ensures.value)) in omega (arith, within, vec_len c.self.inside.snaps)
+remove-snap-requires g c = let within = position_within (λ (s : Kept g.row.B.Denot). nat_eq s.number c.args.number) c.self.inside.snaps.items c.in-Some.k (sym (c.in-Some.ensures ∙ ap (place_of_snap c.args.number) c.as_slice.ensures.value)) in omega (arith, within)
 
 pub invariant_of-self : goal.invariant_of-self
 invariant_of-self g c =

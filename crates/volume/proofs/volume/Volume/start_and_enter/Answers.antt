@@ -1,5 +1,5 @@
 -- Room for the copy is made first; then it is started, and the write is the last in flight.
-use Rattle.std.proofs.Common.{◌≡◌, ◌+◌, ◌<◌, ◌≤◌, ◌++◌, ◌∷◌, [], inl, inr, ℕ, true, List, Some, None, length, get_or, set, refl, sym, ◌∙◌, ap, subst, arith, nat_eq, vec_len}
+use Rattle.std.proofs.Common.{◌≡◌, ◌+◌, ◌<◌, ◌≤◌, ◌++◌, ◌∷◌, [], inl, inr, ℕ, true, List, Some, None, length, get_or, set, refl, sym, ◌∙◌, ap, subst, arith, nat_eq}
 use Rattle.std.specs.Prelude.{◌&&◌, sum_by, count_by}
 use Rattle.std.proofs.lemmas.List.{get_or-set_same}
 use Rattle.pending.specs.declared.flights.Flight.{Flight}
@@ -19,7 +19,7 @@ pub index_mut-requires : goal.index_mut-requires
 index_mut-requires g c =
     let place : Some c.args.k ≡ place_of_snap c.args.id c.self.inside.snaps.items = c.requires.place ∙ sym (ap (λ (x : Volumed g.row.B.Denot). place_of_snap c.args.id x.snaps) c.self.view_is) in
     let within = position_within (λ (s : Kept g.row.B.Denot). nat_eq s.number c.args.id) c.self.inside.snaps.items c.args.k (sym place) in
-    omega (arith, within, vec_len c.self.inside.snaps)
+    omega (arith, within)
 
 pub invariant_of-self : goal.invariant_of-self
 invariant_of-self g c =
