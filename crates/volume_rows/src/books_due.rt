@@ -38,7 +38,10 @@ impl Books {
             if copy.snap != snap.number || copy.stage == Stage::Committed {
                 continue;
             }
-            if copy.stage != Stage::Written || slots <= count {
+            if copy.stage != Stage::Written {
+                return count;
+            }
+            if slots <= count {
                 return count;
             }
             count += 1;

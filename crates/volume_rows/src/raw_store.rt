@@ -153,7 +153,7 @@ impl ChunkSize {
 
     /// How many pairs more than these fill an area.
     pub fn slots_left(&self, pairs: &[Pair]) -> usize {
-        self.slots() - pairs.len() % self.slots()
+        self.slots().saturating_sub(pairs.len() % self.slots())
     }
 
     /// Whether the area after that of these pairs' end lies not inside a store.
