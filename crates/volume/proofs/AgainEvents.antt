@@ -30,7 +30,8 @@ use Rattle.volume_laws.proofs.WaitingAgain.{waits_published, waits_tried}
 use Rattle.volume_laws.proofs.Left.{unmark_left, tried_left}
 use Rattle.volume_laws.proofs.Lists.{map-remove}
 use Rattle.snapshot.specs.Kept.{Kept, books_of as snap_books, due_of_kept, unpublished}
-use Rattle.volume.specs.Volumed.{Volumed, books_of, merge_books}
+use Rattle.merge_beside.specs.Rooms.{merge_books}
+use Rattle.volume.specs.Volumed.{Volumed, books_of}
 use Rattle.snapshots.specs.Numbers.{numbers_in}
 use Rattle.volume.specs.Whole.{IsWhole, IsCounted}
 use Rattle.snapshots.specs.Finding.{is_trying, is_mark_of}

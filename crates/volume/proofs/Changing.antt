@@ -17,7 +17,8 @@ use Rattle.volume_laws.specs.Whole.{Holds}
 use Rattle.volume_laws.specs.Waits.{Waits}
 use Rattle.volume_laws.proofs.Left.{one_left}
 use Rattle.snapshot.specs.Kept.{Kept, books_of as snap_books, due_of_kept}
-use Rattle.volume.specs.Volumed.{Volumed, books_of, piece_of, is_loud_in_all, left_in_all, merge_books, dues_of, is_loud_with}
+use Rattle.merge_beside.specs.Rooms.{merge_books}
+use Rattle.volume.specs.Volumed.{Volumed, books_of, piece_of, is_loud_in_all, left_in_all, dues_of, is_loud_with}
 use Rattle.snapshots.specs.Numbers.{number_of_snap, numbers_in, count_in, merged_count}
 use Rattle.volume.specs.Whole.{AreNumbers, SharesNone, IsAttached, IsWhole, IsCounted, starts_left}
 use Rattle.volume.proofs.Lists.{all_pairs_set, list_all_set, IsFewer, fewer_all, fewer_pairs}

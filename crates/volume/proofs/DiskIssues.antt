@@ -28,7 +28,8 @@ use Rattle.volume_laws.proofs.Requests.{found_holds}
 use Rattle.volume_laws.proofs.Waiting.{waits_out}
 use Rattle.volume_laws.proofs.Issuing.{io_read_event, io_write_event, io_snap_read_event, snap_disk_event}
 use Rattle.snapshot.specs.Kept.{Kept}
-use Rattle.volume.specs.Volumed.{Volumed, books_of, merge_books, is_loud_with}
+use Rattle.merge_beside.specs.Rooms.{merge_books}
+use Rattle.volume.specs.Volumed.{Volumed, books_of, is_loud_with}
 use Rattle.volume.specs.Whole.{IsWhole}
 use Rattle.volume.specs.Causes.{HasReplied, IsFaultless, FailsAlone, GoesTo, IsOneAtMost, counts_of, counts_with, counted}
 use Rattle.snapshots.proofs.Finds.{position_within}

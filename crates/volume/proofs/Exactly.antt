@@ -29,7 +29,8 @@ use Rattle.volume_laws.specs.Published.{is_clear as is_clear_in}
 use Rattle.volume_laws.specs.Steps.{mark_of}
 use Rattle.snapshot.specs.Kept.{Kept, books_of as snap_books, batch_of, needs_area, spare_after, unpublished}
 use Rattle.snapshot.specs.Calls.{ReadsAt, StaysAt, WritesAt}
-use Rattle.volume.specs.Volumed.{Volumed, is_loud_in_all, merge_books}
+use Rattle.merge_beside.specs.Rooms.{merge_books}
+use Rattle.volume.specs.Volumed.{Volumed, is_loud_in_all}
 use Rattle.volume.specs.Whole.{IsWhole, IsCounted}
 use Rattle.snapshots.specs.Finding.{is_copy_of, is_mark_of, is_trying, is_committing, is_zeroing}
 use Rattle.volume.specs.Exact.{IsExact}

@@ -16,7 +16,8 @@ use Rattle.volume_laws.specs.Whole.{Holds}
 use Rattle.pending.specs.Due.{number_of_flight}
 use Rattle.volume_laws.specs.Waits.{Waits}
 use Rattle.snapshot.specs.Kept.{Kept, books_of as snap_books, due_of_kept}
-use Rattle.volume.specs.Volumed.{Volumed, books_of, dues_of, piece_of, merge_books, is_loud_with}
+use Rattle.merge_beside.specs.Rooms.{merge_books}
+use Rattle.volume.specs.Volumed.{Volumed, books_of, dues_of, piece_of, is_loud_with}
 use Rattle.snapshots.specs.Numbers.{number_of_snap, count_in}
 use Rattle.volume.specs.Whole.{IsWhole, IsAttached, IsCounted, SharesNone, AreNumbers, starts_left}
 use Rattle.volume.specs.Moved.{moving_of, held_of}

@@ -10,7 +10,8 @@ use Rattle.volume_laws.specs.Published.{is_clear}
 use Rattle.volume_laws.specs.Again.{again_of}
 use Rattle.volume_laws.specs.Steps.{TriesMark}
 use Rattle.snapshot.specs.Kept.{Kept, books_of as snap_books}
-use Rattle.volume.specs.Volumed.{Volumed, merge_books}
+use Rattle.merge_beside.specs.Rooms.{merge_books}
+use Rattle.volume.specs.Volumed.{Volumed}
 use Rattle.volume.specs.Whole.{IsWhole, IsCounted}
 use Rattle.snapshots.specs.Finding.{is_trying}
 use Rattle.volume.proofs.Changing.{changed}

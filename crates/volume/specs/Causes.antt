@@ -1,11 +1,12 @@
 -- What made an event fail, and how many operations it did: which device's counts rose, and which snapshot was spoiled. The
 -- rules are this project's own, after the kernel's admin-guide page on snapshots: a store that fails makes its own
 -- snapshot invalid, and nothing else.
-use Rattle.std.specs.Prelude.{◌≡◌, ◌⊎◌, ℕ, suc, ◌+◌, ◌<◌, Bool, true, false, List, [], ◌∷◌, ◌++◌, Option, Some, None, Any, length, map, slice_index, slice_index_or, slice_set}
+use Rattle.std.specs.Prelude.{◌≡◌, ◌⊎◌, ℕ, suc, ◌+◌, ◌*◌, ◌<◌, Bool, true, false, List, [], ◌∷◌, ◌++◌, Option, Some, None, Any, length, map, slice_index, slice_index_or, slice_set, if◌then◌else◌}
 use Rattle.sector.specs.Bytes.{next_count}
 use Rattle.model.specs.NextPlace.{LacksArea}
+use Rattle.sector.specs.declared.pair.Pair.{Pair}
 use Rattle.plain.specs.declared.event.Event.{Event}
-use Rattle.plain.specs.declared.event.Event.TheVariants.{CopyRead, CopyWrite, ZeroNext, WriteArea, WriteInvalid}
+use Rattle.plain.specs.declared.event.Event.TheVariants.{CopyRead, CopyWrite, MergeAreaRead, MergeCommit, MergeFlush, MergeGroup, MergeRead, MergeWrite, ZeroNext, WriteArea, WriteInvalid}
 use Rattle.plain.specs.declared.event.Outcome.{Outcome}
 use Rattle.plain.specs.declared.event.Outcome.TheVariants.{Done, Fault, Reply as Replied}
 use Rattle.plain.specs.declared.request.Reply.{Reply}
@@ -14,9 +15,12 @@ use Rattle.plain.specs.declared.request.Failure.TheVariants.{Io}
 use Rattle.pending.specs.declared.flights.Flight.{Flight}
 use Rattle.pending.specs.declared.flights.Route.TheVariants.{Origin, Store}
 use Rattle.pending.specs.Kinds.{kind_of}
-use Rattle.pending.specs.declared.flights.Kind.TheVariants.{SnapRead, SnapWrite}
+use Rattle.pending.specs.declared.flights.Kind.TheVariants.{OriginRead, OriginWrite, SnapRead, SnapWrite}
 use Rattle.snapshot.specs.Kept.{Kept}
+use Rattle.volume_laws.specs.MergeDue.{last_of}
+use Rattle.merge.specs.Lists.{waiting_of}
 use Rattle.merge.specs.Merging.{Merging}
+use Rattle.snapshots.specs.Starting.{overflows}
 use Rattle.volume.specs.Volumed.{Volumed}
 
 -- what some devices counted, and then the merging store
@@ -72,17 +76,6 @@ pub record LacksNext {B : Type 0} (faults : B → ℕ) (number : ℕ) (old new :
   pub counts : counts_of faults new ≡ counts_of faults old
   pub lives : lives_of new ≡ slice_set (lives_of old) place false
 
--- the device that a request of this kind goes to by its route; the first snapshot with its number
-pub record GoesTo {B : Type 0} (number device : ℕ) (v : Volumed B) : Type 0 where
-  pub place : ℕ
-  pub flight : Flight
-  pub within : place < length v.flights
-  pub is : flight ≡ slice_index_or v.flights place flight
-  pub mine : flight.number ≡ number
-  pub route : ((flight.route ≡ Origin) × (device ≡ 0))
-      ⊎ ((stored : ℕ) × (snap : ℕ) × (s : Kept B) × (flight.route ≡ Store stored) × IsAt snap s v × (device ≡ suc snap)
-      × ((kind_of flight.request ≡ SnapRead s.number) ⊎ (kind_of flight.request ≡ SnapWrite s.number)))
-
 -- A copy that fails spoils its own snapshot: device says which of the devices fails, by the snapshot's place.
 pub record CopyFails {B : Type 0} (faults : B → ℕ) (device : ℕ → ℕ) (number : ℕ) (old new : Volumed B) : Type 0 where
   pub place : ℕ
@@ -108,6 +101,45 @@ pub record MarkFails {B : Type 0} (faults : B → ℕ) (number : ℕ) (old new :
   pub stale : slice_index_or (map (λ s. s.stale) new.snaps) place false ≡ true
   pub fails : FailsAlone faults (suc place) old new
 
+-- An operation of the merge fails, on the merging store or on the origin disk: the merge stops, and nothing is spoiled.
+pub record MergeFails {B : Type 0} (faults : B → ℕ) (device : ℕ) (old new : Volumed B) : Type 0 where
+  pub merge : Merging B
+  pub is : new.merge ≡ Some merge
+  pub failed : merge.failed ≡ true
+  pub fails : FailsAlone faults device old new
+
+-- the merging store's device, which is counted last
+abbrev pub merging_device : {B : Type 0} → Volumed B → ℕ
+merging_device v = suc (length v.snaps)
+
+-- the device that a request of this kind goes to by its route: the origin disk, the store of the first snapshot with its
+-- number, or of an origin's request the merging store
+pub record GoesTo {B : Type 0} (number device : ℕ) (v : Volumed B) : Type 0 where
+  pub place : ℕ
+  pub flight : Flight
+  pub within : place < length v.flights
+  pub is : flight ≡ slice_index_or v.flights place flight
+  pub mine : flight.number ≡ number
+  pub route : ((flight.route ≡ Origin) × (device ≡ 0))
+      ⊎ ((stored : ℕ) × (snap : ℕ) × (s : Kept B) × (flight.route ≡ Store stored) × IsAt snap s v × (device ≡ suc snap)
+      × ((kind_of flight.request ≡ SnapRead s.number) ⊎ (kind_of flight.request ≡ SnapWrite s.number)))
+      ⊎ ((stored : ℕ) × (m : Merging B) × (flight.route ≡ Store stored) × (v.merge ≡ Some m) × (device ≡ merging_device v)
+      × ((kind_of flight.request ≡ OriginRead) ⊎ (kind_of flight.request ≡ OriginWrite)))
+
+-- which snapshots are live once the copies of a pair's chunk are started, of chunks of so many sectors: those that were, but
+-- for those that lack it and have no place for it
+abbrev pub lives_saved : {B : Type 0} → ℕ → Option Pair → List (Kept B) → List Bool
+lives_saved chunk None snaps = map (λ s. s.live) snaps
+lives_saved chunk (Some q) snaps = map (λ s. if overflows (chunk * q.old) s then false else s.live) snaps
+
+-- No device failed, and the other snapshots save the chunk that the merge then copies next: those are spoiled that have no
+-- place for it.
+pub record SavesNext {B : Type 0} (faults : B → ℕ) (old new : Volumed B) : Type 0 where
+  pub merge : Merging B
+  pub is : new.merge ≡ Some merge
+  pub counts : counts_of faults new ≡ counts_of faults old
+  pub lives : lives_of new ≡ lives_saved merge.state.chunk (last_of (waiting_of merge.group)) old.snaps
+
 -- what made an event fail that names no request
 abbrev pub HasFailed : {B : Type 0} → (B → ℕ) → Event → Volumed B → Volumed B → Type 0
 HasFailed faults (CopyRead number) old new = CopyFails faults (λ place. 0) number old new
@@ -115,11 +147,19 @@ HasFailed faults (CopyWrite number) old new = CopyFails faults suc number old ne
 HasFailed faults (ZeroNext number) old new = StoreFails faults number old new
 HasFailed faults (WriteArea number) old new = StoreFails faults number old new
 HasFailed faults (WriteInvalid number) old new = MarkFails faults number old new
+HasFailed faults MergeAreaRead old new = MergeFails faults (merging_device old) old new
+HasFailed faults MergeRead old new = MergeFails faults (merging_device old) old new
+HasFailed faults MergeWrite old new = MergeFails faults 0 old new
+HasFailed faults MergeFlush old new = MergeFails faults 0 old new
+HasFailed faults MergeCommit old new = MergeFails faults (merging_device old) old new
 HasFailed faults event old new = ⊥
 
--- an event that is done: only one that zeroes an area spoils, where the store has no room for it
+-- an event that is done: one that zeroes an area spoils where the store has no room for it, and one of a merge that starts
+-- copies where a store has no room for its copy
 abbrev pub HasDone : {B : Type 0} → (B → ℕ) → Event → Volumed B → Volumed B → Type 0
 HasDone faults (ZeroNext number) old new = IsFaultless faults old new ⊎ LacksNext faults number old new
+HasDone faults MergeGroup old new = SavesNext faults old new
+HasDone faults MergeWrite old new = SavesNext faults old new
 HasDone faults event old new = IsFaultless faults old new
 
 -- a reply: Io where the device failed that the request goes to

@@ -7,14 +7,14 @@ use Rattle.plain.specs.declared.event.Outcome.{Outcome}
 use Rattle.plain.specs.declared.request.Reply.{Reply}
 use Rattle.plain.specs.declared.request.Request.{Request}
 use Rattle.event_machine.specs.Seen.{replied_by}
-use Rattle.event_machine.specs.Stepping.{stepped}
+use Rattle.event_machine.specs.MergeStepping.{stepped_all}
 use Rattle.event_machine.specs.Submitting.{submitted}
 use Rattle.volume.specs.Volumed.{Volumed, is_loud_in_all}
 use Rattle.volume.specs.Moved.{moving_of}
 
 -- Where no device drops writes, the volume is what the machine steps to, with the reply of the outcome as the last one.
 pub record IsExact {B : Type 0} (contents : B → List ℕ) (layers : B → List Layer) (event : Event) (outcome : Outcome) (old new : Volumed B) : Type 0 where
-  pub step : is_loud_in_all layers old ≡ true → (replied : Option Reply) → stepped event (moving_of contents layers replied old) ≡ moving_of contents layers (replied_by outcome replied) new
+  pub step : is_loud_in_all layers old ≡ true → (replied : Option Reply) → stepped_all event (moving_of contents layers replied old) ≡ moving_of contents layers (replied_by outcome replied) new
 
 -- the volume is what the machine takes a request to, under this number
 abbrev pub IsSubmittedAs : {B : Type 0} → (B → List ℕ) → (B → List Layer) → Request → ℕ → Volumed B → Volumed B → Type 0

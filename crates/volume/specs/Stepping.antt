@@ -1,8 +1,10 @@
 -- What an event that was due does to a volume.
-use Rattle.std.specs.Prelude.{◌≡◌, ℕ, ◌<◌, true, List, Option, Some, None, map}
+use Rattle.std.specs.Prelude.{◌≡◌, ℕ, ◌+◌, ◌<◌, ◌≤◌, Bool, true, false, List, Option, Some, None, map}
 use Rattle.device.specs.Layers.{Layer}
 use Rattle.plain.specs.declared.event.Event.{Event}
+use Rattle.plain.specs.declared.event.Event.TheVariants.{MergeAreaRead, MergeCommit, MergeFlush, MergeGroup, MergeRead, MergeWrite}
 use Rattle.plain.specs.declared.event.Outcome.{Outcome}
+use Rattle.plain.specs.declared.event.Outcome.TheVariants.{Fault}
 use Rattle.plain.specs.Legal.{IsLegalStep}
 use Rattle.pending.specs.Kinds.{in_flight}
 use Rattle.merge.specs.Merging.{Merging}
@@ -35,16 +37,37 @@ pub record KeepsDevices {B : Type 0} (old new : Volumed B) : Type 0 where
   pub chunks : map (λ s. s.state.chunk) new.snaps ≡ map (λ s. s.state.chunk) old.snaps
   pub merge : new.merge ≡ old.merge
 
+-- how many copies an event starts at most: one in each other snapshot, of which there are seven
+abbrev pub starts_by : Event → ℕ
+starts_by MergeGroup = 7
+starts_by MergeWrite = 7
+starts_by event = 0
+
+-- whether a merge is begun that stopped at a fault; and whether it is after an event: only a fault of its own stops it
+abbrev pub has_failed : {B : Type 0} → Option (Merging B) → Bool
+has_failed None = false
+has_failed (Some m) = m.failed
+
+abbrev pub failed_by : Event → Outcome → Bool → Bool
+failed_by MergeAreaRead Fault was = true
+failed_by MergeRead Fault was = true
+failed_by MergeWrite Fault was = true
+failed_by MergeFlush Fault was = true
+failed_by MergeCommit Fault was = true
+failed_by event outcome was = was
+
 -- Where no device drops writes, the plain machine takes the step that the outcome tells. Whatever the devices do, a whole
--- number falls, the cause is counted, a request leaves only where it is answered, at most one operation is done, and no
--- number is given.
+-- number falls, the cause is counted, a request leaves only where it is answered, at most one operation is done, no
+-- request is numbered, and only the events of a merge that start copies number any.
 pub record IsStepped {B : Type 0} (contents : B → List ℕ) (layers : B → List Layer) (size faults done : B → ℕ) (event : Event) (outcome : Outcome) (old new : Volumed B) : Type 0 where
   pub legal : is_loud_in_all layers old ≡ true → IsLegalStep (plain_of contents layers old) event outcome (plain_of contents layers new)
   pub lower : left_in_all contents layers new < left_in_all contents layers old
   pub loud : is_loud_in_all layers new ≡ is_loud_in_all layers old
   pub cause : HasCause faults event outcome old new
+  pub failed : has_failed new.merge ≡ failed_by event outcome (has_failed old.merge)
   pub flown : IsFlown event outcome (map in_flight old.flights) (map in_flight new.flights)
   pub one : IsOneAtMost done old new
   pub kept : KeepsAll size old new
   pub requests : new.requests ≡ old.requests
-  pub copies : new.copies ≡ old.copies
+  pub copies : new.copies ≤ old.copies + starts_by event
+  pub given : old.copies ≤ new.copies

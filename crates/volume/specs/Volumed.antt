@@ -7,12 +7,13 @@ use Rattle.plain.specs.Plain.{Plain}
 use Rattle.plain.specs.declared.event.Event.{Event}
 use Rattle.pending.specs.Kinds.{in_flight}
 use Rattle.pending.specs.declared.flights.Flight.{Flight}
-use Rattle.volume_laws.specs.Books.{Books, MergeBooks}
+use Rattle.volume_laws.specs.Books.{Books}
 use Rattle.volume_laws.specs.Due.{DueSnap, due_of, is_due, left_of}
 use Rattle.volume_laws.specs.MergeDue.{DueMerge, due_with, is_due_with, left_in_merge}
 use Rattle.volume_laws.specs.Shape.{SnapShape, MergeShape, Shape, plain_shown}
 use Rattle.snapshot.specs.Kept.{Kept, books_of as snap_books, due_of_kept}
-use Rattle.merge.specs.Merging.{Merging, books_of as merging_books, due_of as merging_due}
+use Rattle.merge.specs.Merging.{Merging, due_of as merging_due}
+use Rattle.merge_beside.specs.Rooms.{merge_books}
 
 -- A volume, with its devices. requests, copies, attached: how many numbers of each kind were given.
 pub record Volumed (B : Type 0) : Type 0 where
@@ -26,11 +27,6 @@ pub record Volumed (B : Type 0) : Type 0 where
   pub requests : ℕ
   pub copies : ℕ
   pub attached : ℕ
-
--- The books of its merge. loud: whether writes to the origin disk that answer Ok are done.
-abbrev pub merge_books : {B : Type 0} → (B → List ℕ) → (B → List Layer) → Bool → Option (Merging B) → Option MergeBooks
-merge_books contents layers loud None = None
-merge_books contents layers loud (Some m) = Some (merging_books contents (loud && is_loud (layers m.device)) m)
 
 -- its books, over what a device's bytes, layers and sectors are
 abbrev pub books_of : {B : Type 0} → (B → List ℕ) → (B → List Layer) → (B → ℕ) → Volumed B → Books
@@ -113,3 +109,8 @@ plain_of contents layers v = plain_shown contents (shape_of contents layers v)
 abbrev pub piece_of : {B : Type 0} → List (Kept B) → ℕ
 piece_of [] = 1024
 piece_of (s ∷ snaps) = s.state.chunk
+
+-- and of the one that is being merged, which are as large as theirs
+abbrev pub piece_with : {B : Type 0} → Option (Merging B) → List (Kept B) → ℕ
+piece_with None snaps = piece_of snaps
+piece_with (Some m) snaps = m.state.chunk

@@ -1,13 +1,17 @@
 -- What a volume keeps true.
-use Rattle.std.specs.Prelude.{◌≡◌, ◌≢◌, ℕ, ◌+◌, ◌-◌, ◌*◌, ◌<◌, ◌≤◌, true, false, List, [], None, length, map, AllPairs, sum_by, if◌then◌else◌}
+use Rattle.std.specs.Prelude.{◌≡◌, ◌≢◌, ℕ, ◌+◌, ◌-◌, ◌*◌, ◌<◌, ◌≤◌, Bool, true, false, List, [], Option, None, Some, Unit, length, map, AllPairs, sum_by, if◌then◌else◌}
 use Rattle.std.specs.List.{All}
 use Rattle.device.specs.Layers.{Layer}
 use Rattle.pending.specs.Due.{number_of_flight}
 use Rattle.volume_laws.specs.Whole.{Holds}
 use Rattle.volume_laws.specs.Waits.{Waits}
-use Rattle.snapshot.specs.Kept.{Kept}
+use Rattle.volume_laws.specs.MergeWaits.{MergeGoes}
+use Rattle.volume_laws.specs.MergeRooms.{KeepBack}
+use Rattle.snapshot.specs.Kept.{Kept, books_of as snap_books}
 use Rattle.snapshots.specs.Numbers.{number_of_snap, numbers_in, count_in}
-use Rattle.volume.specs.Volumed.{Volumed, books_of, piece_of}
+use Rattle.merge.specs.Merging.{Merging, due_of as merging_due}
+use Rattle.merge_beside.specs.Rooms.{room_of}
+use Rattle.volume.specs.Volumed.{Volumed, books_of, piece_with}
 
 -- numbers that were given one after another, the last of them `most`
 pub record AreNumbers (most : ℕ) (numbers : List ℕ) : Type 0 where
@@ -38,13 +42,27 @@ pub record IsCounted {B : Type 0} (s : Kept B) : Type 0 where
 abbrev pub starts_left : {B : Type 0} → Kept B → ℕ
 starts_left s = if s.live then s.state.size - s.next else 0
 
+-- What a volume keeps of the snapshot that it merges: it is none of the others, and was attached once, like them; the merge
+-- goes on among them, whatever writes are done, and they keep back what it will start.
+pub record IsMerged {B : Type 0} (contents : B → List ℕ) (layers : B → List Layer) (size : B → ℕ) (m : Merging B) (v : Volumed B) : Type 0 where
+  pub origin : m.state.origin ≡ size v.origin
+  pub apart : All (λ s. s.number ≢ m.number) v.snaps
+  pub given : m.number ≤ v.attached
+  pub few : length v.snaps ≤ 7
+  pub goes : (loud : Bool) → MergeGoes (map (snap_books contents layers) v.snaps) (merging_due contents loud m)
+  pub rooms : KeepBack m.state.chunk m.pairs (map (room_of contents layers) v.snaps)
+
+-- and where none is begun, nothing
+abbrev pub GoesOn : {B : Type 0} → (B → List ℕ) → (B → List Layer) → (B → ℕ) → Option (Merging B) → Volumed B → Type 0
+GoesOn contents layers size None v = Unit {0}
+GoesOn contents layers size (Some m) v = IsMerged contents layers size m v
+
 -- numbers_left: a store has 2^24 sectors at most, so each snapshot that was ever attached starts fewer than 2^24 copies
 pub record IsWhole {B : Type 0} (contents : B → List ℕ) (layers : B → List Layer) (size : B → ℕ) (v : Volumed B) : Type 0 where
-  -- no call begins a merge yet
-  pub alone : v.merge ≡ None
   pub holds : Holds (books_of contents layers size v)
   pub waits : Waits (books_of contents layers size v)
-  pub snaps : All (IsAttached v.copies (size v.origin) (piece_of v.snaps)) v.snaps
+  pub merge : GoesOn contents layers size v.merge v
+  pub snaps : All (IsAttached v.copies (size v.origin) (piece_with v.merge v.snaps)) v.snaps
   pub counted : All IsCounted v.snaps
   pub apart : AllPairs SharesNone v.snaps
   pub numbers : AreNumbers v.attached (map number_of_snap v.snaps)

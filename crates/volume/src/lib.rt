@@ -27,7 +27,6 @@ mod messages;
 mod peeking;
 mod refusing;
 mod requests;
-mod routing;
 mod snap_requests;
 mod status;
 mod stores;

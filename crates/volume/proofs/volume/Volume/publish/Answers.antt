@@ -11,7 +11,7 @@ use Rattle.volume.proofs.Chunks.{chunks_all, chunks_set}
 use Rattle.volume.proofs.AgainEvents.{published_good}
 use Rattle.volume.proofs.Exactly.{publish_exact}
 use Rattle.volume.proofs.volume.Volume.publish.Goals as goal
-use Rattle.volume.specs.Volumed.{merge_books}
+use Rattle.merge_beside.specs.Rooms.{merge_books}
 
 pub find_mark-requires : goal.find_mark-requires
 find_mark-requires g c =

@@ -11,7 +11,7 @@ use Rattle.volume.proofs.Chunks.{chunks_set}
 use Rattle.volume.proofs.Tried.{tried_done, tried_fault}
 use Rattle.volume.proofs.Exactly.{tried_exact, tried_fault_exact}
 use Rattle.volume.proofs.volume.Volume.write_invalid.Goals as goal
-use Rattle.volume.specs.Volumed.{merge_books}
+use Rattle.merge_beside.specs.Rooms.{merge_books}
 
 pub write_invalid-requires : goal.write_invalid-requires
 write_invalid-requires g c =

@@ -7,7 +7,7 @@ ghost use Rattle.volume_laws.specs.Again.{again_of, has_chunk, new_route};
 ghost use Rattle.volume_laws.specs.Published.{is_clear as is_clear_in};
 ghost use Rattle.snapshot.specs.Kept.{books_of};
 ghost use Rattle.merge.specs.Lists.{group_pairs};
-ghost use Rattle.volume.specs.Volumed.{merge_books};
+ghost use Rattle.merge_beside.specs.Rooms.{merge_books};
 
 use device::Block;
 use merge::Merge;
@@ -51,7 +51,7 @@ fn again_for<B: Block>(snaps: &[Snapshot<B>], merge: &Option<Merge<B>>, flight: 
 }
 
 /// Routes the held origin writes again: those that may go somewhere now go there.
-pub(crate) fn route_again<B: Block>(
+pub fn route_again<B: Block>(
     snaps: &[Snapshot<B>],
     merge: &Option<Merge<B>>,
     flights: &mut Vec<Flight>,

@@ -3,8 +3,8 @@ use Rattle.std.proofs.Common.{◌≡◌, ◌++◌, true, map, take, drop}
 use Rattle.volume_laws.specs.Again.{again_of}
 use Rattle.volume_laws.specs.Published.{is_clear}
 use Rattle.snapshot.specs.Kept.{books_of}
-use Rattle.volume.specs.Volumed.{merge_books}
-use Rattle.volume.proofs.routing.route_all_again.Given as goal
+use Rattle.merge_beside.specs.Rooms.{merge_books}
+use Rattle.merge_beside.proofs.routing.route_all_again.Given as goal
 
 abbrev pub invariant-loop-f : goal.invariant-loop-f
 invariant-loop-f g l =

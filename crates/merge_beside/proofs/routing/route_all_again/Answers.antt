@@ -4,8 +4,8 @@ use Rattle.std.proofs.lemmas.List.Edits.{map_over_more}
 use Rattle.volume_laws.specs.Again.{again_of}
 use Rattle.volume_laws.specs.Published.{is_clear}
 use Rattle.snapshot.specs.Kept.{books_of}
-use Rattle.volume.specs.Volumed.{merge_books}
-use Rattle.volume.proofs.routing.route_all_again.Goals as goal
+use Rattle.merge_beside.specs.Rooms.{merge_books}
+use Rattle.merge_beside.proofs.routing.route_all_again.Goals as goal
 
 pub loop-f-preserved : goal.loop-f-preserved
 loop-f-preserved g c =
