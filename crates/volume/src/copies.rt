@@ -10,8 +10,8 @@ ghost use Rattle.volume.specs.Stepping.{IsStepped};
 ghost use Rattle.volume.specs.Exact.{IsExact};
 
 use crate::Volume;
-use crate::routing::route_again;
 use device::{Block, Io};
+use merge_beside::route_again;
 use pending::{Flight, Stage, refuse};
 use plain::{CopyId, NotDue, Outcome, SnapId};
 use snapshot::Snapshot;
