@@ -59,3 +59,6 @@ pub mod Ran
 pub mod Peeked
 pub mod AtRest
 pub mod Unwritten
+pub mod Unlike
+pub mod KeptBack
+pub mod Resumed
