@@ -1,1 +1,2 @@
 pub mod Unkept
+pub mod Using
