@@ -58,4 +58,6 @@ pub mod Told
 pub mod Ran
 pub mod Peeked
 pub mod AtRest
+pub mod Quieted
+pub mod MergeDue
 pub mod Unwritten
