@@ -121,7 +121,13 @@ impl<B: Block> Volume<B> {
         ensures between { result ≡ true → is_loud_in_all B.layers self.now ≡ true → (replied : Option Reply) → IsBetween (B.size self.now.origin) (moving_of B.contents B.layers replied self.now) }
         ensures rest { result ≡ true → is_loud_in_all B.layers self.now ≡ true → self.now.merge ≡ None → (replied : Option Reply) → IsAtRest (B.size self.now.origin) (moving_of B.contents B.layers replied self.now) }
     {
-        self.flights.is_empty() && !self.has_group() && are_done(self.snaps.as_slice())
+        if !self.flights.is_empty() {
+            return false;
+        }
+        if self.has_group() {
+            return false;
+        }
+        are_done(self.snaps.as_slice())
     }
 
     /// The number of the request that was accepted last: so many were accepted so far.
