@@ -6,6 +6,7 @@ pub mod Changing
 pub mod Counting
 pub mod Empty
 pub mod Good
+pub mod MergeChanging
 pub mod CopyEvents
 pub mod DueEvents
 pub mod Spoilt
