@@ -7,6 +7,8 @@ pub mod Counting
 pub mod Empty
 pub mod Good
 pub mod MergeChanging
+pub mod MergeCounting
+pub mod MergeOperations
 pub mod CopyEvents
 pub mod DueEvents
 pub mod Spoilt
