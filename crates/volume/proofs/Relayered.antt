@@ -1,7 +1,7 @@
 -- Where layers alone change, and a device drops writes as before, a volume stays whole.
 use Rattle.std.proofs.Common.{◌≡◌, ◌≢◌, inl, inr, ℕ, suc, ◌+◌, ◌<◌, ◌≤◌, Bool, true, List, [], ◌∷◌, length, get_or, set, map, refl, sym, ◌∙◌, ap, subst, arith, ◌++◌}
 use Rattle.std.specs.Prelude.{sum_by, Option, Some, None, ◌&&◌}
-use Rattle.std.specs.List.{All, sum}
+use Rattle.std.specs.List.{sum}
 use Rattle.std.proofs.lemmas.List.Sums.{sum-map}
 use Rattle.std.proofs.lemmas.List.{get_or-set_same, get_or-set_other, length-set, get_or_default}
 use Rattle.std.proofs.lemmas.Bool.{cases_eq}
