@@ -178,7 +178,7 @@ module _ {B : Type 0} (contents : B → List ℕ) (layers : B → List Layer) (s
 
       rooms : KeepsRoom (room_of contents layers s) (room_of contents layers s')
       rooms = subst (λ (x : Kept B). KeepsRoom (room_of contents layers s) (room_of contents layers x)) (sym f)
-          (record { saved = record { live = λ e. e; chunk = λ _. refl; saving = λ _ c e. e; published = λ _ c e. e }; kept_back = λ _. omega arith; merging = λ _ n e. e; mine = λ _ n c e. e; spare = λ _ none there _. there none })
+          (record { saved = record { live = λ e. e; chunk = λ _. refl; saving = λ _ c e. e; published = λ _ c e. e }; kept_back = λ _. omega arith; merging = λ _ n e. e; mine = λ _ n c same e. e; spare = λ _ none there _. there none })
 
       waits : Waits wb
       waits = waits_out place ub wb
