@@ -7,4 +7,4 @@
 
 mod routing;
 
-pub use routing::route_again;
+pub use routing::{is_merged_at, merged_route, place_at, route_again};
