@@ -12,4 +12,4 @@ pub use due::{
     is_area_due, is_commit_due, is_flush_due, is_group_due, is_read_due, is_release_due,
     is_write_due, merge_due,
 };
-pub use routing::route_again;
+pub use routing::{is_merged_at, merged_route, place_at, route_again};

@@ -38,6 +38,8 @@ pub mod Reaches
 pub mod Sums
 pub mod StartsLeft
 pub mod SavingAt
+pub mod MergeRoutes
+pub mod MergeWrites
 pub mod Leaves
 pub mod Attaches
 pub mod AttachedAs
