@@ -1,2 +1,3 @@
+pub mod Keeping
 pub mod Rooms
 pub mod Routing
