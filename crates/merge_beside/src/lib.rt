@@ -6,5 +6,7 @@
 #![tactic(auto)]
 
 mod routing;
+mod saving_next;
 
 pub use routing::route_again;
+pub use saving_next::save_next;
