@@ -8,6 +8,7 @@
 
 mod files;
 mod looking;
+mod progress;
 mod rolling;
 mod trouble;
 mod unmarked;
