@@ -11,7 +11,6 @@ mod looking;
 mod progress;
 mod rolling;
 mod trouble;
-mod unmarked;
 
 use crate::looking::{check, map, raw_map, show, show_json};
 use crate::rolling::{export, salvage};
