@@ -10,6 +10,8 @@ pub mod Leaving
 pub mod Taking
 pub mod Asking
 pub mod Attached
+pub mod Beginning
+pub mod Finishing
 pub mod Submitting
 pub mod Peeking
 pub mod Layering
