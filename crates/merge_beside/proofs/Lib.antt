@@ -1,2 +1,3 @@
-pub mod Unkept
 pub mod Using
+pub mod Unkept
+pub mod NextStarts
