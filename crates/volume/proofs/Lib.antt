@@ -73,3 +73,4 @@ pub mod KeptBack
 pub mod Resumed
 pub mod Removed
 pub mod Begun
+pub mod Beginnings
