@@ -66,6 +66,7 @@ pub mod Ran
 pub mod Peeked
 pub mod AtRest
 pub mod Quieted
+pub mod Asked
 pub mod MergeDue
 pub mod Unwritten
 pub mod Unlike
