@@ -75,3 +75,4 @@ pub mod Resumed
 pub mod Removed
 pub mod Begun
 pub mod Beginnings
+pub mod Finished
