@@ -6,6 +6,9 @@ pub mod Changing
 pub mod Counting
 pub mod Empty
 pub mod Good
+pub mod MergeChanging
+pub mod MergeCounting
+pub mod MergeOperations
 pub mod CopyEvents
 pub mod DueEvents
 pub mod Spoilt
@@ -35,6 +38,8 @@ pub mod Reaches
 pub mod Sums
 pub mod StartsLeft
 pub mod SavingAt
+pub mod MergeRoutes
+pub mod MergeWrites
 pub mod Leaves
 pub mod Attaches
 pub mod AttachedAs

@@ -1,0 +1,57 @@
+// The copies of the chunk that a merge copies next are started, each snapshot's of its own chunk. They take no memory: each
+// snapshot keeps room back for its copy.
+ghost use Rattle.std.specs.Prelude.{◌≡◌, ◌+◌, ◌^◌, ◌<◌, length};
+ghost use Rattle.std.specs.List.{All};
+ghost use Rattle.merge_beside.specs.Starting.{AreNextSavedIn, IsNextSavedIn, KeepsRoomFor};
+
+use device::Block;
+use pending::{Flight, refuse};
+use snapshot::Snapshot;
+use snapshots::{is_lacking, own_chunk};
+
+/// Starts the copy of a snapshot's chunk of a sector for a merge, where it lacks it, under the next number, and tells how many
+/// numbers were given then. A snapshot whose store is full is spoiled, and its requests are refused.
+fn save_next_in<B: Block>(
+    snap: &mut Snapshot<B>,
+    flights: &mut [Flight],
+    copies: u64,
+    first: u64,
+) -> u64
+    requires begins { first < snap.old.state.origin }
+    requires room { KeepsRoomFor first copies snap.old }
+    requires few { copies + 1 < 2 ^ 64 }
+    ensures saved { IsNextSavedIn B.contents B.layers first snap.old snap.new copies result flights.old flights.new }
+{
+    if !is_lacking(snap, first) {
+        return copies;
+    }
+    let chunk = own_chunk(snap, first);
+    if snap.start_merging(copies + 1, chunk) {
+        copies + 1
+    } else {
+        let number = snap.number();
+        snap.spoil();
+        refuse(flights, number);
+        copies
+    }
+}
+
+/// Starts the copies of the chunks of a sector for a merge, in all snapshots that lack theirs, in their order, and tells how
+/// many numbers were given then.
+pub fn save_next<B: Block>(
+    snaps: &mut [Snapshot<B>],
+    flights: &mut [Flight],
+    copies: u64,
+    first: u64,
+) -> u64
+    requires begins { All (λ s. first < s.state.origin) snaps.old }
+    requires room { All (KeepsRoomFor first copies) snaps.old }
+    requires few { copies + length snaps.old < 2 ^ 64 }
+    ensures saved { AreNextSavedIn B.contents B.layers first snaps.old snaps.new copies result flights.old flights.new }
+{
+    let mut given = copies;
+    for k in 0..snaps.len() {
+        given = save_next_in(&mut snaps[k], flights, given, first);
+    }
+    given
+}
