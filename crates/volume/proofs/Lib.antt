@@ -68,3 +68,6 @@ pub mod AtRest
 pub mod Quieted
 pub mod MergeDue
 pub mod Unwritten
+pub mod Unlike
+pub mod KeptBack
+pub mod Resumed
