@@ -9,4 +9,4 @@ mod routing;
 mod saving_next;
 
 pub use routing::route_again;
-pub use saving_next::save_next;
+pub use saving_next::save_waiting;
