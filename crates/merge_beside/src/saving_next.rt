@@ -60,8 +60,8 @@ fn save_next<B: Block>(
     given
 }
 
-/// The same for the chunk that a merge copies next, if a pair waits.
-pub fn save_waiting<B: Block>(
+/// The same for the chunk that a merge copies next, which is the last pair's that waits, if one does.
+fn save_last<B: Block>(
     merge: &Merge<B>,
     snaps: &mut [Snapshot<B>],
     flights: &mut [Flight],
@@ -77,4 +77,19 @@ pub fn save_waiting<B: Block>(
         Some(pair) => save_next(snaps, flights, copies, merge.chunk() as u64 * pair.old),
         None => copies,
     }
+}
+
+/// Starts the copies of the chunk that a merge copies next, if a pair waits, in all snapshots that lack theirs, and tells how
+/// many numbers were given then. Snapshots whose stores are full are spoiled, and their requests refused.
+pub fn save_waiting<B: Block>(
+    merge: &Merge<B>,
+    snaps: &mut Vec<Snapshot<B>>,
+    flights: &mut Vec<Flight>,
+    copies: u64,
+) -> u64
+    requires room { (q : Pair) → last_of (waiting_of merge.now.group) ≡ Some q → CanSaveNext merge.now.state.chunk copies snaps.old.items q }
+    requires few { copies + length snaps.old.items < 2 ^ 64 }
+    ensures saved { IsNextSaved B.contents B.layers merge.now.state.chunk (last_of (waiting_of merge.now.group)) snaps.old.items snaps.new.items copies result flights.old.items flights.new.items }
+{
+    save_last(merge, snaps, flights, copies)
 }

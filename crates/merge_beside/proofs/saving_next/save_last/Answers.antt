@@ -5,7 +5,7 @@ use Rattle.snapshot.specs.Kept.{Kept}
 use Rattle.volume_laws.specs.MergeDue.{last_of}
 use Rattle.merge.specs.Lists.{waiting_of}
 use Rattle.merge_beside.specs.Starting.{AreNextSavedIn, IsNextSaved, KeepsRoomFor}
-use Rattle.merge_beside.proofs.saving_next.save_waiting.Goals as goal
+use Rattle.merge_beside.proofs.saving_next.save_last.Goals as goal
 
 pub overflow_mul-chunk : goal.overflow_mul-chunk
 overflow_mul-chunk g c =
