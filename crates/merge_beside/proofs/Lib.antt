@@ -1,1 +1,2 @@
 pub mod NextStarts
+pub mod Using

@@ -5,8 +5,13 @@
 //! speaks in the words of `volume_laws`, whose laws take what is promised here.
 #![tactic(auto)]
 
+mod due;
 mod routing;
 mod saving_next;
 
+pub use due::{
+    is_area_due, is_commit_due, is_flush_due, is_group_due, is_read_due, is_release_due,
+    is_write_due, merge_due,
+};
 pub use routing::route_again;
 pub use saving_next::save_waiting;

@@ -6,6 +6,9 @@ pub mod Changing
 pub mod Counting
 pub mod Empty
 pub mod Good
+pub mod MergeChanging
+pub mod MergeCounting
+pub mod MergeOperations
 pub mod CopyEvents
 pub mod DueEvents
 pub mod Spoilt

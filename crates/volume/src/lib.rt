@@ -23,6 +23,7 @@ mod copies;
 mod detach;
 mod events;
 mod issue;
+mod merge_events;
 mod messages;
 mod peeking;
 mod refusing;
