@@ -5,6 +5,8 @@
 //! speaks in the words of `volume_laws`, whose laws take what is promised here.
 #![tactic(auto)]
 
+mod keeping;
 mod routing;
 
+pub use keeping::{keep_back_all, let_go_all};
 pub use routing::route_again;

@@ -9,6 +9,8 @@ pub mod Reaching
 pub mod Leaving
 pub mod Taking
 pub mod Attached
+pub mod Beginning
+pub mod Finishing
 pub mod Submitting
 pub mod Peeking
 pub mod Layering
