@@ -20,7 +20,6 @@ pub mod IssueEvents
 pub mod MergeIssues
 pub mod DiskIssues
 pub mod StoreIssues
-pub mod MergingCounts
 pub mod MergingIssues
 pub mod Issued
 pub mod MovedLists
