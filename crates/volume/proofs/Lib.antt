@@ -70,3 +70,5 @@ pub mod Unwritten
 pub mod Unlike
 pub mod KeptBack
 pub mod Resumed
+pub mod Removed
+pub mod Begun
