@@ -1,9 +1,9 @@
 -- The events after which held writes are routed again: a mark is taken away, and a spoiled store's mark is tried.
-use Rattle.std.proofs.Common.{◌≡◌, inl, inr, ℕ, zero, suc, ◌<◌, Bool, true, false, List, [], ◌∷◌, ◌++◌, Some, None, length, get_or, set, map, refl, sym, ◌∙◌, ap, arith, nat_eq, length-append, subst, Option}
-use Rattle.std.specs.Prelude.{not}
-use Rattle.std.specs.List.{list_any, position, remove}
+use Rattle.std.proofs.Common.{◌≡◌, ◌≢◌, inl, inr, ℕ, zero, suc, ◌+◌, ◌<◌, Bool, true, false, List, [], ◌∷◌, ◌++◌, Some, None, length, get_or, set, map, refl, sym, ◌∙◌, ap, arith, nat_eq, length-append, subst, Option}
+use Rattle.std.specs.Prelude.{AllPairs, not}
+use Rattle.std.specs.List.{All, list_any, position, remove}
 use Rattle.std.proofs.lemmas.Bool.{false≢true, eqb-true}
-use Rattle.std.proofs.lemmas.List.{length-map, length-set, map-set, get_or-set_same}
+use Rattle.std.proofs.lemmas.List.{length-map, length-set, map-set, get_or-map, get_or-set_same, get_or_append_left, get_or-append-add}
 use Rattle.std.proofs.lemmas.List.Edits.{length-remove}
 use Rattle.std.proofs.lemmas.List.Quantifiers.{position-Some}
 use Rattle.sector.specs.Bytes.{next_count}
@@ -14,6 +14,7 @@ use Rattle.plain.specs.declared.event.Outcome.TheVariants.{Done}
 use Rattle.pending.specs.Due.{number_of_copy, number_of_mark, is_publishable}
 use Rattle.pending.specs.Kinds.{in_flight}
 use Rattle.pending.specs.Routes.{is_reading}
+use Rattle.pending.specs.declared.copies.ChunkCopy.{ChunkCopy}
 use Rattle.pending.specs.declared.copies.Mark.{Mark}
 use Rattle.pending.specs.declared.flights.Flight.{Flight}
 use Rattle.volume_laws.specs.Books.{SnapBooks, MergeBooks}
@@ -30,7 +31,9 @@ use Rattle.volume_laws.proofs.WaitingAgain.{waits_published, waits_tried}
 use Rattle.volume_laws.proofs.Left.{unmark_left, tried_left}
 use Rattle.volume_laws.proofs.Lists.{map-remove}
 use Rattle.snapshot.specs.Kept.{Kept, books_of as snap_books, due_of_kept, unpublished}
-use Rattle.merge_beside.specs.Rooms.{merge_books}
+use Rattle.merge_beside.specs.Rooms.{merge_books, room_of}
+use Rattle.volume_laws.specs.MergeRooms.{unpublished as unpublished_room}
+use Rattle.volume_laws.proofs.MergeRoomEvents.{publish_room, tried_room}
 use Rattle.volume.specs.Volumed.{Volumed, books_of}
 use Rattle.snapshots.specs.Numbers.{numbers_in}
 use Rattle.volume.specs.Whole.{IsWhole, IsCounted}
@@ -39,13 +42,13 @@ use Rattle.volume.specs.Causes.{HasCause}
 use Rattle.volume.proofs.Changing.{SameDisk, same_disk, StaysAttached, changed, books_within, books_is, changes, few_less, few_same}
 use Rattle.volume.proofs.Counting.{counts_same, counts_store, store_within, lives_same}
 use Rattle.volume.proofs.CopyEvents.{both_left, both_right}
-use Rattle.volume.proofs.Good.{IsGood, Spoiling, Staying, silent_good}
+use Rattle.volume.proofs.Good.{IsGood, Spoiling, Staying, Calm, silent_good}
 use Rattle.volume.proofs.StartsLeft.{left_same, left_spoilt}
 use Rattle.volume.proofs.MovedCounts.{counted_marks}
 use Rattle.merge.specs.Merging.{Merging}
 
 -- the same requests are in flight
-again_flown : (merge : Option MergeBooks) (clear : ℕ → Bool) (rs : List Flight) → map in_flight (map (again_of merge clear) rs) ≡ map in_flight rs
+pub again_flown : (merge : Option MergeBooks) (clear : ℕ → Bool) (rs : List Flight) → map in_flight (map (again_of merge clear) rs) ≡ map in_flight rs
 again_flown merge clear [] = refl
 again_flown merge clear (r ∷ rs) = ap (λ xs. in_flight r ∷ xs) (again_flown merge clear rs)
 
@@ -62,6 +65,22 @@ remove_front : (xs ys : List ℕ) (k : ℕ) → k < length xs → remove (xs ++ 
 remove_front [] ys k lt = absurd (omega (arith, lt))
 remove_front (x ∷ xs) ys zero lt = refl
 remove_front (x ∷ xs) ys (suc k) lt = ap (λ zs. x ∷ zs) (remove_front xs ys k (omega (arith, lt)))
+
+-- no copy has the number of a mark
+marks_apart : (marks : List Mark) (copies : List ChunkCopy) (j : ℕ) (m : Mark) → AllPairs (λ a b. a < b) (map number_of_mark marks ++ map number_of_copy copies) → j < length marks → m ≡ get_or marks j m → All (λ (p : ChunkCopy). p.number ≢ m.number) copies
+marks_apart marks copies j m up lt is i d within same =
+    let front : List ℕ = map number_of_mark marks in
+    let back : List ℕ = map number_of_copy copies in
+    let first : get_or (front ++ back) j 0 ≡ m.number = get_or_append_left front back 0 j (omega (arith, lt, length-map marks number_of_mark)) ∙ get_or-map number_of_mark marks j m 0 lt ∙ ap number_of_mark (sym is) in
+    let second : get_or (front ++ back) (length front + i) 0 ≡ (get_or copies i d).number = get_or-append-add front back i 0 ∙ get_or-map number_of_copy copies i d 0 within in
+    let less : get_or (front ++ back) j 0 < get_or (front ++ back) (length front + i) 0 =
+    up j (length front + i) 0 (omega (arith, lt, length-map marks number_of_mark)) (omega (arith, within, length-append front back, length-map copies number_of_copy)) in
+    omega (arith, first, second, less, same)
+
+-- what a snapshot keeps of the merge's copy, as the laws have it
+unpublished_alike : (n : ℕ) (merging : Option ℕ) → unpublished n merging ≡ unpublished_room n merging
+unpublished_alike n None = refl
+unpublished_alike n (Some k) = refl
 
 -- a mark that a search found
 module _ {B : Type 0} (s : Kept B) (flights : List Flight) (number j : ℕ) (found : position (is_mark_of s flights number) s.marks ≡ Some j) (m : Mark) (is : m ≡ get_or s.marks j m) where
@@ -110,7 +129,7 @@ module _ {B : Type 0} (contents : B → List ℕ) (layers : B → List Layer) (s
   same_loud fs gs l = record { origin = l.origin; snaps = l.snaps; merge = l.merge }
 
   -- a spoiled snapshot's mark was tried
-  module _ (outcome : Outcome) (told : Spoiling (WriteInvalid number) outcome) (still : Staying (WriteInvalid number) outcome) (found : is_trying number s ≡ true) (f : (s'.number ≡ s.number) × (s'.live ≡ s.live) × (s'.untried ≡ false) × ((s'.state.chunk ≡ s.state.chunk) × (s'.state.origin ≡ s.state.origin)) × (s'.copies ≡ s.copies) × (s'.marks ≡ s.marks) × (s'.merging ≡ s.merging))
+  module _ (outcome : Outcome) (told : Spoiling (WriteInvalid number) outcome) (still : Staying (WriteInvalid number) outcome) (calm : Calm (WriteInvalid number) outcome) (found : is_trying number s ≡ true) (f : (s'.number ≡ s.number) × (s'.live ≡ s.live) × (s'.untried ≡ false) × ((s'.state.chunk ≡ s.state.chunk) × (s'.state.origin ≡ s.state.origin)) × (s'.copies ≡ s.copies) × (s'.marks ≡ s.marks) × (s'.merging ≡ s.merging))
       (t : TriesMark (snap_books contents layers s) (snap_books contents layers s')) (loud : is_loud (layers s'.device) ≡ is_loud (layers s.device)) (sized : size s'.device ≡ size s.device) (counted : done s'.device ≡ next_count (done s.device)) (counts : IsCounted s → IsCounted s') where
     pub tried_good : HasCause faults (WriteInvalid number) outcome v (changed v v.origin k s' (again v.flights)) → IsGood contents layers size faults done (WriteInvalid number) outcome v (changed v v.origin k s' (again v.flights))
     tried_good cause =
@@ -128,12 +147,13 @@ module _ {B : Type 0} (contents : B → List ℕ) (layers : B → List Layer) (s
           counted = counts;
           left = left_spoilt s s' (f.1 ∙ t.was);
         } in
-        silent_good contents layers size faults done v h (WriteInvalid number) outcome told still v.origin k s s' within is disk loud sized (again v.flights) (again_flown (merge_books contents layers true v.merge) clear v.flights) stays
+        silent_good contents layers size faults done v h (WriteInvalid number) outcome told still calm v.origin k s s' within is disk loud sized (again v.flights) (again_flown (merge_books contents layers true v.merge) clear v.flights) stays
         (silent_then vb ub wb one two (loud_one k (snap_books contents layers s) (snap_books contents layers s') vb ub e_is loud))
         (waits_tried k (snap_books contents layers s) (snap_books contents layers s') vb ub wb h.waits e_is t (reroutes v.flights))
         (tried_left (due_of_kept contents layers s) (due_of_kept contents layers s') (both_right (nat_eq s.number number) s.untried found) f.2 (f.1 ∙ t.was) f.4 f.5)
         cause
         (inr (suc k, store_within v v.origin k s s' (again v.flights) within is done, counts_store v v.origin k s s' (again v.flights) within is done refl counted))
+        (tried_room (room_of contents layers s) (room_of contents layers s') t)
 
   pub trying_number : is_trying number s ≡ true → s.number ≡ number
   trying_number found = eqb-true s.number number (both_left (nat_eq s.number number) s.untried found)
@@ -181,12 +201,15 @@ module _ {B : Type 0} (contents : B → List ℕ) (layers : B → List Layer) (s
           counted = λ counts. subst IsCounted (sym f) (counted_marks s counts (remove s.marks j) (unpublished m.number s.merging));
           left = left_same s s' (ap (λ (x : Kept B). x.live) f) (ap (λ (x : Kept B). x.state.size) f) (ap (λ (x : Kept B). x.next) f);
         } in
-        silent_good contents layers size faults done v h (Publish number) Done (λ p q x. x) (λ xs ys e. e) v.origin k s s' within is disk loud (ap size device) (again placed) (again_flown (merge_books contents layers true v.merge) clear placed ∙ placed_flown b v.flights) stays
+        silent_good contents layers size faults done v h (Publish number) Done (λ p q x. x) (λ xs ys e. e) (λ b. refl) v.origin k s s' within is disk loud (ap size device) (again placed) (again_flown (merge_books contents layers true v.merge) clear placed ∙ placed_flown b v.flights) stays
         (silent_then vb ub wb one (silent_then ub xb wb two three (same_loud v.flights placed)) (loud_one k a b vb ub e_is loud))
         (waits_published k j m a b vb ub xb wb h.waits e_is r places (reroutes placed))
         (unmark_left j m (due_of_kept contents layers s) (due_of_kept contents layers s') r (ap (λ (x : Kept B). x.state.zeroed) f))
         (record { counts = counts_same v v.origin k s s' (again placed) within is faults refl (ap faults device); lives = lives_same v v.origin k s s' (again placed) within is (ap (λ (x : Kept B). x.live) f) })
         (inl (counts_same v v.origin k s s' (again placed) within is done refl (ap done device)))
+        (publish_room j m (room_of contents layers s) (room_of contents layers s') r
+        (record { kept_back = ap (λ (x : Kept B). x.kept_back) f; spare = ap (λ (x : Kept B). x.spare) f; merging = ap (λ (x : Kept B). x.merging) f ∙ unpublished_alike m.number s.merging })
+        (marks_apart s.marks s.copies j m (subst (λ (x : Kept B). AllPairs (λ a b. a < b) (numbers_in x)) (sym is) (h.snaps k s within).numbers.ascending) r.within r.was))
       where
         get_or-set_at : (i : ℕ) → get_or (map (snap_books contents layers) (set v.snaps k s')) k (snap_books contents layers s') ≡ snap_books contents layers s'
         get_or-set_at i = ap (λ xs. get_or xs k (snap_books contents layers s')) (map-set (snap_books contents layers) v.snaps k s') ∙ get_or-set_same (map (snap_books contents layers) v.snaps) k (snap_books contents layers s') (snap_books contents layers s') sb_in

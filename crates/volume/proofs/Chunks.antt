@@ -4,12 +4,12 @@ use Rattle.std.specs.List.{All}
 use Rattle.std.proofs.lemmas.List.Elements.{All-set, All-weaker}
 use Rattle.device.specs.Layers.{Layer}
 use Rattle.snapshot.specs.Kept.{Kept}
-use Rattle.volume.specs.Volumed.{Volumed, piece_of}
+use Rattle.volume.specs.Volumed.{Volumed, piece_with}
 use Rattle.volume.specs.Whole.{IsAttached, IsWhole}
 
 module _ {B : Type 0} (contents : B → List ℕ) (layers : B → List Layer) (size : B → ℕ) (v : Volumed B) (h : IsWhole contents layers size v) where
   pub chunks_all : All (λ (s : Kept B). 0 < s.state.chunk) v.snaps
-  chunks_all = All-weaker (IsAttached v.copies (size v.origin) (piece_of v.snaps)) (λ (s : Kept B). 0 < s.state.chunk) (λ s old. old.some) v.snaps h.snaps
+  chunks_all = All-weaker (IsAttached v.copies (size v.origin) (piece_with v.merge v.snaps)) (λ (s : Kept B). 0 < s.state.chunk) (λ s old. old.some) v.snaps h.snaps
 
   pub chunks_set : (k : ℕ) (s s' : Kept B) → k < length v.snaps → s ≡ get_or v.snaps k s → s'.state.chunk ≡ s.state.chunk → All (λ (x : Kept B). 0 < x.state.chunk) (set v.snaps k s')
   chunks_set k s s' within is same =

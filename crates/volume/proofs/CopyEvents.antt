@@ -21,6 +21,8 @@ use Rattle.volume_laws.proofs.WholeOne.{snap_holds, live_by_copy, copy_read_even
 use Rattle.volume_laws.proofs.Keeping.{copy_read_keeps, copy_write_keeps}
 use Rattle.volume_laws.proofs.Waiting.{waits_changed}
 use Rattle.volume_laws.proofs.Left.{copy_read_left, copy_write_left}
+use Rattle.volume_laws.proofs.MergeRoomEvents.{read_room, write_room}
+use Rattle.merge_beside.specs.Rooms.{room_of}
 use Rattle.snapshot.specs.Kept.{Kept, books_of as snap_books, due_of_kept}
 use Rattle.snapshot.specs.Calls.{ReadsAt, WritesAt}
 use Rattle.volume.specs.Volumed.{Volumed, books_of}
@@ -113,12 +115,13 @@ module _ {B : Type 0} (contents : B → List ℕ) (layers : B → List Layer) (s
           counted = λ counts. subst IsCounted (sym f) (counted_copies s counts s.device j q);
           left = left_same s s' (ap (λ (x : Kept B). x.live) f) (ap (λ (x : Kept B). x.state.size) f) (ap (λ (x : Kept B). x.next) f);
         } in
-        silent_good contents layers size faults done v h (CopyRead number) Done (λ a b x. x) (λ xs ys e. e) o' k s s' within is same (ap (λ d. is_loud (layers d)) device) (ap size device) v.flights refl stays
+        silent_good contents layers size faults done v h (CopyRead number) Done (λ a b x. x) (λ xs ys e. e) (λ b. refl) o' k s s' within is same (ap (λ d. is_loud (layers d)) device) (ap size device) v.flights refl stays
         (copy_read_event k (sb s) (sb s') (books_of contents layers size v) (books_of contents layers size w) h.holds e_is j p q r)
         (waits_changed k (sb s) (sb s') (books_of contents layers size v) (books_of contents layers size w) h.waits e_is (copy_read_keeps (contents v.origin) j p q (sb s) (sb s') r))
         (copy_read_left (contents v.origin) j p q (due_of_kept contents layers s) (due_of_kept contents layers s') r (copy_stage Waiting number s.copies j found p r.copy.was) (ap (λ (x : Kept B). x.state.zeroed) f))
         (record { counts = counts_same v o' k s s' v.flights within is faults faulty (ap faults device); lives = lives_same v o' k s s' v.flights within is (ap (λ (x : Kept B). x.live) f) })
         (inr (0, origin_within v o' k s s' v.flights within is done, counts_origin v o' k s s' v.flights within is done counted (ap done device)))
+        (read_room (contents v.origin) j p q (room_of contents layers s) (room_of contents layers s') r e.copy.number (record { kept_back = ap (λ (x : Kept B). x.kept_back) f; spare = ap (λ (x : Kept B). x.spare) f; merging = ap (λ (x : Kept B). x.merging) f }))
 
     pub write_good : position (is_copy_of Read number) s.copies ≡ Some j → WritesAt contents layers j p q s s' → is_loud (layers s'.device) ≡ is_loud (layers s.device) → size s'.device ≡ size s.device → faults o' ≡ faults v.origin → done o' ≡ done v.origin
         → faults s'.device ≡ faults s.device → done s'.device ≡ next_count (done s.device) → IsGood contents layers size faults done (CopyWrite number) Done v (changed v o' k s' v.flights)
@@ -136,12 +139,13 @@ module _ {B : Type 0} (contents : B → List ℕ) (layers : B → List Layer) (s
           counted = λ counts. subst IsCounted (sym f) (counted_copies s counts s'.device j q);
           left = left_same s s' (ap (λ (x : Kept B). x.live) f) (ap (λ (x : Kept B). x.state.size) f) (ap (λ (x : Kept B). x.next) f);
         } in
-        silent_good contents layers size faults done v h (CopyWrite number) Done (λ a b x. x) (λ xs ys e. e) o' k s s' within is same loud sized v.flights refl stays
+        silent_good contents layers size faults done v h (CopyWrite number) Done (λ a b x. x) (λ xs ys e. e) (λ b. refl) o' k s s' within is same loud sized v.flights refl stays
         (copy_write_event k (sb s) (sb s') (books_of contents layers size v) (books_of contents layers size w) h.holds e_is j p q r)
         (waits_changed k (sb s) (sb s') (books_of contents layers size v) (books_of contents layers size w) h.waits e_is (copy_write_keeps j p q (sb s) (sb s') r))
         (copy_write_left j p q (due_of_kept contents layers s) (due_of_kept contents layers s') r (ap (λ (x : Kept B). x.state.zeroed) f))
         (record { counts = counts_same v o' k s s' v.flights within is faults faulty faulty'; lives = lives_same v o' k s s' v.flights within is (ap (λ (x : Kept B). x.live) f) })
         (inr (suc k, store_within v o' k s s' v.flights within is done, counts_store v o' k s s' v.flights within is done counted counted'))
+        (write_room j p q (room_of contents layers s) (room_of contents layers s') r e.copy.number (record { kept_back = ap (λ (x : Kept B). x.kept_back) f; spare = ap (λ (x : Kept B). x.spare) f; merging = ap (λ (x : Kept B). x.merging) f }))
 
   -- the origin disk failed
   pub read_fault : position (is_copy_of Waiting number) s.copies ≡ Some j → SpoiltTo s s' → s'.device ≡ s.device → faults o' ≡ next_count (faults v.origin) → done o' ≡ next_count (done v.origin)
@@ -149,7 +153,7 @@ module _ {B : Type 0} (contents : B → List ℕ) (layers : B → List Layer) (s
   read_fault found t device faulty counted =
       let flights = map (refused_of (s.number ∷ [])) v.flights in
       let live = copy_lives (position_within (is_copy_of Waiting number) s.copies j found) in
-      spoilt_good contents layers size faults done v h (CopyRead number) Fault (λ a b x. x) (λ xs ys e. e) o' k s s' within is same (ap (λ d. is_loud (layers d)) device) (ap size device) live (copy_some Waiting number s.copies j found) t
+      spoilt_good contents layers size faults done v h (CopyRead number) Fault (λ a b x. x) (λ xs ys e. e) (λ b. refl) o' k s s' within is same (ap (λ d. is_loud (layers d)) device) (ap size device) live (copy_some Waiting number s.copies j found) t
       (record {
         place = k;
         snap = s;
@@ -166,7 +170,7 @@ module _ {B : Type 0} (contents : B → List ℕ) (layers : B → List Layer) (s
   write_fault found t loud sized faulty counted faulty' counted' =
       let flights = map (refused_of (s.number ∷ [])) v.flights in
       let live = copy_lives (position_within (is_copy_of Read number) s.copies j found) in
-      spoilt_good contents layers size faults done v h (CopyWrite number) Fault (λ a b x. x) (λ xs ys e. e) o' k s s' within is same loud sized live (copy_some Read number s.copies j found) t
+      spoilt_good contents layers size faults done v h (CopyWrite number) Fault (λ a b x. x) (λ xs ys e. e) (λ b. refl) o' k s s' within is same loud sized live (copy_some Read number s.copies j found) t
       (record {
         place = k;
         snap = s;

@@ -1,11 +1,10 @@
 -- Each handler's calls make its event exact: the facts of a volume that is whole, with what the calls promise.
-use Rattle.std.proofs.Common.{◌≡◌, ℕ, zero, suc, ◌+◌, ◌*◌, ◌<◌, ◌≤◌, Bool, true, false, List, [], ◌∷◌, ◌++◌, Some, None, length, get_or, set, map, take, drop, replicate, refl, sym, ◌∙◌, ap, subst, arith}
+use Rattle.std.proofs.Common.{◌≡◌, ℕ, zero, suc, ◌+◌, ◌*◌, ◌<◌, ◌≤◌, Bool, true, false, List, [], ◌∷◌, ◌++◌, Some, length, get_or, set, map, take, drop, replicate, refl, sym, ◌∙◌, ap, subst, arith}
 use Rattle.std.specs.Prelude.{◌==◌, ◌&&◌, not}
 use Rattle.std.specs.List.{list_all, position, remove}
 use Rattle.std.proofs.lemmas.Bool.{eqb-true, false≢true}
 use Rattle.std.proofs.lemmas.List.{length-map, get_or-map}
 use Rattle.sector.specs.Bytes.{with_part, with_sectors}
-use Rattle.sector.specs.declared.pair.Pair.{Pair}
 use Rattle.device.specs.Layers.{Layer, is_loud}
 use Rattle.device.specs.declared.operation.Operation.TheVariants.{Reads, Writes}
 use Rattle.cow_header.specs.HeaderText.{header_bytes}
@@ -42,7 +41,6 @@ use Rattle.volume.proofs.MovedCopies.{copy_read_done, copy_read_fault, copy_writ
 use Rattle.volume.proofs.MovedStores.{write_area_done, write_area_fault, zero_next_done, zero_next_fault, zero_next_lacks}
 use Rattle.volume.proofs.MovedMarks.{write_invalid_is, publish_is}
 use Rattle.volume.proofs.Shown.{loud_others}
-use Rattle.volume.proofs.Alone.{alone_books}
 
 and_left : (a b : Bool) → (a && b) ≡ true → a ≡ true
 and_left true b e = refl
@@ -82,11 +80,6 @@ module _ {B : Type 0} (contents : B → List ℕ) (layers : B → List Layer) (s
         let sb = snap_books contents layers in
         let at : get_or (map sb v.snaps) k (sb s) ≡ sb s = get_or-map sb v.snaps k s (sb s) within ∙ ap sb (sym is) in
         (subst (SnapHolds (contents v.origin) v.flights) at (h.holds.snaps k (sb s) (omega (arith, within, length-map v.snaps sb)))).alive live
-
-    -- nothing is merged
-    unmerged : (s' : Kept B) (before flights : List Flight) → flights ≡ map (again_of (merge_books contents layers true v.merge) (is_clear_in (map (snap_books contents layers) (set v.snaps k s')))) before
-        → flights ≡ map (again_of None (is_clear_in (map (snap_books contents layers) (set v.snaps k s')))) before
-    unmerged s' before flights routed = routed ∙ ap (λ m. map (again_of m (is_clear_in (map (snap_books contents layers) (set v.snaps k s')))) before) (alone_books contents layers true v.merge h.alone)
 
     module _ (faults faults' done done' : ℕ) where
       -- CopyRead
@@ -198,14 +191,14 @@ module _ {B : Type 0} (contents : B → List ℕ) (layers : B → List Layer) (s
             → (is_loud (layers s.device) ≡ true → contents s'.device ≡ with_sectors (contents s.device) 0 (header_bytes (512 * s.state.chunk) false s.state.chunk)) → s' ≡ record s { device = s'.device; untried = false; stale = false; state = record s.state { valid = false } }
             → flights ≡ map (again_of (merge_books contents layers true v.merge) (is_clear_in (map (snap_books contents layers) (set v.snaps k s')))) v.flights → IsExact contents layers (WriteInvalid n) Done v (changed v v.origin k s' flights)
         tried_exact s' flights one written fields routed = record {
-          step = λ loud replied. write_invalid_is contents layers replied v n k s trying_first true s' flights faults faults' done done' s'.device one (written (loud_store loud)) fields (unmerged s' v.flights flights routed);
+          step = λ loud replied. write_invalid_is contents layers replied v n k s trying_first true s' flights faults faults' done done' s'.device one (written (loud_store loud)) fields routed;
         }
 
         pub tried_fault_exact : (s' : Kept B) (flights : List Flight) → IsOneOperation (Writes 0 s.state.chunk) false (layers s.device) (layers s'.device) faults faults' done done'
             → contents s'.device ≡ contents s.device → s' ≡ record s { device = s'.device; untried = false; stale = true; state = record s.state { valid = true } }
             → flights ≡ map (again_of (merge_books contents layers true v.merge) (is_clear_in (map (snap_books contents layers) (set v.snaps k s')))) v.flights → IsExact contents layers (WriteInvalid n) Fault v (changed v v.origin k s' flights)
         tried_fault_exact s' flights one same fields routed = record {
-          step = λ loud replied. write_invalid_is contents layers replied v n k s trying_first false s' flights faults faults' done done' s'.device one same fields (unmerged s' v.flights flights routed);
+          step = λ loud replied. write_invalid_is contents layers replied v n k s trying_first false s' flights faults faults' done done' s'.device one same fields routed;
         }
 
     -- Publish
@@ -213,5 +206,5 @@ module _ {B : Type 0} (contents : B → List ℕ) (layers : B → List Layer) (s
         → flights ≡ map (again_of (merge_books contents layers true v.merge) (is_clear_in (map (snap_books contents layers) (set v.snaps k s')))) (map (placed_of (snap_books contents layers s')) v.flights)
         → IsExact contents layers (Publish n) Done v (changed v v.origin k s' flights)
     publish_exact s' j m flights found at fields routed = record {
-      step = λ loud replied. publish_is contents layers replied v n k s (mark_first contents layers size v h n k s within is j found) j m (mark_number contents layers size v h n k s within is j m found at) s' flights fields (unmerged s' (map (placed_of (snap_books contents layers s')) v.flights) flights routed);
+      step = λ loud replied. publish_is contents layers replied v n k s (mark_first contents layers size v h n k s within is j found) j m (mark_number contents layers size v h n k s within is j m found at) s' flights fields routed;
     }

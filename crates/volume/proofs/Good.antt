@@ -1,5 +1,5 @@
 -- An event of one snapshot leaves its volume whole, and does what a step promises.
-use Rattle.std.proofs.Common.{◌≡◌, inr, ℕ, ◌<◌, true, false, List, [], ◌∷◌, ◌++◌, length, get_or, map, refl, sym, ◌∙◌, ap, arith}
+use Rattle.std.proofs.Common.{◌≡◌, inr, ℕ, ◌<◌, Bool, true, false, List, [], ◌∷◌, ◌++◌, length, get_or, map, refl, sym, ◌∙◌, ap, arith}
 use Rattle.std.proofs.lemmas.List.{length-map}
 use Rattle.device.specs.Layers.{Layer, is_loud}
 use Rattle.plain.specs.Plain.{InFlight, Plain, spoiled}
@@ -20,13 +20,16 @@ use Rattle.volume_laws.proofs.Refusing.{refused_in_flight}
 use Rattle.volume_laws.proofs.Spoiling.{spoil_event}
 use Rattle.volume_laws.proofs.WaitingAgain.{waits_spoiled}
 use Rattle.volume_laws.proofs.Left.{spoil_left}
+use Rattle.volume_laws.proofs.MergeRooms.{KeepsRoom}
+use Rattle.volume_laws.proofs.MergeRoomEvents.{spoil_room}
+use Rattle.merge_beside.specs.Rooms.{room_of}
 use Rattle.snapshot.specs.Kept.{Kept, books_of as snap_books, due_of_kept}
 use Rattle.volume.specs.Volumed.{Volumed, books_of, plain_of, is_loud_in_all}
 use Rattle.snapshots.specs.Numbers.{numbers_in}
 use Rattle.volume.specs.Whole.{IsWhole, IsCounted}
 use Rattle.volume.specs.Causes.{HasCause, IsOneAtMost}
 use Rattle.volume.specs.Flying.{IsFlown}
-use Rattle.volume.specs.Stepping.{IsStepped, KeepsAll}
+use Rattle.volume.specs.Stepping.{IsStepped, KeepsAll, has_failed, failed_by}
 use Rattle.volume.proofs.Counting.{kept_changed}
 use Rattle.volume.proofs.Shown.{shown, loud_books}
 use Rattle.volume.proofs.StartsLeft.{left_spoilt}
@@ -44,12 +47,16 @@ Spoiling event outcome = (p q : Plain) → (which : List ℕ) × Spoils which p 
 abbrev pub Staying : Event → Outcome → Type 0
 Staying event outcome = (xs ys : List InFlight) → ys ≡ xs → IsFlown event outcome xs ys
 
+-- an event that is no fault of a merge's own
+abbrev pub Calm : Event → Outcome → Type 0
+Calm event outcome = (was : Bool) → failed_by event outcome was ≡ was
+
 -- requests that are seen as the same have the same numbers
 numbers_seen : (rs : List Flight) → map (λ (x : InFlight). x.number) (map in_flight rs) ≡ map number_of_flight rs
 numbers_seen [] = refl
 numbers_seen (r ∷ rs) = ap (λ ns. r.number ∷ ns) (numbers_seen rs)
 
-same_numbers : (rs qs : List Flight) → map in_flight qs ≡ map in_flight rs → map number_of_flight qs ≡ map number_of_flight rs
+pub same_numbers : (rs qs : List Flight) → map in_flight qs ≡ map in_flight rs → map number_of_flight qs ≡ map number_of_flight rs
 same_numbers rs qs same = sym (numbers_seen qs) ∙ ap (map (λ (x : InFlight). x.number)) same ∙ numbers_seen rs
 
 -- what became of a spoiled snapshot
@@ -72,7 +79,7 @@ module _ {B : Type 0} (contents : B → List ℕ) (layers : B → List Layer) (s
       → (xs : List ℕ) × Spoils xs (plain_of contents layers v) (plain_of contents layers w)
   legal_by which step loud = (which, shown contents layers size w ∙ step (loud_books contents layers size v loud) ∙ ap (spoiled which) (sym (shown contents layers size v)))
 
-module _ {B : Type 0} (contents : B → List ℕ) (layers : B → List Layer) (size faults done : B → ℕ) (v : Volumed B) (h : IsWhole contents layers size v) (event : Event) (outcome : Outcome) (told : Spoiling event outcome) (still : Staying event outcome)
+module _ {B : Type 0} (contents : B → List ℕ) (layers : B → List Layer) (size faults done : B → ℕ) (v : Volumed B) (h : IsWhole contents layers size v) (event : Event) (outcome : Outcome) (told : Spoiling event outcome) (still : Staying event outcome) (calm : Calm event outcome)
     (o' : B) (k : ℕ) (s s' : Kept B) (within : k < length v.snaps) (is : s ≡ get_or v.snaps k s) (same : SameDisk contents layers size v.origin o') (loud : is_loud (layers s'.device) ≡ is_loud (layers s.device)) (sized : size s'.device ≡ size s.device) where
   kept : (flights : List Flight) → s'.number ≡ s.number → s'.state.chunk ≡ s.state.chunk → KeepsAll size v (changed v o' k s' flights)
   kept flights number chunk = kept_changed size v o' k s s' flights within is same.sectors sized number chunk
@@ -81,13 +88,14 @@ module _ {B : Type 0} (contents : B → List ℕ) (layers : B → List Layer) (s
   pub silent_good : (flights : List Flight) → map in_flight flights ≡ map in_flight v.flights → StaysAttached s s'
       → IsSilent (books_of contents layers size v) (books_of contents layers size (changed v o' k s' flights)) → Waits (books_of contents layers size (changed v o' k s' flights))
       → left_in (due_of_kept contents layers s') < left_in (due_of_kept contents layers s)
-      → HasCause faults event outcome v (changed v o' k s' flights) → IsOneAtMost done v (changed v o' k s' flights) → IsGood contents layers size faults done event outcome v (changed v o' k s' flights)
-  silent_good flights same_flights stays silent waits less cause one =
+      → HasCause faults event outcome v (changed v o' k s' flights) → IsOneAtMost done v (changed v o' k s' flights) → KeepsRoom (room_of contents layers s) (room_of contents layers s')
+      → IsGood contents layers size faults done event outcome v (changed v o' k s' flights)
+  silent_good flights same_flights stays silent waits less cause one keeps =
       let numbers = same_numbers v.flights flights same_flights in
       let w = changed v o' k s' flights in
       let count : length flights ≡ length v.flights = omega (arith, ap length numbers, length-map flights number_of_flight, length-map v.flights number_of_flight) in
       record {
-        whole = whole_changed contents layers size v o' k s s' within is flights h same stays numbers silent.holds waits;
+        whole = whole_changed contents layers size v o' k s s' within is flights h same stays numbers silent.holds waits keeps;
         stepped = record {
           legal = λ l. told (plain_of contents layers v) (plain_of contents layers w) (legal_by contents layers size v w [] silent.step l);
           flown = still (map in_flight v.flights) (map in_flight w.flights) same_flights;
@@ -97,7 +105,9 @@ module _ {B : Type 0} (contents : B → List ℕ) (layers : B → List Layer) (s
           one = one;
           kept = kept flights stays.number stays.chunk_is;
           requests = refl;
-          copies = refl;
+          copies = omega arith;
+          given = omega arith;
+          failed = sym (calm (has_failed v.merge));
         };
       }
 
@@ -117,7 +127,7 @@ module _ {B : Type 0} (contents : B → List ℕ) (layers : B → List Layer) (s
       let gone : numbers_in s' ≡ [] = ap (λ (x : List Mark). map number_of_mark x ++ map number_of_copy s'.copies) t.marks ∙ ap (map number_of_copy) t.copies in
       record {
         whole = whole_changed contents layers size v o' k s s' within is flights h same (record { number = t.number; chunk_is = t.chunk_is; origin = t.origin; numbers = inr (inr gone); few = few_none s s' gone; counted = t.counted; left = left_spoilt s s' t.live }) numbers spoil.holds
-            (waits_spoiled k (sb s) (sb s') (books_of contents layers size v) (books_of contents layers size w) h.waits e t.untried);
+            (waits_spoiled k (sb s) (sb s') (books_of contents layers size v) (books_of contents layers size w) h.waits e t.untried) (spoil_room (room_of contents layers s) (room_of contents layers s') spoils);
         stepped = record {
           legal = λ l. told (plain_of contents layers v) (plain_of contents layers w) (legal_by contents layers size v w (s.number ∷ []) spoil.step l);
           flown = still (map in_flight v.flights) (map in_flight w.flights) (refused_in_flight (s.number ∷ []) v.flights);
@@ -127,6 +137,8 @@ module _ {B : Type 0} (contents : B → List ℕ) (layers : B → List Layer) (s
           one = one;
           kept = kept flights t.number t.chunk_is;
           requests = refl;
-          copies = refl;
+          copies = omega arith;
+          given = omega arith;
+          failed = sym (calm (has_failed v.merge));
         };
       }

@@ -6,6 +6,9 @@ pub mod Changing
 pub mod Counting
 pub mod Empty
 pub mod Good
+pub mod MergeChanging
+pub mod MergeCounting
+pub mod MergeOperations
 pub mod CopyEvents
 pub mod DueEvents
 pub mod Spoilt
@@ -17,6 +20,8 @@ pub mod IssueEvents
 pub mod MergeIssues
 pub mod DiskIssues
 pub mod StoreIssues
+pub mod MergingCounts
+pub mod MergingIssues
 pub mod Issued
 pub mod MovedLists
 pub mod MovedDue
@@ -33,6 +38,8 @@ pub mod Reaches
 pub mod Sums
 pub mod StartsLeft
 pub mod SavingAt
+pub mod MergeRoutes
+pub mod MergeWrites
 pub mod Leaves
 pub mod Attaches
 pub mod AttachedAs
@@ -58,4 +65,9 @@ pub mod Told
 pub mod Ran
 pub mod Peeked
 pub mod AtRest
+pub mod Quieted
+pub mod MergeDue
 pub mod Unwritten
+pub mod Unlike
+pub mod KeptBack
+pub mod Resumed

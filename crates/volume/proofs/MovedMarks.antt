@@ -1,5 +1,5 @@
 -- The events of a mark: a copy is published, and a spoiled snapshot's header is marked invalid. Both route held writes again.
-use Rattle.std.proofs.Common.{◌≡◌, ℕ, ◌*◌, Bool, false, List, [], ◌∷◌, Option, None, set, map, refl, sym, ◌∙◌, ap}
+use Rattle.std.proofs.Common.{◌≡◌, ℕ, ◌*◌, Bool, false, true, List, [], ◌∷◌, Option, None, Some, set, map, refl, sym, ◌∙◌, ap}
 use Rattle.std.specs.Prelude.{◌==◌, ◌&&◌, ◌||◌, not, if◌then◌else◌}
 use Rattle.std.specs.List.{list_any, list_all, remove}
 use Rattle.sector.specs.Bytes.{with_sectors}
@@ -13,21 +13,26 @@ use Rattle.pending.specs.Kinds.{kind_of}
 use Rattle.pending.specs.Routes.{again_route_of, write_route_of}
 use Rattle.pending.specs.declared.copies.Mark.{Mark}
 use Rattle.pending.specs.declared.flights.Flight.{Flight}
+use Rattle.pending.specs.declared.flights.Route.{Route}
 use Rattle.store.specs.Operations.{IsOneOperation}
-use Rattle.volume_laws.specs.Again.{again_of, placed_of}
+use Rattle.volume_laws.specs.Again.{again_of, new_route, placed_of}
 use Rattle.volume_laws.specs.Books.{SnapBooks}
 use Rattle.volume_laws.specs.Published.{is_clear as is_clear_in, is_saved as is_saved_in}
 use Rattle.settled.specs.Saves.{marked}
 use Rattle.settled.specs.Devices.{Device, answers, written_by}
-use Rattle.event_machine.specs.Held.{Held, Going, Moving, is_untried}
+use Rattle.event_machine.specs.Held.{Held, Going, MergeHeld, Moving, is_untried}
 use Rattle.event_machine.specs.Due.{is_publishable}
-use Rattle.event_machine.specs.Again.{is_saved, is_clear, again, placed, rerouted}
+use Rattle.event_machine.specs.Again.{is_saved, is_clear, is_grouped, merged_place, write_route, again, placed, rerouted}
 use Rattle.event_machine.specs.Stepping.{with_first, without_first, publish, mark_invalid, stepped}
 use Rattle.event_machine.specs.Seen.{going_of}
+use Rattle.event_machine.specs.MergeSeen.{MergeSeen, merge_held_of, held_in, books_in}
+use Rattle.event_machine.proofs.Tied.{seen_alike}
+use Rattle.merge.specs.Merging.{Merging}
+use Rattle.merge_beside.specs.Rooms.{merge_books}
 use Rattle.snapshot.specs.Kept.{Kept, books_of as snap_books, unpublished}
 use Rattle.volume.specs.Volumed.{Volumed}
 use Rattle.snapshots.specs.Finding.{is_trying, is_mark_of, has_mark_at}
-use Rattle.volume.specs.Moved.{device_of, held_of, moving_of}
+use Rattle.volume.specs.Moved.{device_of, held_of, merge_seen, moving_of}
 use Rattle.volume.proofs.MovedLists.{IsFirst, first_by_test, with_is, without_is}
 use Rattle.volume.proofs.MovedDue.{publishable_same}
 use Rattle.volume.proofs.MovedSnaps.{changed, machine_by, put_is, on_snap_is}
@@ -51,14 +56,27 @@ module _ {B : Type 0} (contents : B → List ℕ) (layers : B → List Layer) wh
       ap (λ b. b && not (list_any is_untried (map (held_of contents layers) snaps))) (saved_seen first snaps)
       ∙ ap (λ b. list_all (is_saved_in first) (map (snap_books contents layers) snaps) && not b) (untried_seen snaps)
 
-  -- held origin writes are routed again
-  pub again_seen : (snaps : List (Kept B)) (fs : List Flight) → map (again None (map (held_of contents layers) snaps)) (map going_of fs) ≡ map going_of (map (again_of None (is_clear_in (map (snap_books contents layers) snaps))) fs)
-  again_seen snaps [] = refl
-  again_seen snaps (f ∷ fs) =
+  -- held origin writes are routed again, beside a merge or without one
+  pub route_seen : (merge : Option MergeSeen) (snaps : List (Kept B)) (f : Flight)
+      → write_route (held_in merge) (map (held_of contents layers) snaps) f.request.range.first ≡ new_route (books_in merge) (is_clear_in (map (snap_books contents layers) snaps)) f
+  route_seen None snaps f = ap (write_route_of false None) (clear_seen f.request.range.first snaps)
+  route_seen (Some s) snaps f =
+      let held : Option MergeHeld = Some (merge_held_of s) in
+      ap (write_route_of (is_grouped held f.request.range.first) (merged_place held f.request.range.first)) (clear_seen f.request.range.first snaps)
+
+  -- whether what the merge writes is done decides none
+  pub again_books : (m : Option (Merging B)) (clear : ℕ → Bool) (fs : List Flight) → map (again_of (books_in (merge_seen contents layers m)) clear) fs ≡ map (again_of (merge_books contents layers true m) clear) fs
+  again_books None clear fs = refl
+  again_books (Some m) clear fs = refl
+
+  pub again_seen : (m : Option (Merging B)) (snaps : List (Kept B)) (fs : List Flight)
+      → map (again (held_in (merge_seen contents layers m)) (map (held_of contents layers) snaps)) (map going_of fs) ≡ map going_of (map (again_of (merge_books contents layers true m) (is_clear_in (map (snap_books contents layers) snaps))) fs)
+  again_seen m snaps fs =
       let clear : ℕ → Bool = is_clear_in (map (snap_books contents layers) snaps) in
-      ap (λ (b : Bool). record (going_of f) { route = again_route_of (kind_of f.request) f.route (write_route_of false None b) } ∷ map (again None (map (held_of contents layers) snaps)) (map going_of fs))
-      (clear_seen f.request.range.first snaps)
-      ∙ ap (λ (rs : List Going). going_of (again_of None clear f) ∷ rs) (again_seen snaps fs)
+      let seen : Option MergeSeen = merge_seen contents layers m in
+      seen_alike (again (held_in seen) (map (held_of contents layers) snaps)) (again_of (books_in seen) clear) fs
+      (λ f. ap (λ (route : Route). record (going_of f) { route = again_route_of (kind_of f.request) f.route route }) (route_seen seen snaps f))
+      ∙ ap (map going_of) (again_books m clear fs)
 
   -- held writes of a snapshot
   pub placed_seen : (s : Kept B) (fs : List Flight) → map (placed (held_of contents layers s)) (map going_of fs) ≡ map going_of (map (placed_of (snap_books contents layers s)) fs)
@@ -67,18 +85,18 @@ module _ {B : Type 0} (contents : B → List ℕ) (layers : B → List Layer) wh
 
   module _ (replied : Option Reply) (v : Volumed B) (n k : ℕ) (s : Kept B) where
     -- a volume that is routed again
-    rerouted_is : (w : Volumed B) (flights : List Flight) → flights ≡ map (again_of None (is_clear_in (map (snap_books contents layers) w.snaps))) w.flights
+    rerouted_is : (w : Volumed B) (flights : List Flight) → flights ≡ map (again_of (merge_books contents layers true w.merge) (is_clear_in (map (snap_books contents layers) w.snaps))) w.flights
         → rerouted (moving_of contents layers replied w) ≡ moving_of contents layers replied (record w { flights = flights })
     rerouted_is w flights is =
-        machine_by contents layers replied w.copies (device_of contents layers w.origin) (device_of contents layers w.origin) (map (held_of contents layers) w.snaps) (map (held_of contents layers) w.snaps)
-        (map (again None (map (held_of contents layers) w.snaps)) (map going_of w.flights)) (map going_of flights) refl refl (again_seen w.snaps w.flights ∙ sym (ap (map going_of) is))
+        machine_by contents layers (held_in (merge_seen contents layers w.merge)) replied w.copies (device_of contents layers w.origin) (device_of contents layers w.origin) (map (held_of contents layers) w.snaps) (map (held_of contents layers) w.snaps)
+        (map (again (held_in (merge_seen contents layers w.merge)) (map (held_of contents layers) w.snaps)) (map going_of w.flights)) (map going_of flights) refl refl (again_seen w.merge w.snaps w.flights ∙ sym (ap (map going_of) is))
 
     -- the mark is tried, whatever the device answers
     pub write_invalid_is : IsFirst (is_trying n) k s v.snaps → (ok : Bool) (s' : Kept B) (flights : List Flight) (faults faults' done done' : ℕ) (d : B)
         → IsOneOperation (Writes 0 s.state.chunk) ok (layers s.device) (layers d) faults faults' done done'
         → contents d ≡ (if ok then with_sectors (contents s.device) 0 (header_bytes (512 * s.state.chunk) false s.state.chunk) else contents s.device)
         → s' ≡ record s { device = d; untried = false; stale = not ok; state = record s.state { valid = not ok } }
-        → flights ≡ map (again_of None (is_clear_in (map (snap_books contents layers) (set v.snaps k s')))) v.flights
+        → flights ≡ map (again_of (merge_books contents layers true v.merge) (is_clear_in (map (snap_books contents layers) (set v.snaps k s')))) v.flights
         → stepped (WriteInvalid n) (moving_of contents layers replied v) ≡ moving_of contents layers replied (changed v v.origin k s' flights)
     write_invalid_is found ok s' flights faults faults' done done' d one new is routed =
         let m : Moving = moving_of contents layers replied v in
@@ -101,7 +119,7 @@ module _ {B : Type 0} (contents : B → List ℕ) (layers : B → List Layer) wh
     -- a mark is taken away
     pub publish_is : IsFirst (λ (x : Kept B). has_mark_at v.flights n x) k s v.snaps → (j : ℕ) (m : Mark) → IsFirst (λ (x : Mark). x.number == n) j m s.marks → (s' : Kept B) (flights : List Flight)
         → s' ≡ record s { marks = remove s.marks j; merging = unpublished m.number s.merging }
-        → flights ≡ map (again_of None (is_clear_in (map (snap_books contents layers) (set v.snaps k s')))) (map (placed_of (snap_books contents layers s')) v.flights)
+        → flights ≡ map (again_of (merge_books contents layers true v.merge) (is_clear_in (map (snap_books contents layers) (set v.snaps k s')))) (map (placed_of (snap_books contents layers s')) v.flights)
         → stepped (Publish n) (moving_of contents layers replied v) ≡ moving_of contents layers replied (changed v v.origin k s' flights)
     publish_is found j m mine s' flights is routed =
         let w : Moving = moving_of contents layers replied v in
@@ -117,6 +135,6 @@ module _ {B : Type 0} (contents : B → List ℕ) (layers : B → List Layer) wh
         let placed_first : Volumed B = changed v v.origin k s' (map (placed_of (snap_books contents layers s')) v.flights) in
         on_snap_is contents layers replied v k s test seen (λ t x. publish t (λ (y : Mark). y.number == n) x)
         ∙ ap (λ (x : Held). rerouted (record w { snaps = with_first test x w.snaps; requests = map (placed x) w.requests })) h_is
-        ∙ ap rerouted (machine_by contents layers replied v.copies w.origin w.origin (with_first test (held_of contents layers s') w.snaps) (map (held_of contents layers) (set v.snaps k s'))
+        ∙ ap rerouted (machine_by contents layers (held_in (merge_seen contents layers v.merge)) replied v.copies w.origin w.origin (with_first test (held_of contents layers s') w.snaps) (map (held_of contents layers) (set v.snaps k s'))
         (map (placed (held_of contents layers s')) w.requests) (map going_of (map (placed_of (snap_books contents layers s')) v.flights)) refl (with_is (held_of contents layers) test k s s' v.snaps seen) (placed_seen s' v.flights))
         ∙ rerouted_is placed_first flights routed

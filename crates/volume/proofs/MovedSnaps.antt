@@ -8,13 +8,14 @@ use Rattle.pending.specs.Routes.{refused_of}
 use Rattle.pending.specs.declared.flights.Flight.{Flight}
 use Rattle.store.specs.Operations.{IsOneOperation}
 use Rattle.settled.specs.Devices.{Device, answers, met, written_by}
-use Rattle.event_machine.specs.Held.{Held, Going, Moving, spoiled, with_store}
+use Rattle.event_machine.specs.Held.{Held, Going, MergeHeld, Moving, spoiled, with_store}
 use Rattle.event_machine.specs.Again.{refused}
 use Rattle.event_machine.specs.Stepping.{for_some, with_first, put, spoil, store_write, on_snap}
 use Rattle.event_machine.specs.Seen.{going_of}
+use Rattle.event_machine.specs.MergeSeen.{held_in}
 use Rattle.snapshot.specs.Kept.{Kept}
 use Rattle.volume.specs.Volumed.{Volumed}
-use Rattle.volume.specs.Moved.{device_of, held_of, moving_of}
+use Rattle.volume.specs.Moved.{device_of, held_of, merge_seen, moving_of}
 use Rattle.volume.proofs.MovedLists.{IsFirst, first_is, with_is, if_true, if_false}
 
 -- a volume with another origin disk, another snapshot at place k, and these requests in flight
@@ -48,12 +49,12 @@ module _ {B : Type 0} (contents : B → List ℕ) (layers : B → List Layer) wh
       (if_false (answers (device_of contents layers o) op) bytes (contents o) (sym one.answer) ∙ sym same) (sym one.layers)
 
   -- a machine by its parts
-  pub machine_by : (replied : Option Reply) (started : ℕ) (o o' : Device) (hs hs' : List Held) (rs rs' : List Going) → o ≡ o' → hs ≡ hs' → rs ≡ rs'
-      → ◌≡◌ {A = Moving} (record { origin = o; snaps = hs; merge = None; requests = rs; replied = replied; started = started }) (record { origin = o'; snaps = hs'; merge = None; requests = rs'; replied = replied; started = started })
-  machine_by replied started o o' hs hs' rs rs' po ps pr =
-      ap (λ (x : Device). record { origin = x; snaps = hs; merge = None; requests = rs; replied = replied; started = started }) po
-      ∙ ap (λ (x : List Held). record { origin = o'; snaps = x; merge = None; requests = rs; replied = replied; started = started }) ps
-      ∙ ap (λ (x : List Going). record { origin = o'; snaps = hs'; merge = None; requests = x; replied = replied; started = started }) pr
+  pub machine_by : (merge : Option MergeHeld) (replied : Option Reply) (started : ℕ) (o o' : Device) (hs hs' : List Held) (rs rs' : List Going) → o ≡ o' → hs ≡ hs' → rs ≡ rs'
+      → ◌≡◌ {A = Moving} (record { origin = o; snaps = hs; merge = merge; requests = rs; replied = replied; started = started }) (record { origin = o'; snaps = hs'; merge = merge; requests = rs'; replied = replied; started = started })
+  machine_by merge replied started o o' hs hs' rs rs' po ps pr =
+      ap (λ (x : Device). record { origin = x; snaps = hs; merge = merge; requests = rs; replied = replied; started = started }) po
+      ∙ ap (λ (x : List Held). record { origin = o'; snaps = x; merge = merge; requests = rs; replied = replied; started = started }) ps
+      ∙ ap (λ (x : List Going). record { origin = o'; snaps = hs'; merge = merge; requests = x; replied = replied; started = started }) pr
 
   -- a spoil's requests
   pub refused_seen : (n : ℕ) (fs : List Flight) → map (refused n) (map going_of fs) ≡ map going_of (map (refused_of (n ∷ [])) fs)
@@ -65,14 +66,14 @@ module _ {B : Type 0} (contents : B → List ℕ) (layers : B → List Layer) wh
     pub put_is : (o' : B) (o : Device) (s' : Kept B) (h : Held) → o ≡ device_of contents layers o' → h ≡ held_of contents layers s'
         → put test h (record (moving_of contents layers replied v) { origin = o }) ≡ moving_of contents layers replied (changed v o' k s' v.flights)
     put_is o' o s' h disk is =
-        machine_by replied v.copies o (device_of contents layers o') (with_first test h (map (held_of contents layers) v.snaps)) (map (held_of contents layers) (set v.snaps k s')) (map going_of v.flights) (map going_of v.flights) disk
+        machine_by (held_in (merge_seen contents layers v.merge)) replied v.copies o (device_of contents layers o') (with_first test h (map (held_of contents layers) v.snaps)) (map (held_of contents layers) (set v.snaps k s')) (map going_of v.flights) (map going_of v.flights) disk
         (ap (λ (x : Held). with_first test x (map (held_of contents layers) v.snaps)) is ∙ with_is (held_of contents layers) test k s s' v.snaps found) refl
 
     -- it is spoiled
     pub spoil_is : (o' : B) (o : Device) (s' : Kept B) (h : Held) → o ≡ device_of contents layers o' → spoiled h ≡ held_of contents layers s' → h.snap.number ≡ s.number
         → spoil test h (record (moving_of contents layers replied v) { origin = o }) ≡ moving_of contents layers replied (changed v o' k s' (map (refused_of (s.number ∷ [])) v.flights))
     spoil_is o' o s' h disk is number =
-        machine_by replied v.copies o (device_of contents layers o') (with_first test (spoiled h) (map (held_of contents layers) v.snaps)) (map (held_of contents layers) (set v.snaps k s'))
+        machine_by (held_in (merge_seen contents layers v.merge)) replied v.copies o (device_of contents layers o') (with_first test (spoiled h) (map (held_of contents layers) v.snaps)) (map (held_of contents layers) (set v.snaps k s'))
         (map (refused h.snap.number) (map going_of v.flights)) (map going_of (map (refused_of (s.number ∷ [])) v.flights)) disk
         (ap (λ (x : Held). with_first test x (map (held_of contents layers) v.snaps)) is ∙ with_is (held_of contents layers) test k s s' v.snaps found)
         (ap (λ (n : ℕ). map (refused n) (map going_of v.flights)) number ∙ refused_seen s.number v.flights)

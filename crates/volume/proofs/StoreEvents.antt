@@ -21,6 +21,8 @@ use Rattle.volume_laws.proofs.WholeOne.{snap_holds, live_by_copy, zero_event, co
 use Rattle.volume_laws.proofs.Keeping.{zero_keeps, commit_keeps}
 use Rattle.volume_laws.proofs.Waiting.{waits_changed}
 use Rattle.volume_laws.proofs.Left.{zero_left, commit_left}
+use Rattle.volume_laws.proofs.MergeRoomEvents.{zero_room, commit_room}
+use Rattle.merge_beside.specs.Rooms.{room_of}
 use Rattle.snapshot.specs.Kept.{Kept, books_of as snap_books, due_of_kept, batch_of, needs_area, spare_after}
 use Rattle.volume.specs.Volumed.{Volumed, books_of}
 use Rattle.snapshots.specs.Numbers.{numbers_in}
@@ -134,12 +136,13 @@ module _ {B : Type 0} (contents : B → List ℕ) (layers : B → List Layer) (s
         counted = λ counts. subst IsCounted (sym f) (counted_zeroed s counts d);
         left = left_same s s' (ap (λ (x : Kept B). x.live) f) (ap (λ (x : Kept B). x.state.size) f) (ap (λ (x : Kept B). x.next) f);
       } in
-      silent_good contents layers size faults done v h (ZeroNext number) Done (λ a b x. x) (λ xs ys e. e) v.origin k s s' within is disk (ap (λ x. is_loud (layers x)) device ∙ loud) (ap size device ∙ sized) v.flights refl stays
+      silent_good contents layers size faults done v h (ZeroNext number) Done (λ a b x. x) (λ xs ys e. e) (λ b. refl) v.origin k s s' within is disk (ap (λ x. is_loud (layers x)) device ∙ loud) (ap size device ∙ sized) v.flights refl stays
       (zero_event k (sb s) (sb s') (books_of contents layers size v) (books_of contents layers size w) h.holds e_is (s.state.current + 1) live r)
       (waits_changed k (sb s) (sb s') (books_of contents layers size v) (books_of contents layers size w) h.waits e_is (zero_keeps (s.state.current + 1) (sb s) (sb s') r))
       (zero_left (s.state.current + 1) (due_of_kept contents layers s) (due_of_kept contents layers s') r live (zeroing_needs number s found) (ap (λ (x : Kept B). x.state.zeroed) f))
       (inl (record { counts = counts_same v v.origin k s s' v.flights within is faults refl (ap faults device ∙ faulty); lives = lives_same v v.origin k s s' v.flights within is (ap (λ (x : Kept B). x.live) f) }))
       (inr (suc k, store_within v v.origin k s s' v.flights within is done, counts_store v v.origin k s s' v.flights within is done refl (ap done device ∙ counted)))
+      (zero_room (s.state.current + 1) (room_of contents layers s) (room_of contents layers s') r (record { kept_back = ap (λ (x : Kept B). x.kept_back) f; spare = ap (λ (x : Kept B). x.spare) f; merging = ap (λ (x : Kept B). x.merging) f }))
 
   -- the store failed
   pub zero_fault : is_zeroing number s ≡ true → SpoiltTo s s' → is_loud (layers s'.device) ≡ is_loud (layers s.device) → size s'.device ≡ size s.device → faults s'.device ≡ next_count (faults s.device) → done s'.device ≡ next_count (done s.device)
@@ -147,7 +150,7 @@ module _ {B : Type 0} (contents : B → List ℕ) (layers : B → List Layer) (s
   zero_fault found t loud sized faulty counted =
       let flights = map (refused_of (s.number ∷ [])) v.flights in
       let live = front_live (zeroing_front number s found) in
-      spoilt_good contents layers size faults done v h (ZeroNext number) Fault (λ a b x. x) (λ xs ys e. e) v.origin k s s' within is disk loud sized live (first_some s.copies (zeroing_front number s found)) t
+      spoilt_good contents layers size faults done v h (ZeroNext number) Fault (λ a b x. x) (λ xs ys e. e) (λ b. refl) v.origin k s s' within is disk loud sized live (first_some s.copies (zeroing_front number s found)) t
       (record {
         place = k;
         snap = s;
@@ -163,7 +166,7 @@ module _ {B : Type 0} (contents : B → List ℕ) (layers : B → List Layer) (s
   zero_lacks found t device lacks =
       let flights = map (refused_of (s.number ∷ [])) v.flights in
       let live = front_live (zeroing_front number s found) in
-      spoilt_good contents layers size faults done v h (ZeroNext number) Done (λ a b x. x) (λ xs ys e. e) v.origin k s s' within is disk (ap (λ x. is_loud (layers x)) device) (ap size device) live (first_some s.copies (zeroing_front number s found)) t
+      spoilt_good contents layers size faults done v h (ZeroNext number) Done (λ a b x. x) (λ xs ys e. e) (λ b. refl) v.origin k s s' within is disk (ap (λ x. is_loud (layers x)) device) (ap size device) live (first_some s.copies (zeroing_front number s found)) t
       (inr (record {
         place = k;
         snap = s;
@@ -197,12 +200,13 @@ module _ {B : Type 0} (contents : B → List ℕ) (layers : B → List Layer) (s
         counted = λ counts. subst IsCounted (sym f) (counted_first s counts live d count batched (holds_live live).agree);
         left = left_same s s' (ap (λ (x : Kept B). x.live) f) (ap (λ (x : Kept B). x.state.size) f ∙ sizes.2) (ap (λ (x : Kept B). x.next) f);
       } in
-      silent_good contents layers size faults done v h (WriteArea number) Done (λ a b x. x) (λ xs ys e. e) v.origin k s s' within is disk (ap (λ x. is_loud (layers x)) device ∙ loud) (ap size device ∙ sized) v.flights refl stays
+      silent_good contents layers size faults done v h (WriteArea number) Done (λ a b x. x) (λ xs ys e. e) (λ b. refl) v.origin k s s' within is disk (ap (λ x. is_loud (layers x)) device ∙ loud) (ap size device ∙ sized) v.flights refl stays
       (commit_event k (sb s) (sb s') (books_of contents layers size v) (books_of contents layers size w) h.holds e_is count s.state.current live r)
       (waits_changed k (sb s) (sb s') (books_of contents layers size v) (books_of contents layers size w) h.waits e_is (commit_keeps (contents v.origin) v.flights count s.state.current (sb s) (sb s') (holds_live live) r))
       (commit_left count s.state.current (due_of_kept contents layers s) (due_of_kept contents layers s') r (omega (arith, batched, many)))
       (record { counts = counts_same v v.origin k s s' v.flights within is faults refl (ap faults device ∙ faulty); lives = lives_same v v.origin k s s' v.flights within is (ap (λ (x : Kept B). x.live) f) })
       (inr (suc k, store_within v v.origin k s s' v.flights within is done, counts_store v v.origin k s s' v.flights within is done refl (ap done device ∙ counted)))
+      (commit_room (contents v.origin) v.flights count s.state.current (room_of contents layers s) (room_of contents layers s') (holds_live live) r (record { kept_back = ap (λ (x : Kept B). x.kept_back) f; spare = ap (λ (x : Kept B). x.spare) f; merging = ap (λ (x : Kept B). x.merging) f }))
 
   -- the store failed
   pub commit_fault : is_committing number s ≡ true → SpoiltTo s s' → is_loud (layers s'.device) ≡ is_loud (layers s.device) → size s'.device ≡ size s.device → faults s'.device ≡ next_count (faults s.device) → done s'.device ≡ next_count (done s.device)
@@ -210,7 +214,7 @@ module _ {B : Type 0} (contents : B → List ℕ) (layers : B → List Layer) (s
   commit_fault found t loud sized faulty counted =
       let flights = map (refused_of (s.number ∷ [])) v.flights in
       let live = front_live (committing_front number s found) in
-      spoilt_good contents layers size faults done v h (WriteArea number) Fault (λ a b x. x) (λ xs ys e. e) v.origin k s s' within is disk loud sized live (first_some s.copies (committing_front number s found)) t
+      spoilt_good contents layers size faults done v h (WriteArea number) Fault (λ a b x. x) (λ xs ys e. e) (λ b. refl) v.origin k s s' within is disk loud sized live (first_some s.copies (committing_front number s found)) t
       (record {
         place = k;
         snap = s;

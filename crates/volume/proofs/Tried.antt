@@ -39,11 +39,11 @@ module _ {B : Type 0} (contents : B → List ℕ) (layers : B → List Layer) (s
   counts was = subst IsCounted (sym f) (counted_tried s was d stale stale)
 
   pub tried_done : faults d ≡ faults s.device → IsGood contents layers size faults done (WriteInvalid number) Done v (changed v v.origin k s' flights)
-  tried_done faulty = tried_good contents layers size faults done v h number k s s' within is Done (λ p q x. x) (λ xs ys e. e) found parts t (ap (λ x. is_loud (layers x)) device ∙ loud) (ap size device ∙ sized) (ap done device ∙ counted) counts
+  tried_done faulty = tried_good contents layers size faults done v h number k s s' within is Done (λ p q x. x) (λ xs ys e. e) (λ b. refl) found parts t (ap (λ x. is_loud (layers x)) device ∙ loud) (ap size device ∙ sized) (ap done device ∙ counted) counts
       (record { counts = counts_same v v.origin k s s' flights within is faults refl (ap faults device ∙ faulty); lives = lives_same v v.origin k s s' flights within is parts.1 })
 
   pub tried_fault : stale ≡ true → faults d ≡ next_count (faults s.device) → IsGood contents layers size faults done (WriteInvalid number) Fault v (changed v v.origin k s' flights)
-  tried_fault now faulty = tried_good contents layers size faults done v h number k s s' within is Fault (λ p q x. x) (λ xs ys e. e) found parts t (ap (λ x. is_loud (layers x)) device ∙ loud) (ap size device ∙ sized) (ap done device ∙ counted) counts
+  tried_fault now faulty = tried_good contents layers size faults done v h number k s s' within is Fault (λ p q x. x) (λ xs ys e. e) (λ b. refl) found parts t (ap (λ x. is_loud (layers x)) device ∙ loud) (ap size device ∙ sized) (ap done device ∙ counted) counts
       (record {
         place = k;
         snap = s;

@@ -24,6 +24,8 @@ mod detach;
 mod events;
 mod finishing;
 mod issue;
+mod issue_merging;
+mod merge_events;
 mod merging;
 mod messages;
 mod peeking;
