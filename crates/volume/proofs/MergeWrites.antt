@@ -1,5 +1,5 @@
 -- Requests of the origin are accepted beside a merge that has their chunk.
-use Rattle.std.proofs.Common.{◌≡◌, ℕ, ◌+◌, ◌<◌, Bool, true, false, List, [], Option, Some, None, length, map, refl, sym, ◌∙◌, ap}
+use Rattle.std.proofs.Common.{◌≡◌, ℕ, ◌+◌, Bool, true, false, List, [], length, map, sym, ◌∙◌, ap}
 use Rattle.std.specs.Prelude.{if◌then◌else◌, count_by}
 use Rattle.device.specs.Layers.{Layer, is_loud}
 use Rattle.plain.specs.declared.request.Request.{Request}
