@@ -62,3 +62,6 @@ pub mod Ran
 pub mod Peeked
 pub mod AtRest
 pub mod Unwritten
+pub mod NextSaved
+pub mod NextFit
+pub mod MergeSaves

@@ -23,6 +23,7 @@ mod copies;
 mod detach;
 mod events;
 mod issue;
+mod merge_copies;
 mod merge_events;
 mod messages;
 mod peeking;
