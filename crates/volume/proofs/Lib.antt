@@ -9,6 +9,7 @@ pub mod Good
 pub mod MergeChanging
 pub mod MergeCounting
 pub mod MergeOperations
+pub mod MergeDues
 pub mod CopyEvents
 pub mod DueEvents
 pub mod Spoilt
@@ -27,6 +28,7 @@ pub mod MovedSnaps
 pub mod MovedCopies
 pub mod MovedStores
 pub mod MovedMarks
+pub mod MovedMerges
 pub mod MovedIssues
 pub mod MovedFound
 pub mod MovedCounts
