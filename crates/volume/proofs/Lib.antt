@@ -78,3 +78,4 @@ pub mod Begun
 pub mod NextSaved
 pub mod NextFit
 pub mod MergeSaves
+pub mod Beginnings
