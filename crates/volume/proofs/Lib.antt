@@ -74,3 +74,6 @@ pub mod KeptBack
 pub mod Resumed
 pub mod Removed
 pub mod Begun
+pub mod NextSaved
+pub mod NextFit
+pub mod MergeSaves
