@@ -67,3 +67,5 @@ pub mod Unwritten
 pub mod NextSaved
 pub mod NextFit
 pub mod MergeSaves
+pub mod MergeGroups
+pub mod MovedGroups
