@@ -1,2 +1,3 @@
-pub mod NextStarts
 pub mod Using
+pub mod Unkept
+pub mod NextStarts

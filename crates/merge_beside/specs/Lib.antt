@@ -1,3 +1,4 @@
+pub mod Keeping
 pub mod Rooms
-pub mod Starting
 pub mod Routing
+pub mod Starting

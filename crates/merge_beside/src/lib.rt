@@ -6,6 +6,7 @@
 #![tactic(auto)]
 
 mod due;
+mod keeping;
 mod routing;
 mod saving_next;
 
@@ -13,5 +14,6 @@ pub use due::{
     is_area_due, is_commit_due, is_flush_due, is_group_due, is_read_due, is_release_due,
     is_write_due, merge_due,
 };
-pub use routing::route_again;
-pub use saving_next::save_waiting;
+pub use keeping::{keep_back_all, let_go_all};
+pub use routing::{is_merged_at, merged_route, place_at, route_again};
+pub use saving_next::save_next;

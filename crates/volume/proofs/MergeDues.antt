@@ -1,17 +1,19 @@
 -- Where an event of the merge is due, beside the snapshots and requests.
 use Rattle.std.proofs.Common.{◌≡◌, ℕ, Bool, true, false, List, Option, Some, None, ap, sym, ◌∙◌, refl}
 use Rattle.std.specs.Prelude.{◌&&◌, not, IsSome}
+use Rattle.std.specs.List.{list_any}
 use Rattle.std.proofs.lemmas.Bool.{false≢true}
 use Rattle.sector.specs.declared.pair.Pair.{Pair}
 use Rattle.device.specs.Layers.{Layer}
 use Rattle.plain.specs.declared.event.Event.{Event}
 use Rattle.plain.specs.declared.event.Event.TheVariants.{MergeAreaRead, MergeCommit, MergeFlush, MergeRead, MergeRelease}
 use Rattle.pending.specs.declared.flights.Flight.{Flight}
-use Rattle.volume_laws.specs.MergeDue.{is_readable, can_read, can_read_area, can_flush, can_commit_group, can_release, is_due_with}
+use Rattle.volume_laws.specs.Books.{MergeBooks}
+use Rattle.volume_laws.specs.MergeDue.{is_none, is_using, is_readable, can_read, can_read_area, can_flush, can_commit_group, can_release, is_due_with}
 use Rattle.merge.specs.declared.group.Group.{Group}
 use Rattle.merge.specs.declared.group.Progress.{Progress}
 use Rattle.merge.specs.declared.group.Progress.TheVariants.{Open, Full, Flushed, Committed}
-use Rattle.merge.specs.Due.{has_group_of, can_read_area_of, last_in, next_of, next_read_of, read_at_progress}
+use Rattle.merge.specs.Due.{has_group_of, can_read_area_of, last_in, next_of, next_read_of, read_at_progress, release_at, can_release_of}
 use Rattle.merge.specs.Merging.{Merging, books_of as merging_books, due_of as merging_due}
 use Rattle.volume.specs.Volumed.{Volumed, dues_of, merge_due, is_due_by, is_due_of}
 use Rattle.volume.proofs.Shown.{and_left, and_right}
@@ -34,6 +36,20 @@ at_progress Committed g q e = absurd (cc)
 pub read_next : (group : Option Group) (q : Pair) → next_read_of group ≡ Some q → next_of group ≡ Some q
 read_next None q e = absurd (cc)
 read_next (Some g) q e = at_progress g.progress g q e
+
+early_at : (p : Progress) (g : Group) (q : Pair) → read_at_progress p g ≡ Some q → release_at p ≡ false
+early_at Open g q e = refl
+early_at Full g q e = absurd (cc)
+early_at Flushed g q e = absurd (cc)
+early_at Committed g q e = absurd (cc)
+
+pub read_early : (group : Option Group) (q : Pair) → next_read_of group ≡ Some q → can_release_of group ≡ false
+read_early None q e = absurd (cc)
+read_early (Some g) q e = early_at g.progress g q e
+
+-- a group that may end is committed
+pub release_ready : (rs : List Flight) (m : MergeBooks) → can_release rs m ≡ true → not (is_none m.released) ≡ true
+release_ready rs m e = and_left (not (is_none m.released)) (not (list_any (is_using m.released) rs)) e
 
 -- where an area may be read, no group is formed
 pub area_free : {B : Type 0} (m : Merging B) → can_read_area_of m ≡ true → has_group_of m.group ≡ false

@@ -9,10 +9,10 @@ use Rattle.volume_laws.specs.Published.{is_clear}
 use Rattle.snapshot.specs.Kept.{Kept, books_of}
 use Rattle.merge.specs.Merging.{Merging, books_of as merging_books, due_of as merging_due}
 use Rattle.merge_beside.specs.Rooms.{merge_books}
-use Rattle.merge.specs.Due.{next_read_of}
+use Rattle.merge.specs.Due.{next_read_of, can_release_of}
 use Rattle.volume.specs.Volumed.{Volumed}
 use Rattle.volume.proofs.Chunks.{chunks_all}
-use Rattle.volume.proofs.MergeDues.{read_due, read_pair, read_some, read_next}
+use Rattle.volume.proofs.MergeDues.{read_due, read_pair, read_some, read_next, read_early}
 use Rattle.volume.proofs.MergeOperations.{read_good, store_stops, fails_from, stopped_from, due_running, due_unfinished}
 use Rattle.volume.proofs.MergeChanging.{disk_stays, merged_in}
 use Rattle.volume.proofs.MovedMerges.{read_moved, read_stopped}
@@ -21,18 +21,18 @@ use Rattle.volume.proofs.volume.Volume.merge_read.Goals as goal
 pub returns-then-not-is_read_due-clause-due : goal.returns-then-not-is_read_due-clause-due
 returns-then-not-is_read_due-clause-due g c =
     let v : Volumed g.row.B.Denot = record { origin = c.self.inside.origin; snaps = c.self.inside.snaps.items; merge = c.self.inside.merge; flights = c.self.inside.flights.items; requests = c.self.inside.requests; copies = c.self.inside.copies; attached = c.self.inside.attached } in
-    rw (← c.self.view_is) (sym (read_due g.B.Block.contents g.B.Block.layers v c.in-Some.merge c.in-Some.is ∙ sym c.if-not-is_read_due.ensures))
+    rw (← c.self.view_is) (sym (read_due g.B.Block.contents g.B.Block.layers v c.in-Some.merge c.in-Some.is ∙ ap (λ fs. can_read fs (merging_books g.B.Block.contents true c.in-Some.merge)) (sym c.deref.ensures.value) ∙ sym c.if-not-is_read_due.ensures))
 
 pub read_chunk-requires : goal.read_chunk-requires
 read_chunk-requires g c =
     let v : Volumed g.row.B.Denot = record { origin = c.self.inside.origin; snaps = c.self.inside.snaps.items; merge = c.self.inside.merge; flights = c.self.inside.flights.items; requests = c.self.inside.requests; copies = c.self.inside.copies; attached = c.self.inside.attached } in
-    let due : can_read c.self.inside.flights.items (merging_books g.B.Block.contents true c.in-Some.merge) ≡ true = sym c.if-not-is_read_due.ensures in
-    read_some c.self.inside.flights.items (next_read_of c.in-Some.merge.group) (sym ((c.has_group.ensures.looks true).read c.self.inside.flights.items) ∙ due)
+    let due : can_read c.self.inside.flights.items (merging_books g.B.Block.contents true c.in-Some.merge) ≡ true = ap (λ fs. can_read fs (merging_books g.B.Block.contents true c.in-Some.merge)) (sym c.deref.ensures.value) ∙ sym c.if-not-is_read_due.ensures in
+    record { due = read_some c.self.inside.flights.items (next_read_of c.in-Some.merge.group) (sym ((c.has_group.ensures.looks true).read c.self.inside.flights.items) ∙ due) }
 
 pub invariant_of-self-in-Ok : goal.invariant_of-self-in-Ok
 invariant_of-self-in-Ok g c =
     let v : Volumed g.row.B.Denot = record { origin = c.self.inside.origin; snaps = c.self.inside.snaps.items; merge = c.self.inside.merge; flights = c.self.inside.flights.items; requests = c.self.inside.requests; copies = c.self.inside.copies; attached = c.self.inside.attached } in
-    let due : can_read c.self.inside.flights.items (merging_books g.B.Block.contents true c.in-Some.merge) ≡ true = sym c.if-not-is_read_due.ensures in
+    let due : can_read c.self.inside.flights.items (merging_books g.B.Block.contents true c.in-Some.merge) ≡ true = ap (λ fs. can_read fs (merging_books g.B.Block.contents true c.in-Some.merge)) (sym c.deref.ensures.value) ∙ sym c.if-not-is_read_due.ensures in
     let readable = sym ((c.has_group.ensures.looks true).read c.self.inside.flights.items) ∙ due in
     let pair = read_pair c.self.inside.flights.items (next_read_of c.in-Some.merge.group) readable in
     let fields = c.in-Ok.ensures.fields pair.0 pair.1 in
@@ -49,7 +49,7 @@ invariant_of-self-in-Ok g c =
 pub returns-in-Ok-clause-step : goal.returns-in-Ok-clause-step
 returns-in-Ok-clause-step g c =
     let v : Volumed g.row.B.Denot = record { origin = c.self.inside.origin; snaps = c.self.inside.snaps.items; merge = c.self.inside.merge; flights = c.self.inside.flights.items; requests = c.self.inside.requests; copies = c.self.inside.copies; attached = c.self.inside.attached } in
-    let due : can_read c.self.inside.flights.items (merging_books g.B.Block.contents true c.in-Some.merge) ≡ true = sym c.if-not-is_read_due.ensures in
+    let due : can_read c.self.inside.flights.items (merging_books g.B.Block.contents true c.in-Some.merge) ≡ true = ap (λ fs. can_read fs (merging_books g.B.Block.contents true c.in-Some.merge)) (sym c.deref.ensures.value) ∙ sym c.if-not-is_read_due.ensures in
     let readable = sym ((c.has_group.ensures.looks true).read c.self.inside.flights.items) ∙ due in
     let pair = read_pair c.self.inside.flights.items (next_read_of c.in-Some.merge.group) readable in
     let fields = c.in-Ok.ensures.fields pair.0 pair.1 in
@@ -66,7 +66,7 @@ returns-in-Ok-clause-step g c =
 pub returns-in-Ok-clause-exact : goal.returns-in-Ok-clause-exact
 returns-in-Ok-clause-exact g c =
     let v : Volumed g.row.B.Denot = record { origin = c.self.inside.origin; snaps = c.self.inside.snaps.items; merge = c.self.inside.merge; flights = c.self.inside.flights.items; requests = c.self.inside.requests; copies = c.self.inside.copies; attached = c.self.inside.attached } in
-    let due : can_read c.self.inside.flights.items (merging_books g.B.Block.contents true c.in-Some.merge) ≡ true = sym c.if-not-is_read_due.ensures in
+    let due : can_read c.self.inside.flights.items (merging_books g.B.Block.contents true c.in-Some.merge) ≡ true = ap (λ fs. can_read fs (merging_books g.B.Block.contents true c.in-Some.merge)) (sym c.deref.ensures.value) ∙ sym c.if-not-is_read_due.ensures in
     let readable = sym ((c.has_group.ensures.looks true).read c.self.inside.flights.items) ∙ due in
     let pair = read_pair c.self.inside.flights.items (next_read_of c.in-Some.merge.group) readable in
     let fields = c.in-Ok.ensures.fields pair.0 pair.1 in
@@ -75,32 +75,40 @@ returns-in-Ok-clause-exact g c =
 pub returns-in-Ok-clause-due : goal.returns-in-Ok-clause-due
 returns-in-Ok-clause-due g c =
     let v : Volumed g.row.B.Denot = record { origin = c.self.inside.origin; snaps = c.self.inside.snaps.items; merge = c.self.inside.merge; flights = c.self.inside.flights.items; requests = c.self.inside.requests; copies = c.self.inside.copies; attached = c.self.inside.attached } in
-    rw (← c.self.view_is) (sym (read_due g.B.Block.contents g.B.Block.layers v c.in-Some.merge c.in-Some.is ∙ sym c.if-not-is_read_due.ensures))
+    rw (← c.self.view_is) (sym (read_due g.B.Block.contents g.B.Block.layers v c.in-Some.merge c.in-Some.is ∙ ap (λ fs. can_read fs (merging_books g.B.Block.contents true c.in-Some.merge)) (sym c.deref.ensures.value) ∙ sym c.if-not-is_read_due.ensures))
 
 pub fail-requires-clause-running : goal.fail-requires-clause-running
 fail-requires-clause-running g c =
     let v : Volumed g.row.B.Denot = record { origin = c.self.inside.origin; snaps = c.self.inside.snaps.items; merge = c.self.inside.merge; flights = c.self.inside.flights.items; requests = c.self.inside.requests; copies = c.self.inside.copies; attached = c.self.inside.attached } in
-    let due : can_read c.self.inside.flights.items (merging_books g.B.Block.contents true c.in-Some.merge) ≡ true = sym c.if-not-is_read_due.ensures in
+    let due : can_read c.self.inside.flights.items (merging_books g.B.Block.contents true c.in-Some.merge) ≡ true = ap (λ fs. can_read fs (merging_books g.B.Block.contents true c.in-Some.merge)) (sym c.deref.ensures.value) ∙ sym c.if-not-is_read_due.ensures in
     ap (λ x. x.failed) c.in-Err.ensures.kept ∙ due_running g.B.Block.contents g.B.Block.layers g.B.Block.size g.B.Block.fault_count g.B.Block.done_count v c.self.invariant c.in-Some.merge c.in-Some.is MergeRead due
+
+pub fail-requires-clause-early : goal.fail-requires-clause-early
+fail-requires-clause-early g c =
+    let v : Volumed g.row.B.Denot = record { origin = c.self.inside.origin; snaps = c.self.inside.snaps.items; merge = c.self.inside.merge; flights = c.self.inside.flights.items; requests = c.self.inside.requests; copies = c.self.inside.copies; attached = c.self.inside.attached } in
+    let due : can_read c.self.inside.flights.items (merging_books g.B.Block.contents true c.in-Some.merge) ≡ true = ap (λ fs. can_read fs (merging_books g.B.Block.contents true c.in-Some.merge)) (sym c.deref.ensures.value) ∙ sym c.if-not-is_read_due.ensures in
+    let readable = sym ((c.has_group.ensures.looks true).read c.self.inside.flights.items) ∙ due in
+    let pair = read_pair c.self.inside.flights.items (next_read_of c.in-Some.merge.group) readable in
+    ap (λ x. can_release_of x.group) c.in-Err.ensures.kept ∙ read_early c.in-Some.merge.group pair.0 pair.1
 
 pub fail-requires-clause-unfinished : goal.fail-requires-clause-unfinished
 fail-requires-clause-unfinished g c =
     let v : Volumed g.row.B.Denot = record { origin = c.self.inside.origin; snaps = c.self.inside.snaps.items; merge = c.self.inside.merge; flights = c.self.inside.flights.items; requests = c.self.inside.requests; copies = c.self.inside.copies; attached = c.self.inside.attached } in
-    let due : can_read c.self.inside.flights.items (merging_books g.B.Block.contents true c.in-Some.merge) ≡ true = sym c.if-not-is_read_due.ensures in
+    let due : can_read c.self.inside.flights.items (merging_books g.B.Block.contents true c.in-Some.merge) ≡ true = ap (λ fs. can_read fs (merging_books g.B.Block.contents true c.in-Some.merge)) (sym c.deref.ensures.value) ∙ sym c.if-not-is_read_due.ensures in
     subst (λ ps. 0 < length ps) (sym (ap (λ x. x.pairs) c.in-Err.ensures.kept)) (due_unfinished g.B.Block.contents g.B.Block.layers g.B.Block.size g.B.Block.fault_count g.B.Block.done_count v c.self.invariant c.in-Some.merge c.in-Some.is MergeRead (λ e. cc) due)
 
 pub route_again-requires : goal.route_again-requires
 route_again-requires g c =
     let v : Volumed g.row.B.Denot = record { origin = c.self.inside.origin; snaps = c.self.inside.snaps.items; merge = c.self.inside.merge; flights = c.self.inside.flights.items; requests = c.self.inside.requests; copies = c.self.inside.copies; attached = c.self.inside.attached } in
-    subst (All (λ (x : Kept _). 0 < x.state.chunk)) (sym c.deref.ensures.value) (chunks_all g.B.Block.contents g.B.Block.layers g.B.Block.size v c.self.invariant)
+    subst (All (λ (x : Kept _). 0 < x.state.chunk)) (sym c.deref-in-Err.ensures.value) (chunks_all g.B.Block.contents g.B.Block.layers g.B.Block.size v c.self.invariant)
 
 pub invariant_of-self-in-Err : goal.invariant_of-self-in-Err
 invariant_of-self-in-Err g c =
     let v : Volumed g.row.B.Denot = record { origin = c.self.inside.origin; snaps = c.self.inside.snaps.items; merge = c.self.inside.merge; flights = c.self.inside.flights.items; requests = c.self.inside.requests; copies = c.self.inside.copies; attached = c.self.inside.attached } in
-    let due : can_read c.self.inside.flights.items (merging_books g.B.Block.contents true c.in-Some.merge) ≡ true = sym c.if-not-is_read_due.ensures in
+    let due : can_read c.self.inside.flights.items (merging_books g.B.Block.contents true c.in-Some.merge) ≡ true = ap (λ fs. can_read fs (merging_books g.B.Block.contents true c.in-Some.merge)) (sym c.deref.ensures.value) ∙ sym c.if-not-is_read_due.ensures in
     let readable = sym ((c.has_group.ensures.looks true).read c.self.inside.flights.items) ∙ due in
     let pair = read_pair c.self.inside.flights.items (next_read_of c.in-Some.merge.group) readable in
-    let flights = c.route_again.ensures ∙ ap (λ xs. map (again_of (merge_books g.B.Block.contents g.B.Block.layers true (Some c.fail.new.self)) (is_clear (map (books_of g.B.Block.contents g.B.Block.layers) xs))) c.self.inside.flights.items) c.deref.ensures.value in
+    let flights = c.route_again.ensures ∙ ap (λ xs. map (again_of (merge_books g.B.Block.contents g.B.Block.layers true (Some c.fail.new.self)) (is_clear (map (books_of g.B.Block.contents g.B.Block.layers) xs))) c.self.inside.flights.items) c.deref-in-Err.ensures.value in
     let m1 = c.read_chunk.new.self in
     let kept_as : Merging g.row.B.Denot = record c.in-Some.merge { device = m1.device } in
     let fields = stopped_from kept_as m1 c.fail.new.self c.fail.ensures.fields c.in-Err.ensures.kept in
@@ -120,10 +128,10 @@ invariant_of-self-in-Err g c =
 pub returns-in-Err-clause-step : goal.returns-in-Err-clause-step
 returns-in-Err-clause-step g c =
     let v : Volumed g.row.B.Denot = record { origin = c.self.inside.origin; snaps = c.self.inside.snaps.items; merge = c.self.inside.merge; flights = c.self.inside.flights.items; requests = c.self.inside.requests; copies = c.self.inside.copies; attached = c.self.inside.attached } in
-    let due : can_read c.self.inside.flights.items (merging_books g.B.Block.contents true c.in-Some.merge) ≡ true = sym c.if-not-is_read_due.ensures in
+    let due : can_read c.self.inside.flights.items (merging_books g.B.Block.contents true c.in-Some.merge) ≡ true = ap (λ fs. can_read fs (merging_books g.B.Block.contents true c.in-Some.merge)) (sym c.deref.ensures.value) ∙ sym c.if-not-is_read_due.ensures in
     let readable = sym ((c.has_group.ensures.looks true).read c.self.inside.flights.items) ∙ due in
     let pair = read_pair c.self.inside.flights.items (next_read_of c.in-Some.merge.group) readable in
-    let flights = c.route_again.ensures ∙ ap (λ xs. map (again_of (merge_books g.B.Block.contents g.B.Block.layers true (Some c.fail.new.self)) (is_clear (map (books_of g.B.Block.contents g.B.Block.layers) xs))) c.self.inside.flights.items) c.deref.ensures.value in
+    let flights = c.route_again.ensures ∙ ap (λ xs. map (again_of (merge_books g.B.Block.contents g.B.Block.layers true (Some c.fail.new.self)) (is_clear (map (books_of g.B.Block.contents g.B.Block.layers) xs))) c.self.inside.flights.items) c.deref-in-Err.ensures.value in
     let m1 = c.read_chunk.new.self in
     let kept_as : Merging g.row.B.Denot = record c.in-Some.merge { device = m1.device } in
     let fields = stopped_from kept_as m1 c.fail.new.self c.fail.ensures.fields c.in-Err.ensures.kept in
@@ -143,10 +151,10 @@ returns-in-Err-clause-step g c =
 pub returns-in-Err-clause-exact : goal.returns-in-Err-clause-exact
 returns-in-Err-clause-exact g c =
     let v : Volumed g.row.B.Denot = record { origin = c.self.inside.origin; snaps = c.self.inside.snaps.items; merge = c.self.inside.merge; flights = c.self.inside.flights.items; requests = c.self.inside.requests; copies = c.self.inside.copies; attached = c.self.inside.attached } in
-    let due : can_read c.self.inside.flights.items (merging_books g.B.Block.contents true c.in-Some.merge) ≡ true = sym c.if-not-is_read_due.ensures in
+    let due : can_read c.self.inside.flights.items (merging_books g.B.Block.contents true c.in-Some.merge) ≡ true = ap (λ fs. can_read fs (merging_books g.B.Block.contents true c.in-Some.merge)) (sym c.deref.ensures.value) ∙ sym c.if-not-is_read_due.ensures in
     let readable = sym ((c.has_group.ensures.looks true).read c.self.inside.flights.items) ∙ due in
     let pair = read_pair c.self.inside.flights.items (next_read_of c.in-Some.merge.group) readable in
-    let flights = c.route_again.ensures ∙ ap (λ xs. map (again_of (merge_books g.B.Block.contents g.B.Block.layers true (Some c.fail.new.self)) (is_clear (map (books_of g.B.Block.contents g.B.Block.layers) xs))) c.self.inside.flights.items) c.deref.ensures.value in
+    let flights = c.route_again.ensures ∙ ap (λ xs. map (again_of (merge_books g.B.Block.contents g.B.Block.layers true (Some c.fail.new.self)) (is_clear (map (books_of g.B.Block.contents g.B.Block.layers) xs))) c.self.inside.flights.items) c.deref-in-Err.ensures.value in
     let m1 = c.read_chunk.new.self in
     let kept_as : Merging g.row.B.Denot = record c.in-Some.merge { device = m1.device } in
     let fields = stopped_from kept_as m1 c.fail.new.self c.fail.ensures.fields c.in-Err.ensures.kept in
@@ -157,4 +165,4 @@ returns-in-Err-clause-exact g c =
 pub returns-in-Err-clause-due : goal.returns-in-Err-clause-due
 returns-in-Err-clause-due g c =
     let v : Volumed g.row.B.Denot = record { origin = c.self.inside.origin; snaps = c.self.inside.snaps.items; merge = c.self.inside.merge; flights = c.self.inside.flights.items; requests = c.self.inside.requests; copies = c.self.inside.copies; attached = c.self.inside.attached } in
-    rw (← c.self.view_is) (sym (read_due g.B.Block.contents g.B.Block.layers v c.in-Some.merge c.in-Some.is ∙ sym c.if-not-is_read_due.ensures))
+    rw (← c.self.view_is) (sym (read_due g.B.Block.contents g.B.Block.layers v c.in-Some.merge c.in-Some.is ∙ ap (λ fs. can_read fs (merging_books g.B.Block.contents true c.in-Some.merge)) (sym c.deref.ensures.value) ∙ sym c.if-not-is_read_due.ensures))
