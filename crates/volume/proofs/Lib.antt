@@ -78,4 +78,6 @@ pub mod Begun
 pub mod NextSaved
 pub mod NextFit
 pub mod MergeSaves
+pub mod MergeGroups
+pub mod MovedGroups
 pub mod Beginnings
