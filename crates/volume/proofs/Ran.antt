@@ -1,22 +1,19 @@
 -- Calls one after another: what callers see of them, and that no call changes which devices drop writes.
 use Rattle.std.proofs.Common.{◌≡◌, inl, inr, ℕ, true, List, [], ◌∷◌, ◌++◌, map, refl, sym, ◌∙◌, ap, subst}
 use Rattle.std.proofs.lemmas.List.{map-id}
-use Rattle.std.specs.Prelude.{Option, None, Result, Ok, Err, IfErr, OnOk, OnErr, MatchResult}
+use Rattle.std.specs.Prelude.{None, Result, Ok, Err, MatchResult}
 use Rattle.device.specs.Layers.{Layer}
 use Rattle.layers.specs.declared.message.Answer.{Answer}
 use Rattle.layers.specs.declared.message.Message.{Message}
 use Rattle.plain.specs.Plain.{Plain}
-use Rattle.plain.specs.Legal.{IsBegun}
 use Rattle.plain.specs.Runs.{IsRun, MayStep, MaySubmit}
 use Rattle.plain.specs.declared.event.Event.{Event}
 use Rattle.plain.specs.declared.event.NotDue.{NotDue}
 use Rattle.plain.specs.declared.event.Outcome.{Outcome}
 use Rattle.plain.specs.declared.request.Dev.{Dev}
-use Rattle.plain.specs.declared.request.Reply.{Reply}
 use Rattle.plain.specs.declared.request.Request.{Request}
 use Rattle.sector.specs.declared.refusal.Refusal.{Refusal}
 use Rattle.sector.specs.declared.refusal.Refusal.TheVariants.{NotMerging}
-use Rattle.event_machine.specs.Merging.{begun, resumed}
 use Rattle.volume_laws.specs.Shape.{SnapShape, shown_entry}
 use Rattle.snapshot.specs.Kept.{Kept}
 use Rattle.merge_beside.specs.Keeping.{unkept}
@@ -25,10 +22,9 @@ use Rattle.volume.specs.declared.calls.Call.TheVariants.{Submit, Step, Tick, Mes
 use Rattle.volume.specs.declared.calls.Returned.{Returned}
 use Rattle.volume.specs.declared.calls.Returned.TheVariants.{Submitted, Stepped, Ticked, Told, Begun, Resumed}
 use Rattle.volume.specs.Volumed.{Volumed, plain_of, is_loud_in_all, snap_shape}
-use Rattle.volume.specs.Beginning.{IsMergeBegun, IsNotBegun, IsResumed, SameButKept, begin_refusal}
-use Rattle.volume.specs.Moved.{moving_of}
+use Rattle.volume.specs.Beginning.{IsNotBegun, SameButKept}
 use Rattle.volume.specs.Layering.{Measures}
-use Rattle.volume.specs.Running.{IsSubmitReturned, IsStepReturned, IsMessageReturned, IsBegunAs, IsBeginRefused, IsBeginReturned, IsResumedAs, IsResumeReturned, IsReturned, AreReturned, MayBegin, MayCall}
+use Rattle.volume.specs.Running.{IsSubmitReturned, IsStepReturned, IsMessageReturned, IsBegunAs, IsBeginRefused, IsResumedAs, IsReturned, AreReturned, MayBegin, MayCall}
 use Rattle.volume.proofs.Declines.{refused_declined, refused_loud}
 use Rattle.volume.proofs.Relayered.{IsVolumeAlike, map_twice, ticked_alike}
 use Rattle.volume.proofs.Told.{plain_alike, loud_alike, told_alike, untold_alike}
@@ -183,20 +179,3 @@ module _ {B : Type 0} (m : Measures B) (layers : B → List Layer) where
   -- those that a loop went over are all of them
   pub all_returned : (seen calls : List Call) (returned : List Returned) (v w : Volumed B) → map (λ c. c) seen ≡ calls → AreReturned m layers seen returned v w → AreReturned m layers calls returned v w
   all_returned seen calls returned v w all e = subst (λ (cs : List Call). AreReturned m layers cs returned v w) (sym (map-id seen) ∙ all) e
-
--- what a call to begin a merge promises
-module _ {A B : Type 0} (m : Measures B) (layers : B → List Layer) where
-  pub begin_returned : (number : ℕ) (r : Result A Refusal) (v w : Volumed B) → OnOk r (begin_refusal number v ≡ None) → OnOk r (IsMergeBegun number v w)
-      → OnOk r (is_loud_in_all layers v ≡ true → IsBegun (plain_of m.contents layers v) number (plain_of m.contents layers w))
-      → OnOk r ((replied : Option Reply) → begun number (moving_of m.contents layers replied v) ≡ moving_of m.contents layers replied w)
-      → is_loud_in_all layers w ≡ is_loud_in_all layers v → IfErr r (λ refusal. IsNotBegun number refusal v w)
-      → OnErr r ((replied : Option Reply) → moving_of m.contents layers replied w ≡ moving_of m.contents layers replied v) → IsBeginReturned m layers number r v w
-  begin_returned number (Ok done) v w admitted becomes legal exact loud refused starved = (record { admitted = admitted; becomes = becomes; legal = legal; exact = exact }, loud)
-  begin_returned number (Err refusal) v w admitted becomes legal exact loud refused starved = (record { why = refused; still = starved }, loud)
-
-  pub resume_returned : (r : Result A Refusal) (v w : Volumed B) → OnOk r (IsResumed v w)
-      → OnOk r ((replied : Option Reply) → resumed (moving_of m.contents layers replied v) ≡ moving_of m.contents layers replied w)
-      → plain_of m.contents layers w ≡ plain_of m.contents layers v → is_loud_in_all layers w ≡ is_loud_in_all layers v
-      → IfErr r (λ refusal. (refusal ≡ NotMerging) × (v.merge ≡ None) × (w ≡ v)) → IsResumeReturned m layers r v w
-  resume_returned (Ok done) v w becomes exact plain loud err = (record { becomes = becomes; exact = exact; plain = plain }, loud)
-  resume_returned (Err refusal) v w becomes exact plain loud err = (err, loud)
