@@ -120,7 +120,7 @@ module _ {B : Type 0} (contents : B → List ℕ) (layers : B → List Layer) wh
     pub quiet_alone : v.merge ≡ None → next_of contents layers v ≡ None → IsQuiet (books_of contents layers size v) × IsMergeStill v.merge
     quiet_alone alone none = (
       quiet (books_of contents layers size v) (dues_of contents layers v) h.waits (alone_books contents layers (is_loud (layers v.origin)) v.merge alone) (due_books contents layers v.snaps)
-      (sym (ap (λ (x : Option (Merging B)). due_by (dues_of contents layers v) v.flights (merge_due contents x)) alone) ∙ none),
+          (sym (ap (λ (x : Option (Merging B)). due_by (dues_of contents layers v) v.flights (merge_due contents x)) alone) ∙ none),
       subst IsMergeStill (sym alone) tt,
     )
 
