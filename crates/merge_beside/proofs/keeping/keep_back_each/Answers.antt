@@ -1,5 +1,5 @@
 -- One snapshot more keeps back what it does, or none did.
-use Rattle.std.proofs.Common.{◌≡◌, ◌∙◌, ap, get_or}
+use Rattle.std.proofs.Common.{◌∙◌, ap}
 use Rattle.std.proofs.lemmas.List.Edits.{map_over_more}
 use Rattle.std.proofs.Math.Seq.{map-set_same}
 use Rattle.merge_beside.specs.Keeping.{kept_for, unkept}
