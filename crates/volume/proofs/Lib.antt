@@ -81,3 +81,4 @@ pub mod MergeSaves
 pub mod MergeGroups
 pub mod MovedGroups
 pub mod Beginnings
+pub mod Finished
