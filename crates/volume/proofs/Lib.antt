@@ -81,3 +81,5 @@ pub mod MergeSaves
 pub mod MergeGroups
 pub mod MovedGroups
 pub mod Beginnings
+pub mod MovedWrites
+pub mod MergeWritten
