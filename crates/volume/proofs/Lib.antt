@@ -82,3 +82,5 @@ pub mod MergeGroups
 pub mod MovedGroups
 pub mod Beginnings
 pub mod Finished
+pub mod MovedWrites
+pub mod MergeWritten
