@@ -30,6 +30,8 @@ pub mod MovedCopies
 pub mod MovedStores
 pub mod MovedMarks
 pub mod MovedMerges
+pub mod StoredPairs
+pub mod DueBeside
 pub mod MovedIssues
 pub mod MovedFound
 pub mod MovedCounts
