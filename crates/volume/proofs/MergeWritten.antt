@@ -1,8 +1,8 @@
 -- MergeWrite: the chunk in the buffer is written to the origin disk, and the copies of the chunk that is copied next are started.
-use Rattle.std.proofs.Common.{◌≡◌, inr, ℕ, zero, suc, ◌+◌, ◌*◌, ◌<◌, ◌≤◌, Bool, true, false, List, [], ◌∷◌, Option, Some, length, get_or, take, map, refl, sym, ◌∙◌, ap, subst, arith}
+use Rattle.std.proofs.Common.{◌≡◌, inr, ℕ, zero, suc, ◌*◌, ◌<◌, ◌≤◌, Bool, true, List, [], ◌∷◌, Option, Some, length, get_or, take, map, refl, sym, ◌∙◌, ap, subst, arith}
 use Rattle.std.specs.List.{All}
 use Rattle.std.specs.Prelude.{IsTrue}
-use Rattle.std.proofs.lemmas.List.{get_or-map, length-map}
+use Rattle.std.proofs.lemmas.List.{length-map}
 use Rattle.sector.specs.Bytes.{next_count, with_sectors}
 use Rattle.sector.specs.declared.pair.Pair.{Pair}
 use Rattle.device.specs.Layers.{Layer, is_loud}
@@ -12,16 +12,15 @@ use Rattle.plain.specs.declared.event.Outcome.TheVariants.{Done}
 use Rattle.pending.specs.Copies.{count_of}
 use Rattle.pending.specs.declared.flights.Flight.{Flight}
 use Rattle.store.specs.Operations.{IsOneOperation}
-use Rattle.volume_laws.specs.Books.{SnapBooks, MergeBooks, Books}
+use Rattle.volume_laws.specs.Books.{SnapBooks, MergeBooks}
 use Rattle.volume_laws.specs.MergeDue.{DueMerge, can_write, is_writable, last_of}
-use Rattle.volume_laws.specs.MergeRooms.{room_books}
 use Rattle.volume_laws.specs.MergeSteps.{WritesBack}
 use Rattle.volume_laws.specs.MergeWaits.{HaveChunk, IsSavedIn, IsSavedSoon, MergeGoes, next_pairs}
 use Rattle.volume_laws.specs.Published.{IsSaved, is_clear}
 use Rattle.volume_laws.proofs.MergeRoomStarts.{HaveRoom, room_written}
 use Rattle.volume_laws.proofs.MergeSaved.{pieces_of, saved_everywhere}
 use Rattle.volume_laws.proofs.MergeSteps.{IsMergeChange, IsMergeStart, write_change, write_step}
-use Rattle.volume_laws.proofs.MergeTests.{MayWrite, write_test}
+use Rattle.volume_laws.proofs.MergeTests.{write_test}
 use Rattle.snapshot.specs.Kept.{Kept, books_of as snap_books}
 use Rattle.merge.specs.Due.{full_of}
 use Rattle.merge.specs.Lists.{waiting_of, reading_of}
@@ -40,7 +39,7 @@ use Rattle.volume.proofs.MergeCounting.{merged_same, merged_disk, disk_within}
 use Rattle.volume.proofs.MergeDues.{due_beside}
 use Rattle.volume.proofs.MergeGroups.{can_save, room_kept}
 use Rattle.volume.proofs.MergeOperations.{holds_merge, rooms_seen}
-use Rattle.volume.proofs.MergeSaves.{regrouped, grouped, grouped_fit, saved_to, IsNextDone, next_done, saved_good}
+use Rattle.volume.proofs.MergeSaves.{regrouped, grouped_fit, saved_to, IsNextDone, next_done, saved_good}
 use Rattle.volume.proofs.MovedGroups.{stores_sized}
 use Rattle.volume.proofs.MovedWrites.{write_moved}
 use Rattle.volume.proofs.Shown.{and_left, due_books, loud_books}

@@ -1,8 +1,8 @@
 -- A chunk is written to the origin disk, and the copies of the chunk that is copied next are started.
-use Rattle.std.proofs.Common.{◌≡◌, ◌<◌, ◌*◌, ℕ, List, length, map, refl, ap, sym, subst, ◌∙◌, true, false, Some, None, arith}
+use Rattle.std.proofs.Common.{◌≡◌, ◌<◌, ◌*◌, ℕ, length, map, refl, ap, sym, subst, ◌∙◌, true, false, Some, arith}
 use Rattle.std.specs.List.{All}
 use Rattle.device.specs.Layers.{is_loud}
-use Rattle.plain.specs.declared.event.Event.TheVariants.{MergeWrite, MergeRelease}
+use Rattle.plain.specs.declared.event.Event.TheVariants.{MergeWrite}
 use Rattle.volume_laws.specs.Again.{again_of}
 use Rattle.volume_laws.specs.MergeDue.{can_write}
 use Rattle.volume_laws.specs.Published.{is_clear}
@@ -10,7 +10,7 @@ use Rattle.snapshot.specs.Kept.{Kept, books_of as snap_books}
 use Rattle.merge.specs.Due.{full_of}
 use Rattle.merge.specs.Lists.{changed, written_in}
 use Rattle.merge.specs.Looks.{option_pairs}
-use Rattle.merge.specs.Merging.{Merging, books_of as merging_books, due_of as merging_due}
+use Rattle.merge.specs.Merging.{books_of as merging_books}
 use Rattle.merge.proofs.Looks.{full_is}
 use Rattle.merge_beside.specs.Rooms.{merge_books}
 use Rattle.volume.specs.Volumed.{Volumed}
