@@ -1,8 +1,8 @@
 -- A merge begins in a quiet volume.
-use Rattle.std.proofs.Common.{◌≡◌, ◌≢◌, ℕ, zero, suc, ◌+◌, ◌*◌, ◌/◌, ◌<◌, ◌≤◌, Bool, true, false, List, [], ◌∷◌, Option, Some, None, length, get_or, map, refl, sym, ◌∙◌, ap, subst, arith, nat_eq}
-use Rattle.std.specs.Prelude.{sum_by, AllPairs, ◌&&◌, is_some}
+use Rattle.std.proofs.Common.{◌≡◌, ◌≢◌, ℕ, zero, suc, ◌+◌, ◌*◌, ◌/◌, ◌<◌, ◌≤◌, Bool, true, false, List, [], ◌∷◌, Option, Some, None, length, get_or, map, inl, inr, refl, sym, ◌∙◌, ap, subst, arith, nat_eq, if◌then◌else◌}
+use Rattle.std.specs.Prelude.{sum_by, AllPairs, ◌&&◌, ◌==◌, not, is_some}
 use Rattle.std.specs.List.{All, remove, list_all}
-use Rattle.std.proofs.lemmas.Bool.{false≢true}
+use Rattle.std.proofs.lemmas.Bool.{cases_Bool, eqb-true, false≢true}
 use Rattle.std.proofs.lemmas.List.{append-nil, length-map, get_or-map}
 use Rattle.std.proofs.lemmas.List.Edits.{length-remove}
 use Rattle.std.proofs.lemmas.List.Elements.{All-cons, All-map, All-nil}
@@ -30,23 +30,36 @@ use Rattle.event_machine.specs.Merging.{begin, begun, merging_of}
 use Rattle.event_machine.specs.MergeSeen.{held_in, merge_held_of}
 use Rattle.event_machine.specs.Stepping.{first_that, for_some, without_first}
 use Rattle.snapshot.specs.Kept.{Kept, books_of as snap_books}
-use Rattle.snapshots.specs.Finding.{place_of_snap}
 use Rattle.snapshots.specs.Numbers.{number_of_snap, count_in}
 use Rattle.merge.specs.Merging.{Merging, due_of as merging_due}
-use Rattle.merge_beside.specs.Keeping.{unkept, kept_for}
+use Rattle.merge_beside.specs.Keeping.{kept_back, kept_for}
 use Rattle.merge_beside.specs.Rooms.{merge_books, room_of}
-use Rattle.merge_beside.proofs.Unkept.{kept_unkept}
 use Rattle.volume.specs.Beginning.{merging_from}
 use Rattle.volume.specs.Volumed.{Volumed, books_of, is_loud_in_all, is_loud_with, piece_with, plain_of}
 use Rattle.volume.specs.Whole.{AreNumbers, SharesNone, IsAttached, IsCounted, IsMerged, IsWhole, starts_left}
 use Rattle.volume.specs.Moved.{held_of, merge_seen, moving_of}
-use Rattle.volume.proofs.MovedLists.{IsFirst, first_is, first_position, if_false, if_true, without_seen}
+use Rattle.volume.proofs.MovedLists.{IsFirst, first_is, if_false, if_true, without_seen}
 use Rattle.volume.proofs.Removed.{all_removed, sum_left}
 use Rattle.volume.proofs.Shown.{and_right, shown}
 
 -- what a snapshot keeps back for so many pairs
+pub record KeepsCount {B : Type 0} (count : ℕ) (t : Kept B) : Type 0 where
+  pub nodes : t.kept_back ≡ count
+  pub spare : t.spare ≡ true
+  pub idle : t.merging ≡ None
+
 abbrev pub KeepsFor : {B : Type 0} → ℕ → ℕ → Kept B → Type 0
-KeepsFor number count t = t.live ≡ true → t.number ≢ number → (t.kept_back ≡ count) × (t.spare ≡ true) × (t.merging ≡ None)
+KeepsFor number count t = t.live ≡ true → t.number ≢ number → KeepsCount count t
+
+pub kept_keeps : {B : Type 0} (number count : ℕ) (t : Kept B) → KeepsFor number count (kept_for number count t)
+kept_keeps number count t = by_test (t.live && not (nat_eq t.number number)) refl
+  where
+    by_test : (b : Bool) → (t.live && not (nat_eq t.number number)) ≡ b → KeepsFor number count (if b then kept_back count t else t)
+    by_test true e = λ live other. record { nodes = refl; spare = refl; idle = refl }
+    by_test false e = λ live other. elim (cases_Bool (nat_eq t.number number)) [
+      | inl same ↦ absurd (other (eqb-true t.number number same))
+      | inr differs ↦ (let passes : (t.live && not (nat_eq t.number number)) ≡ true = rw (live, differs) refl in absurd (false≢true (sym e ∙ passes)))
+    ]
 
 -- numbers that rise differ from one of them
 others_differ : {B : Type 0} (xs : List (Kept B)) (k : ℕ) (s : Kept B) → ((i j : ℕ) (d : Kept B) → i < j → j < length xs → (get_or xs i d).number < (get_or xs j d).number) → k < length xs → s ≡ get_or xs k s → All (λ t. t.number ≢ s.number) (remove xs k)
@@ -154,7 +167,7 @@ module _ {B : Type 0} (contents : B → List ℕ) (layers : B → List Layer) (s
     kept = λ j d lt alive.
         (let t : Kept B = get_or (remove v.snaps k) j d in
         let its = All-remove (KeepsFor s.number (length s.pairs)) v.snaps k keeps j d lt alive (apart j d lt) in
-        room_begun s.state.chunk s.pairs (room_of contents layers t) (let few = few_lacking s.state.chunk s.pairs (sb t) in omega (arith, few, its.0)) its.1.0 its.1.1)
+        room_begun s.state.chunk s.pairs (room_of contents layers t) (let few = few_lacking s.state.chunk s.pairs (sb t) in omega (arith, few, its.nodes)) its.spare its.idle)
 
     merged : IsMerged contents layers size m with_merge
     merged = record {
@@ -210,15 +223,12 @@ module _ {B : Type 0} (contents : B → List ℕ) (layers : B → List Layer) (s
       ap (λ n. n / (32 * s.state.chunk)) counted.count ∙ div-mul-add s.state.current (32 * s.state.chunk) s.state.filled (counted.fits live) in
       ap (λ n. let g : MergeHeld = record one { merge = record one.merge { current = n } } in g) area
 
-  module _ (number : ℕ) (found : place_of_snap number v.snaps ≡ Some k) (replied : Option Reply) where
+  module _ (number : ℕ) (first : IsFirst (λ (t : Kept B). t.number == number) k s v.snaps) (replied : Option Reply) where
     abbrev machine : Moving
     machine = moving_of contents layers replied v
 
     abbrev test : Held → Bool
     test t = t.snap.number == number
-
-    first : IsFirst (λ (t : Kept B). test (held_of contents layers t)) k s v.snaps
-    first = first_position (λ (t : Kept B). nat_eq t.number number) k s v.snaps is found
 
     pub exact_begun : begun number (moving_of contents layers replied v) ≡ moving_of contents layers replied with_merge
     exact_begun =

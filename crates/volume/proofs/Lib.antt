@@ -69,6 +69,7 @@ pub mod Ran
 pub mod Peeked
 pub mod AtRest
 pub mod Quieted
+pub mod Asked
 pub mod MergeDue
 pub mod Unwritten
 pub mod Unlike
@@ -79,3 +80,8 @@ pub mod Begun
 pub mod NextSaved
 pub mod NextFit
 pub mod MergeSaves
+pub mod MergeGroups
+pub mod MovedGroups
+pub mod Beginnings
+pub mod MovedWrites
+pub mod MergeWritten

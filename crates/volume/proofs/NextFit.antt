@@ -1,15 +1,14 @@
 -- A merge starts the copies of its next chunk in one snapshot of a volume after another: what is left of the volume in between.
-use Rattle.std.proofs.Common.{◌≡◌, ◌≢◌, ◌⊎◌, inl, inr, ℕ, ◌+◌, ◌*◌, ◌/◌, ◌<◌, ◌≤◌, Bool, true, false, List, [], ◌∷◌, ◌++◌, length, get_or, set, map, refl, sym, ◌∙◌, ap, subst, arith, length-append, nat_eq}
-use Rattle.std.specs.Prelude.{◌&&◌, ◌-◌, not, Any, AllPairs, sum_by, None, Some, Option}
+use Rattle.std.proofs.Common.{◌≡◌, ◌≢◌, inl, inr, ℕ, ◌+◌, ◌*◌, ◌/◌, ◌<◌, ◌≤◌, Bool, true, false, List, [], ◌∷◌, ◌++◌, length, get_or, set, map, refl, sym, ◌∙◌, ap, subst, arith, length-append, nat_eq}
+use Rattle.std.specs.Prelude.{◌&&◌, ◌-◌, not, Option}
 use Rattle.std.specs.List.{All, list_any}
 use Rattle.std.specs.Option.{is_some}
 use Rattle.std.specs.Global.{Vec}
-use Rattle.std.proofs.lemmas.Bool.{cases_Bool, true≢false, eqb-true, MatchBool-at_true, MatchBool-at_false}
+use Rattle.std.proofs.lemmas.Bool.{cases_Bool, true≢false, MatchBool-at_true, MatchBool-at_false}
 use Rattle.std.proofs.lemmas.List.{map-set, length-map, length-set, get_or-map, set-get_or, append_assoc, get_or-append-add, append-nil}
 use Rattle.std.proofs.lemmas.List.Elements.{All-set, All-weaker, All-push, All-nil}
 use Rattle.std.proofs.lemmas.List.Quantifiers.{all_pairs_push}
 use Rattle.std.proofs.lemmas.List.Sums.{sum_by-set}
-use Rattle.std.proofs.lemmas.List.Folds.{Any-from_list_any}
 use Rattle.std.proofs.Math.Seq.{map-set_same}
 use Rattle.sector.specs.declared.pair.Pair.{Pair}
 use Rattle.device.specs.Layers.{Layer}
@@ -17,7 +16,6 @@ use Rattle.model.specs.Picture.{place_of}
 use Rattle.pending.specs.Routes.{refused_of}
 use Rattle.pending.specs.declared.copies.ChunkCopy.{ChunkCopy}
 use Rattle.pending.specs.declared.flights.Flight.{Flight}
-use Rattle.volume_laws.specs.Books.{SnapBooks}
 use Rattle.volume_laws.specs.Held.{SnapHolds}
 use Rattle.volume_laws.specs.MergeRooms.{RoomSnap, room_books, lacks_pair, CanMerge, StartsMerging as StartsRoom}
 use Rattle.volume_laws.specs.Steps.{SpoilsSnap}
@@ -35,6 +33,8 @@ use Rattle.volume.specs.Volumed.{Volumed, books_of, piece_with}
 use Rattle.volume.specs.Whole.{AreNumbers, SharesNone, IsAttached, IsCounted, starts_left}
 use Rattle.volume.proofs.Changing.{SnapsFit, piece_beside, changed, changes, spoils_one, same_disk, books_is}
 use Rattle.volume.proofs.Begins.{all_pairs_set_in, given_more, numbers_pushed}
+use Rattle.volume.proofs.MergeOperations.{rooms_seen}
+use Rattle.volume.proofs.Savings.{neither, not_lacking}
 use Rattle.volume.proofs.StartsLeft.{left_started, left_spoilt}
 use Rattle.volume.proofs.MovedCounts.{counted_begun, counted_spoilt}
 use Rattle.volume.proofs.NextSaved.{roomed, as_started}
@@ -43,33 +43,9 @@ and_first : (a b : Bool) → (a && b) ≡ true → a ≡ true
 and_first true b e = refl
 and_first false b e = e
 
-neither : (a b : Bool) → (a && not b) ≡ false → (a && b) ≡ false → a ≡ false
-neither false b e f = refl
-neither true true e f = f
-neither true false e f = e
-
 not_live : (l a b : Bool) → ((l && a) && b) ≡ true → (a && b) ≡ true
 not_live true a b e = e
 not_live false a b e = absurd (true≢false (sym e))
-
--- a live snapshot that does not lack its chunk of a sector has it, or a copy of it is under way
-not_lacking : {B : Type 0} (first : ℕ) (s : Kept B) → lacks first s ≡ false → s.live ≡ true → (place_of s.pairs (first / s.state.chunk) ≢ None) ⊎ Any (λ p. p.pair.old ≡ first / s.state.chunk) s.copies
-not_lacking first s e live = at (place_of s.pairs (first / s.state.chunk)) refl
-  where
-    some_ne_none : (n : ℕ) → Some n ≢ None
-    some_ne_none n is = cc
-
-    at : (found : Option ℕ) → place_of s.pairs (first / s.state.chunk) ≡ found → (place_of s.pairs (first / s.state.chunk) ≢ None) ⊎ Any (λ p. p.pair.old ≡ first / s.state.chunk) s.copies
-    at (Some n) is = inl (λ none. some_ne_none n (sym is ∙ none))
-    at None is = inr (elim (cases_Bool (list_any (λ p. nat_eq p.pair.old (first / s.state.chunk)) s.copies)) [
-      | inl any ↦ (let (k, p, lt, p_is, same) = Any-from_list_any (λ p. nat_eq p.pair.old (first / s.state.chunk)) s.copies any in (k, p, lt, p_is, eqb-true p.pair.old (first / s.state.chunk) same))
-      | inr none ↦ (let here : lacks first s ≡ true = rw (live, is, none) refl in absurd (true≢false (sym here ∙ e)))
-    ])
-
--- the books of what is kept back
-pub rooms_books : {B : Type 0} (contents : B → List ℕ) (layers : B → List Layer) (ss : List (Kept B)) → map room_books (map (room_of contents layers) ss) ≡ map (snap_books contents layers) ss
-rooms_books contents layers [] = refl
-rooms_books contents layers (s ∷ ss) = ap (λ (xs : List SnapBooks). snap_books contents layers s ∷ xs) (rooms_books contents layers ss)
 
 -- What a snapshot becomes that fits as well: maybe with a number more, and no more copies that count.
 pub record FitsOn {B : Type 0} (n n' : ℕ) (s s' : Kept B) : Type 0 where
@@ -171,7 +147,7 @@ module _ {B : Type 0} (contents : B → List ℕ) (layers : B → List Layer) (s
     room_is = ap (room_of contents layers) is ∙ sym (get_or-map (room_of contents layers) v.snaps k s (room_of contents layers s) within)
 
     all_hold : All (SnapHolds (contents v.origin) v.flights) (map room_books rooms)
-    all_hold = subst (All (SnapHolds (contents v.origin) v.flights)) (sym (rooms_books contents layers v.snaps)) h.starting.prepared.holds.snaps
+    all_hold = subst (All (SnapHolds (contents v.origin) v.flights)) (sym (rooms_seen contents layers v.snaps)) h.starting.prepared.holds.snaps
 
     is_live : lacks (chunk * q.old) s ≡ true → s.live ≡ true
     is_live e = and_first s.live (not (is_some (place_of s.pairs (chunk * q.old / s.state.chunk)))) (and_first (s.live && not (is_some (place_of s.pairs (chunk * q.old / s.state.chunk)))) (not (list_any (λ p. nat_eq p.pair.old (chunk * q.old / s.state.chunk)) s.copies)) e)

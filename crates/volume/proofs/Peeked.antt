@@ -19,7 +19,7 @@ use Rattle.snapshots.specs.Finding.{place_of_snap}
 use Rattle.volume.specs.Submitting.{dev_refusal, is_merging, refusal_at}
 use Rattle.merge.specs.InStep.{IsInStep}
 use Rattle.merge.specs.Merging.{Merging}
-use Rattle.sector.specs.declared.refusal.Refusal.TheVariants.{MergingSnapshot}
+use Rattle.sector.specs.declared.refusal.Refusal.TheVariants.{MergingSnapshot, Invalid as Invalidated}
 use Rattle.volume.proofs.MovedLists.{IsFirst}
 use Rattle.volume.proofs.Named.{found_within}
 use Rattle.volume.proofs.Told.{later_first}
@@ -85,6 +85,14 @@ live_refusal merge snaps dev number k s is other found at live =
     let within = found_within number snaps k found in
     let alive : get_or (map (λ (x : Kept _). x.live) snaps) k false ≡ true = get_or-map (λ (x : Kept _). x.live) snaps k s false within ∙ ap (λ (x : Kept _). x.live) (sym at) ∙ live in
     ap (λ d. dev_refusal d merge snaps) is ∙ ap (λ b. if b then Some MergingSnapshot else refusal_at snaps (place_of_snap number snaps)) other ∙ ap (refusal_at snaps) (sym found) ∙ rw alive refl
+
+-- one that is spoiled is
+pub spoilt_refusal : {B : Type 0} (merge : Option (Merging B)) (snaps : List (Kept B)) (dev : Dev) (number k : ℕ) (s : Kept B) → dev ≡ Snap number → is_merging number merge ≡ false → Some k ≡ place_of_snap number snaps → s ≡ get_or snaps k s → s.live ≡ false
+    → dev_refusal dev merge snaps ≡ Some Invalidated
+spoilt_refusal merge snaps dev number k s is other found at spoilt =
+    let within = found_within number snaps k found in
+    let dead : get_or (map (λ (x : Kept _). x.live) snaps) k false ≡ false = get_or-map (λ (x : Kept _). x.live) snaps k s false within ∙ ap (λ (x : Kept _). x.live) (sym at) ∙ spoilt in
+    ap (λ d. dev_refusal d merge snaps) is ∙ ap (λ b. if b then Some MergingSnapshot else refusal_at snaps (place_of_snap number snaps)) other ∙ ap (refusal_at snaps) (sym found) ∙ rw dead refl
 
 -- beside a merge the origin shows the picture over the merging store
 pub origin_merged : {B : Type 0} (contents : B → List ℕ) (layers : B → List Layer) (v : Volumed B) (m : Merging B) → v.merge ≡ Some m → (plain_of contents layers v).origin ≡ picture m.state.chunk (contents v.origin) (contents m.device)

@@ -7,7 +7,7 @@ use Rattle.layers.specs.declared.message.Message.{Message}
 use Rattle.plain.specs.Plain.{Plain, Entry, saved_under, without_saved}
 use Rattle.plain.specs.Runs.{IsRun}
 use Rattle.plain.specs.Unwritten.{is_written, StillShows}
-use Rattle.plain.proofs.Unwritten.{step_keeps, still_same, submit_keeps}
+use Rattle.plain.proofs.Unwritten.{step_keeps, submit_keeps}
 use Rattle.volume.specs.declared.calls.Call.{Call}
 use Rattle.volume.specs.declared.calls.Call.TheVariants.{Submit, Step, Tick, Message as Tell, BeginMerge, ResumeMerge}
 use Rattle.volume.specs.Running.{MayBegin, MayCall, writes_or_merges}
@@ -23,6 +23,10 @@ without_other number n (e ∷ es) ne = elim (cases_Bool (e.number == n)) [
   ]
 ]
 
+-- it is under its number as before
+still_under : (number : ℕ) (array : List ℕ) (old new : Plain) → StillShows number array old → saved_under number new.saved ≡ saved_under number old.saved → StillShows number array new
+still_under number array old new shows at = elim shows [ inl live ↦ inl (at ∙ live) | inr lost ↦ inr (at ∙ lost) ]
+
 -- nothing that is seen changed
 same_keeps : (number : ℕ) (array : List ℕ) (old new : Plain) → new ≡ old → StillShows number array old → is_written number old.requests ≡ false → StillShows number array new × (is_written number new.requests ≡ false)
 same_keeps number array old new same shows free = (subst (StillShows number array) (sym same) shows, ap (λ (p : Plain). is_written number p.requests) same ∙ free)
@@ -30,7 +34,7 @@ same_keeps number array old new same shows free = (subst (StillShows number arra
 -- the merge of another snapshot began, or did not
 begin_keeps : (number n : ℕ) (array : List ℕ) (old new : Plain) → MayBegin n old new → StillShows number array old → is_written number old.requests ≡ false → (n == number) ≡ false → StillShows number array new × (is_written number new.requests ≡ false)
 begin_keeps number n array old new (inl begun) shows free ne = (
-  still_same number array old new free shows (ap (λ (p : Plain). saved_under number p.saved) begun.becomes ∙ without_other number n old.saved ne),
+  still_under number array old new shows (ap (λ (p : Plain). saved_under number p.saved) begun.becomes ∙ without_other number n old.saved ne),
   ap (λ (p : Plain). is_written number p.requests) begun.becomes ∙ free,
 )
 begin_keeps number n array old new (inr same) shows free ne = same_keeps number array old new same shows free

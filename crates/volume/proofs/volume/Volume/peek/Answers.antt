@@ -1,5 +1,5 @@
 -- The snapshot that is found is live, and its store's bytes say its pairs.
-use Rattle.std.proofs.Common.{◌≡◌, ℕ, List, Some, true, false, sym, ◌∙◌, ap, subst}
+use Rattle.std.proofs.Common.{◌≡◌, ℕ, List, Some, true, false, refl, sym, ◌∙◌, ap, subst}
 use Rattle.std.specs.Prelude.{◌==◌}
 use Rattle.sector.specs.Bytes.{sectors_at}
 use Rattle.plain.specs.Serves.{Shows}
@@ -12,7 +12,7 @@ use Rattle.snapshots.specs.Finding.{place_of_snap}
 use Rattle.volume.specs.Submitting.{is_merging}
 use Rattle.volume.proofs.MovedLists.{IsFirst, first_position}
 use Rattle.volume.proofs.Named.{found_within}
-use Rattle.volume.proofs.Peeked.{places_inside, pairs_stored, shown_snap, snap_loud, live_refusal}
+use Rattle.volume.proofs.Peeked.{places_inside, pairs_stored, shown_snap, snap_loud, live_refusal, spoilt_refusal}
 use Rattle.volume.proofs.volume.Volume.peek.Goals as goal
 
 pub peek_pieces-requires-clause-places : goal.peek_pieces-requires-clause-places
@@ -21,6 +21,13 @@ peek_pieces-requires-clause-places g c =
     let s : Kept g.row.B.Denot = c.index-snap.result.now in
     let found : Some c.in-Some.k ≡ place_of_snap c.in-Snap.number v.snaps = c.in-Some.ensures ∙ ap (place_of_snap c.in-Snap.number) c.as_slice.ensures.value in
     places_inside g.B.Block.contents g.B.Block.layers g.B.Block.size v c.self.invariant c.in-Some.k s (found_within c.in-Snap.number v.snaps c.in-Some.k found) c.index-snap.ensures (sym c.if-not-is_live.ensures) g.met.B.Block.whole
+
+pub returns-then-not-is_live-clause-err : goal.returns-then-not-is_live-clause-err
+returns-then-not-is_live-clause-err g c =
+    let s : Kept g.row.B.Denot = c.index-snap.result.now in
+    let found : Some c.in-Some.k ≡ place_of_snap c.in-Snap.number c.self.inside.snaps.items = c.in-Some.ensures ∙ ap (place_of_snap c.in-Snap.number) c.as_slice.ensures.value in
+    let other : is_merging c.in-Snap.number c.self.inside.merge ≡ false = ap (λ (x : Volumed g.row.B.Denot). is_merging c.in-Snap.number x.merge) c.self.view_is ∙ sym c.is_merging.ensures ∙ c.if-is_merging.false in
+    rw (← c.self.view_is) (spoilt_refusal c.self.inside.merge c.self.inside.snaps.items c.args.dev c.in-Snap.number c.in-Some.k s c.in-Snap.is other found c.index-snap.ensures (sym c.is_live.ensures ∙ c.if-not-is_live.true), refl)
 
 pub returns-else-not-is_live-clause-there : goal.returns-else-not-is_live-clause-there
 returns-else-not-is_live-clause-there g c =
