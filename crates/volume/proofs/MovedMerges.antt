@@ -208,7 +208,7 @@ module _ {B : Type 0} (contents : B → List ℕ) (layers : B → List Layer) (r
           let kept : length (in_area held) - length (copied_of m.group) ≡ m.state.filled - copied_count m.group = ap (λ n. n - length (copied_of m.group)) slots ∙ ap (λ n. m.state.filled - n) count in
           let bytes : List ℕ = without_slots m.state.chunk (contents m.device) m.state.current (length (in_area held) - length (copied_of m.group)) (length (copied_of m.group)) in
           let same : contents m'.device ≡ bytes = written
-              ∙ sym (ap (λ n. without_slots m.state.chunk (contents m.device) m.state.current n (length (copied_of m.group))) kept ∙ ap (without_slots m.state.chunk (contents m.device) m.state.current (m.state.filled - copied_count m.group)) count) in
+          ∙ sym (ap (λ n. without_slots m.state.chunk (contents m.device) m.state.current n (length (copied_of m.group))) kept ∙ ap (without_slots m.state.chunk (contents m.device) m.state.current (m.state.filled - copied_count m.group)) count) in
           machine_is MergeCommit
           ∙ cond-true _ _ _ (ap (λ b. b && flushed_of m.group) (copied_same (seen m)) ∙ due)
           ∙ commit_is (seen m) (seen m') machine m'.pairs step (ap flushed_of group ∙ commit_flushed m.group ready ∙ sym (commit_test (merging_due contents true m) due).1)

@@ -40,6 +40,7 @@ pub committed : {B : Type 0} (contents : B → List ℕ) (layers : B → List La
 committed contents layers size v w h k same m m' was is sound step =
     let less : length m'.pairs < length m.pairs = omega (arith, ap length step.ends, length-append m'.pairs (merging_books contents true m).copied, some_pairs (merging_books contents true m).copied step.some) in
     let old : pairs_left v.merge ≡ m.pairs = ap pairs_left was in
-    let new : pairs_left w.merge ≡ m'.pairs = ap pairs_left is in
-    (omega (arith, less, ap length old, ap length new),
-    λ loud. (let a = stored contents layers size v h loud in let b = stored contents layers size w k (same ∙ loud) in omega (arith, less, ap length old, ap length new, ap length a, ap length b)))
+    let new : pairs_left w.merge ≡ m'.pairs = ap pairs_left is in (
+      omega (arith, less, ap length old, ap length new),
+      λ loud. (let a = stored contents layers size v h loud in let b = stored contents layers size w k (same ∙ loud) in omega (arith, less, ap length old, ap length new, ap length a, ap length b)),
+    )
