@@ -1,5 +1,5 @@
 -- A stop within a call of a merge, from what its store says of it.
-use Rattle.std.proofs.Common.{◌≡◌, ◌≢◌, ◌⊎◌, inl, inr, ℕ, ◌+◌, ◌-◌, ◌*◌, ◌<◌, ◌≤◌, true, List, [], ◌++◌, length, get_or, take, drop, arith, refl, ap, ◌∙◌, sym, subst}
+use Rattle.std.proofs.Common.{◌≡◌, ◌≢◌, inl, ℕ, ◌+◌, ◌-◌, ◌*◌, true, List, [], ◌++◌, length, take, drop, arith, refl, ap, ◌∙◌, sym, subst}
 use Rattle.std.specs.Prelude.{Option, Some, None, AllPairs}
 use Rattle.std.proofs.lemmas.List.{take-append-drop}
 use Rattle.sector.specs.declared.pair.Pair.{Pair}
@@ -7,7 +7,6 @@ use Rattle.model.specs.Pairs.{IsApart}
 use Rattle.model.specs.Picture.{place_of}
 use Rattle.model.specs.Places.{area_place, ChangesOnly}
 use Rattle.pending.specs.Copies.{count_of}
-use Rattle.stop_laws.specs.Stop.{IsTorn}
 use Rattle.stop_laws.proofs.Shown.{shown_under}
 use Rattle.store.specs.Grouping.{run_at}
 use Rattle.store.specs.Loading.{is_begun}

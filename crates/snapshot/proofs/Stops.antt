@@ -1,10 +1,12 @@
 -- A stop within a call of a snapshot, from what its store says of it.
 use Rattle.std.proofs.Common.{◌≡◌, ◌≢◌, ℕ, ◌+◌, ◌*◌, ◌<◌, Bool, true, false, List, [], ◌++◌, length, get_or, map, take, drop, arith, refl, ap, ◌∙◌, sym, subst, length-append, append_assoc}
 use Rattle.std.specs.Prelude.{◌||◌, Some, AllPairs}
+use Rattle.std.specs.List.{All}
+use Rattle.std.proofs.lemmas.List.Elements.{All-map, All-take}
 use Rattle.std.proofs.lemmas.List.{get_or_append_left, get_or-append-add, get_or-map, length-map, take-append-drop, take-map}
 use Rattle.sector.specs.declared.pair.Pair.{Pair}
 use Rattle.model.specs.Pairs.{IsApart, IsInside}
-use Rattle.model.specs.Picture.{place_of}
+use Rattle.model.specs.Picture.{place_of, IsCopied}
 use Rattle.model.specs.Places.{area_place, ChangesOnly}
 use Rattle.model.proofs.Pictures.{place_found}
 use Rattle.model.proofs.Views.{place_unnamed}
@@ -12,6 +14,8 @@ use Rattle.exception_arena.specs.declared.begun.Begun.{Begun}
 use Rattle.exception_arena.specs.Pending as arena
 use Rattle.pending.specs.Copies.{pair_of}
 use Rattle.pending.specs.declared.copies.ChunkCopy.{ChunkCopy}
+use Rattle.pending.specs.declared.copies.Stage.TheVariants.{Written}
+use Rattle.pending.specs.declared.flights.Flight.{Flight}
 use Rattle.store.specs.Shown.{StopsSame, StopsBetween, StopsInvalid}
 use Rattle.store.specs.Stopping.{StopsWithin, StopsMarking}
 use Rattle.store.specs.Stored.{IsFront, IsStored, AreGiven}
@@ -19,6 +23,8 @@ use Rattle.store.specs.declared.state.Left.TheVariants.{Nothing}
 use Rattle.store.specs.declared.state.State.{State}
 use Rattle.store.proofs.Shown.{same_shown, more_shown, invalid_shown, header_unnamed}
 use Rattle.store.proofs.Stops.{still_stops}
+use Rattle.volume_laws.specs.Books.{SnapBooks}
+use Rattle.volume_laws.specs.Held.{CopyHolds, LiveHolds}
 use Rattle.volume_laws.proofs.Committing.{fresh_pairs}
 use Rattle.volume_laws.proofs.Lists.{All-front, AllPairs-front}
 
@@ -45,6 +51,13 @@ valid_untried live untried stale valid is waits = is ∙ ap (λ b. live || (b ||
 -- the first of the copies that are under way are apart from the committed ones
 first_apart : (ps : List Pair) (n : ℕ) (qs : List Pair) → AllPairs IsApart (ps ++ qs) → AllPairs IsApart (ps ++ take n qs)
 first_apart ps n qs apart = AllPairs-front IsApart (ps ++ take n qs) (drop n qs) (subst (AllPairs IsApart) (sym (append_assoc ps (take n qs) (drop n qs) ∙ ap (λ z. ps ++ z) (take-append-drop n qs))) apart)
+
+-- the first copies, all of them written, have the origin's bytes at their places
+pub written_copied : (count : ℕ) (origin : List ℕ) (rs : List Flight) (v : SnapBooks) → LiveHolds origin rs v → v.loud ≡ true → All (λ (p : ChunkCopy). p.stage ≡ Written) (take count v.copies) → All (IsCopied v.chunk origin v.store) (take count v.begun)
+written_copied count origin rs v h loud ready =
+    let here : take count v.begun ≡ map pair_of (take count v.copies) = ap (take count) h.agree ∙ take-map pair_of count v.copies in
+    subst (All (IsCopied v.chunk origin v.store)) (sym here) (All-map (IsCopied v.chunk origin v.store) pair_of (take count v.copies)
+    (λ k d lt. (All-take (CopyHolds v.loud v.chunk v.sectors origin v.store) count v.copies h.copies k d lt).written loud (ready k d lt)))
 
 module _ (ps begun : List Pair) (s : State) (area old new : List ℕ) (place : ℕ) (front : IsFront ps s area) (given : AreGiven s.chunk s.origin s.size place s.copying ps begun) (ready : s.left ≡ Nothing) (whole : length old ≡ 512 * s.size) (stored : IsStored old ps s area) where
   -- a copy is written

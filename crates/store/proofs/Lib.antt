@@ -14,5 +14,6 @@ pub mod Opened
 pub mod Parts
 pub mod Pending
 pub mod Shown
+pub mod StopClauses
 pub mod Stops
 pub mod Writes
