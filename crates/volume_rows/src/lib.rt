@@ -25,6 +25,12 @@ mod following;
 #[cfg(test)]
 mod generator;
 #[cfg(test)]
+mod merge_rows;
+#[cfg(test)]
+mod merge_runs;
+#[cfg(test)]
+mod merging;
+#[cfg(test)]
 mod plain_machine;
 #[cfg(test)]
 mod raw_store;
