@@ -1,9 +1,10 @@
 -- What starting the copies of the chunk that a merge copies next does to the other snapshots, one after another. That a full
 -- store makes its snapshot invalid is the kernel's, of its admin-guide page on snapshots; that the room is kept back is this
 -- project's own.
-use Rattle.std.specs.Prelude.{◌≡◌, ℕ, ◌+◌, ◌/◌, ◌<◌, ◌≤◌, true, List, [], ◌∷◌, map, None, MatchBool}
+use Rattle.std.specs.Prelude.{◌≡◌, ℕ, ◌+◌, ◌*◌, ◌/◌, ◌^◌, ◌<◌, ◌≤◌, true, List, [], ◌∷◌, map, Option, Some, None, MatchBool}
 use Rattle.std.specs.List.{All}
 use Rattle.std.specs.Global.{Vec}
+use Rattle.sector.specs.declared.pair.Pair.{Pair}
 use Rattle.device.specs.Layers.{Layer}
 use Rattle.pending.specs.Routes.{refused_of}
 use Rattle.pending.specs.declared.flights.Flight.{Flight}
@@ -32,3 +33,14 @@ AreNextSavedIn contents layers first [] [] n m fs gs = (m ≡ n) × (gs ≡ fs)
 AreNextSavedIn contents layers first [] (t ∷ ts) n m fs gs = ⊥
 AreNextSavedIn contents layers first (s ∷ ss) [] n m fs gs = ⊥
 AreNextSavedIn contents layers first (s ∷ ss) (t ∷ ts) n m fs gs = (k : ℕ) × (hs : List Flight) × IsNextSavedIn contents layers first s t n k fs hs × AreNextSavedIn contents layers first ss ts k m hs gs
+
+-- and where a pair waits to be copied next, in chunks of so many sectors: nothing, where none does
+abbrev pub IsNextSaved : {B : Type 0} → (B → List ℕ) → (B → List Layer) → ℕ → Option Pair → List (Kept B) → List (Kept B) → ℕ → ℕ → List Flight → List Flight → Type 0
+IsNextSaved contents layers chunk None ss ts n m fs gs = (ts ≡ ss) × (m ≡ n) × (gs ≡ fs)
+IsNextSaved contents layers chunk (Some q) ss ts n m fs gs = AreNextSavedIn contents layers (chunk * q.old) ss ts n m fs gs
+
+-- The chunk of a pair begins inside the origin, and each snapshot keeps room back for its copy.
+pub record CanSaveNext {B : Type 0} (chunk copies : ℕ) (snaps : List (Kept B)) (q : Pair) : Type 0 where
+  pub counted : chunk * q.old < 2 ^ 64
+  pub begins : All (λ s. chunk * q.old < s.state.origin) snaps
+  pub room : All (KeepsRoomFor (chunk * q.old) copies) snaps

@@ -65,4 +65,9 @@ pub mod Told
 pub mod Ran
 pub mod Peeked
 pub mod AtRest
+pub mod Quieted
+pub mod MergeDue
 pub mod Unwritten
+pub mod Unlike
+pub mod KeptBack
+pub mod Resumed

@@ -1,5 +1,5 @@
 -- A request of the origin is issued at the merging store.
-use Rattle.std.proofs.Common.{◌≡◌, ◌≢◌, ◌⊎◌, inl, inr, ℕ, ◌+◌, ◌*◌, ◌%◌, ◌<◌, ◌≤◌, Bool, true, List, ◌++◌, Option, None, Some, length, get_or, map, refl, sym, ◌∙◌, ap, subst, arith, nat_eq}
+use Rattle.std.proofs.Common.{◌≡◌, ◌≢◌, ◌⊎◌, inl, inr, ℕ, ◌+◌, ◌*◌, ◌%◌, ◌<◌, ◌≤◌, Bool, true, List, ◌++◌, None, Some, length, get_or, map, refl, sym, ◌∙◌, ap, subst, nat_eq}
 use Rattle.std.specs.Prelude.{◌&&◌}
 use Rattle.std.specs.List.{All, list_all, remove, position}
 use Rattle.std.proofs.lemmas.Bool.{eqb-true}
@@ -122,9 +122,6 @@ module _ {B : Type 0} (contents : B → List ℕ) (layers : B → List Layer) (s
 
     routed : MergeRouteHolds m.number m.state.chunk m.pairs (listed mb) (taken mb) r
     routed = subst (MergeRouteHolds m.number m.state.chunk m.pairs (listed mb) (taken mb)) (sym was) (here.routes place r in_list)
-
-    pub some_chunk : 0 < m.state.chunk
-    some_chunk = here.text.some
 
     pub read_placed : r.request.op ≡ Read → (c : ℕ) × (place_of (m.pairs ++ released_of m.group) c ≡ Some at)
     read_placed op = (chunk_of m.state.chunk r, routed.read_stored at (origin_reads r.request.dev r.request.op dev op) route)

@@ -8,6 +8,7 @@ pub mod Exact
 pub mod Reaching
 pub mod Leaving
 pub mod Taking
+pub mod Asking
 pub mod Attached
 pub mod Beginning
 pub mod Finishing

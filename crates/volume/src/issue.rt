@@ -39,7 +39,10 @@ fn going(flights: &[Flight], number: ReqId) -> Option<(usize, Dev, Route)>
     ensures due { MatchOption result (is_issued number flights.now ≡ false) (λ p. is_issued number flights.now ≡ goes_somewhere p.2) }
 {
     match flight_at(flights, number) {
-        Some(place) => Some((place, flights[place].request.dev, flights[place].route)),
+        Some(place) => {
+            let flight = &flights[place];
+            Some((place, flight.request.dev, flight.route))
+        }
         None => None,
     }
 }

@@ -1,5 +1,5 @@
 -- A request of the origin is issued at the merging store.
-use Rattle.std.proofs.Common.{◌≡◌, ◌+◌, ◌*◌, ◌%◌, ◌<◌, ◌∙◌, sym, ap, subst, Some, List, get_or, length, nat_eq, arith, Bool, ℕ, true, false, refl}
+use Rattle.std.proofs.Common.{◌≡◌, ◌+◌, ◌*◌, ◌%◌, ◌∙◌, ap, subst, Some, List, get_or, length, nat_eq, arith, Bool, ℕ, true, false, refl}
 use Rattle.std.specs.List.{position}
 use Rattle.std.proofs.lemmas.List.{with_items_is}
 use Rattle.sector.specs.Bytes.{sectors_at}
