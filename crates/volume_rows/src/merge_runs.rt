@@ -68,8 +68,7 @@ fn run_on(
     merging.settle(rt, alloc, asked)?;
     if merging.stopped {
         assert_eq!(rt; merging.volume.finish_merge().err(), Some(Refusal::NotFinished));
-        merging.volume.resume_merge()?;
-        merging.compare(rt, alloc)?;
+        merging.resume(rt, alloc)?;
         merging.settle(rt, alloc, None)?;
     }
     merging.finish(rt, alloc)
@@ -200,14 +199,13 @@ fn events_of_a_merge_in_any_order(rt: HostRuntime) -> Result<(), Fail> {
             if numbers.below(16) == 0 && merging.plain.requests.len() < 8 {
                 ask_some(&rt, rt.alloc(), &mut merging, &mut numbers)?;
             } else if numbers.below(30) == 0 {
-                merging.volume.resume_merge()?;
-                merging.compare(&rt, rt.alloc())?;
+                merging.resume(&rt, rt.alloc())?;
             } else {
                 let event = some_event(&merging, &mut numbers);
                 merging.offer(&rt, rt.alloc(), event)?;
             }
         }
-        merging.volume.resume_merge()?;
+        merging.resume(&rt, rt.alloc())?;
         run_on(&rt, rt.alloc(), &mut merging, None)?;
     }
     Ok(())

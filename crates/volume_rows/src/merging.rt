@@ -229,6 +229,13 @@ impl Merging {
         self.compare(rt, alloc)
     }
 
+    /// Lets the merge go on, if it was stopped.
+    pub fn resume(&mut self, rt: &impl Abort, alloc: Global) -> Result<(), Fail> {
+        self.volume.resume_merge()?;
+        self.stopped = false;
+        self.compare(rt, alloc)
+    }
+
     /// Finishes the merge: the origin disk's own bytes are what the origin shows, and the store has no pairs.
     pub fn finish(&mut self, rt: &impl Abort, alloc: Global) -> Result<(), Fail> {
         assert_eq!(rt; self.volume.due(), None);
