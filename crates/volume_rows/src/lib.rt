@@ -27,8 +27,6 @@ mod generator;
 #[cfg(test)]
 mod merge_rows;
 #[cfg(test)]
-mod merge_runs;
-#[cfg(test)]
 mod merging;
 #[cfg(test)]
 mod plain_machine;

@@ -1,250 +1,239 @@
-// A volume beside the plain machine, while its first snapshot is merged into its origin.
+// Merges beside plain arrays of a byte a sector, with requests at each moment, and with a fault at each operation.
 use crate::attaching::armed;
 use crate::calling::{read, write};
-use crate::plain_machine::{Asked, PlainMachine, Shown};
+use crate::dusty::shows;
 use crate::raw_store::ChunkSize;
 use crate::seen::{Disk, disk_of, raw};
 use device::Block;
-use plain::{Dev, Event, Failure, NotDue, Op, Outcome, Reply, Request};
-use sector::{Buf, Range, SECTOR_BYTES};
+use plain::{Dev, Event, NotDue, Outcome, Reply};
+use sector::{Refusal, SECTOR_BYTES};
 use snapshot::StoreDev;
 use std::alloc::Global;
 use std::process::Abort;
 use std::test::Fail;
 use volume::Volume;
 
-/// A volume, the plain machine that it should be, its chunks' sectors, how many operations failed, and whether one of them
-/// stopped the merge.
+/// After how many operations the origin disk, and the store that is merged, never fail.
+const NEVER: (u64, u64) = (u64::MAX, u64::MAX);
+
+/// A volume with a snapshot that is merged and a second one; what the origin and the second show, a byte a sector; the sector
+/// of the origin that is asked for, and the byte that it is written with; and how many operations failed.
 #[derive(Drop)]
-pub struct Merging {
-    pub volume: Volume<Disk>,
-    pub plain: PlainMachine,
-    pub size: ChunkSize,
-    pub failed: u64,
-    pub stopped: bool,
+struct Merging {
+    volume: Volume<Disk>,
+    size: ChunkSize,
+    origin: Vec<u8>,
+    second: Vec<u8>,
+    asked: (u64, u8),
+    failed: u64,
 }
 
-/// A volume without snapshots over an origin of so many sectors, each with a byte of its own, which fails the operation after
-/// so many.
-pub fn volume_over(
-    rt: &impl Abort,
-    alloc: Global,
-    size: ChunkSize,
-    sectors: u8,
-    left: u64,
-) -> Result<Merging, Fail> {
-    let mut bytes = Vec::new(alloc);
-    for sector in 0..sectors {
-        bytes.extend_from_slice(&[sector; SECTOR_BYTES])?;
+/// A disk with a byte a sector, which fails the operation after so many.
+fn disk_by(rt: &impl Abort, alloc: Global, bytes: &[u8], left: u64) -> Result<Disk, Fail> {
+    let mut all = Vec::new(alloc);
+    for byte in bytes {
+        all.extend_from_slice(&[*byte; SECTOR_BYTES])?;
     }
-    let origin = armed(disk_of(rt, alloc, &bytes)?, left, u64::MAX);
-    let volume = match Volume::new(alloc, origin) {
-        Ok(volume) => volume,
-        Err((refusal, _)) => return Err(refusal.into()),
-    };
-    let plain = PlainMachine {
-        origin: bytes,
-        snaps: Vec::new(alloc),
-        requests: Vec::new(alloc),
-    };
-    Ok(Merging {
-        volume,
-        plain,
-        size,
-        failed: 0,
-        stopped: false,
-    })
+    Ok(armed(disk_of(rt, alloc, &all)?, left, u64::MAX))
 }
 
 impl Merging {
-    /// Whether a device shows an array.
-    fn shows(
-        &self,
-        rt: &impl Abort,
-        alloc: Global,
-        dev: Dev,
-        array: &[u8],
-    ) -> Result<bool, Fail> {
-        let sectors = self.volume.origin().sectors();
-        assert!(rt; 1 <= sectors && sectors <= 1000);
-        let range = Range::new(0, sectors as u32, sectors)?;
-        let mut out = vec![in alloc; 0u8; sectors as usize * SECTOR_BYTES]?;
-        assert_eq!(rt; out.len(), sectors as usize * SECTOR_BYTES);
-        self.volume.peek(dev, range, &mut out)?;
-        Ok(out.as_slice() == array)
-    }
-
-    /// All devices show what those of the plain machine do.
-    pub fn compare(&self, rt: &impl Abort, alloc: Global) -> Result<(), Fail> {
-        let origin = self.plain.origin.as_slice();
-        assert!(rt; self.shows(rt, alloc, Dev::Origin, origin)?, "origin");
-        for snap in &self.plain.snaps {
-            let number = snap.number;
-            let wanted = match &snap.shown {
-                Shown::Live(array) => self.shows(rt, alloc, Dev::Snap(number), array)?,
-                Shown::Invalid => self.volume.usage(number)?.is_none(),
-            };
-            assert!(rt; wanted, "snapshot {number}");
+    /// The origin and the second snapshot show what they should. That one is spoiled only where an operation failed.
+    fn compare(&self, rt: &impl Abort) -> Result<(), Fail> {
+        for (sector, byte) in self.origin.iter().enumerate() {
+            let shown = shows(&self.volume, Dev::Origin, sector as u64, *byte)?;
+            assert!(rt; shown, "origin {sector}");
+        }
+        let Ok(Some(_)) = self.volume.usage(2) else {
+            assert!(rt; self.second.is_empty() || self.failed != 0, "a spoil");
+            return Ok(());
+        };
+        for (sector, byte) in self.second.iter().enumerate() {
+            let shown = shows(&self.volume, Dev::Snap(2), sector as u64, *byte)?;
+            assert!(rt; shown, "second {sector}");
         }
         Ok(())
     }
 
-    /// Attaches a fresh store of 100 sectors, which fails the operation after so many.
-    pub fn attach(&mut self, rt: &impl Abort, alloc: Global, left: u64) -> Result<(), Fail> {
-        let zeros = vec![in alloc; 0u8; 100 * SECTOR_BYTES]?;
-        let device = armed(disk_of(rt, alloc, &zeros)?, left, u64::MAX);
+    /// Attaches a fresh store, which fails the operation after so many.
+    fn attach(&mut self, rt: &impl Abort, alloc: Global, left: u64) -> Result<(), Fail> {
         let store = StoreDev {
-            device,
+            device: disk_by(rt, alloc, &[0; 100], left)?,
             stale: false,
         };
         match self.volume.attach(alloc, store, self.size.sectors as u32) {
-            Ok(number) => self.plain.take(number, self.plain.origin.clone()?)?,
-            Err((refusal, _)) => return Err(refusal.into()),
+            Ok(_) => Ok(()),
+            Err((refusal, _)) => Err(refusal.into()),
         }
-        self.compare(rt, alloc)
     }
 
-    /// Submits a read of a sector, or a write of this byte. It is accepted.
-    pub fn ask(
-        &mut self,
-        rt: &impl Abort,
-        alloc: Global,
-        dev: Dev,
-        sector: u64,
-        byte: Option<u8>,
-    ) -> Result<(), Fail> {
-        let (answer, op) = match byte {
-            None => (read(alloc, &mut self.volume, dev, sector)?, Op::Read),
-            Some(byte) => (
-                write(rt, alloc, &mut self.volume, dev, sector, byte)?,
-                Op::Write(Buf::from_slice(alloc, &[byte; SECTOR_BYTES])?),
-            ),
-        };
-        let range = Range::new(sector, 1, 256)?;
-        self.plain.requests.push(Asked {
-            number: answer?,
-            request: Request { dev, op, range },
-        })?;
-        self.compare(rt, alloc)
-    }
-
-    /// Writes and reads a sector of the origin, and of the second snapshot if that is live.
-    fn ask_all(&mut self, rt: &impl Abort, alloc: Global, sector: u64) -> Result<(), Fail> {
-        for (dev, byte) in [(Dev::Origin, 0xa0), (Dev::Snap(2), 0xb0)] {
-            if dev == Dev::Origin || self.volume.usage(2)?.is_some() {
-                self.ask(rt, alloc, dev, sector, Some(byte))?;
-                self.ask(rt, alloc, dev, sector, None)?;
-            }
-        }
-        Ok(())
-    }
-
-    /// Follows what came of an event. The second snapshot is spoiled where the origin disk fails in a copy of it.
-    fn follow(
-        &mut self,
-        rt: &impl Abort,
-        alloc: Global,
-        event: Event,
-        outcome: &Outcome,
-    ) -> Result<(), Fail> {
-        match outcome {
-            Outcome::Done => {}
-            Outcome::Fault => {
-                self.failed = self.failed.saturating_add(1);
-                match event {
-                    Event::CopyRead(_) => self.plain.spoil(2),
-                    _ => self.stopped = true,
-                }
-            }
-            Outcome::Reply(number, reply) => {
-                let Some(request) = self.plain.take_out(*number) else {
-                    assert!(rt; false, "a reply to no request: {number}");
-                    return Ok(());
-                };
-                if reply.is_same(&Reply::Refused(Failure::Io)) {
-                    self.failed = self.failed.saturating_add(1);
-                } else {
-                    let wanted = self.plain.answer(alloc, &request)?;
-                    assert!(rt; reply.is_same(&wanted), "reply {number}");
-                }
-            }
-        }
-        self.compare(rt, alloc)
-    }
-
-    /// Does an event, and tells whether it was due.
-    pub fn offer(&mut self, rt: &impl Abort, alloc: Global, event: Event) -> Result<bool, Fail> {
+    /// Does an event that is due.
+    fn step(&mut self, rt: &impl Abort, event: Event) {
+        let (sector, byte) = self.asked;
+        let sector = sector as usize;
+        assert!(rt; sector < self.origin.len());
         match self.volume.step(event) {
-            Err(NotDue) => Ok(false),
-            Ok(outcome) => {
-                self.follow(rt, alloc, event, &outcome)?;
-                Ok(true)
+            Ok(Outcome::Done) => {}
+            Ok(Outcome::Fault) => self.failed = self.failed.saturating_add(1),
+            Ok(Outcome::Reply(_, Reply::Written)) => self.origin[sector] = byte,
+            Ok(Outcome::Reply(_, Reply::Data(bytes))) => {
+                let wanted = [self.origin[sector]; SECTOR_BYTES];
+                assert!(rt; bytes.as_slice() == wanted.as_slice(), "a read");
             }
+            Ok(Outcome::Reply(_, Reply::Refused(_))) => {
+                self.failed = self.failed.saturating_add(1)
+            }
+            Err(NotDue) => assert!(rt; false, "{event:?} is due"),
         }
     }
 
-    /// Does what is due, one event after another, and tells how many events there were. Before the event with this number a
-    /// sector of the origin and of the second snapshot is written and read.
-    pub fn settle(
-        &mut self,
-        rt: &impl Abort,
-        alloc: Global,
-        asked: Option<(u64, u64)>,
-    ) -> Result<u64, Fail> {
-        for k in 0..2000u64 {
-            if let Some((at, sector)) = asked {
-                if k == at {
-                    self.ask_all(rt, alloc, sector)?;
-                }
+    /// Does what is due, one event after another, and tells how many events there were. Before the event with this number the
+    /// sector that is asked for is written and read.
+    fn settle(&mut self, rt: &impl Abort, alloc: Global, at: u64) -> Result<u64, Fail> {
+        for k in 0..1000u64 {
+            if k == at {
+                let (sector, byte) = self.asked;
+                let _ = write(rt, alloc, &mut self.volume, Dev::Origin, sector, byte)??;
+                let _ = read(alloc, &mut self.volume, Dev::Origin, sector)??;
             }
-            let Some(event) = self.volume.due() else {
-                assert!(rt; self.plain.requests.is_empty());
-                return Ok(k);
-            };
-            assert!(rt; self.offer(rt, alloc, event)?, "{event:?} is due");
+            self.compare(rt)?;
+            match self.volume.due() {
+                None => return Ok(k),
+                Some(event) => self.step(rt, event),
+            }
         }
         assert!(rt; false, "events without an end");
         Ok(0)
     }
 
     /// Writes these sectors of the origin, one after another, each with a byte of its own.
-    pub fn write_all(
-        &mut self,
-        rt: &impl Abort,
-        alloc: Global,
-        sectors: &[u64],
-    ) -> Result<(), Fail> {
+    fn write_all(&mut self, rt: &impl Abort, alloc: Global, sectors: &[u64]) -> Result<(), Fail> {
         for sector in sectors {
-            let byte = (self.volume.last_request() % 100) as u8;
-            self.ask(rt, alloc, Dev::Origin, *sector, Some(byte + 100))?;
-            self.settle(rt, alloc, None)?;
+            self.asked = (*sector, 0x80 + (self.volume.last_request() % 64) as u8);
+            self.settle(rt, alloc, 0)?;
         }
         Ok(())
     }
 
-    /// Begins the merge of the first snapshot.
-    pub fn begin(&mut self, rt: &impl Abort, alloc: Global) -> Result<(), Fail> {
-        self.volume.begin_merge(alloc, 1)?;
-        self.plain.merge(1);
-        self.compare(rt, alloc)
-    }
-
-    /// Lets the merge go on, if it was stopped.
-    pub fn resume(&mut self, rt: &impl Abort, alloc: Global) -> Result<(), Fail> {
-        self.volume.resume_merge()?;
-        self.stopped = false;
-        self.compare(rt, alloc)
-    }
-
-    /// Finishes the merge: the origin disk's own bytes are what the origin shows, and the store has no pairs.
-    pub fn finish(&mut self, rt: &impl Abort, alloc: Global) -> Result<(), Fail> {
-        assert_eq!(rt; self.volume.due(), None);
-        let StoreDev { device, stale } = self.volume.finish_merge()?;
-        assert!(rt; !stale);
-        let disk = raw(rt, alloc, &self.volume.origin().inner.inner)?;
-        assert!(rt; disk.as_slice() == self.plain.origin.as_slice(), "the disk");
+    /// Runs the merge to its end, and tells how many events there were before a fault. Where it failed, it is not finished, and
+    /// goes on.
+    fn run(&mut self, rt: &impl Abort, alloc: Global, at: u64) -> Result<u64, Fail> {
+        let count = self.settle(rt, alloc, at)?;
+        if self.volume.is_merge_failed() {
+            assert_eq!(rt; self.failed, 1);
+            assert_eq!(rt;
+                self.volume.finish_merge().err(),
+                Some(Refusal::NotFinished)
+            );
+            self.volume.resume_merge()?;
+            self.settle(rt, alloc, u64::MAX)?;
+        }
+        let StoreDev { device, .. } = self.volume.finish_merge()?;
         let store = raw(rt, alloc, &device.inner.inner)?;
         assert_eq!(rt; self.size.pairs_of(alloc, &store)?.len(), 0);
-        self.compare(rt, alloc)
+        self.compare(rt)?;
+        Ok(count)
     }
+}
+
+/// A merge that is begun, of a snapshot for which the first of these sectors of the origin were written, beside a second, which
+/// was attached then, and for which the others were.
+fn begun(
+    rt: &impl Abort,
+    alloc: Global,
+    sectors: usize,
+    written: (&[u64], &[u64]),
+    left: (u64, u64),
+) -> Result<Merging, Fail> {
+    let mut origin = Vec::new(alloc);
+    for sector in 0..37u8 {
+        origin.push(sector)?;
+    }
+    let shown = origin.clone()?;
+    let volume = match Volume::new(alloc, disk_by(rt, alloc, &origin, left.0)?) {
+        Ok(volume) => volume,
+        Err((refusal, _)) => return Err(refusal.into()),
+    };
+    let mut merging = Merging {
+        volume,
+        size: ChunkSize { sectors },
+        origin,
+        second: Vec::new(alloc),
+        asked: (0, 0),
+        failed: 0,
+    };
+    merging.attach(rt, alloc, left.1)?;
+    merging.write_all(rt, alloc, written.0)?;
+    merging.attach(rt, alloc, u64::MAX)?;
+    merging.second = merging.origin.clone()?;
+    merging.write_all(rt, alloc, written.1)?;
+    merging.volume.begin_merge(alloc, 1)?;
+    merging.origin = shown;
+    merging.compare(rt)?;
+    Ok(merging)
+}
+
+/// A merge of six chunks of two sectors, one of which is short, in four groups.
+fn short(rt: &impl Abort, alloc: Global, left: (u64, u64)) -> Result<Merging, Fail> {
+    begun(rt, alloc, 2, (&[0, 3, 4, 36, 8], &[5, 6]), left)
+}
+
+/// A merge of 35 chunks of one sector, in two areas.
+fn long(rt: &impl Abort, alloc: Global, left: (u64, u64)) -> Result<Merging, Fail> {
+    let mut sectors = Vec::new(alloc);
+    for sector in 0..34u64 {
+        sectors.push(sector)?;
+    }
+    begun(rt, alloc, 1, (&sectors, &[3, 34]), left)
+}
+
+#[test]
+fn requests_at_each_moment_of_a_merge(rt: HostRuntime) -> Result<(), Fail> {
+    for sector in [4, 36] {
+        for at in 0..200u64 {
+            let mut merging = short(&rt, rt.alloc(), NEVER)?;
+            merging.asked = (sector, 0xee);
+            if merging.run(&rt, rt.alloc(), at)? < at {
+                assert!(rt; at > 30, "a short merge");
+                break;
+            }
+            assert_eq!(rt; merging.origin[sector as usize], 0xee);
+        }
+    }
+    Ok(())
+}
+
+#[test]
+fn a_merge_goes_on_after_a_fault_at_each_operation(rt: HostRuntime) -> Result<(), Fail> {
+    let calm = short(&rt, rt.alloc(), NEVER)?;
+    let done = (calm.volume.origin().done(), calm.volume.store(1)?.done());
+    for k in 0..200u64 {
+        let first = (done.0.saturating_add(k), u64::MAX);
+        let second = (u64::MAX, done.1.saturating_add(k));
+        let mut failed = 0;
+        for left in [first, second] {
+            let mut merging = short(&rt, rt.alloc(), left)?;
+            merging.asked = (5, 0xee);
+            merging.run(&rt, rt.alloc(), 12)?;
+            failed += merging.failed;
+        }
+        if failed == 0 {
+            assert!(rt; k > 8, "a short merge");
+            return Ok(());
+        }
+    }
+    assert!(rt; false, "faults without an end");
+    Ok(())
+}
+
+#[test]
+fn a_merge_of_two_areas_reads_the_first_last(rt: HostRuntime) -> Result<(), Fail> {
+    let mut merging = long(&rt, rt.alloc(), NEVER)?;
+    let done = merging.volume.store(1)?.done();
+    merging.run(&rt, rt.alloc(), u64::MAX)?;
+    // The fault is the read of the first area, after three chunks and a commit.
+    let mut again = long(&rt, rt.alloc(), (u64::MAX, done.saturating_add(4)))?;
+    again.run(&rt, rt.alloc(), u64::MAX)?;
+    assert_eq!(rt; again.failed, 1);
+    Ok(())
 }

@@ -91,16 +91,6 @@ impl PlainMachine {
         self.snaps.retain(|snap| snap.number != number);
     }
 
-    /// Begins to merge a snapshot: it is none any more, and the origin shows what it showed.
-    pub fn merge(&mut self, number: SnapId) {
-        if let Some(place) = self.snaps.iter().position(|snap| snap.number == number) {
-            let PlainSnapshot { shown, .. } = self.snaps.remove(place);
-            if let Shown::Live(array) = shown {
-                self.origin = array;
-            }
-        }
-    }
-
     /// Makes a snapshot invalid.
     pub fn spoil(&mut self, number: SnapId) {
         for snap in &mut self.snaps {
