@@ -1,5 +1,5 @@
-//! The snapshots of an origin beside a merge: where origin requests go while one is begun, and what each other snapshot keeps
-//! back for it and starts for it. Nothing here knows a volume, its origin disk or its numbers.
+//! The snapshots of an origin beside a merge: where origin requests go while one is begun, which event of it is due, and what
+//! each other snapshot keeps back for it and starts for it. Nothing here knows a volume, its origin disk or its numbers.
 //!
 //! It stands on `snapshots` (the list of the snapshots that are not being merged) and on `merge` (the one that is), and
 //! speaks in the words of `volume_laws`, whose laws take what is promised here.
@@ -16,4 +16,4 @@ pub use due::{
 };
 pub use keeping::{keep_back_all, let_go_all};
 pub use routing::{is_merged_at, merged_route, place_at, route_again};
-pub use saving_next::save_next;
+pub use saving_next::save_waiting;

@@ -17,7 +17,6 @@ use Rattle.volume_laws.specs.Accepting.{IsPrepared, IsTakenIn, IsBeside}
 use Rattle.volume_laws.proofs.Beside.{beside_origin_read, beside_origin_write, beside_snap_read, beside_snap_write}
 use Rattle.volume_laws.proofs.Accepted.{origin_read_taken, origin_write_taken, snap_read_taken, snap_write_held_taken, snap_write_placed_taken}
 use Rattle.snapshot.specs.Kept.{Kept, books_of as snap_books}
-use Rattle.merge_beside.specs.Rooms.{merge_books}
 use Rattle.volume.specs.Volumed.{Volumed, books_of, piece_with}
 use Rattle.volume.specs.Whole.{IsWhole}
 use Rattle.volume.specs.Submitting.{IsAsked, entered_of}

@@ -22,7 +22,7 @@ use Rattle.volume_laws.specs.Accepting.{IsTakenIn}
 use Rattle.volume_laws.proofs.Preparing.{prepared_none}
 use Rattle.snapshot.specs.Kept.{Kept, books_of as snap_books}
 use Rattle.merge.specs.Merging.{Merging}
-use Rattle.merge_beside.specs.Routing.{is_grouped_at, place_at, is_merged_at}
+use Rattle.merge_beside.specs.Routing.{is_merged_at}
 use Rattle.volume.specs.Volumed.{Volumed, books_of, piece_of, piece_with, plain_of, is_loud_in_all, is_loud_with}
 use Rattle.snapshots.specs.Numbers.{count_in}
 use Rattle.volume.specs.Whole.{IsWhole}

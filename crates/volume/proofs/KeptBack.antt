@@ -8,7 +8,7 @@ use Rattle.std.proofs.lemmas.List.Elements.{All-cons, All-nil}
 use Rattle.device.specs.Layers.{Layer, is_loud}
 use Rattle.plain.specs.declared.request.Reply.{Reply}
 use Rattle.volume_laws.specs.Books.{SnapBooks, Books}
-use Rattle.volume_laws.specs.Whole.{Holds}
+use Rattle.volume_laws.specs.Whole.{Holds, plain_of as plain_books}
 use Rattle.volume_laws.specs.Waits.{Waits}
 use Rattle.event_machine.specs.Held.{Held, Moving}
 use Rattle.snapshot.specs.Kept.{Kept, books_of as snap_books}
@@ -18,18 +18,12 @@ use Rattle.merge_beside.specs.Keeping.{unkept}
 use Rattle.volume.specs.Volumed.{Volumed, books_of, piece_of, piece_with, plain_of, is_loud_in_all, is_loud_with, snap_shape}
 use Rattle.volume.specs.Whole.{AreNumbers, SharesNone, IsAttached, IsWhole, IsCounted, GoesOn, starts_left}
 use Rattle.volume.specs.Moved.{held_of, moving_of}
-use Rattle.volume.specs.Leaving.{is_done_of, is_quiet_of}
+use Rattle.volume.specs.Leaving.{is_done_of}
 use Rattle.volume.proofs.Unlike.{hidden_map, hidden_sum, hidden_length, hidden_at}
-use Rattle.volume.proofs.Shown.{and_left, and_right}
+use Rattle.volume.proofs.Shown.{and_left, and_right, shown}
 use Rattle.volume.proofs.Sums.{sum_cons}
 
--- a quiet volume has no request in flight, and no snapshot has a copy or a mark
-pub quiet_flights : {B : Type 0} (v : Volumed B) → is_quiet_of v ≡ true → v.flights ≡ []
-quiet_flights v e = nil_from_length v.flights (eqb-true (length v.flights) 0 (and_left (nat_eq (length v.flights) 0) (list_all is_done_of v.snaps) e))
-
-pub quiet_done : {B : Type 0} (v : Volumed B) → is_quiet_of v ≡ true → list_all is_done_of v.snaps ≡ true
-quiet_done v e = and_right (nat_eq (length v.flights) 0) (list_all is_done_of v.snaps) e
-
+-- no snapshot of a quiet volume has a copy or a mark
 pub all_done : {B : Type 0} (ss : List (Kept B)) → list_all is_done_of ss ≡ true → All (λ s. (s.copies ≡ []) × (s.marks ≡ [])) ss
 all_done [] e = All-nil (λ s. (s.copies ≡ []) × (s.marks ≡ []))
 all_done (s ∷ ss) e =
@@ -65,12 +59,19 @@ module _ {B : Type 0} (contents : B → List ℕ) (layers : B → List Layer) (s
   abbrev with_kept : Volumed B
   with_kept = record v { snaps = snaps }
 
-  books_kept : map (snap_books contents layers) snaps ≡ map (snap_books contents layers) v.snaps
+  pub books_kept : map (snap_books contents layers) snaps ≡ map (snap_books contents layers) v.snaps
   books_kept = hidden_map unkept snaps v.snaps e (snap_books contents layers) (λ s. refl)
 
   -- none of it is seen of the machine, nor by the plain one
   pub moving_kept : (replied : Option Reply) → moving_of contents layers replied (record v { snaps = snaps }) ≡ moving_of contents layers replied v
   moving_kept replied = ap (λ (hs : List Held). let w : Moving = record (moving_of contents layers replied v) { snaps = hs } in w) (hidden_map unkept snaps v.snaps e (held_of contents layers) (λ s. refl))
+
+  pub plain_kept : plain_of contents layers (record v { snaps = snaps }) ≡ plain_of contents layers v
+  plain_kept =
+      let bs = books_of contents layers size v in
+      shown contents layers size with_kept
+      ∙ ap (λ (xs : List SnapBooks). let b : Books = record bs { snaps = xs } in plain_books b) books_kept
+      ∙ sym (shown contents layers size v)
 
   pub loud_kept : is_loud_in_all layers (record v { snaps = snaps }) ≡ is_loud_in_all layers v
   loud_kept = ap (λ b. is_loud_with layers v.merge (is_loud (layers v.origin) && b))

@@ -9,6 +9,7 @@ pub mod Good
 pub mod MergeChanging
 pub mod MergeCounting
 pub mod MergeOperations
+pub mod MergeDues
 pub mod CopyEvents
 pub mod DueEvents
 pub mod Spoilt
@@ -20,7 +21,6 @@ pub mod IssueEvents
 pub mod MergeIssues
 pub mod DiskIssues
 pub mod StoreIssues
-pub mod MergingCounts
 pub mod MergingIssues
 pub mod Issued
 pub mod MovedLists
@@ -29,6 +29,9 @@ pub mod MovedSnaps
 pub mod MovedCopies
 pub mod MovedStores
 pub mod MovedMarks
+pub mod MovedMerges
+pub mod StoredPairs
+pub mod DueBeside
 pub mod MovedIssues
 pub mod MovedFound
 pub mod MovedCounts
@@ -66,8 +69,20 @@ pub mod Ran
 pub mod Peeked
 pub mod AtRest
 pub mod Quieted
+pub mod Asked
 pub mod MergeDue
 pub mod Unwritten
 pub mod Unlike
 pub mod KeptBack
 pub mod Resumed
+pub mod Removed
+pub mod Begun
+pub mod NextSaved
+pub mod NextFit
+pub mod MergeSaves
+pub mod MergeGroups
+pub mod MovedGroups
+pub mod Beginnings
+pub mod Finished
+pub mod MovedWrites
+pub mod MergeWritten

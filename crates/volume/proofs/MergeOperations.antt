@@ -1,7 +1,7 @@
 -- The events of a merge that start no copies leave its volume whole, and do what a step promises.
-use Rattle.std.proofs.Common.{◌≡◌, ◌≢◌, inl, inr, ℕ, ◌+◌, ◌-◌, ◌*◌, ◌<◌, Bool, true, false, List, [], ◌∷◌, ◌++◌, Option, Some, length, take, map, refl, sym, ◌∙◌, ap, subst, arith}
+use Rattle.std.proofs.Common.{◌≡◌, ◌≢◌, inl, inr, ℕ, ◌+◌, ◌-◌, ◌*◌, ◌<◌, Bool, true, false, List, [], ◌∷◌, ◌++◌, Option, Some, None, length, take, map, refl, sym, ◌∙◌, ap, subst, arith}
 use Rattle.std.specs.Prelude.{◌&&◌}
-use Rattle.std.specs.List.{All}
+use Rattle.std.specs.List.{All, list_all}
 use Rattle.sector.specs.Bytes.{next_count, sectors_at}
 use Rattle.sector.specs.declared.pair.Pair.{Pair}
 use Rattle.device.specs.Layers.{Layer, is_loud}
@@ -33,7 +33,7 @@ use Rattle.snapshot.specs.Kept.{Kept, books_of as snap_books}
 use Rattle.merge.specs.Merging.{Merging, books_of as merging_books, due_of as merging_due}
 use Rattle.merge.specs.Steps.{ReadsInto, WritesArea}
 use Rattle.merge_beside.specs.Rooms.{merge_books, room_of}
-use Rattle.volume.specs.Volumed.{Volumed, books_of, merge_due}
+use Rattle.volume.specs.Volumed.{Volumed, books_of, is_loud_in_all, is_loud_with}
 use Rattle.volume.specs.Whole.{IsWhole}
 use Rattle.volume.specs.Causes.{HasCause, IsFaultless, IsOneAtMost, merging_device, MergeFails}
 use Rattle.volume.specs.Stepping.{failed_by}
@@ -49,13 +49,36 @@ pub rooms_seen : {B : Type 0} (contents : B → List ℕ) (layers : B → List L
 rooms_seen contents layers [] = refl
 rooms_seen contents layers (s ∷ snaps) = ap (λ xs. snap_books contents layers s ∷ xs) (rooms_seen contents layers snaps)
 
-last_end : (rest : List Pair) (q : Pair) → last_of (rest ++ q ∷ []) ≡ Some q
+pub last_end : (rest : List Pair) (q : Pair) → last_of (rest ++ q ∷ []) ≡ Some q
 last_end [] q = refl
 last_end (p ∷ []) q = refl
 last_end (p ∷ r ∷ rest) q = last_end (r ∷ rest) q
 
 last_same : (rest rest' : List Pair) (q q' : Pair) → rest ++ q ∷ [] ≡ rest' ++ q' ∷ [] → q ≡ q'
 last_same rest rest' q q' same = (let e : Some q ≡ Some q' = sym (last_end rest q) ∙ ap last_of same ∙ last_end rest' q' in cc)
+
+-- the merge stops
+abbrev pub stopped : {B : Type 0} → Merging B → Merging B
+stopped m = record m { group = None; failed = true }
+
+pub stopped_from : {B : Type 0} (m m1 m' : Merging B) → m' ≡ stopped m1 → m1 ≡ m → m' ≡ stopped m
+stopped_from m m1 m' is kept = is ∙ ap stopped kept
+
+pub stops_from : {B : Type 0} (contents : B → List ℕ) (m m1 m' : Merging B) → m1 ≡ m → ((loud : Bool) → FailsMerge (merging_due contents loud m1) (merging_due contents loud m')) → (loud : Bool) → FailsMerge (merging_due contents loud m) (merging_due contents loud m')
+stops_from contents m m1 m' kept step loud = subst (λ (x : Merging _). FailsMerge (merging_due contents loud x) (merging_due contents loud m')) kept (step loud)
+
+-- an operation that fails changes no books of the merge
+pub fails_from : {B : Type 0} (contents : B → List ℕ) (m m1 m' : Merging B) → m1 ≡ record m { device = m1.device } → contents m1.device ≡ contents m.device
+    → ((loud : Bool) → FailsMerge (merging_due contents loud m1) (merging_due contents loud m')) → (loud : Bool) → FailsMerge (merging_due contents loud m) (merging_due contents loud m')
+fails_from contents m m1 m' kept same step loud =
+    subst (λ (d : DueMerge). FailsMerge d (merging_due contents loud m'))
+    (ap (merging_due contents loud) kept ∙ ap (λ (store : List ℕ). record (merging_due contents loud m) { books = record (merging_books contents loud m) { store = store } }) same) (step loud)
+
+-- where no device drops writes, the merging store drops none
+pub loud_merging : {B : Type 0} (contents : B → List ℕ) (layers : B → List Layer) (size : B → ℕ) (v : Volumed B) (m : Merging B) → v.merge ≡ Some m → is_loud_in_all layers v ≡ true → is_loud (layers m.device) ≡ true
+loud_merging contents layers size v m was loud =
+    and_right (is_loud (layers v.origin) && list_all (λ (s : Kept _). is_loud (layers s.device)) v.snaps) (is_loud (layers m.device))
+    (sym (ap (λ (x : Option (Merging _)). is_loud_with layers x (is_loud (layers v.origin) && list_all (λ (s : Kept _). is_loud (layers s.device)) v.snaps)) was) ∙ loud)
 
 module _ {B : Type 0} (contents : B → List ℕ) (layers : B → List Layer) (size faults done : B → ℕ) (v : Volumed B) (h : IsWhole contents layers size v) (m : Merging B) (was : v.merge ≡ Some m) where
   abbrev sound : Bool

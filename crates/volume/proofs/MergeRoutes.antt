@@ -1,8 +1,8 @@
 -- Where requests go beside a merge: in the words of callers, of the laws and of the event machine.
-use Rattle.std.proofs.Common.{◌≡◌, ◌≢◌, inl, inr, ℕ, ◌<◌, Bool, true, false, List, Option, Some, None, get_or, map, refl, sym, ◌∙◌, ap, subst}
+use Rattle.std.proofs.Common.{◌≡◌, ◌≢◌, ℕ, Bool, true, false, List, Option, Some, None, map, refl, sym, ◌∙◌, ap, subst}
 use Rattle.std.specs.Prelude.{◌&&◌, ◌||◌, is_some, if◌then◌else◌}
 use Rattle.std.specs.List.{All}
-use Rattle.std.proofs.lemmas.Bool.{cases_Bool, true≢false}
+use Rattle.std.proofs.lemmas.Bool.{true≢false}
 use Rattle.std.proofs.lemmas.List.Elements.{All-map}
 use Rattle.device.specs.Layers.{Layer, is_loud}
 use Rattle.sector.specs.declared.range.Range.{Range}
@@ -10,7 +10,6 @@ use Rattle.sector.specs.declared.refusal.Refusal.{Refusal}
 use Rattle.sector.specs.declared.refusal.Refusal.TheVariants.{MergingSnapshot}
 use Rattle.pending.specs.Routes.{write_route_of}
 use Rattle.pending.specs.declared.flights.Flight.{Flight}
-use Rattle.pending.specs.declared.flights.Route.{Route}
 use Rattle.volume_laws.specs.Accepting.{IsNumberedApart}
 use Rattle.volume_laws.specs.Again.{merged_place, new_route}
 use Rattle.volume_laws.specs.Books.{SnapBooks, MergeBooks}
@@ -24,7 +23,6 @@ use Rattle.merge_beside.specs.Routing.{is_grouped_at, place_at, is_merged_at}
 use Rattle.snapshot.specs.Kept.{Kept, books_of as snap_books}
 use Rattle.volume.specs.Volumed.{Volumed, piece_with}
 use Rattle.volume.specs.Moved.{merge_seen}
-use Rattle.volume.specs.Submitting.{is_merging}
 use Rattle.volume.specs.Whole.{GoesOn}
 
 -- one of two tests that failed both

@@ -1,5 +1,5 @@
 -- Requests of the origin are accepted beside a merge that has their chunk.
-use Rattle.std.proofs.Common.{◌≡◌, ℕ, ◌+◌, ◌<◌, Bool, true, false, List, [], Option, Some, None, length, map, refl, sym, ◌∙◌, ap}
+use Rattle.std.proofs.Common.{◌≡◌, ℕ, ◌+◌, Bool, true, false, List, [], length, map, sym, ◌∙◌, ap}
 use Rattle.std.specs.Prelude.{if◌then◌else◌, count_by}
 use Rattle.device.specs.Layers.{Layer, is_loud}
 use Rattle.plain.specs.declared.request.Request.{Request}
@@ -57,6 +57,3 @@ merged_accepted {B = B} contents layers size request route number v w h kind mer
 -- any other one starts those that are lacking
 pub starting_unmerged : {B : Type 0} (first : ℕ) (v : Volumed B) → is_merged_at first v.merge ≡ false → starting OriginWrite first v.merge v.snaps ≡ count_by (starts first) v.snaps
 starting_unmerged first v unmerged = if_false (is_merged_at first v.merge) 0 (count_by (starts first) v.snaps) unmerged
-
-pub starting_merged : {B : Type 0} (first : ℕ) (v : Volumed B) → is_merged_at first v.merge ≡ true → starting OriginWrite first v.merge v.snaps ≡ 0
-starting_merged first v merged = if_true (is_merged_at first v.merge) 0 (count_by (starts first) v.snaps) merged

@@ -1,7 +1,7 @@
 -- A request of the origin is issued at the merging store.
 use Rattle.std.proofs.Common.{◌≡◌, ◌≢◌, ◌⊎◌, inl, inr, ℕ, ◌+◌, ◌*◌, ◌%◌, ◌<◌, ◌≤◌, Bool, true, List, ◌++◌, None, Some, length, get_or, map, refl, sym, ◌∙◌, ap, subst, nat_eq}
 use Rattle.std.specs.Prelude.{◌&&◌}
-use Rattle.std.specs.List.{All, list_all, remove, position}
+use Rattle.std.specs.List.{All, remove, position}
 use Rattle.std.proofs.lemmas.Bool.{eqb-true}
 use Rattle.std.proofs.lemmas.List.Quantifiers.{position-Some}
 use Rattle.sector.specs.Bytes.{sectors_at, next_count}
@@ -23,9 +23,7 @@ use Rattle.pending.specs.declared.flights.Route.TheVariants.{Store}
 use Rattle.volume_laws.specs.Books.{MergeBooks, Books, listed, taken}
 use Rattle.volume_laws.specs.Published.{chunk_of}
 use Rattle.volume_laws.specs.Merging.{MergeHolds, MergeRouteHolds}
-use Rattle.volume_laws.specs.MergeRooms.{KeepBack}
 use Rattle.volume_laws.specs.MergeSteps.{WritesStore}
-use Rattle.volume_laws.specs.MergeWaits.{MergeGoes}
 use Rattle.volume_laws.specs.Outcomes.{IsReply}
 use Rattle.volume_laws.specs.Steps.{OnlyTakesOut, TakesOut}
 use Rattle.volume_laws.specs.Waits.{Waits}
@@ -37,19 +35,20 @@ use Rattle.volume_laws.proofs.MergeWaiting.{waits_stored}
 use Rattle.merge.specs.Lists.{released_of}
 use Rattle.merge.specs.Merging.{Merging, books_of as merging_books, due_of as merging_due}
 use Rattle.merge.specs.Steps.{WritesPlaceOf}
-use Rattle.merge_beside.specs.Rooms.{merge_books, room_of}
-use Rattle.snapshot.specs.Kept.{Kept, books_of as snap_books}
+use Rattle.merge_beside.specs.Rooms.{merge_books}
+use Rattle.snapshot.specs.Kept.{books_of as snap_books}
 use Rattle.snapshots.proofs.Finds.{position_within}
-use Rattle.volume.specs.Volumed.{Volumed, books_of, is_loud_in_all, is_loud_with, merge_due, left_by, piece_with}
-use Rattle.volume.specs.Whole.{IsAttached, IsMerged, GoesOn, IsWhole}
+use Rattle.volume.specs.Volumed.{Volumed, books_of, is_loud_in_all, merge_due, left_by, piece_with}
+use Rattle.volume.specs.Whole.{IsAttached, IsMerged, IsWhole}
 use Rattle.volume.specs.Causes.{HasReplied, IsFaultless, FailsAlone, GoesTo, merging_device}
 use Rattle.volume.specs.Flying.{Fits}
-use Rattle.volume.specs.Stepping.{KeepsAll, has_failed, merged_of}
+use Rattle.volume.specs.Stepping.{KeepsAll, has_failed}
 use Rattle.volume.proofs.Changing.{SnapsFit}
 use Rattle.volume.proofs.Good.{IsGood}
 use Rattle.volume.proofs.IssueEvents.{reply_good, taken_out, fits_read, fits_write}
 use Rattle.volume.proofs.MergeIssues.{read_merging, write_merging}
-use Rattle.volume.proofs.MergingCounts.{counts_still, counts_merging, merging_within}
+use Rattle.volume.proofs.MergeChanging.{StaysMerged, disk_stays, merged_in, books_merged, loud_merged, kept_merged}
+use Rattle.volume.proofs.MergeCounting.{merged_same, merged_store, store_within}
 use Rattle.volume.proofs.Shown.{and_right}
 use Rattle.volume.proofs.StoreIssues.{piece_part}
 
@@ -67,18 +66,6 @@ module _ {B : Type 0} (contents : B → List ℕ) (layers : B → List Layer) (s
   -- of what is due of it the store's bytes alone change
   stores : (loud : Bool) (m : Merging B) (d : B) → WritesStore (contents d) (merging_due contents loud m) (merging_due contents loud (on_device m d))
   stores loud m d = record { books = refl; failed = refl; flushed = refl; filled = refl; current = refl }
-
-  -- and it goes on
-  pub goes_on_device : (m : Merging B) (d : B) (v w : Volumed B) → w.snaps ≡ v.snaps → w.attached ≡ v.attached → size w.origin ≡ size v.origin → IsMerged contents layers size m v → IsMerged contents layers size (on_device m d) w
-  goes_on_device m d v w snaps attached sectors h = record {
-    origin = h.origin ∙ sym sectors;
-    apart = subst (λ (xs : List (Kept B)). All (λ s. s.number ≢ m.number) xs) (sym snaps) h.apart;
-    given = subst (λ n. m.number ≤ n) (sym attached) h.given;
-    few = subst (λ (xs : List (Kept B)). length xs ≤ 7) (sym snaps) h.few;
-    goes = λ loud. subst (λ (xs : List (Kept B)). MergeGoes (map (snap_books contents layers) xs) (merging_due contents loud (on_device m d))) (sym snaps)
-        (goes_stored (map (snap_books contents layers) v.snaps) (contents d) (merging_due contents loud m) (merging_due contents loud (on_device m d)) (stores loud m d) (h.goes loud));
-    rooms = subst (λ (xs : List (Kept B)). KeepBack m.state.chunk m.pairs (map (room_of contents layers) xs)) (sym snaps) h.rooms;
-  }
 
   -- a device that does the same: the books are the same, whatever writes are done
   same_merge : (loud : Bool) (m : Merging B) (d : B) → contents d ≡ contents m.device → is_loud (layers d) ≡ is_loud (layers m.device) → merge_books contents layers loud (Some (on_device m d)) ≡ merge_books contents layers loud (Some m)
@@ -112,13 +99,10 @@ module _ {B : Type 0} (contents : B → List ℕ) (layers : B → List Layer) (s
     mb = merging_books contents (is_loud (layers v.origin) && is_loud (layers m.device)) m
 
     begun_books : vb.merge ≡ Some mb
-    begun_books = ap (merge_books contents layers (is_loud (layers v.origin))) begun
+    begun_books = books_merged contents layers size v m begun
 
     here : MergeHolds (contents v.origin) v.flights mb
     here = subst (OriginHolds (contents v.origin) v.flights) begun_books h.holds.merge
-
-    goes_on : IsMerged contents layers size m v
-    goes_on = subst (λ x. GoesOn contents layers size x v) begun h.merge
 
     routed : MergeRouteHolds m.number m.state.chunk m.pairs (listed mb) (taken mb) r
     routed = subst (MergeRouteHolds m.number m.state.chunk m.pairs (listed mb) (taken mb)) (sym was) (here.routes place r in_list)
@@ -140,6 +124,9 @@ module _ {B : Type 0} (contents : B → List ℕ) (layers : B → List Layer) (s
       abbrev wb : Books
       wb = books_of contents layers size issued
 
+      stays : StaysMerged layers size m (on_device m d)
+      stays = record { number = refl; chunk_is = refl; origin = refl; loud = loud; sized = sized }
+
       fit : SnapsFit v.copies v.attached (size v.origin) (Some (on_device m d)) v.snaps
       fit = record {
         snaps = subst (λ x. All (IsAttached v.copies (size v.origin) (piece_with x v.snaps)) v.snaps) begun h.snaps;
@@ -152,24 +139,25 @@ module _ {B : Type 0} (contents : B → List ℕ) (layers : B → List Layer) (s
       }
 
       goes : IsMerged contents layers size (on_device m d) issued
-      goes = goes_on_device contents layers size m d v issued refl refl refl goes_on
+      goes =
+          let one : IsMerged contents layers size m v = merged_in contents layers size v m begun h in
+          record {
+            origin = one.origin;
+            apart = one.apart;
+            given = one.given;
+            few = one.few;
+            goes = λ l. goes_stored (map (snap_books contents layers) v.snaps) (contents d) (merging_due contents l m) (merging_due contents l (on_device m d)) (stores contents layers size l m d) (one.goes l);
+            rooms = one.rooms;
+          }
 
       left : left_by (merge_due contents (Some (on_device m d))) ≡ left_by (merge_due contents v.merge)
       left = stored_left (contents d) (merging_due contents true m) (merging_due contents true (on_device m d)) (stores contents layers size true m d) ∙ ap (λ x. left_by (merge_due contents x)) (sym begun)
 
       loud_now : is_loud_in_all layers issued ≡ is_loud_in_all layers v
-      loud_now =
-          let others : Bool = is_loud (layers v.origin) && list_all (λ (s : Kept B). is_loud (layers s.device)) v.snaps in
-          ap (λ b. others && b) loud ∙ ap (λ x. is_loud_with layers x others) (sym begun)
+      loud_now = loud_merged contents layers size v m begun v.origin (on_device m d) stays (disk_stays layers size v.origin) (remove v.flights place)
 
       kept : KeepsAll size v issued
-      kept = record {
-        attached = refl;
-        numbers = refl;
-        chunks = refl;
-        merged = ap merged_of (sym begun);
-        sizes = counts_still v m begun (on_device m d) (remove v.flights place) size sized;
-      }
+      kept = kept_merged contents layers size v m begun v.origin (on_device m d) stays (disk_stays layers size v.origin) (remove v.flights place)
 
       -- the books, with the merge's as they were but for the store
       store_is : merge_books contents layers (is_loud (layers v.origin)) (Some (on_device m d)) ≡ Some (record mb { store = contents d })
@@ -181,13 +169,13 @@ module _ {B : Type 0} (contents : B → List ℕ) (layers : B → List Layer) (s
           waits_stored place (contents d) (merging_due contents l m) (merging_due contents l (on_device m d)) vb wb h.waits (stores contents layers size l m d) in_list begun_books store_is refl refl refl refl
 
       faultless : faults d ≡ faults m.device → IsFaultless faults v issued
-      faultless same = record { counts = counts_still v m begun (on_device m d) (remove v.flights place) faults same; lives = refl }
+      faultless same = record { counts = merged_same v m (on_device m d) begun v.origin (remove v.flights place) faults refl same; lives = refl }
 
       failed : (kind_of r.request ≡ OriginRead) ⊎ (kind_of r.request ≡ OriginWrite) → faults d ≡ next_count (faults m.device) → (n : ℕ) × GoesTo number n v × FailsAlone faults n v issued
       failed kind one_more = (
         merging_device v,
         record { place = place; flight = r; within = in_list; is = was; mine = mine; route = inr (inr (at, m, route, begun, refl, kind)) },
-        record { counts = counts_merging v m begun (on_device m d) (remove v.flights place) faults one_more; lives = refl },
+        record { counts = merged_store v m (on_device m d) begun v.origin (remove v.flights place) faults refl one_more; lives = refl },
       )
 
       -- the request is taken out, where the store's bytes are as before
@@ -214,7 +202,7 @@ module _ {B : Type 0} (contents : B → List ℕ) (layers : B → List Layer) (s
       good reply answered cause fits =
           subst (λ (x : Merging B). IsGood contents layers size faults done (Issue number) (Replied number reply) v (record v { merge = Some x; flights = remove v.flights place })) (sym f)
           (reply_good contents layers size faults done v issued h number place reply in_list refl refl refl refl fit goes (ap has_failed (sym begun)) left refl loud_now kept answered waits cause
-          (inr (merging_device v, merging_within v m begun (on_device m d) (remove v.flights place) done, counts_merging v m begun (on_device m d) (remove v.flights place) done more))
+          (inr (merging_device v, store_within v m (on_device m d) begun v.origin (remove v.flights place) done, merged_store v m (on_device m d) begun v.origin (remove v.flights place) done refl more))
           (taken_out number place reply r vb (record wb { merge = vb.merge }) out fits))
 
       pub merging_read : r.request.op ≡ Read → (bytes : List ℕ) → length bytes ≡ 512 * r.request.range.count → contents d ≡ contents m.device → bytes ≡ sectors_at (contents m.device) (m.state.chunk * at + r.request.range.first % m.state.chunk) r.request.range.count

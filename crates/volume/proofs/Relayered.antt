@@ -10,6 +10,7 @@ use Rattle.layers.specs.Ticks.{layers_ticked}
 use Rattle.layers.specs.Loudness.{loud_ticked}
 use Rattle.event_machine.specs.Held.{Held, MergeHeld, Moving, on_device}
 use Rattle.event_machine.specs.MergeSeen.{held_in, merge_held_of}
+use Rattle.settled.specs.Moments.{relayered}
 use Rattle.plain.specs.declared.request.Reply.{Reply}
 use Rattle.volume_laws.specs.Books.{Books, SnapBooks, MergeBooks}
 use Rattle.volume_laws.specs.Due.{DueSnap}
@@ -236,6 +237,11 @@ module _ {B : Type 0} (contents : B → List ℕ) (layers : B → List Layer) (s
 pub map_twice : {X Y Z : Type 0} (f : X → Y) (g : Y → Z) (xs : List X) → map g (map f xs) ≡ map (λ x. g (f x)) xs
 map_twice f g [] = refl
 map_twice f g (x ∷ xs) = ap (λ ys. g (f x) ∷ ys) (map_twice f g xs)
+
+-- without a merge time passes for the origin's device and the snapshots' stores
+pub relayered_alone : (f : List Layer → List Layer) (v : Moving) → v.merge ≡ None → moving_relayered f v ≡ record v { origin = relayered f v.origin; snaps = map (held_relayered f) v.snaps }
+relayered_alone f v alone =
+    ap (λ (g : Option MergeHeld). (let w : Moving = record v { origin = relayered f v.origin; snaps = map (held_relayered f) v.snaps; merge = g } in w)) (ap (merging_relayered f) alone ∙ sym alone)
 
 -- time passes
 module _ {B : Type 0} (m : Measures B) (layers : B → List Layer) (seconds : ℕ) where

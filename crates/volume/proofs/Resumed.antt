@@ -36,10 +36,12 @@ goes_again snaps d d' is h = subst (MergeGoes snaps) (sym is) (record {
   saved = h.saved;
 })
 
--- one that did not fail is as it was
-pub unfailed_same : {B : Type 0} (v : Volumed B) (m : Merging B) → v.merge ≡ Some m → m.failed ≡ false → v ≡ record v { merge = Some (record m { failed = false }) }
-unfailed_same {B = B} v m is e =
-    ap (λ (o : Option (Merging B)). let w : Volumed B = record v { merge = o } in w) (is ∙ ap (λ b. let n : Merging B = record m { failed = b } in Some n) e)
+-- a volume with its merge, and with one that did not fail as it was
+pub with_own : {B : Type 0} (v : Volumed B) (m : Merging B) → v.merge ≡ Some m → v ≡ record v { merge = Some m }
+with_own {B = B} v m is = ap (λ (o : Option (Merging B)). let w : Volumed B = record v { merge = o } in w) is
+
+pub unfailed_same : {B : Type 0} (v : Volumed B) (m : Merging B) → m.failed ≡ false → record v { merge = Some m } ≡ record v { merge = Some (record m { failed = false }) }
+unfailed_same {B = B} v m e = ap (λ b. let n : Merging B = record m { failed = b } in let w : Volumed B = record v { merge = Some n } in w) e
 
 module _ {B : Type 0} (contents : B → List ℕ) (layers : B → List Layer) (size : B → ℕ) (v : Volumed B) (m : Merging B) (is : v.merge ≡ Some m) where
   abbrev going : Merging B
@@ -47,12 +49,6 @@ module _ {B : Type 0} (contents : B → List ℕ) (layers : B → List Layer) (s
 
   abbrev again : Volumed B
   again = record v { merge = Some (record m { failed = false }) }
-
-  bare : Volumed B
-  bare = record v { merge = Some m }
-
-  same_as : v ≡ record v { merge = Some m }
-  same_as = ap (λ (o : Option (Merging B)). let w : Volumed B = record v { merge = o } in w) is
 
   merged : IsMerged contents layers size m v → IsMerged contents layers size going again
   merged g = record {
@@ -84,10 +80,10 @@ module _ {B : Type 0} (contents : B → List ℕ) (layers : B → List Layer) (s
       }
 
   pub plain_resumed : plain_of contents layers (record v { merge = Some (record m { failed = false }) }) ≡ plain_of contents layers v
-  plain_resumed = ap (plain_of contents layers) (sym same_as)
+  plain_resumed = ap (plain_of contents layers) (sym (with_own v m is))
 
   pub loud_resumed : is_loud_in_all layers (record v { merge = Some (record m { failed = false }) }) ≡ is_loud_in_all layers v
-  loud_resumed = ap (is_loud_in_all layers) (sym same_as)
+  loud_resumed = ap (is_loud_in_all layers) (sym (with_own v m is))
 
   pub exact_resumed : (replied : Option Reply) → resumed (moving_of contents layers replied v) ≡ moving_of contents layers replied (record v { merge = Some (record m { failed = false }) })
-  exact_resumed replied = ap (λ (w : Volumed B). resumed (moving_of contents layers replied w)) same_as
+  exact_resumed replied = ap (λ (w : Volumed B). resumed (moving_of contents layers replied w)) (with_own v m is)

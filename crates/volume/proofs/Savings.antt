@@ -19,7 +19,7 @@ use Rattle.volume_laws.proofs.Preparing.{prepared_start, prepared_spoil, saving_
 use Rattle.snapshot.specs.Kept.{Kept, books_of as snap_books}
 use Rattle.snapshot.specs.Calls.{StartsAt, started}
 use Rattle.volume.specs.Volumed.{Volumed, books_of}
-use Rattle.snapshots.specs.Numbers.{numbers_in, count_in}
+use Rattle.snapshots.specs.Numbers.{count_in}
 use Rattle.volume.specs.Whole.{IsWhole, IsCounted}
 use Rattle.snapshots.specs.Starting.{lacks, is_full_of, starts, overflows, overflowing, spoilt_of, IsSavedIn, AreSavedIn}
 use Rattle.snapshots.proofs.Overflowing.{overflowing_full, overflowing_fine, starts_fine}

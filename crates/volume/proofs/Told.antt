@@ -16,7 +16,7 @@ use Rattle.plain.specs.declared.request.Reply.{Reply}
 use Rattle.sector.specs.declared.refusal.Refusal.{Refusal}
 use Rattle.sector.specs.declared.refusal.Refusal.TheVariants.{NoSuchDevice}
 use Rattle.event_machine.specs.Held.{Held, MergeHeld, Moving, on_device}
-use Rattle.event_machine.specs.MergeRest.{merge_in}
+use Rattle.event_machine.specs.MergeRest.{merge_in, IsMergeResting, IsBetween}
 use Rattle.event_machine.specs.MergeSeen.{held_in, merge_held_of}
 use Rattle.settled.specs.Moments.{snap_relayered}
 use Rattle.event_machine.specs.Requests.{volume_of}
@@ -510,3 +510,31 @@ dev_rests sectors (Snap number) f v rest = record {
   requests = rest.requests;
   alone = ap (λ (g : Option MergeHeld). numbered_relayered number f g) rest.alone;
 }
+
+-- and beside a merge of which nothing is under way
+merge_rests : (f : List Layer → List Layer) (m : MergeHeld) → IsMergeResting m → IsMergeResting (merge_relayered f m)
+merge_rests f m rest = record { pairs = rest.pairs; free = ap (merge_relayered f) rest.free }
+
+some_is : (m g : MergeHeld) → Some m ≡ Some g → m ≡ g
+some_is m g is = cc
+
+numbered_rests : (number : ℕ) (f : List Layer → List Layer) (o : Option MergeHeld) → ((m : MergeHeld) → o ≡ Some m → IsMergeResting m) → (g : MergeHeld) → numbered_relayered number f o ≡ Some g → IsMergeResting g
+numbered_rests number f None rest g is = absurd (cc)
+numbered_rests number f (Some m) rest g is = elim (cases_Bool (m.merge.number == number)) [
+  | inl here ↦ (let turned : Some (merge_relayered f m) ≡ Some g = rw here at is in subst IsMergeResting (some_is (merge_relayered f m) g turned) (merge_rests f m (rest m refl)))
+  | inr other ↦ (let stayed : Some m ≡ Some g = rw other at is in subst IsMergeResting (some_is m g stayed) (rest m refl))
+]
+
+pub dev_between : (sectors : ℕ) (dev : Dev) (f : List Layer → List Layer) (v : Moving) → IsBetween sectors v → IsBetween sectors (dev_relayered dev f v)
+dev_between sectors Origin f v rest = record { whole = rest.whole; snaps = rest.snaps; requests = rest.requests; merge = rest.merge }
+dev_between sectors (Snap number) f v rest = record {
+  whole = rest.whole;
+  snaps = all_from (IsResting sectors) (helds_relayered number f v.snaps) (helds_rest sectors number f v.snaps (each_from (IsResting sectors) v.snaps rest.snaps));
+  requests = rest.requests;
+  merge = numbered_rests number f v.merge rest.merge;
+}
+
+-- without a merge only a snapshot's store is told
+pub dev_alone : (number : ℕ) (f : List Layer → List Layer) (v : Moving) → v.merge ≡ None → dev_relayered (Snap number) f v ≡ record v { snaps = helds_relayered number f v.snaps }
+dev_alone number f v alone =
+    ap (λ (g : Option MergeHeld). (let w : Moving = record v { snaps = helds_relayered number f v.snaps; merge = g } in w)) (ap (numbered_relayered number f) alone ∙ sym alone)

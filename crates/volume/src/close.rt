@@ -13,7 +13,10 @@ impl<B: Block + Drop> Volume<B> {
         ensures ok { IfOk result (λ origin. (origin ≡ self.origin) × (close_refusal self ≡ None)) }
         ensures err { IfErr result (λ e. (close_refusal self ≡ Some e.0) × (e.1 ≡ self)) }
     {
-        if !self.snaps.is_empty() || self.merge.is_some() {
+        if !self.snaps.is_empty() {
+            return Err((Refusal::Busy, self));
+        }
+        if self.merge.is_some() {
             return Err((Refusal::Busy, self));
         }
         if !self.flights.is_empty() {

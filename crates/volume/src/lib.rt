@@ -25,6 +25,7 @@ mod events;
 mod finishing;
 mod issue;
 mod issue_merging;
+mod merge_copies;
 mod merge_events;
 mod merging;
 mod messages;

@@ -56,16 +56,6 @@ impl<B: Block> Volume<B> {
         }
     }
 
-    /// Whether a snapshot with this number is being merged.
-    pub(crate) fn is_merging(&self, number: SnapId) -> bool
-        ensures { result ≡ is_merging number self.now.merge }
-    {
-        match &self.merge {
-            Some(merge) => merge.number() == number,
-            None => false,
-        }
-    }
-
     /// The merge, if it is of the snapshot with this number.
     fn merging_as(&self, number: SnapId) -> Option<&Merge<B>>
         ensures some { IfSome result (λ merge. (self.now.merge ≡ Some merge.now) × (merge.now.number ≡ number)) }

@@ -1,5 +1,5 @@
 -- A request that no limit, range or missing snapshot refuses is taken by its kind.
-use Rattle.std.proofs.Common.{◌≡◌, [], inl, refl, sym, ◌∙◌, ap, subst, arith}
+use Rattle.std.proofs.Common.{◌≡◌, inl, refl, sym, ap, subst, arith}
 use Rattle.volume.specs.Volumed.{Volumed}
 use Rattle.volume.specs.Submitting.{starting}
 use Rattle.volume.proofs.Admits.{admitted}

@@ -1,16 +1,12 @@
 -- A write that is the merge's is put in flight, and starts nothing; for any other the copies are started.
-use Rattle.std.proofs.Common.{◌≡◌, true, false, [], refl, sym, ◌∙◌, ap, subst, arith}
-use Rattle.std.specs.Prelude.{map, count_by}
+use Rattle.std.proofs.Common.{◌≡◌, true, false, sym, ◌∙◌, ap, subst, arith}
 use Rattle.plain.specs.declared.request.Request.{Request}
 use Rattle.pending.specs.Kinds.{kind_of, room_of}
 use Rattle.pending.specs.Routes.{write_route_of}
-use Rattle.pending.specs.declared.flights.Kind.TheVariants.{OriginWrite}
-use Rattle.snapshot.specs.Kept.{Kept}
-use Rattle.snapshots.specs.Starting.{starts, overflows, overflowing}
 use Rattle.merge_beside.specs.Routing.{is_grouped_at, place_at, is_merged_at}
 use Rattle.volume.specs.Volumed.{Volumed, piece_with}
 use Rattle.volume.specs.Whole.{IsWhole}
-use Rattle.volume.specs.Submitting.{IsAsked, starting}
+use Rattle.volume.specs.Submitting.{IsAsked}
 use Rattle.volume.proofs.Accepts.{if_ok, if_err, same_roomed}
 use Rattle.volume.proofs.MergeWrites.{merged_write_goes, merged_accepted, starting_unmerged}
 use Rattle.volume.proofs.volume.Volume.submit_origin_write.Goals as goal
