@@ -25,8 +25,6 @@ mod following;
 #[cfg(test)]
 mod generator;
 #[cfg(test)]
-mod merge_rows;
-#[cfg(test)]
 mod merging;
 #[cfg(test)]
 mod plain_machine;

@@ -58,7 +58,7 @@ impl Merging {
     /// Attaches a fresh store, which fails the operation after so many.
     fn attach(&mut self, rt: &impl Abort, alloc: Global, left: u64) -> Result<(), Fail> {
         let store = StoreDev {
-            device: disk_by(rt, alloc, &[0; 100], left)?,
+            device: disk_by(rt, alloc, &[0; 40], left)?,
             stale: false,
         };
         match self.volume.attach(alloc, store, self.size.sectors as u32) {
@@ -178,15 +178,6 @@ fn short(rt: &impl Abort, alloc: Global, left: (u64, u64)) -> Result<Merging, Fa
     begun(rt, alloc, 2, (&[0, 3, 4, 36, 8], &[5, 6]), left)
 }
 
-/// A merge of 35 chunks of one sector, in two areas.
-fn long(rt: &impl Abort, alloc: Global, left: (u64, u64)) -> Result<Merging, Fail> {
-    let mut sectors = Vec::new(alloc);
-    for sector in 0..34u64 {
-        sectors.push(sector)?;
-    }
-    begun(rt, alloc, 1, (&sectors, &[3, 34]), left)
-}
-
 #[test]
 fn requests_at_each_moment_of_a_merge(rt: HostRuntime) -> Result<(), Fail> {
     for sector in [4, 36] {
@@ -227,13 +218,48 @@ fn a_merge_goes_on_after_a_fault_at_each_operation(rt: HostRuntime) -> Result<()
 }
 
 #[test]
-fn a_merge_of_two_areas_reads_the_first_last(rt: HostRuntime) -> Result<(), Fail> {
-    let mut merging = long(&rt, rt.alloc(), NEVER)?;
-    let done = merging.volume.store(1)?.done();
+fn a_merge_of_two_areas_comes_to_its_end(rt: HostRuntime) -> Result<(), Fail> {
+    let mut sectors = Vec::new(rt.alloc());
+    for sector in 0..34u64 {
+        sectors.push(sector)?;
+    }
+    let mut merging = begun(&rt, rt.alloc(), 1, (&sectors, &[3, 34]), NEVER)?;
     merging.run(&rt, rt.alloc(), u64::MAX)?;
-    // The fault is the read of the first area, after three chunks and a commit.
-    let mut again = long(&rt, rt.alloc(), (u64::MAX, done.saturating_add(4)))?;
-    again.run(&rt, rt.alloc(), u64::MAX)?;
-    assert_eq!(rt; again.failed, 1);
+    Ok(())
+}
+
+#[test]
+fn calls_that_a_merge_refuses(rt: HostRuntime) -> Result<(), Fail> {
+    let mut merging = short(&rt, rt.alloc(), NEVER)?;
+    let volume = &mut merging.volume;
+    for (number, refusal) in [(1, Refusal::MergeInProgress), (3, Refusal::NoSuchDevice)] {
+        assert_eq!(rt; volume.begin_merge(rt.alloc(), number), Err(refusal));
+        assert_eq!(rt; volume.detach(number).err(), Some(refusal));
+    }
+    let second = volume.begin_merge(rt.alloc(), 2);
+    assert_eq!(rt; second, Err(Refusal::MergeInProgress));
+    assert_eq!(rt; volume.finish_merge().err(), Some(Refusal::NotFinished));
+    let answer = write(&rt, rt.alloc(), volume, Dev::Snap(1), 200, 0)?;
+    assert_eq!(rt; answer, Err(Refusal::MergingSnapshot));
+    let store = StoreDev {
+        device: disk_by(&rt, rt.alloc(), &[0; 40], u64::MAX)?,
+        stale: false,
+    };
+    match volume.attach(rt.alloc(), store, 2) {
+        Err((Refusal::MergeInProgress, _)) => {}
+        _ => assert!(rt; false, "attached"),
+    }
+    merging.run(&rt, rt.alloc(), u64::MAX)?;
+    let volume = &mut merging.volume;
+    assert_eq!(rt; volume.resume_merge(), Err(Refusal::NotMerging));
+    assert_eq!(rt; volume.finish_merge().err(), Some(Refusal::NotFinished));
+    // The last chunk that it lacks has no place on the second store.
+    for chunk in 0..18u64 {
+        let answer = write(&rt, rt.alloc(), volume, Dev::Snap(2), 2 * chunk, 0)?;
+        assert_eq!(rt; answer.is_ok(), chunk != 17);
+        let begun = volume.begin_merge(rt.alloc(), 2);
+        assert!(rt; chunk == 17 || begun == Err(Refusal::NotQuiet));
+        assert!(rt; chunk != 17 || begun == Err(Refusal::Invalid));
+    }
     Ok(())
 }
