@@ -34,6 +34,9 @@ impl<B: Block> Model for Resting<B> {
     ghost Value = { Rested B };
 
     ghost view = { λ v. rested_of v.volume };
+
+    // No call begins a merge yet.
+    ghost invariant = { λ v. v.volume.merge ≡ None };
 }
 
 impl<B: Block> Resting<B> {
