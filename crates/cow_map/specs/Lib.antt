@@ -4,3 +4,4 @@ pub mod Sorted
 pub mod Listed
 pub mod Maps
 pub mod Usage
+pub mod Marks

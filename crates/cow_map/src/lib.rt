@@ -11,6 +11,7 @@ mod map;
 mod reading;
 mod sorting;
 mod telling;
+mod unmarked;
 
 pub use failure::Failure;
 pub use fault::Fault;
@@ -21,3 +22,4 @@ pub use judging::judge;
 pub use map::{CowMap, Usage};
 pub use reading::{Listed, MAX_IMAGE, read_pairs};
 pub use telling::{read_first, read_slots, read_store, sectors_of};
+pub use unmarked::Unmarked;

@@ -26,7 +26,7 @@ module _ (s : MergeSeen) where
   abbrev held : MergeHeld
   held = merge_held_of s
 
-  filled_same : IsFilledAsSeen s → length (in_area held) ≡ s.due.filled
+  pub filled_same : IsFilledAsSeen s → length (in_area held) ≡ s.due.filled
   filled_same filled =
       length-drop (s.due.current * (32 * s.due.books.chunk)) s.due.books.pairs ∙ (omega (arith, filled))
 
@@ -35,7 +35,7 @@ module _ (s : MergeSeen) where
   free_and false true c = refl
   free_and true b c = refl
 
-  group_same : IsFilledAsSeen s → can_group held ≡ groups s.due
+  pub group_same : IsFilledAsSeen s → can_group held ≡ groups s.due
   group_same filled = ap (λ n. is_free held && nat_lt 0 n) (filled_same filled) ∙ free_and s.due.failed (is_none (group_in held)) (nat_lt 0 s.due.filled)
 
   area_and : (a b c d : Bool) → ((not a && b) && (c && d)) ≡ (((not a && not (not b)) && c) && d)
@@ -43,7 +43,7 @@ module _ (s : MergeSeen) where
   area_and false true c d = refl
   area_and true b c d = refl
 
-  area_same : IsFilledAsSeen s → can_read_area held ≡ reads_area s.due
+  pub area_same : IsFilledAsSeen s → can_read_area held ≡ reads_area s.due
   area_same filled =
       ap (λ n. is_free held && ((n == 0) && nat_lt 0 s.due.current)) (filled_same filled)
       ∙ area_and s.due.failed (is_none (group_in held)) (s.due.filled == 0) (nat_lt 0 s.due.current)
@@ -52,24 +52,24 @@ module _ (s : MergeSeen) where
   copied_and false b c = refl
   copied_and true b c = refl
 
-  copied_same : is_copied held ≡ all_copied s.due.books
+  pub copied_same : is_copied held ≡ all_copied s.due.books
   copied_same = copied_and (is_none s.due.books.waiting) (is_none s.due.books.reading) (not (is_none s.due.books.copied))
 
-  read_same : (fs : List Flight) → can_read (map going_of fs) held ≡ reads fs s.due.books
+  pub read_same : (fs : List Flight) → can_read (map going_of fs) held ≡ reads fs s.due.books
   read_same fs = ap (λ b. is_none s.due.books.reading && b) (readable_same (last_of s.due.books.waiting))
     where
       readable_same : (o : Option Pair) → is_readable (map going_of fs) o ≡ readable fs o
       readable_same None = refl
       readable_same (Some q) = ap not (any_map going_of (is_writing q.new) fs)
 
-  write_same : (snaps : List Seen) → can_write (map held_of snaps) held ≡ writes (map (λ (x : Seen). x.due.books) snaps) s.due.books
+  pub write_same : (snaps : List Seen) → can_write (map held_of snaps) held ≡ writes (map (λ (x : Seen). x.due.books) snaps) s.due.books
   write_same snaps = writable_same s.due.books.reading
     where
       writable_same : (pairs : List Pair) → is_writable (map held_of snaps) s.due.books.chunk pairs ≡ writable (map (λ (x : Seen). x.due.books) snaps) s.due.books.chunk pairs
       writable_same [] = refl
       writable_same (q ∷ pairs) = clear_seen (s.due.books.chunk * q.old) snaps
 
-  release_same : (fs : List Flight) → can_release (map going_of fs) held ≡ releases fs s.due.books
+  pub release_same : (fs : List Flight) → can_release (map going_of fs) held ≡ releases fs s.due.books
   release_same fs = ap (λ b. not (is_none s.due.books.released) && not b) (any_map going_of (is_using s.due.books.released) fs)
 
   pub merge_due_tied : (snaps : List Seen) (fs : List Flight) → IsFilledAsSeen s → merge_due (map held_of snaps) (map going_of fs) (Some held) ≡ due_in_books (map (λ (x : Seen). x.due.books) snaps) fs s.due

@@ -8,9 +8,9 @@
 
 mod files;
 mod looking;
+mod progress;
 mod rolling;
 mod trouble;
-mod unmarked;
 
 use crate::looking::{check, map, raw_map, show, show_json};
 use crate::rolling::{export, salvage};

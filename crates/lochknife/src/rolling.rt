@@ -4,9 +4,9 @@ ghost use Rattle.std.specs.Prelude.{◌≤◌};
 
 use crate::files::{kept, made, opened, partial_name};
 use crate::looking::{Seen, look, printed, put_seen};
+use crate::progress::Watched;
 use crate::trouble::Trouble;
-use crate::unmarked::Unmarked;
-use cow_map::{MAX_IMAGE, Reason, Told, read_store, sectors_of};
+use cow_map::{MAX_IMAGE, Reason, Told, Unmarked, read_store, sectors_of};
 use cow_words::push_runs;
 use image::{FileImage, FileSink, Image};
 use sector::Refusal;
@@ -87,14 +87,34 @@ fn rolled<C: Image>(
 ) -> Result<(), Trouble>
     requires { size ≤ MAX_IMAGE }
 {
-    match &seen.told {
-        Told::Written(map) => cow_shown::export(rt.alloc(), origin, cow, map, size, sink)?,
-        Told::Fresh => cow_shown::export_fresh(rt.alloc(), origin, size, sink)?,
-        Told::Refused(_) => return Err(Trouble::Changed),
-    }
+    let mut watched = Watched::new(rt, sink, size.saturating_mul(512))?;
+    let written = put_array(rt, origin, cow, &seen.told, size, &mut watched);
+    watched.end()?;
+    written?;
     let again = read_store(rt.alloc(), cow, size)?;
     if !is_same(&seen.told, &again) {
         return Err(Trouble::Changed);
+    }
+    Ok(())
+}
+
+/// Writes the array of a store of which this was told.
+fn put_array<C: Image>(
+    rt: &HostRuntime,
+    origin: &mut FileImage,
+    cow: &mut C,
+    told: &Told,
+    size: u64,
+    watched: &mut Watched<'_>,
+) -> Result<(), Trouble>
+    requires { size ≤ MAX_IMAGE }
+{
+    match told {
+        Told::Written(map) => {
+            cow_shown::export(rt.alloc(), origin, cow, map, size, watched)?;
+        }
+        Told::Fresh => cow_shown::export_fresh(rt.alloc(), origin, size, watched)?,
+        Told::Refused(_) => return Err(Trouble::Changed),
     }
     Ok(())
 }

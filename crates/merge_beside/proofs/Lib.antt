@@ -1,0 +1,3 @@
+pub mod Using
+pub mod Unkept
+pub mod NextStarts

@@ -1,1 +1,4 @@
+pub mod Keeping
 pub mod Rooms
+pub mod Routing
+pub mod Starting

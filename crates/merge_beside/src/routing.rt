@@ -1,5 +1,5 @@
-// Held origin writes are routed again, by the snapshots and by the merge.
-ghost use Rattle.std.specs.Prelude.{◌≡◌, ◌<◌, ◌/◌, map, true};
+// Requests of the origin are routed beside a merge, and held writes routed again, by the snapshots and by the merge.
+ghost use Rattle.std.specs.Prelude.{◌≡◌, ◌<◌, ◌/◌, false, map, true};
 ghost use Rattle.std.specs.List.{All};
 ghost use Rattle.model.specs.Picture.{place_of as place_in};
 ghost use Rattle.pending.specs.Routes.{write_route_of};
@@ -8,12 +8,49 @@ ghost use Rattle.volume_laws.specs.Published.{is_clear as is_clear_in};
 ghost use Rattle.snapshot.specs.Kept.{books_of};
 ghost use Rattle.merge.specs.Lists.{group_pairs};
 ghost use Rattle.merge_beside.specs.Rooms.{merge_books};
+ghost use Rattle.merge_beside.specs.Routing.{is_grouped_at as is_grouped_in, is_merged_at as is_merged_in, place_at as place_beside};
 
 use device::Block;
 use merge::Merge;
 use pending::{Flight, Route, again_route, request_kind, write_route};
+use sector::Chunk;
 use snapshot::Snapshot;
 use snapshots::is_clear;
+
+/// Whether the chunk of a sector is in the merge's present group.
+fn is_grouped_at<B: Block>(merge: &Option<Merge<B>>, first: u64) -> bool
+    ensures { result ≡ is_grouped_in first merge.now }
+{
+    match merge {
+        None => false,
+        Some(merge) => merge.in_group(first / merge.chunk() as u64),
+    }
+}
+
+/// Where the merging store has the chunk of a sector.
+pub fn place_at<B: Block>(merge: &Option<Merge<B>>, first: u64) -> Option<Chunk>
+    ensures { result ≡ place_beside first merge.now }
+{
+    match merge {
+        None => None,
+        Some(merge) => merge.place_of(first / merge.chunk() as u64),
+    }
+}
+
+/// Whether a write of the origin at this sector is the merge's, and starts no copies: its chunk is in the present group, or
+/// has its copy on the merging store.
+pub fn is_merged_at<B: Block>(merge: &Option<Merge<B>>, first: u64) -> bool
+    ensures { result ≡ is_merged_in first merge.now }
+{
+    is_grouped_at(merge, first) || place_at(merge, first).is_some()
+}
+
+/// The route of such a write: it is held while its chunk is in the present group, and else goes to the chunk's place.
+pub fn merged_route<B: Block>(merge: &Option<Merge<B>>, first: u64) -> Route
+    ensures { result ≡ write_route_of (is_grouped_in first merge.now) (place_beside first merge.now) false }
+{
+    write_route(is_grouped_at(merge, first), place_at(merge, first), false)
+}
 
 /// The route of an origin write at this sector beside a merge: none while its chunk is in the present group, and else the
 /// chunk's place on the merging store, if it has one there.

@@ -131,6 +131,13 @@ impl<B: Block> Snapshot<B> {
         self.copies.is_empty() && self.marks.is_empty() && !self.untried
     }
 
+    /// How many committed pairs it has.
+    pub fn len(&self) -> usize
+        ensures { result ≡ length self.now.pairs }
+    {
+        self.store.len()
+    }
+
     /// The numbers of a status line, in sectors.
     pub fn usage(&self) -> Usage
         ensures allocated { result.allocated ≡ self.now.next * self.now.state.chunk }

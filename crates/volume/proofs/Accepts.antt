@@ -24,7 +24,7 @@ entered_flown rs qs f same = pushed qs ∙ ap (λ xs. xs ++ in_flight f ∷ []) 
     pushed (x ∷ xs) = ap (λ ys. in_flight x ∷ ys) (pushed xs)
 
 -- one that spoils nothing
-pub entered_accepted : {B : Type 0} (contents : B → List ℕ) (layers : B → List Layer) (request : Request) (route : Route) (number : ℕ) (v w : Volumed B) (kind : Kind) → kind_of request ≡ kind → ((first : ℕ) → spoiled_by kind first v.snaps ≡ []) → ((first : ℕ) → lives_of v ≡ lives_after kind first v.snaps)
+pub entered_accepted : {B : Type 0} (contents : B → List ℕ) (layers : B → List Layer) (request : Request) (route : Route) (number : ℕ) (v w : Volumed B) (kind : Kind) → kind_of request ≡ kind → spoiled_by kind request.range.first v.merge v.snaps ≡ [] → lives_of v ≡ lives_after kind request.range.first v.merge v.snaps
     → IsEntered contents layers request route number v w → IsSubmittedAs contents layers request number v w → IsAcceptedAs contents layers request number v w
 entered_accepted contents layers request route number v w kind is_kind none live e exact = record {
   next = e.next;
@@ -34,10 +34,10 @@ entered_accepted contents layers request route number v w kind is_kind none live
   loud = ap (is_loud_in_all layers) e.becomes;
   legal = λ loud.
       (let first = request.range.first in
-      subst (λ (ns : List ℕ). IsSubmitted ns (plain_of contents layers v) number request (plain_of contents layers w)) (sym (none first) ∙ sym (ap (λ (q : Kind). spoiled_by q first v.snaps) is_kind)) (e.legal loud));
+      subst (λ (ns : List ℕ). IsSubmitted ns (plain_of contents layers v) number request (plain_of contents layers w)) (sym none ∙ sym (ap (λ (q : Kind). spoiled_by q first v.merge v.snaps) is_kind)) (e.legal loud));
   lives =
       (let first = request.range.first in
-      ap lives_of e.becomes ∙ live first ∙ sym (ap (λ (q : Kind). lives_after q first v.snaps) is_kind));
+      ap lives_of e.becomes ∙ live ∙ sym (ap (λ (q : Kind). lives_after q first v.merge v.snaps) is_kind));
   flown = ap (λ (x : Volumed _). map in_flight x.flights) e.becomes ∙ entered_flown v.flights v.flights e.flight refl
       ∙ ap (λ (x : InFlight). map in_flight v.flights ++ x ∷ []) (ap (λ (n : ℕ). let x : InFlight = record { number = n; request = e.flight.request } in x) e.number_is ∙ ap (λ (q : Request). let x : InFlight = record { number = number; request = q } in x) e.request_is);
   exact = exact;

@@ -14,7 +14,7 @@ use Rattle.plain.specs.declared.request.Dev.TheVariants.{Origin}
 use Rattle.pending.specs.declared.flights.Kind.TheVariants.{SnapRead, SnapWrite}
 use Rattle.pending.specs.Kinds.{kind_of, kind_at}
 use Rattle.volume_laws.specs.Published.{IsPiece}
-use Rattle.volume.specs.Volumed.{Volumed, piece_of}
+use Rattle.volume.specs.Volumed.{Volumed, piece_with}
 use Rattle.snapshots.specs.Numbers.{count_in}
 use Rattle.volume.specs.Submitting.{first_of_two, range_refusal, limit_refusal, dev_refusal, submit_refusal, is_piece_of, are_too_many, starting}
 
@@ -58,40 +58,40 @@ inside_piece first count piece q r within whole = let turned : q * piece ≡ pie
 
 -- what holds of it
 pub record IsAdmitted {B : Type 0} (size : B → ℕ) (request : Request) (v : Volumed B) : Type 0 where
-  pub dev : dev_refusal request.dev v.snaps ≡ None
+  pub dev : dev_refusal request.dev v.merge v.snaps ≡ None
   pub some : 0 < request.range.count
   pub inside : request.range.first + request.range.count ≤ size v.origin
-  pub piece : IsPiece (piece_of v.snaps) request.range
+  pub piece : IsPiece (piece_with v.merge v.snaps) request.range
   pub flights : length v.flights < 64
   pub requests : v.requests < 18_446_744_073_709_551_615
-  pub few : sum_by count_in v.snaps + starting (kind_of request) request.range.first v.snaps ≤ 256
+  pub few : sum_by count_in v.snaps + starting (kind_of request) request.range.first v.merge v.snaps ≤ 256
 
 pub admitted : {B : Type 0} (size : B → ℕ) (request : Request) (v : Volumed B) → submit_refusal size request v ≡ None → IsAdmitted size request v
 admitted size request v e =
-    let new = starting (kind_of request) request.range.first v.snaps in
-    let one = both_none (dev_refusal request.dev v.snaps) _ e in
-    let two = both_none (range_refusal (piece_of v.snaps) (size v.origin) request.range) _ one.1 in
-    let range = range_fits (piece_of v.snaps) (size v.origin) request.range two.0 in
+    let new = starting (kind_of request) request.range.first v.merge v.snaps in
+    let one = both_none (dev_refusal request.dev v.merge v.snaps) _ e in
+    let two = both_none (range_refusal (piece_with v.merge v.snaps) (size v.origin) request.range) _ one.1 in
+    let range = range_fits (piece_with v.merge v.snaps) (size v.origin) request.range two.0 in
     let limits = limits_fit new v two.1 in
     let count = request.range.count in
     let first = request.range.first in
-    let piece = piece_of v.snaps in
-    let range_two = and_first (nat_lt 0 request.range.count && nat_le (request.range.first + request.range.count) (size v.origin)) (nat_le (request.range.first % piece_of v.snaps + request.range.count) (piece_of v.snaps)) range in
-    let range_last = and_second (nat_lt 0 request.range.count && nat_le (request.range.first + request.range.count) (size v.origin)) (nat_le (request.range.first % piece_of v.snaps + request.range.count) (piece_of v.snaps)) range in
+    let piece = piece_with v.merge v.snaps in
+    let range_two = and_first (nat_lt 0 request.range.count && nat_le (request.range.first + request.range.count) (size v.origin)) (nat_le (request.range.first % piece_with v.merge v.snaps + request.range.count) (piece_with v.merge v.snaps)) range in
+    let range_last = and_second (nat_lt 0 request.range.count && nat_le (request.range.first + request.range.count) (size v.origin)) (nat_le (request.range.first % piece_with v.merge v.snaps + request.range.count) (piece_with v.merge v.snaps)) range in
     let a : Bool = nat_le 64 (length v.flights) in
     let b : Bool = nat_le 18_446_744_073_709_551_615 v.requests in
-    let d : Bool = nat_lt 256 (sum_by count_in v.snaps + starting (kind_of request) request.range.first v.snaps) in
+    let d : Bool = nat_lt 256 (sum_by count_in v.snaps + starting (kind_of request) request.range.first v.merge v.snaps) in
     let limit_two = or_first (a || b) d limits in
-    let within : request.range.first % piece_of v.snaps + request.range.count ≤ piece_of v.snaps = leb-true (request.range.first % piece_of v.snaps + request.range.count) (piece_of v.snaps) range_last in
-    let whole : request.range.first / piece_of v.snaps * piece_of v.snaps + request.range.first % piece_of v.snaps ≡ request.range.first = div-add-mod' request.range.first (piece_of v.snaps) in
+    let within : request.range.first % piece_with v.merge v.snaps + request.range.count ≤ piece_with v.merge v.snaps = leb-true (request.range.first % piece_with v.merge v.snaps + request.range.count) (piece_with v.merge v.snaps) range_last in
+    let whole : request.range.first / piece_with v.merge v.snaps * piece_with v.merge v.snaps + request.range.first % piece_with v.merge v.snaps ≡ request.range.first = div-add-mod' request.range.first (piece_with v.merge v.snaps) in
     record {
       dev = one.0;
       some = ltb-true 0 request.range.count (and_first (nat_lt 0 request.range.count) (nat_le (request.range.first + request.range.count) (size v.origin)) range_two);
       inside = leb-true (request.range.first + request.range.count) (size v.origin) (and_second (nat_lt 0 request.range.count) (nat_le (request.range.first + request.range.count) (size v.origin)) range_two);
-      piece = record { within = inside_piece request.range.first request.range.count (piece_of v.snaps) (request.range.first / piece_of v.snaps) (request.range.first % piece_of v.snaps) within whole };
+      piece = record { within = inside_piece request.range.first request.range.count (piece_with v.merge v.snaps) (request.range.first / piece_with v.merge v.snaps) (request.range.first % piece_with v.merge v.snaps) within whole };
       flights = leb_false 64 (length v.flights) (or_first a b limit_two);
       requests = leb_false 18_446_744_073_709_551_615 v.requests (or_second a b limit_two);
-      few = ltb-false 256 (sum_by count_in v.snaps + starting (kind_of request) request.range.first v.snaps) (or_second (a || b) d limits);
+      few = ltb-false 256 (sum_by count_in v.snaps + starting (kind_of request) request.range.first v.merge v.snaps) (or_second (a || b) d limits);
     }
 
 -- a request of the origin has an origin's kind

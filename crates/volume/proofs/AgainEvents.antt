@@ -48,7 +48,7 @@ use Rattle.volume.proofs.MovedCounts.{counted_marks}
 use Rattle.merge.specs.Merging.{Merging}
 
 -- the same requests are in flight
-again_flown : (merge : Option MergeBooks) (clear : ℕ → Bool) (rs : List Flight) → map in_flight (map (again_of merge clear) rs) ≡ map in_flight rs
+pub again_flown : (merge : Option MergeBooks) (clear : ℕ → Bool) (rs : List Flight) → map in_flight (map (again_of merge clear) rs) ≡ map in_flight rs
 again_flown merge clear [] = refl
 again_flown merge clear (r ∷ rs) = ap (λ xs. in_flight r ∷ xs) (again_flown merge clear rs)
 

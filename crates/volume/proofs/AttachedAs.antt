@@ -6,7 +6,7 @@ use Rattle.std.proofs.lemmas.List.Folds.{list_all-append}
 use Rattle.std.proofs.lemmas.Bool.{cases_Bool, cases_lt, cases_eq, cond-true, cond-false, false≢true, lt-ltb, le-ltb, lt-leb, le-leb, eq-eqb, ne_eqb}
 use Rattle.std.proofs.lemmas.List.Elements.{All-cons, All-push}
 use Rattle.sector.specs.declared.refusal.Refusal.{Refusal}
-use Rattle.sector.specs.declared.refusal.Refusal.TheVariants.{Stale, TooMany, BadChunk, NoMemory, NotQuiet}
+use Rattle.sector.specs.declared.refusal.Refusal.TheVariants.{Stale, MergeInProgress, TooMany, BadChunk, NoMemory, NotQuiet}
 use Rattle.chunk.specs.Sizes.{is_chunk}
 use Rattle.device.specs.Layers.{Layer, is_loud}
 use Rattle.model.specs.NextPlace.{IsNextPlace}
@@ -62,11 +62,12 @@ limit_here : (v : Volume) (count given : ℕ) (b : Bool) → given ≤ 4_294_967
 limit_here v count given b few len is = ap (λ n. nat_lt n 8 && nat_lt (given + 1) 4_294_967_296) len ∙ limit_same count given few ∙ ap not is
 
 -- refused before the store is looked at
-pub refused_before : (stale quiet : Bool) (count given chunk : ℕ) (store : Store) (v : Volume) (refusal : Refusal) → given ≤ 4_294_967_295 → quiet ≡ true → store.stale ≡ stale → length v.snaps ≡ count → taking_refusal stale quiet count given chunk ≡ Some refusal → attached (given + 1) chunk store v ≡ refused_attach refusal store v
+pub refused_before : (stale begun quiet : Bool) (count given chunk : ℕ) (store : Store) (v : Volume) (refusal : Refusal) → given ≤ 4_294_967_295 → begun ≡ false → quiet ≡ true → store.stale ≡ stale → length v.snaps ≡ count → taking_refusal stale begun quiet count given chunk ≡ Some refusal → attached (given + 1) chunk store v ≡ refused_attach refusal store v
 unfolding attached
-refused_before true quiet count given chunk store v refusal few calm is len e = cond-true _ _ _ is ∙ ap (λ r. refused_attach r store v) (some_same Stale refusal e)
-refused_before false false count given chunk store v refusal few calm is len e = absurd (false≢true calm)
-refused_before false true count given chunk store v refusal few calm is len e = cond-false _ _ _ is ∙ elim (cases_Bool (nat_le 8 count || (given == 4_294_967_295))) [
+refused_before true begun quiet count given chunk store v refusal few alone calm is len e = cond-true _ _ _ is ∙ ap (λ r. refused_attach r store v) (some_same Stale refusal e)
+refused_before false true quiet count given chunk store v refusal few alone calm is len e = absurd (false≢true (sym alone))
+refused_before false false false count given chunk store v refusal few alone calm is len e = absurd (false≢true calm)
+refused_before false false true count given chunk store v refusal few alone calm is len e = cond-false _ _ _ is ∙ elim (cases_Bool (nat_le 8 count || (given == 4_294_967_295))) [
   | inl many ↦ cond-false _ _ _ (limit_here v count given true few len many) ∙ ap (λ r. refused_attach r store v) (some_same TooMany refusal (sym (cond-true _ _ _ many) ∙ e))
   | inr room ↦ cond-true _ _ _ (limit_here v count given false few len room) ∙ elim (cases_Bool (is_chunk chunk)) [
     | inl allowed ↦ (let got : ◌≡◌ {A = Option Refusal} None (Some refusal) = sym (cond-false _ _ _ room ∙ cond-true _ _ _ allowed) ∙ e in absurd (cc))
@@ -75,10 +76,11 @@ refused_before false true count given chunk store v refusal few calm is len e = 
 ]
 
 -- a number is left
-pub number_left : (stale quiet : Bool) (count given chunk : ℕ) → given ≤ 4_294_967_295 → taking_refusal stale quiet count given chunk ≡ None → given < 4_294_967_295
-number_left true quiet count given chunk few e = absurd (cc)
-number_left false false count given chunk few e = absurd (cc)
-number_left false true count given chunk few e = elim (cases_eq given 4_294_967_295) [
+pub number_left : (stale begun quiet : Bool) (count given chunk : ℕ) → given ≤ 4_294_967_295 → taking_refusal stale begun quiet count given chunk ≡ None → given < 4_294_967_295
+number_left true begun quiet count given chunk few e = absurd (cc)
+number_left false true quiet count given chunk few e = absurd (cc)
+number_left false false false count given chunk few e = absurd (cc)
+number_left false false true count given chunk few e = elim (cases_eq given 4_294_967_295) [
   | inr other ↦ omega (arith, few, other)
   | inl last ↦ (let many : (nat_le 8 count || (given == 4_294_967_295)) ≡ true = or_last (nat_le 8 count) (given == 4_294_967_295) (eq-eqb _ _ last) in
       let got : ◌≡◌ {A = Option Refusal} (Some TooMany) None = sym (cond-true _ _ _ many) ∙ e in absurd (cc))
@@ -89,10 +91,11 @@ number_left false true count given chunk few e = elim (cases_eq given 4_294_967_
     or_last false b e = e
 
 -- for want of memory none is
-pub no_memory : (stale quiet : Bool) (count given chunk : ℕ) → taking_refusal stale quiet count given chunk ≡ Some NoMemory → ⊥
-no_memory true quiet count given chunk e = let same = some_same Stale NoMemory e in absurd (cc)
-no_memory false false count given chunk e = let same = some_same NotQuiet NoMemory e in absurd (cc)
-no_memory false true count given chunk e = elim (cases_Bool (nat_le 8 count || (given == 4_294_967_295))) [
+pub no_memory : (stale begun quiet : Bool) (count given chunk : ℕ) → taking_refusal stale begun quiet count given chunk ≡ Some NoMemory → ⊥
+no_memory true begun quiet count given chunk e = let same = some_same Stale NoMemory e in absurd (cc)
+no_memory false true quiet count given chunk e = let same = some_same MergeInProgress NoMemory e in absurd (cc)
+no_memory false false false count given chunk e = let same = some_same NotQuiet NoMemory e in absurd (cc)
+no_memory false false true count given chunk e = elim (cases_Bool (nat_le 8 count || (given == 4_294_967_295))) [
   | inl many ↦ (let same = some_same TooMany NoMemory (sym (cond-true _ _ _ many) ∙ e) in absurd (cc))
   | inr room ↦ elim (cases_Bool (is_chunk chunk)) [
     | inl allowed ↦ (let got : ◌≡◌ {A = Option Refusal} None (Some NoMemory) = sym (cond-false _ _ _ room ∙ cond-true _ _ _ allowed) ∙ e in absurd (cc))
@@ -101,11 +104,12 @@ no_memory false true count given chunk e = elim (cases_Bool (nat_le 8 count || (
 ]
 
 -- not refused before that: the store is opened
-pub admitted : (stale quiet : Bool) (count given chunk : ℕ) (store : Store) (v : Volume) → given ≤ 4_294_967_295 → store.stale ≡ stale → length v.snaps ≡ count → taking_refusal stale quiet count given chunk ≡ None → (is_chunk chunk ≡ true) × (store.stale ≡ false) × (attached (given + 1) chunk store v ≡ with_tried (given + 1) (open_store v.snaps (sectors_of v.origin) chunk store.device) v)
+pub admitted : (stale begun quiet : Bool) (count given chunk : ℕ) (store : Store) (v : Volume) → given ≤ 4_294_967_295 → store.stale ≡ stale → length v.snaps ≡ count → taking_refusal stale begun quiet count given chunk ≡ None → (is_chunk chunk ≡ true) × (store.stale ≡ false) × (attached (given + 1) chunk store v ≡ with_tried (given + 1) (open_store v.snaps (sectors_of v.origin) chunk store.device) v)
 unfolding attached
-admitted true quiet count given chunk store v few is len e = absurd (cc)
-admitted false false count given chunk store v few is len e = absurd (cc)
-admitted false true count given chunk store v few is len e = elim (cases_Bool (nat_le 8 count || (given == 4_294_967_295))) [
+admitted true begun quiet count given chunk store v few is len e = absurd (cc)
+admitted false true quiet count given chunk store v few is len e = absurd (cc)
+admitted false false false count given chunk store v few is len e = absurd (cc)
+admitted false false true count given chunk store v few is len e = elim (cases_Bool (nat_le 8 count || (given == 4_294_967_295))) [
   | inl many ↦ (let got : ◌≡◌ {A = Option Refusal} (Some TooMany) None = sym (cond-true _ _ _ many) ∙ e in absurd (cc))
   | inr room ↦ elim (cases_Bool (is_chunk chunk)) [
     | inl allowed ↦ (allowed, is, cond-false _ _ _ is ∙ cond-true _ _ _ (limit_here v count given false few len room) ∙ cond-true _ _ _ allowed)
@@ -179,7 +183,7 @@ module _ {B : Type 0} (contents : B → List ℕ) (layers : B → List Layer) wh
     whole = rest.whole;
     snaps = subst (All (IsResting sectors)) (sym (map_push (held_of contents layers) v.snaps s)) (All-push (IsResting sectors) (map (held_of contents layers) v.snaps) (held_of contents layers s) rest.snaps here);
     requests = rest.requests;
-    alone = refl;
+    alone = rest.alone;
   }
 
   -- the new one, over an origin of so many sectors

@@ -1,7 +1,8 @@
 -- A quiet volume takes a snapshot.
 use Rattle.std.proofs.Common.{◌≡◌, ◌≢◌, inl, inr, ℕ, ◌+◌, ◌<◌, ◌≤◌, Bool, true, false, List, [], ◌∷◌, ◌++◌, length, get_or, map, refl, sym, ap, subst, arith, length-append}
-use Rattle.std.specs.Prelude.{Some, None}
+use Rattle.std.specs.Prelude.{Option, Some, None}
 use Rattle.std.specs.List.{All}
+use Rattle.std.specs.Option.{is_some}
 use Rattle.std.proofs.lemmas.Bool.Decides.{leb_tells}
 use Rattle.std.proofs.lemmas.List.{get_or-map, length-map}
 use Rattle.sector.specs.declared.refusal.Refusal.TheVariants.{TooMany}
@@ -18,9 +19,10 @@ use Rattle.volume_laws.proofs.Attaching.{attach_event}
 use Rattle.volume_laws.proofs.Waiting.{waits_none}
 use Rattle.snapshot.specs.Kept.{Kept, books_of as snap_books}
 use Rattle.snapshot.specs.Opening.{IsWanted}
-use Rattle.volume.specs.Volumed.{Volumed, books_of, piece_of, plain_of}
+use Rattle.merge.specs.Merging.{Merging}
+use Rattle.volume.specs.Volumed.{Volumed, books_of, piece_of, piece_with, plain_of}
 use Rattle.snapshots.specs.Numbers.{number_of_snap, numbers_in, count_in}
-use Rattle.volume.specs.Whole.{AreNumbers, SharesNone, IsAttached, IsWhole, IsCounted, starts_left}
+use Rattle.volume.specs.Whole.{AreNumbers, SharesNone, IsAttached, IsWhole, GoesOn, IsCounted, starts_left}
 use Rattle.volume.specs.Taking.{wanted_of, taking_refusal}
 use Rattle.volume.proofs.Shown.{shown}
 use Rattle.volume.proofs.StartsLeft.{left_whole}
@@ -33,17 +35,24 @@ attach_fresh contents layers size v h number next k d lt same =
     let below : get_or (map number_of_snap v.snaps) k 0 ≤ v.attached = h.numbers.given k 0 (omega (arith, lt, length-map v.snaps number_of_snap)) in
     omega (arith, at, below, next, same)
 
--- a volume that takes one more is quiet, and has less than eight
-pub taking_none : (stale quiet : Bool) (count attached chunk : ℕ) → taking_refusal stale quiet count attached chunk ≡ None → (quiet ≡ true) × (count < 8)
-taking_none true quiet count attached chunk e = absurd (cc)
-taking_none false false count attached chunk e = absurd (cc)
-taking_none false true count attached chunk e = (
+-- a volume that takes one more is quiet, and has less than eight and no merge
+pub taking_none : (stale begun quiet : Bool) (count attached chunk : ℕ) → taking_refusal stale begun quiet count attached chunk ≡ None → (quiet ≡ true) × (count < 8) × (begun ≡ false)
+taking_none true begun quiet count attached chunk e = absurd (cc)
+taking_none false true quiet count attached chunk e = absurd (cc)
+taking_none false false false count attached chunk e = absurd (cc)
+taking_none false false true count attached chunk e = (
   refl,
   elim (leb_tells 8 count) [
     | inl many ↦ (let got : Some TooMany ≡ None = rw many.0 at e in absurd (cc))
     | inr few ↦ few.1
   ],
+  refl,
 )
+
+-- where none is begun, there is no merge
+pub none_begun : {X : Type 0} (merge : Option X) → is_some merge ≡ false → merge ≡ None
+none_begun None e = refl
+none_begun (Some m) e = absurd (cc)
 
 books_push : {B : Type 0} (contents : B → List ℕ) (layers : B → List Layer) (xs : List (Kept B)) (s : Kept B) → map (snap_books contents layers) (xs ++ s ∷ []) ≡ map (snap_books contents layers) xs ++ snap_books contents layers s ∷ []
 books_push contents layers [] s = refl
@@ -57,12 +66,16 @@ numbers_same : {B : Type 0} (contents : B → List ℕ) (layers : B → List Lay
 numbers_same contents layers [] = refl
 numbers_same contents layers (x ∷ xs) = ap (λ ys. x.number ∷ ys) (numbers_same contents layers xs)
 
+-- without a merge the piece is by the snapshots
+pub piece_alone : {B : Type 0} (merge : Option (Merging B)) (snaps : List (Kept B)) → merge ≡ None → piece_with merge snaps ≡ piece_of snaps
+piece_alone merge snaps alone = ap (λ m. piece_with m snaps) alone
+
 -- the new one's chunks are as large as those of the others
 attached_push : {B : Type 0} (copies sectors : ℕ) (xs : List (Kept B)) (s : Kept B) → IsWanted (wanted_of xs) s.state.chunk → All (IsAttached copies sectors (piece_of xs)) xs → IsAttached copies sectors s.state.chunk s → All (IsAttached copies sectors (piece_of (xs ++ s ∷ []))) (xs ++ s ∷ [])
 attached_push copies sectors [] s wanted all mine = All-cons (IsAttached copies sectors s.state.chunk) s [] mine (All-nil (IsAttached copies sectors s.state.chunk))
 attached_push copies sectors (x ∷ xs) s wanted all mine = All-push (IsAttached copies sectors x.state.chunk) (x ∷ xs) s all (subst (λ n. IsAttached copies sectors n s) (sym wanted) mine)
 
-module _ {B : Type 0} (contents : B → List ℕ) (layers : B → List Layer) (size : B → ℕ) (v : Volumed B) (s : Kept B) (none : v.flights ≡ []) (h : IsWhole contents layers size v) (number : s.number ≡ v.attached + 1) (new : IsNewSnap (contents v.origin) (snap_books contents layers s)) where
+module _ {B : Type 0} (contents : B → List ℕ) (layers : B → List Layer) (size : B → ℕ) (v : Volumed B) (s : Kept B) (none : v.flights ≡ []) (alone : v.merge ≡ None) (h : IsWhole contents layers size v) (number : s.number ≡ v.attached + 1) (new : IsNewSnap (contents v.origin) (snap_books contents layers s)) where
   abbrev pub taken : Volumed B
   taken = record v { snaps = v.snaps ++ s ∷ []; attached = v.attached + 1 }
 
@@ -82,10 +95,10 @@ module _ {B : Type 0} (contents : B → List ℕ) (layers : B → List Layer) (s
   whole_taken room small origin wanted idle counts =
       let all_numbers : AreNumbers v.copies (numbers_in s) = subst (AreNumbers v.copies) (sym idle) (record { given = All-nil (λ n. n ≤ v.copies); ascending = λ i j d lt within. absurd (omega (arith, within)) }) in
       record {
-        alone = h.alone;
+        merge = subst (λ (x : Option (Merging B)). GoesOn contents layers size x taken) (sym alone) tt;
         holds = (attach_event (snap_books contents layers s) (books_of contents layers size v) (books_of contents layers size taken) h.holds attaches new).0;
         waits = waits_none (books_of contents layers size taken) none;
-        snaps = attached_push v.copies (size v.origin) v.snaps s wanted h.snaps (record { origin = origin; chunk_is = refl; some = new.text.some; numbers = all_numbers });
+        snaps = subst (λ (n : ℕ). All (IsAttached v.copies (size v.origin) n) (v.snaps ++ s ∷ [])) (sym (piece_alone v.merge (v.snaps ++ s ∷ []) alone)) (attached_push v.copies (size v.origin) v.snaps s wanted (subst (λ (n : ℕ). All (IsAttached v.copies (size v.origin) n) v.snaps) (piece_alone v.merge v.snaps alone) h.snaps) (record { origin = origin; chunk_is = refl; some = new.text.some; numbers = all_numbers }));
         counted = All-push IsCounted v.snaps s h.counted counts;
         apart = all_pairs_push SharesNone v.snaps s h.apart (λ k d lt i e within. subst (All (λ n. get_or (numbers_in (get_or v.snaps k d)) i e ≢ n)) (sym idle) (All-nil (λ n. get_or (numbers_in (get_or v.snaps k d)) i e ≢ n)));
         numbers = subst (AreNumbers (v.attached + 1)) (sym (numbers_push v.snaps s)) (record {

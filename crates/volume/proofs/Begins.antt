@@ -13,11 +13,16 @@ use Rattle.pending.specs.Due.{number_of_copy, number_of_mark}
 use Rattle.pending.specs.declared.copies.ChunkCopy.{ChunkCopy}
 use Rattle.volume_laws.specs.Whole.{Holds}
 use Rattle.volume_laws.specs.Waits.{Waits}
+use Rattle.volume_laws.proofs.MergeRooms.{KeepsRoom}
+use Rattle.volume_laws.proofs.MergeRoomEvents.{start_room, spoil_room}
 use Rattle.snapshot.specs.Kept.{Kept}
-use Rattle.volume.specs.Volumed.{Volumed, books_of, piece_of}
+use Rattle.snapshot.specs.Calls.{StartsAt}
+use Rattle.snapshots.specs.Starting.{spoilt_of}
+use Rattle.merge_beside.specs.Rooms.{room_of}
+use Rattle.volume.specs.Volumed.{Volumed, books_of, piece_with}
 use Rattle.snapshots.specs.Numbers.{number_of_snap, numbers_in, count_in, merged_count}
 use Rattle.volume.specs.Whole.{AreNumbers, SharesNone, IsAttached, IsWhole, IsCounted, starts_left}
-use Rattle.volume.proofs.Changing.{piece_set}
+use Rattle.volume.proofs.Changing.{piece_beside, goes_changed}
 
 map_push : {X : Type 0} (f : X → ℕ) (xs : List X) (x : X) → map f (xs ++ x ∷ []) ≡ map f xs ++ f x ∷ []
 map_push f [] x = refl
@@ -62,14 +67,14 @@ module _ {B : Type 0} (contents : B → List ℕ) (layers : B → List Layer) (s
   begun = record v { snaps = set v.snaps k s'; copies = v.copies + 1 }
 
   pub whole_begun : IsWhole contents layers size v → s'.number ≡ s.number → s'.state.chunk ≡ s.state.chunk → s'.state.origin ≡ s.state.origin → numbers_in s' ≡ numbers_in s ++ (v.copies + 1) ∷ [] → s'.merging ≡ s.merging → (IsCounted s → IsCounted s') → starts_left s' + 1 ≤ starts_left s → sum_by count_in v.snaps < 256
-      → Holds (books_of contents layers size begun) → Waits (books_of contents layers size begun) → IsWhole contents layers size begun
-  whole_begun h number chunk origin numbers merging counts fewer room holds waits =
-      let old : IsAttached v.copies (size v.origin) (piece_of v.snaps) s = subst (IsAttached v.copies (size v.origin) (piece_of v.snaps)) (sym is) (h.snaps k s within) in
-      let piece : piece_of (set v.snaps k s') ≡ piece_of v.snaps = piece_set v.snaps k s s' is chunk in
+      → Holds (books_of contents layers size begun) → Waits (books_of contents layers size begun) → KeepsRoom (room_of contents layers s) (room_of contents layers s') → IsWhole contents layers size begun
+  whole_begun h number chunk origin numbers merging counts fewer room holds waits keeps =
+      let old : IsAttached v.copies (size v.origin) (piece_with v.merge v.snaps) s = subst (IsAttached v.copies (size v.origin) (piece_with v.merge v.snaps)) (sym is) (h.snaps k s within) in
+      let piece : piece_with v.merge (set v.snaps k s') ≡ piece_with v.merge v.snaps = piece_beside v.merge v.snaps k s s' is chunk in
       let more : v.copies ≤ v.copies + 1 = omega arith in
       let below : All (λ x. x ≤ v.copies + 1) (numbers_in s) = All-weaker (λ x. x ≤ v.copies) (λ x. x ≤ v.copies + 1) (λ x le. omega (arith, le)) (numbers_in s) old.numbers.given in
       let under : All (λ x. x < v.copies + 1) (numbers_in s) = All-weaker (λ x. x ≤ v.copies) (λ x. x < v.copies + 1) (λ x le. omega (arith, le)) (numbers_in s) old.numbers.given in
-      let mine : IsAttached (v.copies + 1) (size v.origin) (piece_of v.snaps) s' = record {
+      let mine : IsAttached (v.copies + 1) (size v.origin) (piece_with v.merge v.snaps) s' = record {
         origin = origin ∙ old.origin;
         chunk_is = chunk ∙ old.chunk_is;
         some = subst (λ n. 0 < n) (sym chunk) old.some;
@@ -78,20 +83,20 @@ module _ {B : Type 0} (contents : B → List ℕ) (layers : B → List Layer) (s
           ascending = all_pairs_push (λ m n. m < n) (numbers_in s) (v.copies + 1) old.numbers.ascending under;
         });
       } in
-      let all : All (IsAttached (v.copies + 1) (size v.origin) (piece_of v.snaps)) v.snaps =
-      All-weaker (IsAttached v.copies (size v.origin) (piece_of v.snaps)) (IsAttached (v.copies + 1) (size v.origin) (piece_of v.snaps)) (λ x. given_more v.copies (v.copies + 1) (size v.origin) (piece_of v.snaps) x more) v.snaps h.snaps in
+      let all : All (IsAttached (v.copies + 1) (size v.origin) (piece_with v.merge v.snaps)) v.snaps =
+      All-weaker (IsAttached v.copies (size v.origin) (piece_with v.merge v.snaps)) (IsAttached (v.copies + 1) (size v.origin) (piece_with v.merge v.snaps)) (λ x. given_more v.copies (v.copies + 1) (size v.origin) (piece_with v.merge v.snaps) x more) v.snaps h.snaps in
       let sums = sum_by-set count_in v.snaps k s' s within in
       let lefts = sum_by-set starts_left v.snaps k s' s within in
       let left : starts_left (get_or v.snaps k s) ≡ starts_left s = ap starts_left (sym is) in
       let at : count_in (get_or v.snaps k s) ≡ count_in s = ap count_in (sym is) in
       let one : count_in s' ≤ count_in s + 1 = count_more s s' (v.copies + 1) numbers merging in
       record {
-        alone = h.alone;
         holds = holds;
         waits = waits;
-        snaps = subst (λ n. All (IsAttached (v.copies + 1) (size v.origin) n) (set v.snaps k s')) (sym piece) (All-set (IsAttached (v.copies + 1) (size v.origin) (piece_of v.snaps)) v.snaps k s' mine all);
+        merge = goes_changed contents layers size v begun v.merge k s s' within is refl refl refl number keeps h.merge;
+        snaps = subst (λ n. All (IsAttached (v.copies + 1) (size v.origin) n) (set v.snaps k s')) (sym piece) (All-set (IsAttached (v.copies + 1) (size v.origin) (piece_with v.merge v.snaps)) v.snaps k s' mine all);
         counted = All-set IsCounted v.snaps k s' (counts (subst IsCounted (sym is) (h.counted k s within))) h.counted;
-        apart = all_pairs_set_in (IsAttached v.copies (size v.origin) (piece_of v.snaps)) SharesNone v.snaps k s s' within is h.snaps
+        apart = all_pairs_set_in (IsAttached v.copies (size v.origin) (piece_with v.merge v.snaps)) SharesNone v.snaps k s s' within is h.snaps
             (λ t known none. subst (All (λ m. All (λ n. m ≢ n) (numbers_in t))) (sym numbers)
             (All-push (λ m. All (λ n. m ≢ n) (numbers_in t)) (numbers_in s) (v.copies + 1) none
             (All-weaker (λ x. x ≤ v.copies) (λ n. v.copies + 1 ≢ n) (λ x le e. absurd (omega (arith, le, e))) (numbers_in t) known.numbers.given)))
@@ -114,3 +119,15 @@ numbers_pushed s s' p marks copies =
     ∙ ap (λ cs. map number_of_mark s.marks ++ map number_of_copy cs) copies
     ∙ ap (λ ns. map number_of_mark s.marks ++ ns) (map_push number_of_copy s.copies p)
     ∙ sym (append_assoc (map number_of_mark s.marks) (map number_of_copy s.copies) (p.number ∷ []))
+
+-- what it keeps back for a merge stays
+pub room_begun : {B : Type 0} (contents : B → List ℕ) (layers : B → List Layer) (p : ChunkCopy) (s t : Kept B) → StartsAt contents layers p s t → KeepsRoom (room_of contents layers s) (room_of contents layers t)
+room_begun contents layers p s t at = start_room p (room_of contents layers s) (room_of contents layers t) at.event (record {
+  kept_back = ap (λ (x : Kept _). x.kept_back) at.fields;
+  spare = ap (λ (x : Kept _). x.spare) at.fields;
+  merging = ap (λ (x : Kept _). x.merging) at.fields;
+})
+
+-- one that is spoiled keeps nothing back
+pub room_spoilt : {B : Type 0} (contents : B → List ℕ) (layers : B → List Layer) (s : Kept B) → KeepsRoom (room_of contents layers s) (room_of contents layers (spoilt_of s))
+room_spoilt contents layers s = spoil_room (room_of contents layers s) (room_of contents layers (spoilt_of s)) (record { number = refl; live = refl; copies = refl; marks = refl })

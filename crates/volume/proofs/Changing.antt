@@ -26,7 +26,7 @@ use Rattle.snapshot.specs.Kept.{Kept, books_of as snap_books, due_of_kept}
 use Rattle.merge_beside.specs.Rooms.{merge_books, room_of}
 use Rattle.volume.specs.Volumed.{Volumed, books_of, piece_of, piece_with, is_loud_in_all, left_in_all, dues_of, is_loud_with}
 use Rattle.snapshots.specs.Numbers.{number_of_snap, numbers_in, count_in, merged_count}
-use Rattle.volume.specs.Whole.{AreNumbers, SharesNone, IsAttached, IsWhole, IsMerged, GoesOn, IsCounted, starts_left}
+use Rattle.volume.specs.Whole.{AreNumbers, SharesNone, IsAttached, IsWhole, GoesOn, IsCounted, starts_left}
 use Rattle.volume.proofs.Lists.{all_pairs_set, list_all_set, IsFewer, fewer_all, fewer_pairs}
 
 -- an origin disk that holds the same
@@ -121,8 +121,8 @@ goes_changed {B = B} contents layers size v w (Some m) k s s' within is sectors 
     let apart : All (λ (x : Kept B). x.number ≢ m.number) (set v.snaps k s') =
     All-set (λ (x : Kept B). x.number ≢ m.number) v.snaps k s' (subst (λ n. n ≢ m.number) (sym mine) (h.apart k s within)) h.apart in
     let goes : (loud : Bool) → MergeGoes (map sb (set v.snaps k s')) (merging_due contents loud m) = λ loud.
-        subst (λ xs. MergeGoes xs (merging_due contents loud m)) (sym (map-set sb v.snaps k s'))
-        (goes_set (map sb v.snaps) k (sb s) (sb s') (omega (arith, within, length-map v.snaps sb)) (ap sb is ∙ sym (get_or-map sb v.snaps k s (sb s) within)) keeps.saved (merging_due contents loud m) (h.goes loud)) in
+    subst (λ xs. MergeGoes xs (merging_due contents loud m)) (sym (map-set sb v.snaps k s'))
+    (goes_set (map sb v.snaps) k (sb s) (sb s') (omega (arith, within, length-map v.snaps sb)) (ap sb is ∙ sym (get_or-map sb v.snaps k s (sb s) within)) keeps.saved (merging_due contents loud m) (h.goes loud)) in
     let rooms : KeepBack m.state.chunk m.pairs (map room (set v.snaps k s')) =
     subst (KeepBack m.state.chunk m.pairs) (sym (map-set room v.snaps k s'))
     (rooms_changed m.state.chunk m.pairs (map room v.snaps) k (room s) (room s') (omega (arith, within, length-map v.snaps room)) (ap room is ∙ sym (get_or-map room v.snaps k s (room s) within)) keeps h.rooms) in

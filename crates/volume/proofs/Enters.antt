@@ -16,9 +16,10 @@ use Rattle.volume_laws.specs.Steps.{Accepts}
 use Rattle.volume_laws.specs.Whole.{plain_of as plain_books}
 use Rattle.volume_laws.proofs.Routed.{ArePieces}
 use Rattle.volume_laws.specs.Accepting.{IsTakenIn}
-use Rattle.snapshot.specs.Kept.{Kept, books_of as snap_books}
-use Rattle.volume.specs.Volumed.{Volumed, books_of, piece_of, plain_of, is_loud_in_all}
-use Rattle.volume.specs.Whole.{AreNumbers, IsAttached, IsWhole}
+use Rattle.snapshot.specs.Kept.{books_of as snap_books}
+use Rattle.volume.specs.Volumed.{Volumed, books_of, piece_with, plain_of, is_loud_in_all}
+use Rattle.volume.specs.Whole.{AreNumbers, IsWhole}
+use Rattle.volume.proofs.Changing.{goes_same}
 use Rattle.volume.proofs.Shown.{shown, loud_books}
 
 flights_push : (fs : List Flight) (f : Flight) → map number_of_flight (fs ++ f ∷ []) ≡ map number_of_flight fs ++ f.number ∷ []
@@ -45,9 +46,9 @@ module _ {B : Type 0} (contents : B → List ℕ) (layers : B → List Layer) (s
 
   pub whole_entered : (which : List ℕ) (v0 : Volumed B) → length u.flights < 64 → IsTakenIn which f.number f.request (books_of contents layers size v0) (books_of contents layers size entered) → IsWhole contents layers size entered
   whole_entered which v0 room t = record {
-    alone = h.alone;
     holds = t.holds;
     waits = t.waits;
+    merge = goes_same contents layers size u entered u.merge refl refl refl h.merge;
     snaps = h.snaps;
     counted = h.counted;
     apart = h.apart;
@@ -63,7 +64,7 @@ module _ {B : Type 0} (contents : B → List ℕ) (layers : B → List Layer) (s
   }
 
   -- the range lies inside a chunk of each snapshot
-  pub pieces_all : IsPiece (piece_of u.snaps) f.request.range → ArePieces f (books_of contents layers size u).snaps
+  pub pieces_all : IsPiece (piece_with u.merge u.snaps) f.request.range → ArePieces f (books_of contents layers size u).snaps
   pieces_all piece = All-map (λ (x : SnapBooks). x.live ≡ true → IsPiece x.chunk f.request.range) (snap_books contents layers) u.snaps
       (λ k d lt live. subst (λ n. IsPiece n f.request.range) (sym (h.snaps k d lt).chunk_is) piece)
 
@@ -73,8 +74,3 @@ plain_entered contents layers size v0 w which number request t loud =
     let step = t.step (loud_books contents layers size v0 loud) in
     subst (λ p. IsSubmitted which p number request (plain_of contents layers w)) (sym (shown contents layers size v0))
     (subst (IsSubmitted which (plain_books (books_of contents layers size v0)) number request) (sym (shown contents layers size w)) step)
-
--- a piece has a sector at least
-pub piece_some : {B : Type 0} (copies sectors chunk : ℕ) (snaps : List (Kept B)) → All (IsAttached copies sectors chunk) snaps → 0 < piece_of snaps
-piece_some copies sectors chunk [] all = omega arith
-piece_some copies sectors chunk (s ∷ snaps) all = (all 0 s (omega (arith))).some

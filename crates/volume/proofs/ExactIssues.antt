@@ -1,14 +1,14 @@
 -- A request's own event is exact.
-use Rattle.std.proofs.Common.{◌≡◌, ℕ, ◌+◌, ◌*◌, ◌%◌, ◌<◌, Bool, true, List, Some, length, get_or}
-use Rattle.std.specs.Prelude.{◌==◌, if◌then◌else◌}
-use Rattle.std.specs.List.{position, remove}
+use Rattle.std.proofs.Common.{◌≡◌, ℕ, ◌+◌, ◌*◌, ◌%◌, ◌<◌, Bool, true, List, Some, length, get_or, sym, ◌∙◌, ap}
+use Rattle.std.specs.Prelude.{◌==◌, ◌&&◌, if◌then◌else◌}
+use Rattle.std.specs.List.{list_all, position, remove}
 use Rattle.std.proofs.lemmas.Bool.{eqb-true, eq-eqb}
 use Rattle.sector.specs.Bytes.{sectors_at, with_sectors}
 use Rattle.device.specs.Layers.{Layer, is_loud}
 use Rattle.device.specs.declared.operation.Operation.TheVariants.{Reads, Writes}
 use Rattle.plain.specs.declared.event.Event.TheVariants.{Issue}
 use Rattle.plain.specs.declared.event.Outcome.TheVariants.{Reply as Replied}
-use Rattle.plain.specs.declared.request.Dev.TheVariants.{Snap as ToSnap}
+use Rattle.plain.specs.declared.request.Dev.TheVariants.{Origin as ToOrigin, Snap as ToSnap}
 use Rattle.plain.specs.declared.request.Op.TheVariants.{Read as ReadOp, Write as WriteOp}
 use Rattle.plain.specs.declared.request.Reply.{Reply}
 use Rattle.plain.specs.declared.request.Reply.TheVariants.{Data, Written as Done, Refused as Declined}
@@ -16,14 +16,16 @@ use Rattle.plain.specs.declared.request.Failure.TheVariants.{Invalid, Io}
 use Rattle.pending.specs.declared.flights.Flight.{Flight}
 use Rattle.pending.specs.declared.flights.Route.TheVariants.{Origin, Store, Refused}
 use Rattle.store.specs.Operations.{IsOneOperation}
+use Rattle.merge.specs.Merging.{Merging}
 use Rattle.snapshot.specs.Kept.{Kept}
-use Rattle.volume.specs.Volumed.{Volumed}
+use Rattle.volume.specs.Volumed.{Volumed, is_loud_in_all, is_loud_with}
 use Rattle.volume.specs.Whole.{IsWhole}
 use Rattle.volume.specs.Exact.{IsExact}
 use Rattle.volume.proofs.MovedSnaps.{changed}
 use Rattle.volume.proofs.MovedFound.{snap_first, flight_first}
-use Rattle.volume.proofs.MovedIssues.{issue_refused, issue_origin_read, issue_origin_write, issue_store_read, issue_store_write}
+use Rattle.volume.proofs.MovedIssues.{issue_refused, issue_origin_read, issue_origin_write, issue_store_read, issue_store_write, issue_merging_read, issue_merging_write}
 use Rattle.volume.proofs.Exactly.{loud_origin, loud_store}
+use Rattle.volume.proofs.Shown.{and_right}
 
 module _ {B : Type 0} (contents : B → List ℕ) (layers : B → List Layer) (size : B → ℕ) (v : Volumed B) (h : IsWhole contents layers size v)
     (n j : ℕ) (f : Flight) (found : position (λ (x : Flight). x.number == n) v.flights ≡ Some j) (at : f ≡ get_or v.flights j f) where
@@ -68,4 +70,28 @@ module _ {B : Type 0} (contents : B → List ℕ) (layers : B → List Layer) (s
         step = λ loud replied. issue_store_write contents layers replied v n j f (flight_first n j f v.flights found at) ok faults faults' done done' place is number dev k s
             (snap_first contents layers size v h number k s within here (λ (x : Kept B). x.number == number) (λ x e. eqb-true x.number number e) (eq-eqb s.number number mine)) s'.device bytes kind one
             (written (loud_store contents layers size v h n k s within here loud)) reply answered s' fields;
+      }
+
+    -- at its chunk's place on the merging store
+    module _ (place : ℕ) (is : f.route ≡ Store place) (dev : f.request.dev ≡ ToOrigin) (m : Merging B) (begun : v.merge ≡ Some m) (m' : Merging B) (fields : m' ≡ record m { device = m'.device }) where
+      abbrev from : ℕ
+      from = m.state.chunk * place + f.request.range.first % m.state.chunk
+
+      loud_merging : is_loud_in_all layers v ≡ true → is_loud (layers m.device) ≡ true
+      loud_merging loud =
+          let others : Bool = is_loud (layers v.origin) && list_all (λ (s : Kept B). is_loud (layers s.device)) v.snaps in
+          and_right others (is_loud (layers m.device)) (sym (ap (λ x. is_loud_with layers x others) begun) ∙ loud)
+
+      pub merging_read_exact : f.request.op ≡ ReadOp → IsOneOperation (Reads from f.request.range.count) ok (layers m.device) (layers m'.device) faults faults' done done'
+          → contents m'.device ≡ contents m.device → reply ≡ (if ok then Data (sectors_at (contents m.device) from f.request.range.count) else Declined Io)
+          → IsExact contents layers (Issue n) (Replied n reply) v (record v { merge = Some m'; flights = remove v.flights j })
+      merging_read_exact kind one same answered = record {
+        step = λ loud replied. issue_merging_read contents layers replied v n j f (flight_first n j f v.flights found at) ok faults faults' done done' place is dev m begun m'.device m' fields kind one same reply answered;
+      }
+
+      pub merging_write_exact : (bytes : List ℕ) → f.request.op ≡ WriteOp bytes → IsOneOperation (Writes from f.request.range.count) ok (layers m.device) (layers m'.device) faults faults' done done'
+          → (is_loud (layers m.device) ≡ true → contents m'.device ≡ (if ok then with_sectors (contents m.device) from bytes else contents m.device)) → reply ≡ (if ok then Done else Declined Io)
+          → IsExact contents layers (Issue n) (Replied n reply) v (record v { merge = Some m'; flights = remove v.flights j })
+      merging_write_exact bytes kind one written answered = record {
+        step = λ loud replied. issue_merging_write contents layers replied v n j f (flight_first n j f v.flights found at) ok faults faults' done done' place is dev m begun m'.device m' fields bytes kind one (written (loud_merging loud)) reply answered;
       }

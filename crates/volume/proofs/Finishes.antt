@@ -1,6 +1,6 @@
 -- An origin write is accepted, once the copies of its chunk are started.
 use Rattle.std.specs.Prelude.{if◌then◌else◌, ◌&&◌, sum_by, count_by}
-use Rattle.std.proofs.Common.{◌≡◌, inl, inr, ℕ, ◌+◌, ◌<◌, ◌≤◌, Bool, true, false, List, [], ◌∷◌, ◌++◌, None, length, map, take, drop, refl, sym, ◌∙◌, ap, subst, arith}
+use Rattle.std.proofs.Common.{◌≡◌, inl, inr, ℕ, ◌+◌, ◌<◌, ◌≤◌, Bool, true, false, List, [], ◌∷◌, ◌++◌, Option, Some, None, length, map, take, drop, refl, sym, ◌∙◌, ap, subst, arith}
 use Rattle.std.specs.List.{All, list_all}
 use Rattle.std.proofs.lemmas.Bool.{cases_Bool, MatchBool-at_true, MatchBool-at_false}
 use Rattle.std.proofs.lemmas.List.{length-map}
@@ -21,7 +21,9 @@ use Rattle.volume_laws.specs.Whole.{plain_of as plain_books}
 use Rattle.volume_laws.specs.Accepting.{IsTakenIn}
 use Rattle.volume_laws.proofs.Preparing.{prepared_none}
 use Rattle.snapshot.specs.Kept.{Kept, books_of as snap_books}
-use Rattle.volume.specs.Volumed.{Volumed, books_of, piece_of, plain_of, is_loud_in_all, is_loud_with}
+use Rattle.merge.specs.Merging.{Merging}
+use Rattle.merge_beside.specs.Routing.{is_merged_at}
+use Rattle.volume.specs.Volumed.{Volumed, books_of, piece_of, piece_with, plain_of, is_loud_in_all, is_loud_with}
 use Rattle.snapshots.specs.Numbers.{count_in}
 use Rattle.volume.specs.Whole.{IsWhole}
 use Rattle.snapshots.specs.Starting.{unroomed, starts, overflows, overflowing, IsSavedIn, AreSavedIn}
@@ -31,7 +33,9 @@ use Rattle.volume.specs.Submitting.{IsAsked, IsAcceptedAs, entered_of, lives_aft
 use Rattle.volume.proofs.Accepts.{entered_flown}
 use Rattle.volume.proofs.ByKind.{origin_write_enters}
 use Rattle.volume.proofs.Enters.{fresh_plain, whole_entered, plain_entered}
-use Rattle.volume.proofs.Roomed.{roomed_piece, roomed_sum, books_roomed, whole_roomed, starts_roomed}
+use Rattle.volume.proofs.MovedLists.{if_false}
+use Rattle.volume.proofs.MergeRoutes.{route_is, unmerged_route}
+use Rattle.volume.proofs.Roomed.{roomed_beside, roomed_sum, books_roomed, whole_roomed, starts_roomed}
 use Rattle.volume.proofs.SavingAt.{AreSavingAt, saving_none_at, saving_asked}
 use Rattle.volume.proofs.Savings.{AreDone, done_all}
 use Rattle.volume.proofs.Shown.{shown}
@@ -73,6 +77,10 @@ module _ {B : Type 0} (contents : B → List ℕ) (layers : B → List Layer) (f
   saved_piece (s ∷ ss) [] n m fs gs e = absurd e
   saved_piece (s ∷ ss) (t ∷ ts) n m fs gs (k, hs, one, rest) = same_chunk s t n k fs hs one
 
+  pub saved_beside : (merge : Option (Merging B)) (ss ts : List (Kept B)) (n m : ℕ) (fs gs : List Flight) → AreSavedIn contents layers first ss ts n m fs gs → piece_with merge ts ≡ piece_with merge ss
+  saved_beside None ss ts n m fs gs e = saved_piece ss ts n m fs gs e
+  saved_beside (Some x) ss ts n m fs gs e = refl
+
   pub saved_length : (ss ts : List (Kept B)) (n m : ℕ) (fs gs : List Flight) → AreSavedIn contents layers first ss ts n m fs gs → length ts ≡ length ss
   saved_length [] [] n m fs gs e = refl
   saved_length [] (t ∷ ts) n m fs gs e = absurd e
@@ -96,8 +104,8 @@ module _ {B : Type 0} (contents : B → List ℕ) (layers : B → List Layer) (s
 
 module _ {B : Type 0} (contents : B → List ℕ) (layers : B → List Layer) (size : B → ℕ) (v : Volumed B) (h : IsWhole contents layers size v) (before after : List (Kept B)) (e : map unroomed before ≡ map unroomed v.snaps) (m : ℕ) (gs : List Flight) (f : Flight)
     (at : AreSavedIn contents layers f.request.range.first before after v.copies m v.flights gs) (few : sum_by count_in v.snaps + count_by (starts f.request.range.first) v.snaps ≤ 256)
-    (number : f.number ≡ v.requests + 1) (asked : IsAsked (size v.origin) (piece_of v.snaps) f.request) (room : length f.room.items ≡ room_of f.request) (kind : kind_of f.request ≡ OriginWrite)
-    (route : f.route ≡ write_route_of false None (is_clear (map (snap_books contents layers) after) f.request.range.first)) (space : length v.flights < 64) where
+    (number : f.number ≡ v.requests + 1) (asked : IsAsked (size v.origin) (piece_with v.merge v.snaps) f.request) (room : length f.room.items ≡ room_of f.request) (kind : kind_of f.request ≡ OriginWrite)
+    (route : f.route ≡ write_route_of false None (is_clear (map (snap_books contents layers) after) f.request.range.first)) (space : length v.flights < 64) (unmerged : is_merged_at f.request.range.first v.merge ≡ false) where
   abbrev roomy : Volumed B
   roomy = record v { snaps = before }
 
@@ -125,8 +133,8 @@ module _ {B : Type 0} (contents : B → List ℕ) (layers : B → List Layer) (s
       } in
       done_all contents layers size first roomy before after [] roomy [] m gs refl at (omega (arith, few, sums, counts)) start
 
-  piece_same : piece_of after ≡ piece_of v.snaps
-  piece_same = saved_piece contents layers f.request.range.first before after v.copies m v.flights gs at ∙ roomed_piece before v.snaps e
+  piece_same : piece_with v.merge after ≡ piece_with v.merge v.snaps
+  piece_same = saved_beside contents layers f.request.range.first v.merge before after v.copies m v.flights gs at ∙ roomed_beside v.merge before v.snaps e
 
   saving_all : All (λ s. s.live ≡ true → IsSaving (chunk_of s.chunk f) s) (map (snap_books contents layers) after)
   saving_all =
@@ -136,7 +144,9 @@ module _ {B : Type 0} (contents : B → List ℕ) (layers : B → List Layer) (s
 
   taken : IsTakenIn which f.number f.request (books_of contents layers size roomy) (books_of contents layers size written)
   taken = origin_write_enters contents layers size roomy saved which done.prepared done.whole f number (subst (λ (n : ℕ). IsAsked (size v.origin) n f.request) (sym piece_same) asked) room kind
-      route saving_all
+      (route ∙ sym (unmerged_route f.request.range.first v.merge unmerged (is_clear (map (snap_books contents layers) after) f.request.range.first))
+      ∙ sym (route_is contents layers (is_loud (layers v.origin)) v.merge (is_clear (map (snap_books contents layers) after)) f))
+      (λ _ _. saving_all)
 
   pub written_whole : IsWhole contents layers size written
   written_whole =
@@ -156,16 +166,16 @@ module _ {B : Type 0} (contents : B → List ℕ) (layers : B → List Layer) (s
     legal = λ loud.
         (let first = f.request.range.first in
         subst (λ (ns : List ℕ). IsSubmitted ns (plain_of contents layers v) f.number f.request (plain_of contents layers written))
-        (overflowing_roomed first before v.snaps e ∙ sym (ap (λ (q : Kind). spoiled_by q first v.snaps) kind))
+        (overflowing_roomed first before v.snaps e ∙ sym (ap (λ (q : Kind). spoiled_by q first v.merge v.snaps) kind ∙ if_false (is_merged_at first v.merge) [] (overflowing first v.snaps) unmerged))
         (subst (λ (p : Plain). IsSubmitted which p f.number f.request (plain_of contents layers written)) (plain_roomed contents layers size v before e)
         (plain_entered contents layers size roomy written which f.number f.request taken (loud_roomed contents layers size v before e ∙ loud))));
     lives =
         (let first = f.request.range.first in
         saved_lives contents layers first before after v.copies m v.flights gs at
         ∙ roomed (λ (s : Kept B). if overflows first s then false else s.live) before v.snaps e (λ s. refl)
-        ∙ sym (ap (λ (q : Kind). lives_after q first v.snaps) kind));
+        ∙ sym (ap (λ (q : Kind). lives_after q first v.merge v.snaps) kind ∙ if_false (is_merged_at first v.merge) (map (λ (s : Kept B). s.live) v.snaps) (map (λ (s : Kept B). if overflows first s then false else s.live) v.snaps) unmerged));
     flown = entered_flown v.flights gs f done.prepared.requests;
-    exact = λ replied. origin_write_is contents layers replied f.number f.request f refl refl v written m before after gs kind e sized at route refl;
+    exact = λ replied. origin_write_is contents layers replied f.number f.request f refl refl v written m before after gs kind unmerged e sized at route refl;
     kept = keeps_saved contents layers v written f.request.range.first v.copies m before v.flights gs refl refl refl e at;
   }
 

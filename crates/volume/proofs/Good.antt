@@ -56,7 +56,7 @@ numbers_seen : (rs : List Flight) → map (λ (x : InFlight). x.number) (map in_
 numbers_seen [] = refl
 numbers_seen (r ∷ rs) = ap (λ ns. r.number ∷ ns) (numbers_seen rs)
 
-same_numbers : (rs qs : List Flight) → map in_flight qs ≡ map in_flight rs → map number_of_flight qs ≡ map number_of_flight rs
+pub same_numbers : (rs qs : List Flight) → map in_flight qs ≡ map in_flight rs → map number_of_flight qs ≡ map number_of_flight rs
 same_numbers rs qs same = sym (numbers_seen qs) ∙ ap (map (λ (x : InFlight). x.number)) same ∙ numbers_seen rs
 
 -- what became of a spoiled snapshot

@@ -1,5 +1,5 @@
 -- A request is answered and taken out: what a step promises of it.
-use Rattle.std.proofs.Common.{◌≡◌, ℕ, ◌+◌, ◌*◌, ◌<◌, ◌≤◌, List, length, get_or, map, refl, sym, ap, subst, arith, ◌∙◌}
+use Rattle.std.proofs.Common.{◌≡◌, ℕ, ◌+◌, ◌*◌, ◌<◌, ◌≤◌, List, length, get_or, map, refl, sym, ap, subst, arith}
 use Rattle.std.specs.Prelude.{sum_by}
 use Rattle.std.specs.List.{All, remove}
 use Rattle.std.proofs.lemmas.List.{length-map}
@@ -26,11 +26,11 @@ use Rattle.volume_laws.specs.Held.{RequestHolds}
 use Rattle.volume_laws.specs.Waits.{Waits}
 use Rattle.volume_laws.specs.Outcomes.{IsReply}
 use Rattle.volume_laws.proofs.Lists.{All-remove, map-remove}
-use Rattle.volume.specs.Volumed.{Volumed, books_of, plain_of, dues_of, piece_of, is_loud_in_all, merge_due, left_by}
+use Rattle.volume.specs.Volumed.{Volumed, books_of, plain_of, dues_of, piece_with, is_loud_in_all, merge_due, left_by}
 use Rattle.snapshots.specs.Numbers.{number_of_snap}
-use Rattle.volume.specs.Whole.{AreNumbers, IsAttached, IsWhole, starts_left}
+use Rattle.volume.specs.Whole.{AreNumbers, GoesOn, IsAttached, IsWhole, starts_left}
 use Rattle.volume.specs.Causes.{HasReplied, IsOneAtMost}
-use Rattle.volume.specs.Stepping.{KeepsAll}
+use Rattle.volume.specs.Stepping.{KeepsAll, has_failed}
 use Rattle.volume.proofs.Shown.{shown, loud_books}
 use Rattle.volume.proofs.Changing.{SnapsFit}
 use Rattle.volume.proofs.Good.{IsGood}
@@ -43,38 +43,43 @@ fewer_numbers most rs k lt h = subst (AreNumbers most) (sym (map-remove number_o
 })
 
 module _ {B : Type 0} (contents : B → List ℕ) (layers : B → List Layer) (size faults done : B → ℕ) (v w : Volumed B) (h : IsWhole contents layers size v) (number place : ℕ) (reply : Reply) (in_list : place < length v.flights)
-    (flights : w.flights ≡ remove v.flights place) (requests : w.requests ≡ v.requests) (copies : w.copies ≡ v.copies) (merge : w.merge ≡ v.merge) (attached : w.attached ≡ v.attached) (fit : SnapsFit v.copies v.attached (size w.origin) w.snaps)
+    (flights : w.flights ≡ remove v.flights place) (requests : w.requests ≡ v.requests) (copies : w.copies ≡ v.copies) (attached : w.attached ≡ v.attached) (fit : SnapsFit v.copies v.attached (size w.origin) w.merge w.snaps)
+    (goes : GoesOn contents layers size w.merge w) (failed : has_failed w.merge ≡ has_failed v.merge) (left : left_by (merge_due contents w.merge) ≡ left_by (merge_due contents v.merge))
     (lefts : sum_by left_in (dues_of contents layers w) ≡ sum_by left_in (dues_of contents layers v)) (loud : is_loud_in_all layers w ≡ is_loud_in_all layers v) (kept : KeepsAll size v w) where
   pub reply_good : IsReply number reply (books_of contents layers size v) (books_of contents layers size w) → Waits (books_of contents layers size w) → HasReplied faults number reply v w → IsOneAtMost done v w
       → IsTakenOut number reply (map in_flight v.flights) (map in_flight w.flights) → IsGood contents layers size faults done (Issue number) (Replied number reply) v w
-  reply_good answered waits cause one taken = record {
-    whole = record {
-      alone = merge ∙ h.alone;
-      holds = answered.holds;
-      waits = waits;
-      snaps = subst (λ n. All (IsAttached n (size w.origin) (piece_of w.snaps)) w.snaps) (sym copies) fit.snaps;
-      counted = fit.counted;
-      apart = fit.apart;
-      numbers = subst (λ n. AreNumbers n (map number_of_snap w.snaps)) (sym attached) fit.numbers;
-      requests = subst (λ n. AreNumbers n (map number_of_flight w.flights)) (sym requests) (subst (λ fs. AreNumbers v.requests (map number_of_flight fs)) (sym flights) (fewer_numbers v.requests v.flights place in_list h.requests));
-      few = fit.few;
-      few_copies = fit.few_copies;
-      numbers_left = subst (λ n. n + sum_by starts_left w.snaps ≤ 16_777_216 * w.attached) (sym copies) (subst (λ n. v.copies + sum_by starts_left w.snaps ≤ 16_777_216 * n) (sym attached) fit.numbers_left);
-      few_requests = omega (arith, h.few_requests, ap length flights, length-remove v.flights place in_list);
-    };
-    stepped = record {
-      legal = λ l. (refl, subst (λ p. IsAnswered p number reply (plain_of contents layers w)) (sym (shown contents layers size v)) (subst (IsAnswered _ number reply) (sym (shown contents layers size w)) (answered.step (loud_books contents layers size v l))));
-      flown = (refl, taken);
-      lower = (let left : left_by (merge_due contents w.merge) ≡ left_by (merge_due contents v.merge) = ap (λ m. left_by (merge_due contents m)) merge in
-          omega (arith, lefts, left, ap length flights, length-remove v.flights place in_list));
-      loud = loud;
-      cause = cause;
-      one = one;
-      kept = kept;
-      requests = requests;
-      copies = copies;
-    };
-  }
+  reply_good answered waits cause one taken =
+      let no_more : w.copies ≤ v.copies + 0 = omega (arith, copies) in
+      let no_less : v.copies ≤ w.copies = omega (arith, copies) in
+      record {
+        whole = record {
+          holds = answered.holds;
+          waits = waits;
+          merge = goes;
+          snaps = subst (λ n. All (IsAttached n (size w.origin) (piece_with w.merge w.snaps)) w.snaps) (sym copies) fit.snaps;
+          counted = fit.counted;
+          apart = fit.apart;
+          numbers = subst (λ n. AreNumbers n (map number_of_snap w.snaps)) (sym attached) fit.numbers;
+          requests = subst (λ n. AreNumbers n (map number_of_flight w.flights)) (sym requests) (subst (λ fs. AreNumbers v.requests (map number_of_flight fs)) (sym flights) (fewer_numbers v.requests v.flights place in_list h.requests));
+          few = fit.few;
+          few_copies = fit.few_copies;
+          numbers_left = subst (λ n. n + sum_by starts_left w.snaps ≤ 16_777_216 * w.attached) (sym copies) (subst (λ n. v.copies + sum_by starts_left w.snaps ≤ 16_777_216 * n) (sym attached) fit.numbers_left);
+          few_requests = omega (arith, h.few_requests, ap length flights, length-remove v.flights place in_list);
+        };
+        stepped = record {
+          legal = λ l. (refl, subst (λ p. IsAnswered p number reply (plain_of contents layers w)) (sym (shown contents layers size v)) (subst (IsAnswered _ number reply) (sym (shown contents layers size w)) (answered.step (loud_books contents layers size v l))));
+          flown = (refl, taken);
+          lower = omega (arith, lefts, left, ap length flights, length-remove v.flights place in_list);
+          loud = loud;
+          cause = cause;
+          failed = failed;
+          one = one;
+          kept = kept;
+          requests = requests;
+          copies = no_more;
+          given = no_less;
+        };
+      }
 
 -- the request that was taken out is the one that was asked
 pub taken_out : (number place : ℕ) (reply : Reply) (r : Flight) (vb wb : Books) → TakesOut number place r vb wb → Fits r.request.op r.request.range reply → IsTakenOut number reply (map in_flight vb.requests) (map in_flight wb.requests)

@@ -6,6 +6,10 @@ pub mod Changing
 pub mod Counting
 pub mod Empty
 pub mod Good
+pub mod MergeChanging
+pub mod MergeCounting
+pub mod MergeOperations
+pub mod MergeDues
 pub mod CopyEvents
 pub mod DueEvents
 pub mod Spoilt
@@ -17,6 +21,7 @@ pub mod IssueEvents
 pub mod MergeIssues
 pub mod DiskIssues
 pub mod StoreIssues
+pub mod MergingIssues
 pub mod Issued
 pub mod MovedLists
 pub mod MovedDue
@@ -24,6 +29,7 @@ pub mod MovedSnaps
 pub mod MovedCopies
 pub mod MovedStores
 pub mod MovedMarks
+pub mod MovedMerges
 pub mod MovedIssues
 pub mod MovedFound
 pub mod MovedCounts
@@ -33,6 +39,8 @@ pub mod Reaches
 pub mod Sums
 pub mod StartsLeft
 pub mod SavingAt
+pub mod MergeRoutes
+pub mod MergeWrites
 pub mod Leaves
 pub mod Attaches
 pub mod AttachedAs
@@ -58,4 +66,18 @@ pub mod Told
 pub mod Ran
 pub mod Peeked
 pub mod AtRest
+pub mod Quieted
+pub mod Asked
+pub mod MergeDue
 pub mod Unwritten
+pub mod Unlike
+pub mod KeptBack
+pub mod Resumed
+pub mod Removed
+pub mod Begun
+pub mod NextSaved
+pub mod NextFit
+pub mod MergeSaves
+pub mod MergeGroups
+pub mod MovedGroups
+pub mod Beginnings

@@ -1,8 +1,10 @@
 -- A request of the origin is issued, whether a merge is begun or not.
-use Rattle.std.proofs.Common.{◌≡◌, ℕ, ◌+◌, ◌*◌, ◌%◌, List, refl, sym, ◌∙◌, subst}
+use Rattle.std.proofs.Common.{◌≡◌, ℕ, ◌+◌, ◌*◌, ◌%◌, true, List, get_or, nat_eq, refl, sym, ◌∙◌, subst}
 use Rattle.std.specs.Prelude.{Option, Some, None}
-use Rattle.std.specs.List.{remove}
-use Rattle.sector.specs.Bytes.{sectors_at}
+use Rattle.std.specs.List.{position, remove}
+use Rattle.sector.specs.Bytes.{sectors_at, with_sectors}
+use Rattle.model.specs.Places.{ChangesOnly}
+use Rattle.plain.specs.declared.request.Op.TheVariants.{Write}
 use Rattle.plain.specs.declared.request.Reply.TheVariants.{Data, Written as IsWritten}
 use Rattle.pending.specs.Kinds.{kind_of}
 use Rattle.pending.specs.declared.flights.Flight.{Flight}
@@ -10,12 +12,12 @@ use Rattle.pending.specs.declared.flights.Kind.TheVariants.{OriginRead, OriginWr
 use Rattle.pending.specs.declared.flights.Route.TheVariants.{Origin, Store}
 use Rattle.volume_laws.specs.Books.{MergeBooks, Books}
 use Rattle.volume_laws.specs.Outcomes.{IsReply}
-use Rattle.volume_laws.specs.Steps.{OnlyTakesOut, WritesOut}
+use Rattle.volume_laws.specs.Steps.{OnlyTakesOut, TakesOut, WritesOut}
 use Rattle.volume_laws.specs.Whole.{Holds}
 use Rattle.volume_laws.proofs.Same.{same_volume}
 use Rattle.volume_laws.proofs.Issuing.{read_disk_event}
 use Rattle.volume_laws.proofs.IssuingWrites.{write_disk_event}
-use Rattle.volume_laws.proofs.WholeMerge.{merge_read_disk_event, merge_read_place_event, merge_write_disk_event}
+use Rattle.volume_laws.proofs.WholeMerge.{merge_read_disk_event, merge_read_place_event, merge_write_disk_event, merge_write_place_event}
 
 module _ (number k : ℕ) (r : Flight) (v w : Books) (h : Holds v) where
   -- the volume as it is written out
@@ -68,3 +70,12 @@ module _ (number k : ℕ) (r : Flight) (v w : Books) (h : Holds v) where
             subst (λ x. WritesOut number k r bytes x (issued w.origin m)) (begun_is m is) (subst (WritesOut number k r bytes v) (disk_is m is) e) in
             let reply = merge_write_disk_event v.origin v.sectors v.loud v.snaps m v.requests (subst Holds (begun_is m is) h) number k r bytes w.origin now kind route in
             subst (λ x. IsReply number IsWritten x w) (sym (begun_is m is)) (subst (IsReply number IsWritten (begun m)) (sym (disk_is m is)) reply)
+
+  -- a write at its chunk's place on the merging store
+  pub write_merging : (m : MergeBooks) → v.merge ≡ Some m → (place : ℕ) (bytes store : List ℕ) → position (λ (f : Flight). nat_eq f.number number) v.requests ≡ Some k → r ≡ get_or v.requests k r → r.request.op ≡ Write bytes
+      → kind_of r.request ≡ OriginWrite → r.route ≡ Store place → ChangesOnly m.chunk place m.store store → (m.loud ≡ true → store ≡ with_sectors m.store (m.chunk * place + r.request.range.first % m.chunk) bytes)
+      → w ≡ issued v.origin (record m { store = store }) → IsReply number IsWritten v w
+  write_merging m is place bytes store found was op kind route only written now =
+      let out : TakesOut number k r (begun m) (issued v.origin m) = record { found = found; was = was; requests = refl; sectors = refl; loud = refl; merge = refl } in
+      let reply = merge_write_place_event v.origin v.sectors v.loud v.snaps m v.requests (subst Holds (begun_is m is) h) number k r place bytes store out op kind route only written in
+      subst (λ x. IsReply number IsWritten x w) (sym (begun_is m is)) (subst (IsReply number IsWritten (begun m)) (sym now) reply)

@@ -1,6 +1,6 @@
 -- A request that is submitted, as the event machine has it.
 use Rattle.std.proofs.Common.{◌≡◌, ◌⊎◌, inl, inr, ℕ, ◌+◌, ◌/◌, Bool, true, false, List, [], ◌∷◌, ◌++◌, Option, Some, None, set, map, refl, sym, ◌∙◌, ap}
-use Rattle.std.specs.Prelude.{◌==◌, if◌then◌else◌}
+use Rattle.std.specs.Prelude.{◌==◌, ◌||◌, is_some, if◌then◌else◌}
 use Rattle.std.specs.List.{All}
 use Rattle.std.proofs.lemmas.List.{map-append}
 use Rattle.device.specs.Layers.{Layer}
@@ -15,19 +15,22 @@ use Rattle.pending.specs.declared.flights.Flight.{Flight}
 use Rattle.pending.specs.declared.flights.Kind.{Kind}
 use Rattle.pending.specs.declared.flights.Kind.TheVariants.{OriginRead, OriginWrite, SnapRead, SnapWrite}
 use Rattle.pending.specs.declared.flights.Route.{Route}
-use Rattle.pending.specs.declared.flights.Route.TheVariants.{Held as Waits, Origin, Store}
+use Rattle.pending.specs.declared.flights.Route.TheVariants.{Held as Waits, Store}
 use Rattle.volume_laws.specs.Again.{published_place}
 use Rattle.event_machine.specs.Held.{Held, Going, Moving}
-use Rattle.event_machine.specs.Again.{is_clear}
+use Rattle.event_machine.specs.Again.{is_clear, is_grouped, merged_place, write_route}
+use Rattle.event_machine.specs.MergeSeen.{held_in}
 use Rattle.event_machine.specs.Seen.{going_of}
 use Rattle.event_machine.specs.Stepping.{for_some, put, spoil}
-use Rattle.event_machine.specs.Submitting.{accepted, declined, started_all, started_by, refused_by, is_filled, needs_none, with_copy, read_snap, write_placed, write_snap, submitted, submitted_as}
+use Rattle.event_machine.specs.Submitting.{accepted, declined, started_all, started_by, refused_by, is_filled, needs_none, with_copy, read_snap, write_placed, write_snap, start_copies, submitted, submitted_as}
 use Rattle.volume_laws.specs.Published.{is_clear as is_clear_in}
 use Rattle.snapshot.specs.Kept.{Kept, books_of as snap_books}
 use Rattle.volume.specs.Volumed.{Volumed}
 use Rattle.snapshots.specs.Starting.{unroomed, lacks, is_full_of, spoilt_of, AreSavedIn}
 use Rattle.volume.specs.Submitting.{entered_of}
-use Rattle.volume.specs.Moved.{held_of, moving_of}
+use Rattle.merge_beside.specs.Routing.{is_grouped_at, place_at, is_merged_at}
+use Rattle.volume.specs.Moved.{held_of, merge_seen, moving_of}
+use Rattle.volume.proofs.MergeRoutes.{grouped_held, place_held_is, unmerged_route, merged_route_is}
 use Rattle.volume.proofs.MovedLists.{IsFirst, first_is, with_is, if_true, if_false}
 use Rattle.volume.proofs.MovedMarks.{clear_seen}
 use Rattle.volume.proofs.MovedSnaps.{spoil_is}
@@ -55,28 +58,54 @@ module _ {B : Type 0} (contents : B → List ℕ) (layers : B → List Layer) wh
         ∙ sym (ap (moving_of contents layers replied) becomes)
 
     module _ (v w : Volumed B) where
-      pub origin_read_is : kind_of request ≡ OriginRead → f.route ≡ Origin → w ≡ entered_of f v → submitted number request (moving_of contents layers replied v) ≡ moving_of contents layers replied w
-      origin_read_is kind is becomes = ap (λ (x : Kind). submitted_as x number request (moving_of contents layers replied v)) kind ∙ accepted_is v w Origin is becomes
+      pub origin_read_is : kind_of request ≡ OriginRead → f.route ≡ read_route_of (place_at request.range.first v.merge) → w ≡ entered_of f v → submitted number request (moving_of contents layers replied v) ≡ moving_of contents layers replied w
+      origin_read_is kind is becomes =
+          let m : Moving = moving_of contents layers replied v in
+          ap (λ (x : Kind). submitted_as x number request m) kind
+          ∙ accepted_is v w (read_route_of (merged_place m.merge request.range.first)) (is ∙ ap read_route_of (sym (place_held_is contents layers v.merge request.range.first))) becomes
+
+      -- whether the write is the merge's
+      merged_held : (b : Bool) → is_merged_at request.range.first v.merge ≡ b → (is_grouped (held_in (merge_seen contents layers v.merge)) request.range.first || is_some (merged_place (held_in (merge_seen contents layers v.merge)) request.range.first)) ≡ b
+      merged_held b e = ap (λ x. x || is_some (merged_place (held_in (merge_seen contents layers v.merge)) request.range.first)) (grouped_held contents layers v.merge request.range.first)
+          ∙ ap (λ x. is_grouped_at request.range.first v.merge || is_some x) (place_held_is contents layers v.merge request.range.first) ∙ e
+
+      -- and where it goes
+      write_route_held : (hs : List Held) → write_route (held_in (merge_seen contents layers v.merge)) hs request.range.first ≡ write_route_of (is_grouped_at request.range.first v.merge) (place_at request.range.first v.merge) (is_clear hs request.range.first)
+      write_route_held hs = ap (λ x. write_route_of x (merged_place (held_in (merge_seen contents layers v.merge)) request.range.first) (is_clear hs request.range.first)) (grouped_held contents layers v.merge request.range.first)
+          ∙ ap (λ x. write_route_of (is_grouped_at request.range.first v.merge) x (is_clear hs request.range.first)) (place_held_is contents layers v.merge request.range.first)
+
+      -- the merge has its chunk
+      pub merged_write_is : kind_of request ≡ OriginWrite → is_merged_at request.range.first v.merge ≡ true → f.route ≡ write_route_of (is_grouped_at request.range.first v.merge) (place_at request.range.first v.merge) false → w ≡ entered_of f v
+          → submitted number request (moving_of contents layers replied v) ≡ moving_of contents layers replied w
+      merged_write_is kind merged is becomes =
+          let m : Moving = moving_of contents layers replied v in
+          let first : ℕ = request.range.first in
+          let to : Moving → Moving = λ (x : Moving). accepted number request (write_route x.merge x.snaps first) x in
+          ap (λ (x : Kind). submitted_as x number request m) kind
+          ∙ ap to (if_true (is_grouped m.merge first || is_some (merged_place m.merge first)) m (start_copies first m) (merged_held true merged))
+          ∙ accepted_is v w (write_route m.merge m.snaps first) (is ∙ merged_route_is first v.merge merged false (is_clear m.snaps first) ∙ sym (write_route_held m.snaps)) becomes
 
       -- the copies that it waits for were started, over snapshots that are seen as those of the volume
-      pub origin_write_is : (m : ℕ) (before after : List (Kept B)) (gs : List Flight) → kind_of request ≡ OriginWrite → map unroomed before ≡ map unroomed v.snaps
+      pub origin_write_is : (m : ℕ) (before after : List (Kept B)) (gs : List Flight) → kind_of request ≡ OriginWrite → is_merged_at request.range.first v.merge ≡ false → map unroomed before ≡ map unroomed v.snaps
           → All (IsSized contents) before → AreSavedIn contents layers request.range.first before after v.copies m v.flights gs
           → f.route ≡ write_route_of false None (is_clear_in (map (snap_books contents layers) after) request.range.first) → w ≡ entered_of f (record v { snaps = after; flights = gs; copies = m })
           → submitted number request (moving_of contents layers replied v) ≡ moving_of contents layers replied w
-      origin_write_is m before after gs kind roomed sized saved is becomes =
+      origin_write_is m before after gs kind unmerged roomed sized saved is becomes =
           let held : Kept B → Held = held_of contents layers in
           let m0 : Moving = moving_of contents layers replied v in
           let first : ℕ = request.range.first in
           let u : Volumed B = record v { snaps = after; flights = gs; copies = m } in
           let all : AreAll contents layers first before after v.copies m v.flights gs = all_are contents layers first before after v.copies m v.flights gs sized saved in
-          let route : Route = write_route_of false None (is_clear (map held after) first) in
-          let made : List Held → List Going → ℕ → Moving = λ (hs : List Held) (rs : List Going) (j : ℕ). accepted number request (write_route_of false None (is_clear hs first)) (record m0 { snaps = hs; requests = rs; started = j }) in
+          let route : Route = write_route m0.merge (map held after) first in
+          let to : Moving → Moving = λ (x : Moving). accepted number request (write_route x.merge x.snaps first) x in
+          let made : List Held → List Going → ℕ → Moving = λ (hs : List Held) (rs : List Going) (j : ℕ). accepted number request (write_route m0.merge hs first) (record m0 { snaps = hs; requests = rs; started = j }) in
           ap (λ (x : Kind). submitted_as x number request m0) kind
+          ∙ ap to (if_false (is_grouped m0.merge first || is_some (merged_place m0.merge first)) m0 (start_copies first m0) (merged_held false unmerged))
           ∙ ap (λ (xs : List Held). made (started_all first v.copies xs) (refused_by first xs (map going_of v.flights)) (started_by first v.copies xs)) (sym (unroomed_seen before v.snaps roomed))
           ∙ ap (λ (hs : List Held). made hs (refused_by first (map held before) (map going_of v.flights)) (started_by first v.copies (map held before))) all.seen
           ∙ ap (λ (rs : List Going). made (map held after) rs (started_by first v.copies (map held before))) all.requests
           ∙ ap (made (map held after) (map going_of gs)) all.count
-          ∙ accepted_is u w route (is ∙ ap (write_route_of false None) (sym (clear_seen contents layers first after))) becomes
+          ∙ accepted_is u w route (is ∙ ap (write_route_of false None) (sym (clear_seen contents layers first after)) ∙ sym (unmerged_route first v.merge unmerged (is_clear (map held after) first)) ∙ sym (write_route_held (map held after))) becomes
 
       module _ (n k : ℕ) (s : Kept B) (found : IsFirst (λ (x : Kept B). x.number == n) k s v.snaps) where
         -- a read of a live snapshot

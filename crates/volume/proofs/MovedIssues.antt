@@ -8,7 +8,7 @@ use Rattle.device.specs.declared.operation.Operation.{Operation}
 use Rattle.device.specs.declared.operation.Operation.TheVariants.{Reads, Writes}
 use Rattle.plain.specs.declared.event.Event.TheVariants.{Issue}
 use Rattle.plain.specs.declared.request.Dev.{Dev}
-use Rattle.plain.specs.declared.request.Dev.TheVariants.{Snap as ToSnap}
+use Rattle.plain.specs.declared.request.Dev.TheVariants.{Origin as ToOrigin, Snap as ToSnap}
 use Rattle.plain.specs.declared.request.Op.{Op}
 use Rattle.plain.specs.declared.request.Op.TheVariants.{Read as ReadOp, Write as WriteOp}
 use Rattle.plain.specs.declared.request.Reply.{Reply}
@@ -20,15 +20,17 @@ use Rattle.pending.specs.declared.flights.Route.{Route}
 use Rattle.pending.specs.declared.flights.Route.TheVariants.{Origin, Store, Refused}
 use Rattle.store.specs.Operations.{IsOneOperation}
 use Rattle.settled.specs.Devices.{Device, answers, met, written_by, read_reply}
-use Rattle.event_machine.specs.Held.{Held, Going, Moving, with_store}
+use Rattle.event_machine.specs.Held.{Held, Going, MergeHeld, Moving, on_device, with_merge, with_store}
 use Rattle.event_machine.specs.Due.{is_issuable}
+use Rattle.event_machine.specs.MergeSeen.{held_in, merge_held_of}
 use Rattle.event_machine.specs.Seen.{going_of}
-use Rattle.event_machine.specs.Stepping.{for_some, with_first, without_first, put, answer, write_reply, on_disk, on_store, on_place, issue, stepped}
+use Rattle.event_machine.specs.Stepping.{for_some, with_first, without_first, put, answer, write_reply, on_disk, on_merging, on_store, on_place, issue, stepped}
+use Rattle.merge.specs.Merging.{Merging, due_of as merging_due}
 use Rattle.snapshot.specs.Kept.{Kept}
 use Rattle.volume.specs.Volumed.{Volumed}
-use Rattle.volume.specs.Moved.{device_of, held_of, moving_of}
+use Rattle.volume.specs.Moved.{device_of, held_of, merge_seen, moving_of}
 use Rattle.volume.proofs.MovedLists.{IsFirst, first_is, with_is, without_seen}
-use Rattle.volume.proofs.MovedSnaps.{changed, machine_by, device_by}
+use Rattle.volume.proofs.MovedSnaps.{changed, device_by}
 
 -- whether it is found, and goes somewhere
 issuable_first : (n j : ℕ) (f : Flight) (fs : List Flight) → IsFirst (λ (x : Flight). x.number == n) j f fs → is_routed f.route ≡ true → IsFirst (λ (x : Flight). (x.number == n) && is_routed x.route) j f fs
@@ -38,6 +40,15 @@ issuable_first n j f fs found routed = record {
   passes = ap (λ b. b && is_routed f.route) found.passes ∙ routed;
   before = λ i d lt. ap (λ b. b && is_routed (get_or fs i d).route) (found.before i d lt);
 }
+
+-- a machine by its parts
+machine_is : (replied : Option Reply) (started : ℕ) (o o' : Device) (hs hs' : List Held) (g g' : Option MergeHeld) (rs rs' : List Going) → o ≡ o' → hs ≡ hs' → g ≡ g' → rs ≡ rs'
+    → ◌≡◌ {A = Moving} (record { origin = o; snaps = hs; merge = g; requests = rs; replied = replied; started = started }) (record { origin = o'; snaps = hs'; merge = g'; requests = rs'; replied = replied; started = started })
+machine_is replied started o o' hs hs' g g' rs rs' po ps pm pr =
+    ap (λ (x : Device). record { origin = x; snaps = hs; merge = g; requests = rs; replied = replied; started = started }) po
+    ∙ ap (λ (x : List Held). record { origin = o'; snaps = x; merge = g; requests = rs; replied = replied; started = started }) ps
+    ∙ ap (λ (x : Option MergeHeld). record { origin = o'; snaps = hs'; merge = x; requests = rs; replied = replied; started = started }) pm
+    ∙ ap (λ (x : List Going). record { origin = o'; snaps = hs'; merge = g'; requests = x; replied = replied; started = started }) pr
 
 module _ {B : Type 0} (contents : B → List ℕ) (layers : B → List Layer) where
   -- the device after an operation that was answered, or not
@@ -53,11 +64,12 @@ module _ {B : Type 0} (contents : B → List ℕ) (layers : B → List Layer) wh
     abbrev left : Volumed B → Volumed B
     left w = record w { flights = remove v.flights j }
 
-    answered_is : (reply : Reply) (o : Device) (o' : B) (hs : List Held) (snaps : List (Kept B)) → o ≡ device_of contents layers o' → hs ≡ map (held_of contents layers) snaps
-        → answer (λ (r : Going). r.number == n) reply (record (moving_of contents layers replied v) { origin = o; snaps = hs }) ≡ moving_of contents layers (Some reply) (record v { origin = o'; snaps = snaps; flights = remove v.flights j })
-    answered_is reply o o' hs snaps disk is =
-        machine_by contents layers (Some reply) v.copies o (device_of contents layers o') hs (map (held_of contents layers) snaps)
-        (without_first (λ (r : Going). r.number == n) (map going_of v.flights)) (map going_of (remove v.flights j)) disk is (without_seen going_of (λ (r : Going). r.number == n) j f v.flights found)
+    answered_is : (reply : Reply) (o : Device) (o' : B) (hs : List Held) (snaps : List (Kept B)) (g : Option MergeHeld) (merge : Option (Merging B)) → o ≡ device_of contents layers o' → hs ≡ map (held_of contents layers) snaps → g ≡ held_in (merge_seen contents layers merge)
+        → answer (λ (r : Going). r.number == n) reply (record (moving_of contents layers replied v) { origin = o; snaps = hs; merge = g })
+        ≡ moving_of contents layers (Some reply) (record v { origin = o'; snaps = snaps; merge = merge; flights = remove v.flights j })
+    answered_is reply o o' hs snaps g merge disk is beside =
+        machine_is (Some reply) v.copies o (device_of contents layers o') hs (map (held_of contents layers) snaps) g (held_in (merge_seen contents layers merge))
+        (without_first (λ (r : Going). r.number == n) (map going_of v.flights)) (map going_of (remove v.flights j)) disk is beside (without_seen going_of (λ (r : Going). r.number == n) j f v.flights found)
 
     issue_is : (route : Route) → f.route ≡ route → is_routed route ≡ true
         → stepped (Issue n) (moving_of contents layers replied v) ≡ issue route (λ (r : Going). r.number == n) (going_of f) (moving_of contents layers replied v)
@@ -69,7 +81,7 @@ module _ {B : Type 0} (contents : B → List ℕ) (layers : B → List Layer) wh
 
     -- of a spoiled snapshot
     pub issue_refused : f.route ≡ Refused → stepped (Issue n) (moving_of contents layers replied v) ≡ moving_of contents layers (Some (Declined Invalid)) (record v { flights = remove v.flights j })
-    issue_refused is = issue_is Refused is refl ∙ answered_is (Declined Invalid) (device_of contents layers v.origin) v.origin (map (held_of contents layers) v.snaps) v.snaps refl refl
+    issue_refused is = issue_is Refused is refl ∙ answered_is (Declined Invalid) (device_of contents layers v.origin) v.origin (map (held_of contents layers) v.snaps) v.snaps (held_in (merge_seen contents layers v.merge)) v.merge refl refl refl
 
     module _ (ok : Bool) (faults faults' done done' : ℕ) where
       module _ (is : f.route ≡ Origin) (o' : B) where
@@ -85,7 +97,7 @@ module _ {B : Type 0} (contents : B → List ℕ) (layers : B → List Layer) wh
             let reply_is : read_reply m.origin first count ≡ reply = sym (answered ∙ ap (λ (b : Bool). if b then Data (sectors_at (contents v.origin) first count) else Declined Io) one.answer) in
             issue_is Origin is refl ∙ ap (λ (op : Op). on_disk op first count mine m) kind
             ∙ ap (λ (x : Reply). answer mine x (record m { origin = met m.origin (Reads first count) })) reply_is
-            ∙ answered_is reply (met m.origin (Reads first count)) o' m.snaps v.snaps (device_by contents layers (contents v.origin) (contents o') (met m.origin (Reads first count)).layers (layers o') (sym same) (sym one.layers)) refl
+            ∙ answered_is reply (met m.origin (Reads first count)) o' m.snaps v.snaps m.merge v.merge (device_by contents layers (contents v.origin) (contents o') (met m.origin (Reads first count)).layers (layers o') (sym same) (sym one.layers)) refl refl
 
         -- it writes it
         pub issue_origin_write : (bytes : List ℕ) → f.request.op ≡ WriteOp bytes → IsOneOperation (Writes f.request.range.first f.request.range.count) ok (layers v.origin) (layers o') faults faults' done done'
@@ -100,7 +112,7 @@ module _ {B : Type 0} (contents : B → List ℕ) (layers : B → List Layer) wh
             let reply_is : write_reply m.origin first count ≡ reply = sym (answered ∙ ap (λ (b : Bool). if b then Done else Declined Io) one.answer) in
             issue_is Origin is refl ∙ ap (λ (op : Op). on_disk op first count mine m) kind
             ∙ ap (λ (x : Reply). answer mine x (record m { origin = after })) reply_is
-            ∙ answered_is reply after o' m.snaps v.snaps (written_is (Writes first count) (with_sectors (contents v.origin) first bytes) ok faults faults' done done' v.origin o' one new) refl
+            ∙ answered_is reply after o' m.snaps v.snaps m.merge v.merge (written_is (Writes first count) (with_sectors (contents v.origin) first bytes) ok faults faults' done done' v.origin o' one new) refl refl
 
       module _ (place : ℕ) (is : f.route ≡ Store place) (number : ℕ) (dev : f.request.dev ≡ ToSnap number) (k : ℕ) (s : Kept B) (of : IsFirst (λ (x : Kept B). x.number == number) k s v.snaps) (d : B) where
         abbrev start : ℕ
@@ -133,8 +145,8 @@ module _ {B : Type 0} (contents : B → List ℕ) (layers : B → List Layer) wh
             let after_is : after ≡ device_of contents layers d = device_by contents layers (contents s.device) (contents d) after.layers (layers d) (sym same) (sym one.layers) in
             on_place_is ReadOp kind
             ∙ ap (λ (x : Reply). answer mine x (put test (with_store h after) m)) reply_is
-            ∙ answered_is reply m.origin v.origin (with_first test (with_store h after) m.snaps) (set v.snaps k s') refl
-            (ap (λ (x : Held). with_first test x m.snaps) (ap (λ (x : Device). with_store h x) after_is ∙ sym (ap (held_of contents layers) s_is)) ∙ with_is (held_of contents layers) test k s s' v.snaps of)
+            ∙ answered_is reply m.origin v.origin (with_first test (with_store h after) m.snaps) (set v.snaps k s') m.merge v.merge refl
+            (ap (λ (x : Held). with_first test x m.snaps) (ap (λ (x : Device). with_store h x) after_is ∙ sym (ap (held_of contents layers) s_is)) ∙ with_is (held_of contents layers) test k s s' v.snaps of) refl
 
         -- it writes it
         pub issue_store_write : (bytes : List ℕ) → f.request.op ≡ WriteOp bytes → IsOneOperation (Writes start f.request.range.count) ok (layers s.device) (layers d) faults faults' done done'
@@ -151,5 +163,60 @@ module _ {B : Type 0} (contents : B → List ℕ) (layers : B → List Layer) wh
             let after_is : after ≡ device_of contents layers d = written_is (Writes start count) (with_sectors (contents s.device) start bytes) ok faults faults' done done' s.device d one new in
             on_place_is (WriteOp bytes) kind
             ∙ ap (λ (x : Reply). answer mine x (put test (with_store h after) m)) reply_is
-            ∙ answered_is reply m.origin v.origin (with_first test (with_store h after) m.snaps) (set v.snaps k s') refl
-            (ap (λ (x : Held). with_first test x m.snaps) (ap (λ (x : Device). with_store h x) after_is ∙ sym (ap (held_of contents layers) s_is)) ∙ with_is (held_of contents layers) test k s s' v.snaps of)
+            ∙ answered_is reply m.origin v.origin (with_first test (with_store h after) m.snaps) (set v.snaps k s') m.merge v.merge refl
+            (ap (λ (x : Held). with_first test x m.snaps) (ap (λ (x : Device). with_store h x) after_is ∙ sym (ap (held_of contents layers) s_is)) ∙ with_is (held_of contents layers) test k s s' v.snaps of) refl
+
+      -- of the origin, at its chunk's place on the merging store
+      module _ (place : ℕ) (is : f.route ≡ Store place) (dev : f.request.dev ≡ ToOrigin) (g : Merging B) (begun : v.merge ≡ Some g) (d : B) where
+        abbrev from : ℕ
+        from = g.state.chunk * place + f.request.range.first % g.state.chunk
+
+        -- the merge as the machine has it
+        abbrev merging : Merging B → MergeHeld
+        merging x = merge_held_of (record { due = merging_due contents true x; layers = layers x.device; next = x.next })
+
+        -- it goes to its place
+        at_place_is : (op : Op) → f.request.op ≡ op
+            → stepped (Issue n) (moving_of contents layers replied v) ≡ on_merging op from f.request.range.count (λ (r : Going). r.number == n) (merging g) (moving_of contents layers replied v)
+        at_place_is op kind =
+            let m : Moving = moving_of contents layers replied v in
+            let mine : Going → Bool = λ (r : Going). r.number == n in
+            let first : ℕ = f.request.range.first in
+            let count : ℕ = f.request.range.count in
+            issue_is (Store place) is refl ∙ ap (λ (x : Dev). on_place x f.request.op place first count mine m) dev ∙ ap (λ (x : Op). on_place ToOrigin x place first count mine m) kind
+            ∙ ap (λ (x : Option (Merging B)). for_some (held_in (merge_seen contents layers x)) (λ h. on_merging op (h.merge.chunk * place + first % h.merge.chunk) count mine h m) m) begun
+
+        module _ (g' : Merging B) (g_is : g' ≡ record g { device = d }) where
+          -- the merge afterwards
+          after_merge : (store : Device) → store ≡ device_of contents layers d → Some (on_device (merging g) store) ≡ held_in (merge_seen contents layers (Some g'))
+          after_merge store is_store = ap (λ (x : Device). Some (on_device (merging g) x)) is_store ∙ sym (ap (λ (x : Merging B). Some (merging x)) g_is)
+
+          -- it reads the merging store
+          pub issue_merging_read : f.request.op ≡ ReadOp → IsOneOperation (Reads from f.request.range.count) ok (layers g.device) (layers d) faults faults' done done'
+              → contents d ≡ contents g.device → (reply : Reply) → reply ≡ (if ok then Data (sectors_at (contents g.device) from f.request.range.count) else Declined Io)
+              → stepped (Issue n) (moving_of contents layers replied v) ≡ moving_of contents layers (Some reply) (record v { merge = Some g'; flights = remove v.flights j })
+          issue_merging_read kind one same reply answered =
+              let m : Moving = moving_of contents layers replied v in
+              let count : ℕ = f.request.range.count in
+              let mine : Going → Bool = λ (r : Going). r.number == n in
+              let after : Device = met (merging g).merge.store (Reads from count) in
+              let reply_is : read_reply (merging g).merge.store from count ≡ reply = sym (answered ∙ ap (λ (b : Bool). if b then Data (sectors_at (contents g.device) from count) else Declined Io) one.answer) in
+              let after_is : after ≡ device_of contents layers d = device_by contents layers (contents g.device) (contents d) after.layers (layers d) (sym same) (sym one.layers) in
+              at_place_is ReadOp kind
+              ∙ ap (λ (x : Reply). answer mine x (with_merge (on_device (merging g) after) m)) reply_is
+              ∙ answered_is reply m.origin v.origin m.snaps v.snaps (Some (on_device (merging g) after)) (Some g') refl refl (after_merge after after_is)
+
+          -- it writes it
+          pub issue_merging_write : (bytes : List ℕ) → f.request.op ≡ WriteOp bytes → IsOneOperation (Writes from f.request.range.count) ok (layers g.device) (layers d) faults faults' done done'
+              → contents d ≡ (if ok then with_sectors (contents g.device) from bytes else contents g.device) → (reply : Reply) → reply ≡ (if ok then Done else Declined Io)
+              → stepped (Issue n) (moving_of contents layers replied v) ≡ moving_of contents layers (Some reply) (record v { merge = Some g'; flights = remove v.flights j })
+          issue_merging_write bytes kind one new reply answered =
+              let m : Moving = moving_of contents layers replied v in
+              let count : ℕ = f.request.range.count in
+              let mine : Going → Bool = λ (r : Going). r.number == n in
+              let after : Device = written_by (merging g).merge.store (Writes from count) (with_sectors (contents g.device) from bytes) in
+              let reply_is : write_reply (merging g).merge.store from count ≡ reply = sym (answered ∙ ap (λ (b : Bool). if b then Done else Declined Io) one.answer) in
+              let after_is : after ≡ device_of contents layers d = written_is (Writes from count) (with_sectors (contents g.device) from bytes) ok faults faults' done done' g.device d one new in
+              at_place_is (WriteOp bytes) kind
+              ∙ ap (λ (x : Reply). answer mine x (with_merge (on_device (merging g) after) m)) reply_is
+              ∙ answered_is reply m.origin v.origin m.snaps v.snaps (Some (on_device (merging g) after)) (Some g') refl refl (after_merge after after_is)

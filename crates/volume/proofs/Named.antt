@@ -17,7 +17,8 @@ use Rattle.volume_laws.proofs.Clear.{published_true}
 use Rattle.volume_laws.specs.Accepting.{IsPrepared, IsTakenIn}
 use Rattle.volume_laws.proofs.Preparing.{prepared_none}
 use Rattle.std.proofs.lemmas.List.{get_or-map, get_or_default}
-use Rattle.sector.specs.declared.refusal.Refusal.TheVariants.{NoSuchDevice, Invalid}
+use Rattle.sector.specs.declared.refusal.Refusal.{Refusal}
+use Rattle.sector.specs.declared.refusal.Refusal.TheVariants.{NoSuchDevice, MergingSnapshot, Invalid}
 use Rattle.plain.specs.declared.request.Dev.{Dev}
 use Rattle.plain.specs.declared.request.Dev.TheVariants.{Origin, Snap}
 use Rattle.plain.specs.declared.request.Op.{Op}
@@ -26,15 +27,17 @@ use Rattle.plain.specs.declared.request.Request.{Request}
 use Rattle.pending.specs.Kinds.{kind_of, kind_at, room_of}
 use Rattle.pending.specs.declared.flights.Kind.TheVariants.{SnapRead, SnapWrite}
 use Rattle.snapshot.specs.Kept.{Kept, books_of as snap_books}
-use Rattle.volume.specs.Volumed.{Volumed, books_of, piece_of}
+use Rattle.merge.specs.Merging.{Merging}
+use Rattle.volume.specs.Volumed.{Volumed, books_of, piece_with}
 use Rattle.volume.specs.Whole.{IsWhole}
 use Rattle.snapshots.specs.Finding.{place_of_snap}
 use Rattle.snapshots.specs.Starting.{lacks}
-use Rattle.volume.specs.Submitting.{IsAsked, entered_of, refusal_at, dev_refusal}
+use Rattle.volume.specs.Submitting.{IsAsked, entered_of, refusal_at, dev_refusal, is_merging}
 use Rattle.volume.proofs.ByKind.{snap_read_enters, snap_write_held_enters, snap_write_placed_enters}
 use Rattle.volume.proofs.Savings.{not_lacking}
 use Rattle.snapshots.proofs.Finds.{position_none}
 use Rattle.volume.proofs.Leaves.{found_place}
+use Rattle.volume.proofs.MergeRoutes.{not_merging}
 
 dev_at_read : (dev : Dev) (op : Op) (n : ℕ) → kind_at dev op ≡ SnapRead n → dev ≡ Snap n
 dev_at_read Origin Read n e = cc
@@ -54,17 +57,25 @@ dev_of_read request n e = dev_at_read request.dev request.op n e
 pub dev_of_write : (request : Request) (n : ℕ) → kind_of request ≡ SnapWrite n → request.dev ≡ Snap n
 dev_of_write request n e = dev_at_write request.dev request.op n e
 
+-- it is not the one that is being merged
+pub found_free : {B : Type 0} (merge : Option (Merging B)) (snaps : List (Kept B)) (dev : Dev) (n : ℕ) → dev_refusal dev merge snaps ≡ None → dev ≡ Snap n → refusal_at snaps (place_of_snap n snaps) ≡ None
+found_free merge snaps dev n free is =
+    not_merging (is_merging n merge) (refusal_at snaps (place_of_snap n snaps)) None none_is (sym (ap (λ d. dev_refusal d merge snaps) is) ∙ free)
+  where
+    none_is : ◌≢◌ {A = Option Refusal} None (Some MergingSnapshot)
+    none_is e = cc
+
 -- it is there
-pub found_some : {B : Type 0} (snaps : List (Kept B)) (dev : Dev) (n : ℕ) → dev_refusal dev snaps ≡ None → dev ≡ Snap n → None ≡ place_of_snap n snaps → ⊥
-found_some snaps dev n free is none =
-    let here : refusal_at snaps (place_of_snap n snaps) ≡ None = sym (ap (λ d. dev_refusal d snaps) is) ∙ free in
+pub found_some : {B : Type 0} (merge : Option (Merging B)) (snaps : List (Kept B)) (dev : Dev) (n : ℕ) → dev_refusal dev merge snaps ≡ None → dev ≡ Snap n → None ≡ place_of_snap n snaps → ⊥
+found_some merge snaps dev n free is none =
+    let here : refusal_at snaps (place_of_snap n snaps) ≡ None = found_free merge snaps dev n free is in
     let got : Some NoSuchDevice ≡ None = ap (refusal_at snaps) none ∙ here in cc
 
 -- and live
-pub found_live : {B : Type 0} (snaps : List (Kept B)) (dev : Dev) (n k : ℕ) (d : Kept B) → dev_refusal dev snaps ≡ None → dev ≡ Snap n → Some k ≡ place_of_snap n snaps → (get_or snaps k d).live ≡ true
-found_live snaps dev n k d free is at =
+pub found_live : {B : Type 0} (merge : Option (Merging B)) (snaps : List (Kept B)) (dev : Dev) (n k : ℕ) (d : Kept B) → dev_refusal dev merge snaps ≡ None → dev ≡ Snap n → Some k ≡ place_of_snap n snaps → (get_or snaps k d).live ≡ true
+found_live merge snaps dev n k d free is at =
     let within = (found_place n snaps k d at).0 in
-    let here : refusal_at snaps (Some k) ≡ None = ap (refusal_at snaps) at ∙ sym (ap (λ x. dev_refusal x snaps) is) ∙ free in
+    let here : refusal_at snaps (Some k) ≡ None = ap (refusal_at snaps) at ∙ found_free merge snaps dev n free is in
     sym (get_or-map (λ s. s.live) snaps k d false within) ∙ elim (cases_Bool (get_or (map (λ (s : Kept _). s.live) snaps) k false)) [
       | inl live ↦ live
       | inr dead ↦ (let got : Some Invalid ≡ None = rw dead at here in absurd (cc))
@@ -86,14 +97,14 @@ pub record IsNamed {B : Type 0} (v : Volumed B) (id k : ℕ) (s : Kept B) : Type
   pub live : s.live ≡ true
   pub number : s.number ≡ id
 
-pub is_named : {B : Type 0} (v : Volumed B) (items : List (Kept B)) (dev : Dev) (id k : ℕ) (s : Kept B) → items ≡ v.snaps → s ≡ get_or items k s → dev_refusal dev v.snaps ≡ None → dev ≡ Snap id → Some k ≡ place_of_snap id items → IsNamed v id k s
+pub is_named : {B : Type 0} (v : Volumed B) (items : List (Kept B)) (dev : Dev) (id k : ℕ) (s : Kept B) → items ≡ v.snaps → s ≡ get_or items k s → dev_refusal dev v.merge v.snaps ≡ None → dev ≡ Snap id → Some k ≡ place_of_snap id items → IsNamed v id k s
 is_named v items dev id k s same at free is found =
     let here : s ≡ get_or v.snaps k s = at ∙ ap (λ (xs : List (Kept _)). get_or xs k s) same in
     let place : Some k ≡ place_of_snap id v.snaps = found ∙ ap (place_of_snap id) same in
     record {
       within = found_within id v.snaps k place;
       is = here;
-      live = ap (λ (x : Kept _). x.live) here ∙ found_live v.snaps dev id k s free is place;
+      live = ap (λ (x : Kept _). x.live) here ∙ found_live v.merge v.snaps dev id k s free is place;
       number = ap (λ (x : Kept _). x.number) here ∙ (found_place id v.snaps k s place).1;
     }
 
@@ -133,7 +144,7 @@ copying_held contents layers first s live unpublished has = at (place_of s.pairs
         ]
     at None is = elim (not_lacking first s has live) [ inl placed ↦ absurd (placed is) | inr any ↦ inl any ]
 
-module _ {B : Type 0} (contents : B → List ℕ) (layers : B → List Layer) (size : B → ℕ) (v : Volumed B) (h : IsWhole contents layers size v) (f : Flight) (number : f.number ≡ v.requests + 1) (asked : IsAsked (size v.origin) (piece_of v.snaps) f.request)
+module _ {B : Type 0} (contents : B → List ℕ) (layers : B → List Layer) (size : B → ℕ) (v : Volumed B) (h : IsWhole contents layers size v) (f : Flight) (number : f.number ≡ v.requests + 1) (asked : IsAsked (size v.origin) (piece_with v.merge v.snaps) f.request)
     (room : length f.room.items ≡ room_of f.request) (id k : ℕ) (s : Kept B) (n : IsNamed v id k s) where
   none : IsPrepared [] (books_of contents layers size v) (books_of contents layers size v)
   none = prepared_none (books_of contents layers size v) h.holds h.waits

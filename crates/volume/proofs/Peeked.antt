@@ -1,5 +1,5 @@
 -- What a volume's devices show, by their own bytes.
-use Rattle.std.proofs.Common.{◌≡◌, ℕ, zero, suc, ◌+◌, ◌*◌, ◌%◌, ◌<◌, ◌≤◌, Bool, true, false, List, [], ◌∷◌, Some, None, length, get_or, map, refl, sym, ◌∙◌, ap, subst, arith}
+use Rattle.std.proofs.Common.{◌≡◌, ℕ, zero, suc, ◌+◌, ◌*◌, ◌%◌, ◌<◌, ◌≤◌, Bool, true, false, List, [], ◌∷◌, Option, Some, None, length, get_or, map, refl, sym, ◌∙◌, ap, subst, arith}
 use Rattle.std.specs.Prelude.{◌==◌, if◌then◌else◌}
 use Rattle.std.proofs.lemmas.List.{get_or-map, length-map}
 use Rattle.device.specs.Layers.{Layer, is_loud}
@@ -11,12 +11,15 @@ use Rattle.plain.specs.Plain.{Entry, Live, Invalid, saved_under}
 use Rattle.settled.proofs.PictureSectors.{all_front, place_inside}
 use Rattle.snapshot.specs.Kept.{Kept, books_of as snap_books}
 use Rattle.volume_laws.specs.Held.{LiveHolds, SnapHolds}
-use Rattle.volume_laws.specs.Shape.{shown_entry}
+use Rattle.volume_laws.specs.Shape.{shown_entry, shown_origin}
 use Rattle.volume.specs.Peeking.{is_loud_at, is_loud_under}
-use Rattle.volume.specs.Volumed.{Volumed, snap_shape}
+use Rattle.volume.specs.Volumed.{Volumed, snap_shape, merge_shape, plain_of}
 use Rattle.volume.specs.Whole.{IsWhole}
 use Rattle.snapshots.specs.Finding.{place_of_snap}
-use Rattle.volume.specs.Submitting.{dev_refusal, refusal_at}
+use Rattle.volume.specs.Submitting.{dev_refusal, is_merging, refusal_at}
+use Rattle.merge.specs.InStep.{IsInStep}
+use Rattle.merge.specs.Merging.{Merging}
+use Rattle.sector.specs.declared.refusal.Refusal.TheVariants.{MergingSnapshot, Invalid as Invalidated}
 use Rattle.volume.proofs.MovedLists.{IsFirst}
 use Rattle.volume.proofs.Named.{found_within}
 use Rattle.volume.proofs.Told.{later_first}
@@ -50,11 +53,11 @@ module _ {B : Type 0} (contents : B → List ℕ) (layers : B → List Layer) (s
   pairs_stored loud = live_holds.stored loud
 
 -- no layer drops writes of the store of the snapshot that was found
-pub snap_loud : {B : Type 0} (layers : B → List Layer) (snaps : List (Kept B)) (dev : Dev) (number k : ℕ) (s : Kept B) → dev ≡ Snap number → Some k ≡ place_of_snap number snaps → s ≡ get_or snaps k s → is_loud_under layers dev snaps ≡ true → is_loud (layers s.device) ≡ true
-snap_loud layers snaps dev number k s is found at loud =
+pub snap_loud : {B : Type 0} (layers : B → List Layer) (merge : Option (Merging B)) (snaps : List (Kept B)) (dev : Dev) (number k : ℕ) (s : Kept B) → dev ≡ Snap number → Some k ≡ place_of_snap number snaps → s ≡ get_or snaps k s → is_loud_under layers dev merge snaps ≡ true → is_loud (layers s.device) ≡ true
+snap_loud layers merge snaps dev number k s is found at loud =
     let within = found_within number snaps k found in
     sym (get_or-map (λ (x : Kept _). is_loud (layers x.device)) snaps k s true within ∙ ap (λ (x : Kept _). is_loud (layers x.device)) (sym at))
-    ∙ ap (is_loud_at layers snaps) found ∙ ap (λ (d : Dev). is_loud_under layers d snaps) (sym is) ∙ loud
+    ∙ ap (is_loud_at layers snaps) found ∙ ap (λ (d : Dev). is_loud_under layers d merge snaps) (sym is) ∙ loud
 
 -- what the snapshot with a number shows
 abbrev pub entries_in : {B : Type 0} → (B → List ℕ) → List ℕ → List (Kept B) → List Entry
@@ -75,9 +78,28 @@ pub shown_snap : {B : Type 0} (contents : B → List ℕ) (origin : List ℕ) (n
     → saved_under number (entries_in contents origin xs) ≡ Some (Live array) → array ≡ picture s.state.chunk origin (contents s.device)
 shown_snap contents origin number k s xs array first live shown = live_saved s.live (picture s.state.chunk origin (contents s.device)) array live (sym (saved_first contents origin number k s xs first) ∙ shown)
 
--- a snapshot that is found and live is not refused
-pub live_refusal : {B : Type 0} (snaps : List (Kept B)) (dev : Dev) (number k : ℕ) (s : Kept B) → dev ≡ Snap number → Some k ≡ place_of_snap number snaps → s ≡ get_or snaps k s → s.live ≡ true → dev_refusal dev snaps ≡ None
-live_refusal snaps dev number k s is found at live =
+-- a snapshot that is found and live, and not being merged, is not refused
+pub live_refusal : {B : Type 0} (merge : Option (Merging B)) (snaps : List (Kept B)) (dev : Dev) (number k : ℕ) (s : Kept B) → dev ≡ Snap number → is_merging number merge ≡ false → Some k ≡ place_of_snap number snaps → s ≡ get_or snaps k s → s.live ≡ true
+    → dev_refusal dev merge snaps ≡ None
+live_refusal merge snaps dev number k s is other found at live =
     let within = found_within number snaps k found in
     let alive : get_or (map (λ (x : Kept _). x.live) snaps) k false ≡ true = get_or-map (λ (x : Kept _). x.live) snaps k s false within ∙ ap (λ (x : Kept _). x.live) (sym at) ∙ live in
-    ap (λ d. dev_refusal d snaps) is ∙ ap (refusal_at snaps) (sym found) ∙ rw alive refl
+    ap (λ d. dev_refusal d merge snaps) is ∙ ap (λ b. if b then Some MergingSnapshot else refusal_at snaps (place_of_snap number snaps)) other ∙ ap (refusal_at snaps) (sym found) ∙ rw alive refl
+
+-- one that is spoiled is
+pub spoilt_refusal : {B : Type 0} (merge : Option (Merging B)) (snaps : List (Kept B)) (dev : Dev) (number k : ℕ) (s : Kept B) → dev ≡ Snap number → is_merging number merge ≡ false → Some k ≡ place_of_snap number snaps → s ≡ get_or snaps k s → s.live ≡ false
+    → dev_refusal dev merge snaps ≡ Some Invalidated
+spoilt_refusal merge snaps dev number k s is other found at spoilt =
+    let within = found_within number snaps k found in
+    let dead : get_or (map (λ (x : Kept _). x.live) snaps) k false ≡ false = get_or-map (λ (x : Kept _). x.live) snaps k s false within ∙ ap (λ (x : Kept _). x.live) (sym at) ∙ spoilt in
+    ap (λ d. dev_refusal d merge snaps) is ∙ ap (λ b. if b then Some MergingSnapshot else refusal_at snaps (place_of_snap number snaps)) other ∙ ap (refusal_at snaps) (sym found) ∙ rw dead refl
+
+-- beside a merge the origin shows the picture over the merging store
+pub origin_merged : {B : Type 0} (contents : B → List ℕ) (layers : B → List Layer) (v : Volumed B) (m : Merging B) → v.merge ≡ Some m → (plain_of contents layers v).origin ≡ picture m.state.chunk (contents v.origin) (contents m.device)
+origin_merged contents layers v m is = ap (λ x. shown_origin contents v.origin (merge_shape x)) is
+
+-- the places of the merge's pairs lie inside its device
+pub merged_places : {B : Type 0} (contents : B → List ℕ) (layers : B → List Layer) (size : B → ℕ) (m : Merging B) → IsInStep contents layers size m → (c n : ℕ) → place_of m.pairs c ≡ Some n → m.state.chunk * (n + 1) ≤ size m.device
+merged_places contents layers size m h c n found =
+    let low = place_inside m.state.chunk m.state.origin m.state.size c n m.pairs h.formed.inside found in
+    omega (arith, low, h.sized)

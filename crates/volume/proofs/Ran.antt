@@ -1,7 +1,7 @@
 -- Calls one after another: what callers see of them, and that no call changes which devices drop writes.
 use Rattle.std.proofs.Common.{◌≡◌, inl, inr, ℕ, true, List, [], ◌∷◌, ◌++◌, map, refl, sym, ◌∙◌, ap, subst}
 use Rattle.std.proofs.lemmas.List.{map-id}
-use Rattle.std.specs.Prelude.{Result, Ok, Err}
+use Rattle.std.specs.Prelude.{None, Result, Ok, Err, MatchResult}
 use Rattle.device.specs.Layers.{Layer}
 use Rattle.layers.specs.declared.message.Answer.{Answer}
 use Rattle.layers.specs.declared.message.Message.{Message}
@@ -13,16 +13,35 @@ use Rattle.plain.specs.declared.event.Outcome.{Outcome}
 use Rattle.plain.specs.declared.request.Dev.{Dev}
 use Rattle.plain.specs.declared.request.Request.{Request}
 use Rattle.sector.specs.declared.refusal.Refusal.{Refusal}
+use Rattle.sector.specs.declared.refusal.Refusal.TheVariants.{NotMerging}
+use Rattle.volume_laws.specs.Shape.{SnapShape, shown_entry}
+use Rattle.snapshot.specs.Kept.{Kept}
+use Rattle.merge_beside.specs.Keeping.{unkept}
 use Rattle.volume.specs.declared.calls.Call.{Call}
-use Rattle.volume.specs.declared.calls.Call.TheVariants.{Submit, Step, Tick, Message as Tell}
+use Rattle.volume.specs.declared.calls.Call.TheVariants.{Submit, Step, Tick, Message as Tell, BeginMerge, ResumeMerge}
 use Rattle.volume.specs.declared.calls.Returned.{Returned}
-use Rattle.volume.specs.declared.calls.Returned.TheVariants.{Submitted, Stepped, Ticked, Told}
-use Rattle.volume.specs.Volumed.{Volumed, plain_of, is_loud_in_all}
+use Rattle.volume.specs.declared.calls.Returned.TheVariants.{Submitted, Stepped, Ticked, Told, Begun, Resumed}
+use Rattle.volume.specs.Volumed.{Volumed, plain_of, is_loud_in_all, snap_shape}
+use Rattle.volume.specs.Beginning.{IsNotBegun, SameButKept}
 use Rattle.volume.specs.Layering.{Measures}
-use Rattle.volume.specs.Running.{IsSubmitReturned, IsStepReturned, IsMessageReturned, IsReturned, AreReturned, MayCall}
+use Rattle.volume.specs.Running.{IsSubmitReturned, IsStepReturned, IsMessageReturned, IsBegunAs, IsBeginRefused, IsResumedAs, IsReturned, AreReturned, MayBegin, MayCall}
 use Rattle.volume.proofs.Declines.{refused_declined, refused_loud}
-use Rattle.volume.proofs.Relayered.{IsVolumeAlike, ticked_alike}
+use Rattle.volume.proofs.Relayered.{IsVolumeAlike, map_twice, ticked_alike}
 use Rattle.volume.proofs.Told.{plain_alike, loud_alike, told_alike, untold_alike}
+
+-- a merge that did not begin changed nothing that is seen
+module _ {B : Type 0} (contents : B → List ℕ) (layers : B → List Layer) where
+  shapes_kept : (xs ys : List (Kept B)) → map unkept ys ≡ map unkept xs → map snap_shape ys ≡ map snap_shape xs
+  shapes_kept xs ys same = sym (map_twice unkept snap_shape ys) ∙ ap (map snap_shape) same ∙ map_twice unkept snap_shape xs
+
+  plain_kept : (v w : Volumed B) → SameButKept v w → plain_of contents layers w ≡ plain_of contents layers v
+  plain_kept v w same =
+      let mk : List (SnapShape B) → Plain = λ ss. record (plain_of contents layers v) { saved = map (shown_entry contents (contents v.origin)) ss } in
+      ap (plain_of contents layers) same.becomes ∙ ap mk (shapes_kept v.snaps w.snaps same.kept)
+
+  pub unbegun_same : (number : ℕ) (refusal : Refusal) (v w : Volumed B) → IsNotBegun number refusal v w → plain_of contents layers w ≡ plain_of contents layers v
+  unbegun_same number refusal v w (inl first) = ap (plain_of contents layers) first.1
+  unbegun_same number refusal v w (inr lacks) = plain_kept v w lacks.2
 
 module _ {B : Type 0} (m : Measures B) (layers : B → List Layer) where
   abbrev plain : Volumed B → Plain
@@ -49,41 +68,91 @@ module _ {B : Type 0} (m : Measures B) (layers : B → List Layer) where
   message_alike dev depth message (Ok answer) v w e = told_alike m layers dev depth message v w answer e
   message_alike dev depth message (Err refusal) v w e = untold_alike m layers dev depth message v w refusal e
 
+  begin_legal : {A : Type 0} (number : ℕ) (result : Result A Refusal) (v w : Volumed B) → is_loud_in_all layers v ≡ true
+      → MatchResult result (λ done. IsBegunAs m layers number v w) (λ refusal. IsBeginRefused m layers number refusal v w) → MayBegin number (plain v) (plain w)
+  begin_legal number (Ok done) v w loud e = inl (e.legal loud)
+  begin_legal number (Err refusal) v w loud e = inr (unbegun_same m.contents layers number refusal v w e.why)
+
+  resume_same : {A : Type 0} (result : Result A Refusal) (v w : Volumed B)
+      → MatchResult result (λ done. IsResumedAs m layers v w) (λ refusal. (refusal ≡ NotMerging) × (v.merge ≡ None) × (w ≡ v)) → plain w ≡ plain v
+  resume_same (Ok done) v w e = e.plain
+  resume_same (Err refusal) v w e = ap plain e.2
+
   returned_loud : (call : Call) (returned : Returned) (v w : Volumed B) → IsReturned m layers call returned v w → is_loud_in_all layers w ≡ is_loud_in_all layers v
   returned_loud (Submit request) (Submitted result) v w e = submit_loud request result v w e
   returned_loud (Step event) (Stepped result) v w e = step_loud event result v w e
   returned_loud (Tick seconds) Ticked v w e = loud_alike m.contents layers m.size v w (ticked_alike m layers seconds v w e)
   returned_loud (Tell dev depth message) (Told result) v w e = loud_alike m.contents layers m.size v w (message_alike dev depth message result v w e)
+  returned_loud (BeginMerge number) (Begun result) v w e = e.1
+  returned_loud ResumeMerge (Resumed result) v w e = e.1
   returned_loud (Submit request) (Stepped result) v w e = absurd e
   returned_loud (Submit request) Ticked v w e = absurd e
   returned_loud (Submit request) (Told result) v w e = absurd e
+  returned_loud (Submit request) (Begun result) v w e = absurd e
+  returned_loud (Submit request) (Resumed result) v w e = absurd e
   returned_loud (Step event) (Submitted result) v w e = absurd e
   returned_loud (Step event) Ticked v w e = absurd e
   returned_loud (Step event) (Told result) v w e = absurd e
+  returned_loud (Step event) (Begun result) v w e = absurd e
+  returned_loud (Step event) (Resumed result) v w e = absurd e
   returned_loud (Tick seconds) (Submitted result) v w e = absurd e
   returned_loud (Tick seconds) (Stepped result) v w e = absurd e
   returned_loud (Tick seconds) (Told result) v w e = absurd e
+  returned_loud (Tick seconds) (Begun result) v w e = absurd e
+  returned_loud (Tick seconds) (Resumed result) v w e = absurd e
   returned_loud (Tell dev depth message) (Submitted result) v w e = absurd e
   returned_loud (Tell dev depth message) (Stepped result) v w e = absurd e
   returned_loud (Tell dev depth message) Ticked v w e = absurd e
+  returned_loud (Tell dev depth message) (Begun result) v w e = absurd e
+  returned_loud (Tell dev depth message) (Resumed result) v w e = absurd e
+  returned_loud (BeginMerge number) (Submitted result) v w e = absurd e
+  returned_loud (BeginMerge number) (Stepped result) v w e = absurd e
+  returned_loud (BeginMerge number) Ticked v w e = absurd e
+  returned_loud (BeginMerge number) (Told result) v w e = absurd e
+  returned_loud (BeginMerge number) (Resumed result) v w e = absurd e
+  returned_loud ResumeMerge (Submitted result) v w e = absurd e
+  returned_loud ResumeMerge (Stepped result) v w e = absurd e
+  returned_loud ResumeMerge Ticked v w e = absurd e
+  returned_loud ResumeMerge (Told result) v w e = absurd e
+  returned_loud ResumeMerge (Begun result) v w e = absurd e
 
   returned_legal : (call : Call) (returned : Returned) (v w : Volumed B) → is_loud_in_all layers v ≡ true → IsReturned m layers call returned v w → MayCall call (plain v) (plain w)
   returned_legal (Submit request) (Submitted result) v w loud e = submit_legal request result v w loud e
   returned_legal (Step event) (Stepped result) v w loud e = step_legal event result v w loud e
   returned_legal (Tick seconds) Ticked v w loud e = plain_alike m.contents layers m.size v w (ticked_alike m layers seconds v w e)
   returned_legal (Tell dev depth message) (Told result) v w loud e = plain_alike m.contents layers m.size v w (message_alike dev depth message result v w e)
+  returned_legal (BeginMerge number) (Begun result) v w loud e = begin_legal number result v w loud e.0
+  returned_legal ResumeMerge (Resumed result) v w loud e = resume_same result v w e.0
   returned_legal (Submit request) (Stepped result) v w loud e = absurd e
   returned_legal (Submit request) Ticked v w loud e = absurd e
   returned_legal (Submit request) (Told result) v w loud e = absurd e
+  returned_legal (Submit request) (Begun result) v w loud e = absurd e
+  returned_legal (Submit request) (Resumed result) v w loud e = absurd e
   returned_legal (Step event) (Submitted result) v w loud e = absurd e
   returned_legal (Step event) Ticked v w loud e = absurd e
   returned_legal (Step event) (Told result) v w loud e = absurd e
+  returned_legal (Step event) (Begun result) v w loud e = absurd e
+  returned_legal (Step event) (Resumed result) v w loud e = absurd e
   returned_legal (Tick seconds) (Submitted result) v w loud e = absurd e
   returned_legal (Tick seconds) (Stepped result) v w loud e = absurd e
   returned_legal (Tick seconds) (Told result) v w loud e = absurd e
+  returned_legal (Tick seconds) (Begun result) v w loud e = absurd e
+  returned_legal (Tick seconds) (Resumed result) v w loud e = absurd e
   returned_legal (Tell dev depth message) (Submitted result) v w loud e = absurd e
   returned_legal (Tell dev depth message) (Stepped result) v w loud e = absurd e
   returned_legal (Tell dev depth message) Ticked v w loud e = absurd e
+  returned_legal (Tell dev depth message) (Begun result) v w loud e = absurd e
+  returned_legal (Tell dev depth message) (Resumed result) v w loud e = absurd e
+  returned_legal (BeginMerge number) (Submitted result) v w loud e = absurd e
+  returned_legal (BeginMerge number) (Stepped result) v w loud e = absurd e
+  returned_legal (BeginMerge number) Ticked v w loud e = absurd e
+  returned_legal (BeginMerge number) (Told result) v w loud e = absurd e
+  returned_legal (BeginMerge number) (Resumed result) v w loud e = absurd e
+  returned_legal ResumeMerge (Submitted result) v w loud e = absurd e
+  returned_legal ResumeMerge (Stepped result) v w loud e = absurd e
+  returned_legal ResumeMerge Ticked v w loud e = absurd e
+  returned_legal ResumeMerge (Told result) v w loud e = absurd e
+  returned_legal ResumeMerge (Begun result) v w loud e = absurd e
 
   -- all of them
   pub are_loud : (calls : List Call) (returned : List Returned) (v w : Volumed B) → AreReturned m layers calls returned v w → is_loud_in_all layers w ≡ is_loud_in_all layers v

@@ -5,7 +5,7 @@ use Rattle.std.proofs.lemmas.Bool.{true≢false}
 use Rattle.std.proofs.lemmas.List.{get_or-map}
 use Rattle.device.specs.Layers.{Layer}
 use Rattle.sector.specs.declared.refusal.Refusal.{Refusal}
-use Rattle.sector.specs.declared.refusal.Refusal.TheVariants.{OutOfRange, TooMany, NoMemory, Invalid}
+use Rattle.sector.specs.declared.refusal.Refusal.TheVariants.{MergingSnapshot, OutOfRange, TooMany, NoMemory, Invalid}
 use Rattle.plain.specs.declared.request.Dev.{Dev}
 use Rattle.plain.specs.declared.request.Dev.TheVariants.{Origin, Snap}
 use Rattle.plain.specs.declared.request.Op.{Op}
@@ -21,14 +21,15 @@ use Rattle.pending.specs.declared.flights.Kind.TheVariants.{SnapRead, SnapWrite}
 use Rattle.event_machine.specs.Held.{Held, Moving}
 use Rattle.event_machine.specs.Submitting.{submitted}
 use Rattle.snapshot.specs.Kept.{Kept}
-use Rattle.volume.specs.Volumed.{Volumed, piece_of}
+use Rattle.volume.specs.Volumed.{Volumed, piece_with}
 use Rattle.volume.specs.Whole.{IsWhole}
 use Rattle.snapshots.specs.Finding.{place_of_snap}
 use Rattle.volume.specs.Moved.{moving_of}
 use Rattle.snapshots.specs.Starting.{lacks, is_full_of, spoilt_of}
-use Rattle.volume.specs.Submitting.{first_of_two, refusal_at, dev_refusal, submit_refusal, is_piece_of, are_too_many, starting, SameButRoom, IsFoundFull, IsRefusedAs}
+use Rattle.volume.specs.Submitting.{first_of_two, refusal_at, dev_refusal, is_merging, submit_refusal, is_piece_of, are_too_many, starting, SameButRoom, IsFoundFull, IsRefusedAs}
 use Rattle.volume.proofs.Accepts.{same_roomed}
 use Rattle.volume.proofs.Leaves.{found_place}
+use Rattle.volume.proofs.MergeRoutes.{not_merging}
 use Rattle.volume.proofs.MovedAccepts.{snap_dead_is, snap_write_full_is, unroomed_seen}
 use Rattle.volume.proofs.MovedFound.{snap_first}
 use Rattle.volume.proofs.MovedLists.{IsFirst}
@@ -54,19 +55,22 @@ module _ {B : Type 0} (size : B → ℕ) (v : Volumed B) where
   dead_at false e = refl
 
   -- of the device's own reason
-  dev_invalid : (request : Request) → submit_refusal size request v ≡ Some Invalid → dev_refusal request.dev v.snaps ≡ Some Invalid
+  dev_invalid : (request : Request) → submit_refusal size request v ≡ Some Invalid → dev_refusal request.dev v.merge v.snaps ≡ Some Invalid
   dev_invalid request e =
-      by (dev_refusal request.dev v.snaps) (is_piece_of (piece_of v.snaps) (size v.origin) request.range) (are_too_many (starting (kind_of request) request.range.first v.snaps) v) e
+      by (dev_refusal request.dev v.merge v.snaps) (is_piece_of (piece_with v.merge v.snaps) (size v.origin) request.range) (are_too_many (starting (kind_of request) request.range.first v.merge v.snaps) v) e
     where
       by : (o : Option Refusal) (a b : Bool) → first_of_two o (first_of_two (if a then None else Some OutOfRange) (if b then Some TooMany else None)) ≡ Some Invalid → o ≡ Some Invalid
       by None a b e = absurd (by_range a b e)
       by (Some r) a b e = e
 
   -- the snapshot
-  pub invalid_dead : (dev : Dev) → dev_refusal dev v.snaps ≡ Some Invalid → (n : ℕ) × (k : ℕ) × (dev ≡ Snap n) × (Some k ≡ place_of_snap n v.snaps) × (get_or (map (λ (s : Kept B). s.live) v.snaps) k false ≡ false)
+  pub invalid_dead : (dev : Dev) → dev_refusal dev v.merge v.snaps ≡ Some Invalid → (n : ℕ) × (k : ℕ) × (dev ≡ Snap n) × (Some k ≡ place_of_snap n v.snaps) × (get_or (map (λ (s : Kept B). s.live) v.snaps) k false ≡ false)
   invalid_dead Origin e = absurd (cc)
-  invalid_dead (Snap n) e = at (place_of_snap n v.snaps) refl e
+  invalid_dead (Snap n) e = at (place_of_snap n v.snaps) refl (not_merging (is_merging n v.merge) (refusal_at v.snaps (place_of_snap n v.snaps)) (Some Invalid) invalid_is e)
     where
+      invalid_is : Some Invalid ≢ Some MergingSnapshot
+      invalid_is e = cc
+
       at : (found : Option ℕ) → place_of_snap n v.snaps ≡ found → refusal_at v.snaps found ≡ Some Invalid → (m : ℕ) × (k : ℕ) × (Snap n ≡ Snap m) × (Some k ≡ place_of_snap m v.snaps) × (get_or (map (λ (s : Kept B). s.live) v.snaps) k false ≡ false)
       at None is e = absurd (cc)
       at (Some k) is e = (n, k, refl, sym is, dead_at (get_or (map (λ (s : Kept B). s.live) v.snaps) k false) e)

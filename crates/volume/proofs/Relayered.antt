@@ -1,5 +1,5 @@
 -- Where layers alone change, and a device drops writes as before, a volume stays whole.
-use Rattle.std.proofs.Common.{◌≡◌, ◌≢◌, inl, inr, ℕ, suc, ◌+◌, ◌<◌, ◌≤◌, Bool, List, [], ◌∷◌, length, get_or, set, map, refl, sym, ◌∙◌, ap, subst, arith, ◌++◌}
+use Rattle.std.proofs.Common.{◌≡◌, ◌≢◌, inl, inr, ℕ, suc, ◌+◌, ◌<◌, ◌≤◌, Bool, true, List, [], ◌∷◌, length, get_or, set, map, refl, sym, ◌∙◌, ap, subst, arith, ◌++◌}
 use Rattle.std.specs.Prelude.{sum_by, Option, Some, None, ◌&&◌}
 use Rattle.std.specs.List.{sum}
 use Rattle.std.proofs.lemmas.List.Sums.{sum-map}
@@ -8,21 +8,26 @@ use Rattle.std.proofs.lemmas.Bool.{cases_eq}
 use Rattle.device.specs.Layers.{Layer, is_loud}
 use Rattle.layers.specs.Ticks.{layers_ticked}
 use Rattle.layers.specs.Loudness.{loud_ticked}
-use Rattle.event_machine.specs.Held.{Held, Moving}
+use Rattle.event_machine.specs.Held.{Held, MergeHeld, Moving, on_device}
+use Rattle.event_machine.specs.MergeSeen.{held_in, merge_held_of}
+use Rattle.settled.specs.Moments.{relayered}
 use Rattle.plain.specs.declared.request.Reply.{Reply}
 use Rattle.volume_laws.specs.Books.{Books, SnapBooks, MergeBooks}
 use Rattle.volume_laws.specs.Due.{DueSnap}
+use Rattle.volume_laws.specs.MergeDue.{DueMerge}
+use Rattle.volume_laws.specs.MergeRooms.{RoomSnap, KeepBack}
+use Rattle.volume_laws.specs.MergeWaits.{MergeGoes}
 use Rattle.volume_laws.specs.Whole.{Holds}
 use Rattle.pending.specs.Due.{number_of_flight}
 use Rattle.volume_laws.specs.Waits.{Waits}
 use Rattle.snapshot.specs.Kept.{Kept, books_of as snap_books, due_of_kept}
-use Rattle.merge_beside.specs.Rooms.{merge_books}
-use Rattle.volume.specs.Volumed.{Volumed, books_of, dues_of, piece_of, is_loud_with}
+use Rattle.merge_beside.specs.Rooms.{merge_books, room_of}
+use Rattle.volume.specs.Volumed.{Volumed, books_of, dues_of, piece_of, piece_with, is_loud_with}
 use Rattle.snapshots.specs.Numbers.{number_of_snap, count_in}
-use Rattle.volume.specs.Whole.{IsWhole, IsAttached, IsCounted, SharesNone, AreNumbers, starts_left}
-use Rattle.volume.specs.Moved.{moving_of, held_of}
-use Rattle.volume.specs.Layering.{Measures, IsLater, IsSnapLater, IsTicked, held_relayered, moving_relayered, IsMergeLater}
-use Rattle.merge.specs.Merging.{Merging, books_of as merging_books}
+use Rattle.volume.specs.Whole.{IsWhole, IsAttached, IsCounted, IsMerged, GoesOn, SharesNone, AreNumbers, starts_left}
+use Rattle.volume.specs.Moved.{moving_of, held_of, merge_seen}
+use Rattle.volume.specs.Layering.{Measures, IsLater, IsSnapLater, IsTicked, held_relayered, merging_relayered, moving_relayered, IsMergeLater}
+use Rattle.merge.specs.Merging.{Merging, books_of as merging_books, due_of as merging_due}
 use Rattle.volume.specs.Causes.{counts_with}
 use Rattle.volume.specs.Stepping.{merged_of}
 
@@ -68,11 +73,6 @@ module _ {B : Type 0} (contents : B → List ℕ) (layers : B → List Layer) (s
   merge_same None = tt
   merge_same (Some x) = (record { bytes = refl; sectors = refl; loud = refl }, refl)
 
-  merge_none : (x y : Option (Merging B)) → IsMergeAlike x y → x ≡ None → y ≡ None
-  merge_none None None h e = refl
-  merge_none None (Some y) h e = absurd h
-  merge_none (Some x) y h e = absurd (cc)
-
   merge_books_alike : (loud : Bool) (x y : Option (Merging B)) → IsMergeAlike x y → merge_books contents layers loud y ≡ merge_books contents layers loud x
   merge_books_alike loud None None h = refl
   merge_books_alike loud None (Some y) h = absurd h
@@ -101,6 +101,12 @@ module _ {B : Type 0} (contents : B → List ℕ) (layers : B → List Layer) (s
   merged_alike (Some x) None h = absurd h
   merged_alike (Some x) (Some y) h = ap (λ (z : Merging B). Some (z.number, z.state.chunk)) h.1
 
+  -- what says which of its events are due is the same
+  merge_due_alike : (loud : Bool) (x y : Merging B) → IsAlike x.device y.device → y ≡ record x { device = y.device } → merging_due contents loud y ≡ merging_due contents loud x
+  merge_due_alike loud x y h same =
+      let mk : List ℕ → DueMerge = λ store. (let d : DueMerge = merging_due contents loud x in record d { books = record d.books { store = store } }) in
+      ap (merging_due contents loud) same ∙ ap mk h.bytes
+
   alike : (d : B) → IsAlike d d
   alike d = record { bytes = refl; sectors = refl; loud = refl }
 
@@ -113,6 +119,11 @@ module _ {B : Type 0} (contents : B → List ℕ) (layers : B → List Layer) (s
   due_alike s t h =
       let mk : SnapBooks → DueSnap = λ b. record (due_of_kept contents layers s) { books = b } in
       ap (due_of_kept contents layers) h.same ∙ ap (λ (x : Kept B). mk (snap_books contents layers x)) (sym h.same) ∙ ap mk (books_alike s t h)
+
+  room_alike : (s t : Kept B) → IsSnapAlike s t → room_of contents layers t ≡ room_of contents layers s
+  room_alike s t h =
+      let mk : SnapBooks → RoomSnap = λ b. record (room_of contents layers s) { books = b } in
+      ap (room_of contents layers) h.same ∙ ap (λ (x : Kept B). mk (snap_books contents layers x)) (sym h.same) ∙ ap mk (books_alike s t h)
 
   attached_alike : (copies sectors chunk : ℕ) (s t : Kept B) → IsSnapAlike s t → IsAttached copies sectors chunk s → IsAttached copies sectors chunk t
   attached_alike copies sectors chunk s t h a = subst (IsAttached copies sectors chunk) (sym h.same) (record { origin = a.origin; chunk_is = a.chunk_is; some = a.some; numbers = a.numbers })
@@ -128,6 +139,12 @@ module _ {B : Type 0} (contents : B → List ℕ) (layers : B → List Layer) (s
   piece_alike [] (y ∷ ys) len each = absurd (omega (arith, len))
   piece_alike (x ∷ xs) [] len each = absurd (omega (arith, len))
   piece_alike (x ∷ xs) (y ∷ ys) len each = let h : IsSnapAlike x y = each 0 x (omega arith) in ap (λ (z : Kept B). z.state.chunk) h.same
+
+  pieces_alike : (xs ys : List (Kept B)) (x y : Option (Merging B)) → IsMergeAlike x y → piece_of ys ≡ piece_of xs → piece_with y ys ≡ piece_with x xs
+  pieces_alike xs ys None None h same = same
+  pieces_alike xs ys None (Some y) h same = absurd h
+  pieces_alike xs ys (Some x) None h same = absurd h
+  pieces_alike xs ys (Some x) (Some y) h same = ap (λ (z : Merging B). z.state.chunk) h.1
 
   module _ (v w : Volumed B) (h : IsVolumeAlike v w) where
     books_map : map (snap_books contents layers) w.snaps ≡ map (snap_books contents layers) v.snaps
@@ -146,6 +163,9 @@ module _ {B : Type 0} (contents : B → List ℕ) (layers : B → List Layer) (s
         ∙ ap (λ ss. mk (contents v.origin) (size v.origin) (is_loud (layers v.origin)) ss (merge_books contents layers (is_loud (layers v.origin)) w.merge)) books_map
         ∙ ap (mk (contents v.origin) (size v.origin) (is_loud (layers v.origin)) (map (snap_books contents layers) v.snaps)) (merge_books_alike (is_loud (layers v.origin)) v.merge w.merge h.merge)
 
+    rooms_map : map (room_of contents layers) w.snaps ≡ map (room_of contents layers) v.snaps
+    rooms_map = map_at (room_of contents layers) (room_of contents layers) v.snaps w.snaps h.count (λ k d lt. room_alike (get_or v.snaps k d) (get_or w.snaps k d) (h.snaps k d lt))
+
     numbers_map : map number_of_snap w.snaps ≡ map number_of_snap v.snaps
     numbers_map = map_at number_of_snap number_of_snap v.snaps w.snaps h.count (λ k d lt. ap number_of_snap (h.snaps k d lt).same)
 
@@ -155,15 +175,52 @@ module _ {B : Type 0} (contents : B → List ℕ) (layers : B → List Layer) (s
     counts_map : map count_in w.snaps ≡ map count_in v.snaps
     counts_map = map_at count_in count_in v.snaps w.snaps h.count (λ k d lt. ap count_in (h.snaps k d lt).same)
 
+    -- a merge goes on
+    module _ (x y : Merging B) (near : IsAlike x.device y.device) (same : y ≡ record x { device = y.device }) (g : IsMerged contents layers size x v) where
+      other_number : (k : ℕ) (d : Kept B) → k < length w.snaps → (get_or w.snaps k d).number ≢ y.number
+      other_number k d lt =
+          let within : k < length v.snaps = omega (arith, lt, h.count) in
+          subst (λ (n : ℕ). n ≢ y.number) (sym (ap number_of_snap (h.snaps k d within).same))
+          (subst (λ (n : ℕ). (get_or v.snaps k d).number ≢ n) (sym (ap (λ (z : Merging B). z.number) same)) (g.apart k d within))
+
+      merged_goes : (loud : Bool) → MergeGoes (map (snap_books contents layers) w.snaps) (merging_due contents loud y)
+      merged_goes loud =
+          subst (λ (ss : List SnapBooks). MergeGoes ss (merging_due contents loud y)) (sym books_map)
+          (subst (MergeGoes (map (snap_books contents layers) v.snaps)) (sym (merge_due_alike loud x y near same)) (g.goes loud))
+
+      merged_rooms : KeepBack y.state.chunk y.pairs (map (room_of contents layers) w.snaps)
+      merged_rooms =
+          subst (λ (z : Merging B). KeepBack z.state.chunk z.pairs (map (room_of contents layers) w.snaps)) (sym same)
+          (subst (KeepBack x.state.chunk x.pairs) (sym rooms_map) g.rooms)
+
+      merged_on : IsMerged contents layers size y w
+      merged_on = record {
+        origin = ap (λ (z : Merging B). z.state.origin) same ∙ g.origin ∙ sym h.origin.sectors;
+        apart = other_number;
+        given = omega (arith, ap (λ (z : Merging B). z.number) same, ap (λ (z : Volumed B). z.attached) h.becomes, g.given);
+        few = omega (arith, h.count, g.few);
+        goes = merged_goes;
+        rooms = merged_rooms;
+      }
+
+    goes_alike : (x y : Option (Merging B)) → IsMergeAlike x y → GoesOn contents layers size x v → GoesOn contents layers size y w
+    goes_alike None None e g = tt
+    goes_alike None (Some y) e g = absurd e
+    goes_alike (Some x) None e g = absurd e
+    goes_alike (Some x) (Some y) e g = merged_on x y e.0 e.1 g
+
+    piece_same : piece_with w.merge w.snaps ≡ piece_with v.merge v.snaps
+    piece_same = pieces_alike v.snaps w.snaps v.merge w.merge h.merge (piece_alike v.snaps w.snaps h.count h.snaps)
+
     pub whole_alike : IsWhole contents layers size v → IsWhole contents layers size w
     whole_alike whole = record {
-      alone = merge_none v.merge w.merge h.merge whole.alone;
+      merge = goes_alike v.merge w.merge h.merge whole.merge;
       holds = subst Holds (sym books_of_alike) whole.holds;
       waits = subst Waits (sym books_of_alike) whole.waits;
-      snaps = λ k d lt. subst (λ (n : ℕ). IsAttached n (size w.origin) (piece_of w.snaps) (get_or w.snaps k d)) (sym (ap (λ (x : Volumed B). x.copies) h.becomes))
-          (subst (λ (n : ℕ). IsAttached v.copies n (piece_of w.snaps) (get_or w.snaps k d)) (sym h.origin.sectors)
-          (subst (λ (n : ℕ). IsAttached v.copies (size v.origin) n (get_or w.snaps k d)) (sym (piece_alike v.snaps w.snaps h.count h.snaps))
-          (attached_alike v.copies (size v.origin) (piece_of v.snaps) (get_or v.snaps k d) (get_or w.snaps k d) (h.snaps k d (inside k lt)) (whole.snaps k d (inside k lt)))));
+      snaps = λ k d lt. subst (λ (n : ℕ). IsAttached n (size w.origin) (piece_with w.merge w.snaps) (get_or w.snaps k d)) (sym (ap (λ (x : Volumed B). x.copies) h.becomes))
+          (subst (λ (n : ℕ). IsAttached v.copies n (piece_with w.merge w.snaps) (get_or w.snaps k d)) (sym h.origin.sectors)
+          (subst (λ (n : ℕ). IsAttached v.copies (size v.origin) n (get_or w.snaps k d)) (sym piece_same)
+          (attached_alike v.copies (size v.origin) (piece_with v.merge v.snaps) (get_or v.snaps k d) (get_or w.snaps k d) (h.snaps k d (inside k lt)) (whole.snaps k d (inside k lt)))));
       counted = λ k d lt. counted_alike (get_or v.snaps k d) (get_or w.snaps k d) (h.snaps k d (inside k lt)) (whole.counted k d (inside k lt));
       apart = λ i j d lt within. shares_alike (get_or v.snaps i d) (get_or w.snaps i d) (get_or v.snaps j d) (get_or w.snaps j d) (h.snaps i d (omega (arith, lt, inside j within))) (h.snaps j d (inside j within)) (whole.apart i j d lt (inside j within));
       numbers = subst (AreNumbers w.attached) (sym numbers_map) (subst (λ (n : ℕ). AreNumbers n (map number_of_snap v.snaps)) (sym (ap (λ (x : Volumed B). x.attached) h.becomes)) whole.numbers);
@@ -180,6 +237,11 @@ module _ {B : Type 0} (contents : B → List ℕ) (layers : B → List Layer) (s
 pub map_twice : {X Y Z : Type 0} (f : X → Y) (g : Y → Z) (xs : List X) → map g (map f xs) ≡ map (λ x. g (f x)) xs
 map_twice f g [] = refl
 map_twice f g (x ∷ xs) = ap (λ ys. g (f x) ∷ ys) (map_twice f g xs)
+
+-- without a merge time passes for the origin's device and the snapshots' stores
+pub relayered_alone : (f : List Layer → List Layer) (v : Moving) → v.merge ≡ None → moving_relayered f v ≡ record v { origin = relayered f v.origin; snaps = map (held_relayered f) v.snaps }
+relayered_alone f v alone =
+    ap (λ (g : Option MergeHeld). (let w : Moving = record v { origin = relayered f v.origin; snaps = map (held_relayered f) v.snaps; merge = g } in w)) (ap (merging_relayered f) alone ∙ sym alone)
 
 -- time passes
 module _ {B : Type 0} (m : Measures B) (layers : B → List Layer) (seconds : ℕ) where
@@ -209,17 +271,28 @@ module _ {B : Type 0} (m : Measures B) (layers : B → List Layer) (seconds : �
       let mk : List ℕ → List Layer → Held = λ bytes ls. (let o : Held = held_of m.contents layers s in record o { snap = record o.snap { store = record { bytes = bytes; layers = ls } } }) in
       ap (held_of m.contents layers) h.same ∙ ap (λ b. mk b (layers t.device)) h.store.rest.contents_are ∙ ap (mk (m.contents s.device)) h.store.moved
 
+  merge_later : (x y : Option (Merging B)) → IsMergeLater m layers seconds x y → held_in (merge_seen m.contents layers y) ≡ merging_relayered (layers_ticked seconds) (held_in (merge_seen m.contents layers x))
+  merge_later None None h = refl
+  merge_later None (Some y) h = absurd h
+  merge_later (Some x) None h = absurd h
+  merge_later (Some x) (Some y) h =
+      let mk : List ℕ → List Layer → Option MergeHeld = λ bytes ls.
+      (let o : MergeHeld = merge_held_of (record { due = merging_due m.contents true x; layers = layers x.device; next = x.next }) in Some (on_device o (record { bytes = bytes; layers = ls }))) in
+      ap (λ (z : Merging B). held_in (merge_seen m.contents layers (Some z))) h.1 ∙ ap (λ b. mk b (layers y.device)) h.0.rest.contents_are ∙ ap (mk (m.contents x.device)) h.0.moved
+
   pub ticked_moving : (replied : Option Reply) (v w : Volumed B) → IsTicked m layers seconds v w → moving_of m.contents layers replied w ≡ moving_relayered (layers_ticked seconds) (moving_of m.contents layers replied v)
   ticked_moving replied v w h =
       let o : Moving = moving_of m.contents layers replied v in
-      let mk : List ℕ → List Layer → List Held → Moving = λ bytes ls ss. record o { origin = record { bytes = bytes; layers = ls }; snaps = ss } in
+      let mk : List ℕ → List Layer → List Held → Option MergeHeld → Moving = λ bytes ls ss g. record o { origin = record { bytes = bytes; layers = ls }; snaps = ss; merge = g } in
+      let after : Option MergeHeld = held_in (merge_seen m.contents layers w.merge) in
       let snaps : map (held_of m.contents layers) w.snaps ≡ map (held_relayered (layers_ticked seconds)) (map (held_of m.contents layers) v.snaps) =
       map_at (held_of m.contents layers) (λ s. held_relayered (layers_ticked seconds) (held_of m.contents layers s)) v.snaps w.snaps h.count (λ k d lt. held_later (get_or v.snaps k d) (get_or w.snaps k d) (h.snaps k d lt))
       ∙ sym (map_twice (held_of m.contents layers) (held_relayered (layers_ticked seconds)) v.snaps) in
       ap (moving_of m.contents layers replied) h.becomes
-      ∙ ap (λ b. mk b (layers w.origin) (map (held_of m.contents layers) w.snaps)) h.origin.rest.contents_are
-      ∙ ap (λ ls. mk (m.contents v.origin) ls (map (held_of m.contents layers) w.snaps)) h.origin.moved
-      ∙ ap (mk (m.contents v.origin) (layers_ticked seconds (layers v.origin))) snaps
+      ∙ ap (λ b. mk b (layers w.origin) (map (held_of m.contents layers) w.snaps) after) h.origin.rest.contents_are
+      ∙ ap (λ ls. mk (m.contents v.origin) ls (map (held_of m.contents layers) w.snaps) after) h.origin.moved
+      ∙ ap (λ ss. mk (m.contents v.origin) (layers_ticked seconds (layers v.origin)) ss after) snaps
+      ∙ ap (mk (m.contents v.origin) (layers_ticked seconds (layers v.origin)) (map (held_relayered (layers_ticked seconds)) (map (held_of m.contents layers) v.snaps))) (merge_later v.merge w.merge h.merge)
 
   -- so far: the snapshots before place k are later, the others as they were
   pub record AreLaterBelow (k : ℕ) (olds news : List (Kept B)) : Type 0 where

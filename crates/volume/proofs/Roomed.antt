@@ -1,5 +1,5 @@
 -- Room for copies is made, and nothing else changes.
-use Rattle.std.proofs.Common.{◌≡◌, ℕ, ◌+◌, ◌<◌, List, [], ◌∷◌, length, get_or, map, refl, sym, ◌∙◌, ap, subst, arith, if◌then◌else◌}
+use Rattle.std.proofs.Common.{◌≡◌, ◌≢◌, Option, Some, None, ℕ, ◌+◌, ◌<◌, List, [], ◌∷◌, length, get_or, map, refl, sym, ◌∙◌, ap, subst, arith, if◌then◌else◌}
 use Rattle.std.specs.Prelude.{sum_by, count_by}
 use Rattle.device.specs.Layers.{Layer}
 use Rattle.volume_laws.specs.Books.{SnapBooks, Books}
@@ -7,9 +7,13 @@ use Rattle.volume_laws.specs.Whole.{Holds}
 use Rattle.volume_laws.specs.Waits.{Waits}
 use Rattle.snapshot.specs.Kept.{Kept, books_of as snap_books}
 use Rattle.snapshots.proofs.Roomed.{roomed, roomed_length, roomed_at}
-use Rattle.volume.specs.Volumed.{Volumed, books_of, piece_of}
+use Rattle.volume_laws.specs.MergeRooms.{KeepBack}
+use Rattle.volume_laws.specs.MergeWaits.{MergeGoes}
+use Rattle.merge.specs.Merging.{Merging, due_of as merging_due}
+use Rattle.merge_beside.specs.Rooms.{room_of}
+use Rattle.volume.specs.Volumed.{Volumed, books_of, piece_of, piece_with}
 use Rattle.snapshots.specs.Numbers.{number_of_snap, count_in}
-use Rattle.volume.specs.Whole.{AreNumbers, SharesNone, IsAttached, IsWhole, IsCounted, starts_left}
+use Rattle.volume.specs.Whole.{AreNumbers, SharesNone, IsAttached, GoesOn, IsWhole, IsCounted, starts_left}
 use Rattle.snapshots.specs.Starting.{unroomed, starts}
 use Rattle.volume.proofs.Sums.{sum_cons}
 
@@ -27,24 +31,41 @@ roomed_piece xs ys e = sym (unseen_piece xs) ∙ ap piece_of e ∙ unseen_piece 
     unseen_piece [] = refl
     unseen_piece (x ∷ xs) = refl
 
+-- beside a merge
+pub roomed_beside : {B : Type 0} (merge : Option (Merging B)) (xs ys : List (Kept B)) → map unroomed xs ≡ map unroomed ys → piece_with merge xs ≡ piece_with merge ys
+roomed_beside None xs ys e = roomed_piece xs ys e
+roomed_beside (Some m) xs ys e = refl
+
 module _ {B : Type 0} (contents : B → List ℕ) (layers : B → List Layer) (size : B → ℕ) (v : Volumed B) (snaps : List (Kept B)) (e : map unroomed snaps ≡ map unroomed v.snaps) where
   pub books_roomed : map (snap_books contents layers) snaps ≡ map (snap_books contents layers) v.snaps
   books_roomed = roomed (snap_books contents layers) snaps v.snaps e (λ s. refl)
 
+  -- the merge sees no room
+  goes_roomed : (merge : Option (Merging B)) → GoesOn contents layers size merge v → GoesOn contents layers size merge (record v { snaps = snaps })
+  goes_roomed None h = h
+  goes_roomed (Some m) h = record {
+    origin = h.origin;
+    apart = λ k d lt. subst (λ (x : Kept B). x.number ≢ m.number) (roomed_at snaps v.snaps k d e lt) (h.apart k d (omega (arith, lt, roomed_length snaps v.snaps e)));
+    given = h.given;
+    few = omega (arith, h.few, roomed_length snaps v.snaps e);
+    goes = λ loud. subst (λ (xs : List SnapBooks). MergeGoes xs (merging_due contents loud m)) (sym books_roomed) (h.goes loud);
+    rooms = subst (KeepBack m.state.chunk m.pairs) (sym (roomed (room_of contents layers) snaps v.snaps e (λ s. refl))) h.rooms;
+  }
+
   pub whole_roomed : IsWhole contents layers size v → IsWhole contents layers size (record v { snaps = snaps })
   whole_roomed h =
       let bs = books_of contents layers size v in
-      let piece = roomed_piece snaps v.snaps e in
+      let piece = roomed_beside v.merge snaps v.snaps e in
       let len = roomed_length snaps v.snaps e in
       let sums = roomed_sum count_in snaps v.snaps e (λ s. refl) in
       let lefts = roomed_sum starts_left snaps v.snaps e (λ s. refl) in
       record {
-        alone = h.alone;
+        merge = goes_roomed v.merge h.merge;
         holds = subst (λ (xs : List SnapBooks). let b : Books = record bs { snaps = xs } in Holds b) (sym books_roomed) h.holds;
         waits = subst (λ (xs : List SnapBooks). let b : Books = record bs { snaps = xs } in Waits b) (sym books_roomed) h.waits;
         snaps = λ k d lt. subst (λ (n : ℕ). IsAttached v.copies (size v.origin) n (get_or snaps k d)) (sym piece)
-            (seen v.copies (size v.origin) (piece_of v.snaps) (get_or snaps k d)
-            (subst (IsAttached v.copies (size v.origin) (piece_of v.snaps)) (roomed_at snaps v.snaps k d e lt) (hidden v.copies (size v.origin) (piece_of v.snaps) (get_or v.snaps k d) (h.snaps k d (omega (arith, lt, len))))));
+            (seen v.copies (size v.origin) (piece_with v.merge v.snaps) (get_or snaps k d)
+            (subst (IsAttached v.copies (size v.origin) (piece_with v.merge v.snaps)) (roomed_at snaps v.snaps k d e lt) (hidden v.copies (size v.origin) (piece_with v.merge v.snaps) (get_or v.snaps k d) (h.snaps k d (omega (arith, lt, len))))));
         counted = λ k d lt. seen_counts (get_or snaps k d)
             (subst IsCounted (roomed_at snaps v.snaps k d e lt) (hidden_counts (get_or v.snaps k d) (h.counted k d (omega (arith, lt, len)))));
         apart = λ i j d lt inside.

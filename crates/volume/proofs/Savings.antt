@@ -19,14 +19,14 @@ use Rattle.volume_laws.proofs.Preparing.{prepared_start, prepared_spoil, saving_
 use Rattle.snapshot.specs.Kept.{Kept, books_of as snap_books}
 use Rattle.snapshot.specs.Calls.{StartsAt, started}
 use Rattle.volume.specs.Volumed.{Volumed, books_of}
-use Rattle.snapshots.specs.Numbers.{numbers_in, count_in}
+use Rattle.snapshots.specs.Numbers.{count_in}
 use Rattle.volume.specs.Whole.{IsWhole, IsCounted}
 use Rattle.snapshots.specs.Starting.{lacks, is_full_of, starts, overflows, overflowing, spoilt_of, IsSavedIn, AreSavedIn}
 use Rattle.snapshots.proofs.Overflowing.{overflowing_full, overflowing_fine, starts_fine}
 use Rattle.volume.proofs.Changing.{same_disk, changed, changes, spoils_one, whole_changed, books_within, books_is}
 use Rattle.volume.proofs.SavingAt.{AreSavingAt, saving_here_at, saving_set_at}
 use Rattle.volume.proofs.Sums.{count_cons}
-use Rattle.volume.proofs.Begins.{begun, count_more, whole_begun, numbers_pushed}
+use Rattle.volume.proofs.Begins.{begun, count_more, whole_begun, numbers_pushed, room_begun, room_spoilt}
 use Rattle.volume.proofs.StartsLeft.{left_spoilt, left_started}
 use Rattle.volume.proofs.MovedCounts.{counted_begun, counted_spoilt}
 
@@ -79,7 +79,7 @@ module _ {B : Type 0} (contents : B → List ℕ) (layers : B → List Layer) (s
         let prepared = prepared_start which k p (snap_books contents layers s) (snap_books contents layers t) (books_of contents layers size v0) (books_of contents layers size v) (books_of contents layers size (begun contents layers size v k s t within is)) h.prepared change at.event live in
         record {
           whole = whole_begun contents layers size v k s t within is h.whole (ap (λ (x : Kept B). x.number) at.fields) (ap (λ (x : Kept B). x.state.chunk) at.fields) (ap (λ (x : Kept B). x.state.origin) at.fields)
-              (numbers_pushed s t p (ap (λ (x : Kept B). x.marks) at.fields) (ap (λ (x : Kept B). x.copies) at.fields)) (ap (λ (x : Kept B). x.merging) at.fields) (λ counts. counted_begun contents layers s t p live at counts) (left_started contents layers first s t p (subst IsCounted (sym is) (h.whole.counted k s within)).some starting live at) room prepared.holds prepared.waits;
+              (numbers_pushed s t p (ap (λ (x : Kept B). x.marks) at.fields) (ap (λ (x : Kept B). x.copies) at.fields)) (ap (λ (x : Kept B). x.merging) at.fields) (λ counts. counted_begun contents layers s t p live at counts) (left_started contents layers first s t p (subst IsCounted (sym is) (h.whole.counted k s within)).some starting live at) room prepared.holds prepared.waits (room_begun contents layers p s t at);
           prepared = prepared;
           saving = saved_now t (begun contents layers size v k s t within is) refl
               (saving_set_at first k (snap_books contents layers t) (map (snap_books contents layers) v.snaps) h.saving (books_within contents layers size v v.origin k s t within is) (λ _. saving_started (first / t.state.chunk) p (snap_books contents layers s) (snap_books contents layers t) at.event (ap (λ (x : Kept B). first / x.state.chunk) (sym at.fields))));
@@ -95,7 +95,7 @@ module _ {B : Type 0} (contents : B → List ℕ) (layers : B → List Layer) (s
         let prepared = prepared_spoil which k (snap_books contents layers s) (snap_books contents layers x) (books_of contents layers size v0) (books_of contents layers size v) (books_of contents layers size w) h.prepared spoil refl refl in
         record {
           whole = whole_changed contents layers size v v.origin k s x within is (map (refused_of (s.number ∷ [])) v.flights) h.whole same (record { number = refl; chunk_is = refl; origin = refl; numbers = inr (inr refl); few = omega arith; counted = λ counts. counted_spoilt s counts; left = left_spoilt s x refl })
-              (refused_numbers (s.number ∷ []) v.flights) prepared.holds prepared.waits;
+              (refused_numbers (s.number ∷ []) v.flights) prepared.holds prepared.waits (room_spoilt contents layers s);
           prepared = prepared;
           saving = saved_now x w refl (saving_set_at first k (snap_books contents layers x) (map (snap_books contents layers) v.snaps) h.saving (books_within contents layers size v v.origin k s x within is) (λ live. absurd (false≢true live)));
         }

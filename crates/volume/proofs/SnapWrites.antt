@@ -23,7 +23,7 @@ use Rattle.volume_laws.specs.Accepting.{IsPrepared, IsTakenIn}
 use Rattle.volume_laws.proofs.Preparing.{prepared_none, prepared_start, prepared_spoil}
 use Rattle.snapshot.specs.Kept.{Kept, books_of as snap_books}
 use Rattle.snapshot.specs.Calls.{StartsAt, started}
-use Rattle.volume.specs.Volumed.{Volumed, books_of, piece_of, plain_of}
+use Rattle.volume.specs.Volumed.{Volumed, books_of, piece_with, plain_of}
 use Rattle.snapshots.specs.Numbers.{count_in}
 use Rattle.volume.specs.Whole.{IsWhole, IsCounted}
 use Rattle.plain.specs.declared.request.Reply.{Reply}
@@ -36,13 +36,13 @@ use Rattle.snapshots.specs.Starting.{lacks, is_full_of, starts, overflows, spoil
 use Rattle.snapshots.proofs.Roomed.{roomed}
 use Rattle.volume.specs.Submitting.{IsAsked, IsAcceptedAs, IsFoundFull, entered_of, lives_after, spoiled_by}
 use Rattle.volume.proofs.Accepts.{entered_flown}
-use Rattle.volume.proofs.Begins.{whole_begun, numbers_pushed}
+use Rattle.volume.proofs.Begins.{whole_begun, numbers_pushed, room_begun, room_spoilt}
 use Rattle.volume.proofs.ByKind.{snap_write_held_enters}
-use Rattle.volume.proofs.Changing.{same_disk, changes, piece_set, spoils_one, whole_changed, loud_changed}
+use Rattle.volume.proofs.Changing.{same_disk, changes, piece_beside, spoils_one, whole_changed, loud_changed}
 use Rattle.volume.proofs.Enters.{fresh_plain, whole_entered, plain_entered}
 use Rattle.volume.proofs.Finishes.{plain_roomed, loud_roomed}
 use Rattle.volume.proofs.Named.{IsNamed}
-use Rattle.volume.proofs.Roomed.{roomed_piece, roomed_sum, whole_roomed}
+use Rattle.volume.proofs.Roomed.{roomed_beside, roomed_sum, whole_roomed}
 use Rattle.volume.proofs.Savings.{neither, refused_numbers}
 use Rattle.volume.proofs.Shown.{shown, loud_books}
 use Rattle.volume.proofs.Sums.{count_cons}
@@ -102,7 +102,7 @@ module _ {B : Type 0} (contents : B → List ℕ) (layers : B → List Layer) (s
   first_roomy : IsFirst (λ (x : Kept B). nat_eq x.number id) k s1 (set v.snaps k s1)
   first_roomy = named_first contents layers size roomy roomy_whole id k s1 (record { within = within_roomy; is = is_roomy; live = live_roomy; number = number_roomy })
 
-  module _ (f : Flight) (number : f.number ≡ v.requests + 1) (asked : IsAsked (size v.origin) (piece_of v.snaps) f.request) (room : length f.room.items ≡ room_of f.request) (kind : kind_of f.request ≡ SnapWrite id) (route : f.route ≡ Held)
+  module _ (f : Flight) (number : f.number ≡ v.requests + 1) (asked : IsAsked (size v.origin) (piece_with v.merge v.snaps) f.request) (room : length f.room.items ≡ room_of f.request) (kind : kind_of f.request ≡ SnapWrite id) (route : f.route ≡ Held)
       (space : length v.flights < 64) (few : sum_by count_in v.snaps + count_by (λ x. nat_eq x.number id && starts f.request.range.first x) v.snaps ≤ 256)
       (t : Kept B) (buffer : Vec ℕ) (begins : starts f.request.range.first s1 ≡ true) (at : StartsAt contents layers (started (v.copies + 1) (f.request.range.first / s1.state.chunk) s1.next buffer) s1 t) where
     abbrev copy : ChunkCopy
@@ -130,10 +130,10 @@ module _ {B : Type 0} (contents : B → List ℕ) (layers : B → List Layer) (s
     whole_copying : IsWhole contents layers size copying
     whole_copying = whole_begun contents layers size roomy k s1 t within_roomy is_roomy roomy_whole (ap (λ (x : Kept B). x.number) at.fields) (ap (λ (x : Kept B). x.state.chunk) at.fields) (ap (λ (x : Kept B). x.state.origin) at.fields)
         (numbers_pushed s1 t copy (ap (λ (x : Kept B). x.marks) at.fields) (ap (λ (x : Kept B). x.copies) at.fields)) (ap (λ (x : Kept B). x.merging) at.fields) (λ counts. counted_begun contents layers s1 t copy live_roomy at counts)
-        (left_started contents layers f.request.range.first s1 t copy (subst IsCounted (sym is_roomy) (roomy_whole.counted k s1 within_roomy)).some begins live_roomy at) few_copies prepared_copying.holds prepared_copying.waits
+        (left_started contents layers f.request.range.first s1 t copy (subst IsCounted (sym is_roomy) (roomy_whole.counted k s1 within_roomy)).some begins live_roomy at) few_copies prepared_copying.holds prepared_copying.waits (room_begun contents layers copy s1 t at)
 
-    piece_copying : piece_of (set (set v.snaps k s1) k t) ≡ piece_of v.snaps
-    piece_copying = piece_set (set v.snaps k s1) k s1 t is_roomy (ap (λ (x : Kept B). x.state.chunk) at.fields) ∙ roomed_piece (set v.snaps k s1) v.snaps one_roomed
+    piece_copying : piece_with v.merge (set (set v.snaps k s1) k t) ≡ piece_with v.merge v.snaps
+    piece_copying = piece_beside v.merge (set v.snaps k s1) k s1 t is_roomy (ap (λ (x : Kept B). x.state.chunk) at.fields) ∙ roomed_beside v.merge (set v.snaps k s1) v.snaps one_roomed
 
     last_copy : (ps : List ChunkCopy) (p : ChunkCopy) → Any (λ (x : ChunkCopy). x.pair.old ≡ p.pair.old) (ps ++ p ∷ [])
     last_copy ps p = (length ps, p, omega (arith, length-append ps (p ∷ [])), (let e : length ps ≡ length ps + 0 = omega arith in ap (λ i. get_or (ps ++ p ∷ []) i p) e ∙ get_or-append-add ps (p ∷ []) 0 p), refl)
@@ -175,14 +175,14 @@ module _ {B : Type 0} (contents : B → List ℕ) (layers : B → List Layer) (s
           ∙ loud_roomed contents layers size v (set v.snaps k s1) one_roomed;
       legal = λ loud.
           (let c = f.request.range.first in
-          subst (λ (ns : List ℕ). IsSubmitted ns (plain_of contents layers v) f.number f.request (plain_of contents layers (entered_of f copying))) (sym (ap (λ (q : Kind). spoiled_by q c v.snaps) kind))
+          subst (λ (ns : List ℕ). IsSubmitted ns (plain_of contents layers v) f.number f.request (plain_of contents layers (entered_of f copying))) (sym (ap (λ (q : Kind). spoiled_by q c v.merge v.snaps) kind))
           (subst (λ (p : Plain). IsSubmitted [] p f.number f.request (plain_of contents layers (entered_of f copying))) (plain_roomed contents layers size v (set v.snaps k s1) one_roomed)
           (plain_entered contents layers size roomy (entered_of f copying) [] f.number f.request taken (loud_roomed contents layers size v (set v.snaps k s1) one_roomed ∙ loud))));
       lives =
           (let c = f.request.range.first in
           map-set_same (λ (x : Kept B). x.live) (set v.snaps k s1) k t s1 (ap (λ (x : Kept B). x.live) at.fields ∙ ap (λ (x : Kept B). x.live) is_roomy)
           ∙ roomed (λ (x : Kept B). x.live) (set v.snaps k s1) v.snaps one_roomed (λ x. refl)
-          ∙ sym (ap (λ (q : Kind). lives_after q c v.snaps) kind));
+          ∙ sym (ap (λ (q : Kind). lives_after q c v.merge v.snaps) kind));
       flown = entered_flown v.flights v.flights f refl;
       exact = held_submitted;
       kept = keeps_begun contents layers v (entered_of f copying) k (set v.snaps k s1) s1 t copy refl refl refl refl one_roomed is_roomy at;
@@ -200,7 +200,7 @@ module _ {B : Type 0} (contents : B → List ℕ) (layers : B → List Layer) (s
 
   pub filled_whole : IsWhole contents layers size filled
   filled_whole = whole_changed contents layers size roomy v.origin k s1 (spoilt_of s1) within_roomy is_roomy (map (refused_of (s1.number ∷ [])) v.flights) roomy_whole (same_disk contents layers size v.origin)
-      (record { number = refl; chunk_is = refl; origin = refl; numbers = inr (inr refl); few = omega arith; counted = λ counts. counted_spoilt s1 counts; left = left_spoilt s1 (spoilt_of s1) refl }) (refused_numbers (s1.number ∷ []) v.flights) prepared_filled.holds prepared_filled.waits
+      (record { number = refl; chunk_is = refl; origin = refl; numbers = inr (inr refl); few = omega arith; counted = λ counts. counted_spoilt s1 counts; left = left_spoilt s1 (spoilt_of s1) refl }) (refused_numbers (s1.number ∷ []) v.flights) prepared_filled.holds prepared_filled.waits (room_spoilt contents layers s1)
 
   pub found_full : (c : ℕ) → overflows c s1 ≡ true → place_of_snap id v.snaps ≡ Some k → IsFoundFull contents layers id c v filled
   found_full c over found = record {
@@ -243,13 +243,13 @@ saved_full contents layers c s t m l fs gs e lacking same = elim (cases_Bool (st
 
 module _ {B : Type 0} (contents : B → List ℕ) (layers : B → List Layer) (size : B → ℕ) (v : Volumed B) (h : IsWhole contents layers size v) (id k : ℕ) (s : Kept B) (n : IsNamed v id k s) (s1 : Kept B) (e1 : unroomed s1 ≡ unroomed s) (t : Kept B) (m : ℕ) (gs : List Flight) where
   -- a number was given: the write is in flight
-  pub held_done : (f : Flight) (request : Request) → f.request ≡ request → f.number ≡ v.requests + 1 → f.route ≡ Held → length v.flights < 64 → IsAsked (size v.origin) (piece_of v.snaps) request → length f.room.items ≡ room_of request → kind_of request ≡ SnapWrite id
+  pub held_done : (f : Flight) (request : Request) → f.request ≡ request → f.number ≡ v.requests + 1 → f.route ≡ Held → length v.flights < 64 → IsAsked (size v.origin) (piece_with v.merge v.snaps) request → length f.room.items ≡ room_of request → kind_of request ≡ SnapWrite id
       → sum_by count_in v.snaps + count_by (λ x. nat_eq x.number id && starts request.range.first x) v.snaps ≤ 256
       → IsSavedIn contents layers request.range.first s1 t v.copies m v.flights gs → m ≢ v.copies
       → IsWhole contents layers size (entered_of f (record v { snaps = set (set v.snaps k s1) k t; copies = m; flights = gs }))
       × IsAcceptedAs contents layers request f.number v (entered_of f (record v { snaps = set (set v.snaps k s1) k t; copies = m; flights = gs }))
   held_done f request same number route space = subst
-      (λ (r : Request). IsAsked (size v.origin) (piece_of v.snaps) r → length f.room.items ≡ room_of r → kind_of r ≡ SnapWrite id
+      (λ (r : Request). IsAsked (size v.origin) (piece_with v.merge v.snaps) r → length f.room.items ≡ room_of r → kind_of r ≡ SnapWrite id
       → sum_by count_in v.snaps + count_by (λ x. nat_eq x.number id && starts r.range.first x) v.snaps ≤ 256
       → IsSavedIn contents layers r.range.first s1 t v.copies m v.flights gs → m ≢ v.copies
       → IsWhole contents layers size (entered_of f (record v { snaps = set (set v.snaps k s1) k t; copies = m; flights = gs }))

@@ -30,14 +30,15 @@ use Rattle.volume_laws.specs.Held.{SnapHolds, RouteHolds, RefusedHolds}
 use Rattle.volume_laws.specs.Due.{left_in}
 use Rattle.volume_laws.specs.Steps.{OnlyTakesOut, TakesOut, WritesPlace}
 use Rattle.volume_laws.specs.Waits.{WaitsHolds, Waits}
-use Rattle.volume_laws.specs.Whole.{UnmergedHolds, OriginHolds}
 use Rattle.volume_laws.specs.Outcomes.{IsReply}
 use Rattle.volume_laws.proofs.Same.{same_books}
 use Rattle.volume_laws.proofs.Waiting.{KeepsWaiting, waits_out, waits_changed}
 use Rattle.volume_laws.proofs.WholeOne.{snap_holds}
+use Rattle.volume_laws.proofs.MergeRooms.{KeepsRoom}
 use Rattle.volume_laws.proofs.Issuing.{io_snap_read_event, io_snap_write_event, snap_place_event, refused_read_event, refused_write_event}
 use Rattle.volume_laws.proofs.IssuingWrites.{snap_write_event}
 use Rattle.snapshot.specs.Kept.{Kept, books_of as snap_books, due_of_kept}
+use Rattle.merge_beside.specs.Rooms.{room_of}
 use Rattle.volume.specs.Flying.{Fits}
 use Rattle.volume.specs.Volumed.{Volumed, books_of, dues_of}
 use Rattle.snapshots.specs.Numbers.{numbers_in}
@@ -45,28 +46,16 @@ use Rattle.volume.specs.Whole.{IsWhole, IsCounted}
 use Rattle.volume.specs.Causes.{HasReplied, IsFaultless, FailsAlone, GoesTo}
 use Rattle.std.proofs.lemmas.List.Folds.{list_any-from_Any}
 use Rattle.snapshots.proofs.Finds.{position_within, any_of}
-use Rattle.volume.proofs.Changing.{same_disk, StaysAttached, few_same, changed, books_within, books_is, changes, snaps_changed, snaps_fit, loud_changed}
+use Rattle.volume.proofs.Changing.{same_disk, StaysAttached, few_same, changed, books_within, books_is, changes, goes_changed, goes_same, snaps_changed, snaps_fit, loud_changed}
 use Rattle.volume.proofs.Counting.{counts_same, counts_store, store_within, lives_same, kept_changed}
 use Rattle.volume.proofs.Good.{IsGood}
 use Rattle.volume.proofs.IssueEvents.{reply_good, taken_out, fits_read, fits_write}
 use Rattle.volume.proofs.DiskIssues.{read_kinds, write_kinds}
 use Rattle.volume.proofs.StartsLeft.{left_same}
 use Rattle.volume.proofs.MovedCounts.{counted_device}
-use Rattle.volume.proofs.Alone.{alone_books}
 
 store_ne_refused : (place : ℕ) → Store place ≢ Refused
 store_ne_refused place c = cc
-
--- a request of a snapshot, or of the origin
-snap_dev : (dev : Dev) (op : Op) (n : ℕ) → (kind_at dev op ≡ SnapRead n) ⊎ (kind_at dev op ≡ SnapWrite n) → dev ≡ Snap n
-snap_dev AtOrigin Read n (inl e) = absurd (cc)
-snap_dev AtOrigin Read n (inr e) = absurd (cc)
-snap_dev AtOrigin (Write b) n (inl e) = absurd (cc)
-snap_dev AtOrigin (Write b) n (inr e) = absurd (cc)
-snap_dev (Snap m) Read n (inl e) = ap Snap (let same : m ≡ n = cc in same)
-snap_dev (Snap m) Read n (inr e) = absurd (cc)
-snap_dev (Snap m) (Write b) n (inl e) = absurd (cc)
-snap_dev (Snap m) (Write b) n (inr e) = ap Snap (let same : m ≡ n = cc in same)
 
 pub snap_reads : (dev : Dev) (op : Op) (n : ℕ) → dev ≡ Snap n → op ≡ Read → kind_at dev op ≡ SnapRead n
 snap_reads dev op n d o = ap (λ x. kind_at x op) d ∙ ap (kind_at (Snap n)) o
@@ -92,27 +81,22 @@ module _ {B : Type 0} (contents : B → List ℕ) (layers : B → List Layer) (s
   waiting : WaitsHolds vb.merge vb.snaps r
   waiting = subst (WaitsHolds vb.merge vb.snaps) (sym was) (h.waits.held place r in_list)
 
-  unmerged : UnmergedHolds r
-  unmerged = subst UnmergedHolds (sym was)
-      ((subst (OriginHolds (contents v.origin) v.flights) (alone_books contents layers (is_loud (layers v.origin)) v.merge h.alone) h.holds.merge) place r in_list)
-
-  -- a request that goes to a store is of a snapshot that is there
-  pub is_snap : (at : ℕ) → r.route ≡ Store at → (n : ℕ) × (r.request.dev ≡ Snap n) × Any (λ (s : SnapBooks). s.number ≡ n) vb.snaps
-  is_snap at route = by r.request.op refl
+  -- a request that is not of the origin is of a snapshot that is there
+  pub is_snap : r.request.dev ≢ AtOrigin → (n : ℕ) × (r.request.dev ≡ Snap n) × Any (λ (s : SnapBooks). s.number ≡ n) vb.snaps
+  is_snap other = by r.request.dev refl
     where
-      by : (op : Op) → r.request.op ≡ op → (n : ℕ) × (r.request.dev ≡ Snap n) × Any (λ (s : SnapBooks). s.number ≡ n) vb.snaps
-      by Read is = elim (read_kinds r.request.dev r.request.op is) [
-        | inl kind ↦ absurd (unmerged.read at kind route)
-        | inr k ↦ (k.0, snap_dev r.request.dev r.request.op k.0 (inl k.1), waiting.read_attached k.0 k.1)
-      ]
-      by (Write bytes) is = elim (write_kinds r.request.dev r.request.op bytes is) [
-        | inl kind ↦ absurd (unmerged.write at kind route)
-        | inr k ↦ (k.0, snap_dev r.request.dev r.request.op k.0 (inr k.1), waiting.write_attached k.0 k.1)
-      ]
+      at : (n : ℕ) → r.request.dev ≡ Snap n → (op : Op) → r.request.op ≡ op → Any (λ (s : SnapBooks). s.number ≡ n) vb.snaps
+      at n of Read is = waiting.read_attached n (snap_reads r.request.dev r.request.op n of is)
+      at n of (Write bytes) is = waiting.write_attached n (snap_writes r.request.dev r.request.op n bytes of is)
+
+      by : (dev : Dev) → r.request.dev ≡ dev → (n : ℕ) × (r.request.dev ≡ Snap n) × Any (λ (s : SnapBooks). s.number ≡ n) vb.snaps
+      by AtOrigin of = absurd (other of)
+      by (Snap n) of = (n, of, at n of r.request.op refl)
 
   -- it is answered Invalid
   pub refused_good : r.route ≡ Refused → IsGood contents layers size faults done (Issue number) (Replied number (IsRefused IsInvalid)) v (record v { flights = remove v.flights place })
-  refused_good route = reply_good contents layers size faults done v w h number place (IsRefused IsInvalid) in_list refl refl refl refl refl (snaps_fit contents layers size v (size v.origin) h refl) refl refl (record { attached = refl; numbers = refl; chunks = refl; merged = refl; sizes = refl }) (by r.request.op refl)
+  refused_good route = reply_good contents layers size faults done v w h number place (IsRefused IsInvalid) in_list refl refl refl refl (snaps_fit contents layers size v (size v.origin) h refl)
+      (goes_same contents layers size v w v.merge refl refl refl h.merge) refl refl refl refl (record { attached = refl; numbers = refl; chunks = refl; merged = refl; sizes = refl }) (by r.request.op refl)
       (waits_out place vb wb h.waits in_list refl refl refl) (record { counts = refl; lives = refl }) (inl refl) (taken_out number place (IsRefused IsInvalid) r vb wb only.out tt)
     where
       w : Volumed B
@@ -192,6 +176,10 @@ module _ {B : Type 0} (contents : B → List ℕ) (layers : B → List Layer) (s
       keeps = subst (λ (x : Kept B). KeepsWaiting (snap_books contents layers s) (snap_books contents layers x)) (sym f)
           (record { number = refl; live = refl; untried = refl; chunk = refl; unsaved = λ first e. e; saving = λ c e. e; copying = λ c e. e })
 
+      rooms : KeepsRoom (room_of contents layers s) (room_of contents layers s')
+      rooms = subst (λ (x : Kept B). KeepsRoom (room_of contents layers s) (room_of contents layers x)) (sym f)
+          (record { saved = record { live = λ e. e; chunk = λ _. refl; saving = λ _ c e. e; published = λ _ c e. e }; kept_back = λ _. omega arith; merging = λ _ n e. e; mine = λ _ n c same e. e; spare = λ _ none there _. there none })
+
       waits : Waits wb
       waits = waits_out place ub wb
           (waits_changed k (snap_books contents layers s) (snap_books contents layers s') vb ub h.waits (changes contents layers size v v.origin k s s' within is (same_disk contents layers size v.origin)) keeps) in_list refl refl refl
@@ -209,8 +197,9 @@ module _ {B : Type 0} (contents : B → List ℕ) (layers : B → List Layer) (s
           omega (arith, e, at_k, same, now)
 
       good : (reply : Reply) → IsReply number reply vb wb → HasReplied faults number reply v issued → Fits r.request.op r.request.range reply → IsGood contents layers size faults done (Issue number) (Replied number reply) v issued
-      good reply answered cause fits = reply_good contents layers size faults done v issued h number place reply in_list refl refl refl refl refl
-          (snaps_changed contents layers size v v.origin k s s' within is h (same_disk contents layers size v.origin) stays) lefts
+      good reply answered cause fits = reply_good contents layers size faults done v issued h number place reply in_list refl refl refl refl
+          (snaps_changed contents layers size v v.origin k s s' within is h (same_disk contents layers size v.origin) stays)
+          (goes_changed contents layers size v issued v.merge k s s' within is refl refl refl stays.number rooms h.merge) refl refl lefts
           (loud_changed contents layers size v v.origin k s s' within is (remove v.flights place) (same_disk contents layers size v.origin) loud_now)
           (kept_changed size v v.origin k s s' (remove v.flights place) within is refl (ap size device ∙ sized) stays.number stays.chunk_is) answered waits cause
           (inr (suc k, store_within v v.origin k s s' (remove v.flights place) within is done, counts_store v v.origin k s s' (remove v.flights place) within is done refl (ap done device ∙ more))) (taken_out number place reply r vb wb out fits)
@@ -224,7 +213,7 @@ module _ {B : Type 0} (contents : B → List ℕ) (layers : B → List Layer) (s
       failed : (kind_of r.request ≡ SnapRead s.number) ⊎ (kind_of r.request ≡ SnapWrite s.number) → faults d ≡ next_count (faults s.device) → (n : ℕ) × GoesTo number n v × FailsAlone faults n v issued
       failed kind one_more = (
         suc k,
-        record { place = place; flight = r; within = in_list; is = was; mine = mine; route = inr (at, k, s, route, record { within = within; is = is }, refl, kind) },
+        record { place = place; flight = r; within = in_list; is = was; mine = mine; route = inr (inl (at, k, s, route, record { within = within; is = is }, refl, kind)) },
         record { counts = counts_store v v.origin k s s' (remove v.flights place) within is faults refl (ap faults device ∙ one_more); lives = lives_same v v.origin k s s' (remove v.flights place) within is (ap (λ (x : Kept B). x.live) f) },
       )
 

@@ -9,21 +9,22 @@ use Rattle.model.specs.Picture.{place_of}
 use Rattle.sector.specs.declared.pair.Pair.{Pair}
 use Rattle.plain.specs.declared.request.Request.{Request}
 use Rattle.pending.specs.Kinds.{kind_of}
-use Rattle.pending.specs.Routes.{read_route_of}
+use Rattle.pending.specs.Routes.{read_route_of, write_route_of}
 use Rattle.pending.specs.declared.copies.Mark.{Mark}
-use Rattle.pending.specs.declared.flights.Kind.TheVariants.{OriginRead, SnapRead, SnapWrite}
+use Rattle.pending.specs.declared.flights.Kind.TheVariants.{OriginRead, OriginWrite, SnapRead, SnapWrite}
 use Rattle.pending.specs.declared.flights.Route.{Route}
-use Rattle.pending.specs.declared.flights.Route.TheVariants.{Held, Origin}
+use Rattle.pending.specs.declared.flights.Route.TheVariants.{Held}
 use Rattle.volume_laws.specs.Again.{published_place}
 use Rattle.volume_laws.specs.Published.{is_published}
 use Rattle.snapshot.specs.Kept.{Kept}
+use Rattle.merge_beside.specs.Routing.{is_grouped_at, place_at, is_merged_at}
 use Rattle.volume.specs.Volumed.{Volumed}
 use Rattle.volume.specs.Whole.{IsWhole}
 use Rattle.snapshots.specs.Starting.{lacks}
 use Rattle.volume.specs.Submitting.{IsEntered}
 use Rattle.volume.specs.Exact.{IsSubmittedAs}
 use Rattle.volume.proofs.Exactly.{holds_live}
-use Rattle.volume.proofs.MovedAccepts.{origin_read_is, snap_read_is, snap_write_placed_is, snap_write_waits_is}
+use Rattle.volume.proofs.MovedAccepts.{origin_read_is, merged_write_is, snap_read_is, snap_write_placed_is, snap_write_waits_is}
 use Rattle.volume.proofs.MovedFound.{snap_first}
 use Rattle.volume.proofs.MovedLists.{IsFirst, if_true, if_false}
 use Rattle.volume.proofs.MovedSubmits.{IsSized}
@@ -59,8 +60,12 @@ module _ {B : Type 0} (contents : B → List ℕ) (layers : B → List Layer) (s
   named_first id k s n = snap_first contents layers size v h id k s n.within n.is (λ (x : Kept B). x.number == id) (λ x e. eqb-true x.number id e) (eq-eqb s.number id n.number)
 
   module _ (request : Request) (route : Route) (number : ℕ) (w : Volumed B) (e : IsEntered contents layers request route number v w) where
-    pub origin_read_submitted : kind_of request ≡ OriginRead → route ≡ Origin → IsSubmittedAs contents layers request number v w
+    pub origin_read_submitted : kind_of request ≡ OriginRead → route ≡ read_route_of (place_at request.range.first v.merge) → IsSubmittedAs contents layers request number v w
     origin_read_submitted kind is replied = origin_read_is contents layers replied number request e.flight e.number_is e.request_is v w kind (e.route_is ∙ is) e.becomes
+
+    -- a write of the origin that is the merge's
+    pub merged_write_submitted : kind_of request ≡ OriginWrite → is_merged_at request.range.first v.merge ≡ true → route ≡ write_route_of (is_grouped_at request.range.first v.merge) (place_at request.range.first v.merge) false → IsSubmittedAs contents layers request number v w
+    merged_write_submitted kind merged is replied = merged_write_is contents layers replied number request e.flight e.number_is e.request_is v w kind merged (e.route_is ∙ is) e.becomes
 
     -- of the snapshot that is named
     module _ (id k : ℕ) (s : Kept B) (n : IsNamed v id k s) where

@@ -1,9 +1,9 @@
 -- A message changes the layers of one device: a volume stays whole, its books and what callers see are the same, and the
 -- event machine has other layers there.
-use Rattle.std.proofs.Common.{◌≡◌, ◌⊎◌, inl, inr, ℕ, zero, suc, ◌<◌, Bool, true, false, List, [], ◌∷◌, Option, Some, None, length, get_or, set, map, refl, sym, ◌∙◌, ap, subst, arith}
+use Rattle.std.proofs.Common.{◌≡◌, inl, inr, ℕ, zero, suc, ◌<◌, Bool, true, false, List, [], ◌∷◌, Option, Some, None, length, get_or, set, map, refl, sym, ◌∙◌, ap, subst, arith, ne_eqb, eq-eqb}
 use Rattle.std.specs.Prelude.{◌&&◌, ◌==◌, Result, Ok, Err, IfOk, IfErr, OnOk, OnErr}
 use Rattle.std.specs.List.{list_all, list_any}
-use Rattle.std.proofs.lemmas.Bool.{cases_Bool, cases_eq, true≢false}
+use Rattle.std.proofs.lemmas.Bool.{cases_Bool, cases_eq, eqb-true, true≢false}
 use Rattle.std.proofs.lemmas.List.{get_or-set_same, get_or-set_other, length-set, get_or_default}
 use Rattle.device.specs.Layers.{Layer, is_loud}
 use Rattle.layers.specs.declared.message.Answer.{Answer}
@@ -14,8 +14,10 @@ use Rattle.plain.specs.declared.request.Dev.{Dev}
 use Rattle.plain.specs.declared.request.Dev.TheVariants.{Origin, Snap}
 use Rattle.plain.specs.declared.request.Reply.{Reply}
 use Rattle.sector.specs.declared.refusal.Refusal.{Refusal}
-use Rattle.sector.specs.declared.refusal.Refusal.TheVariants.{NoMemory, NoSuchDevice}
-use Rattle.event_machine.specs.Held.{Held, Moving}
+use Rattle.sector.specs.declared.refusal.Refusal.TheVariants.{NoSuchDevice}
+use Rattle.event_machine.specs.Held.{Held, MergeHeld, Moving, on_device}
+use Rattle.event_machine.specs.MergeRest.{merge_in, IsMergeResting, IsBetween}
+use Rattle.event_machine.specs.MergeSeen.{held_in, merge_held_of}
 use Rattle.settled.specs.Moments.{snap_relayered}
 use Rattle.event_machine.specs.Requests.{volume_of}
 use Rattle.event_machine.specs.Rest.{IsResting, IsAtRest}
@@ -24,13 +26,13 @@ use Rattle.settled.proofs.Each.{Each, each_from, all_from}
 use Rattle.volume_laws.specs.Whole.{plain_of as plain_books}
 use Rattle.store.specs.Layering.{IsRelayered}
 use Rattle.snapshot.specs.Kept.{Kept}
+use Rattle.merge.specs.Merging.{Merging, due_of as merging_due}
 use Rattle.volume.specs.Volumed.{Volumed, books_of, plain_of, is_loud_in_all, is_loud_with}
-use Rattle.volume.specs.Attached.{volume_in}
 use Rattle.snapshots.specs.Finding.{place_of_snap}
-use Rattle.volume.specs.Whole.{IsWhole}
-use Rattle.volume.specs.Moved.{moving_of, held_of}
-use Rattle.volume.specs.Layering.{Measures, held_relayered}
-use Rattle.volume.specs.Telling.{layers_left, layers_told, store_layers, told_under, volume_told, helds_relayered, dev_relayered, volume_relayered, IsRelayeredBy, IsOriginRelayered, IsSnapRelayered, IsRelayeredAt, IsTold, IsNotTold}
+use Rattle.volume.specs.Whole.{IsWhole, GoesOn}
+use Rattle.volume.specs.Moved.{moving_of, held_of, merge_seen}
+use Rattle.volume.specs.Layering.{Measures, held_relayered, merge_relayered}
+use Rattle.volume.specs.Telling.{layers_left, layers_told, store_layers, merging_layers, layers_or, told_under, volume_told, merged_in, helds_relayered, numbered_relayered, dev_relayered, volume_relayered, IsRelayeredBy, IsOriginRelayered, IsNotMerging, IsSnapRelayered, IsMergeRelayered, IsRelayeredAt, IsTold, IsNotTold, IsRefusal, IsMergeMet, IsMergeTold, IsMergeNotTold}
 use Rattle.volume.proofs.Accepts.{if_ok, if_err}
 use Rattle.snapshots.proofs.Finds.{position_none}
 use Rattle.volume.proofs.Keeping.{of_both}
@@ -120,9 +122,27 @@ module _ {B : Type 0} (m : Measures B) (layers : B → List Layer) (f : List Lay
             ∙ ap (λ z. (let y : Volumed B = record v { origin = w.origin; snaps = w.snaps; merge = z } in y)) (sym merge);
       }
 
+  pub merge_alike : (number : ℕ) (v w : Volumed B) → IsMergeRelayered m layers number f v w → IsVolumeAlike m.contents layers m.size v w
+  merge_alike number v w h =
+      let g : Merging B = record h.merge { device = h.device } in
+      let snaps : w.snaps ≡ v.snaps = ap (λ (x : Volumed B). x.snaps) h.becomes in
+      let origin : w.origin ≡ v.origin = ap (λ (x : Volumed B). x.origin) h.becomes in
+      let merge : w.merge ≡ Some g = ap (λ (x : Volumed B). x.merge) h.becomes in
+      let one : IsMergeAlike m.contents layers m.size (Some h.merge) (Some g) = (device_alike h.merge.device h.device h.relayered_is, refl) in
+      record {
+        origin = subst (IsAlike m.contents layers m.size v.origin) (sym origin) (same_device v.origin);
+        count = ap length snaps;
+        snaps = λ k d lt. subst (λ (xs : List (Kept B)). IsSnapAlike m.contents layers m.size (get_or v.snaps k d) (get_or xs k d)) (sym snaps) (same_snap (get_or v.snaps k d));
+        merge = subst (λ (x : Option (Merging B)). IsMergeAlike m.contents layers m.size x w.merge) (sym h.is) (subst (IsMergeAlike m.contents layers m.size (Some h.merge)) (sym merge) one);
+        becomes = h.becomes ∙ ap (λ (x : B). (let y : Volumed B = record v { origin = x; merge = Some g } in y)) (sym origin)
+            ∙ ap (λ (xs : List (Kept B)). (let y : Volumed B = record v { origin = w.origin; snaps = xs; merge = Some g } in y)) (sym snaps)
+            ∙ ap (λ z. (let y : Volumed B = record v { origin = w.origin; snaps = w.snaps; merge = z } in y)) (sym merge);
+      }
+
   pub at_alike : (dev : Dev) (v w : Volumed B) → IsRelayeredAt m layers dev f v w → IsVolumeAlike m.contents layers m.size v w
   at_alike Origin v w h = origin_alike v w h
-  at_alike (Snap number) v w h = snap_alike number v w h
+  at_alike (Snap number) v w (inl h) = snap_alike number v w h
+  at_alike (Snap number) v w (inr h) = merge_alike number v w h
 
 -- the first snapshot that has a number, in a longer list
 pub later_first : {B : Type 0} (number k : ℕ) (s y : Kept B) (ys : List (Kept B)) → IsFirst (λ (x : Kept B). x.number == number) (suc k) s (y ∷ ys) → IsFirst (λ (x : Kept B). x.number == number) k s ys
@@ -144,16 +164,57 @@ module _ {B : Type 0} (m : Measures B) (layers : B → List Layer) (f : List Lay
   helds_at number (suc k) s t (y ∷ ys) first same =
       rw (first.before 0 y (omega arith)) (ap (λ zs. held_of m.contents layers y ∷ zs) (helds_at number k s t ys (later_first number k s y ys first) same))
 
+  -- another snapshot's, and none
+  others_stay : (number : ℕ) (xs : List (Kept B)) → list_any (λ (x : Kept B). x.number == number) xs ≡ false → helds_relayered number f (map (held_of m.contents layers) xs) ≡ map (held_of m.contents layers) xs
+  others_stay number [] none = refl
+  others_stay number (x ∷ xs) none = elim (cases_Bool (x.number == number)) [
+    | inl here ↦ (let h : true ≡ false = rw here at none in absurd (true≢false h))
+    | inr other ↦ (let rest : list_any (λ (y : Kept B). y.number == number) xs ≡ false = rw other at none in rw other (ap (λ (hs : List Held). held_of m.contents layers x ∷ hs) (others_stay number xs rest)))
+  ]
+
+  merge_stays : (number : ℕ) (g : Option (Merging B)) → IsNotMerging number g → numbered_relayered number f (held_in (merge_seen m.contents layers g)) ≡ held_in (merge_seen m.contents layers g)
+  merge_stays number None other = refl
+  merge_stays number (Some g) other = rw (ne_eqb g.number number (other g refl)) refl
+
+  merge_turns : (number : ℕ) (g : Merging B) (d : B) → g.number ≡ number → IsRelayeredBy m layers f g.device d
+      → held_in (merge_seen m.contents layers (Some (record g { device = d }))) ≡ numbered_relayered number f (held_in (merge_seen m.contents layers (Some g)))
+  merge_turns number g d mine h =
+      let o : MergeHeld = merge_held_of (record { due = merging_due m.contents true g; layers = layers g.device; next = g.next }) in
+      let mk : List ℕ → List Layer → Option MergeHeld = λ bytes ls. Some (on_device o (record { bytes = bytes; layers = ls })) in
+      let turned : held_in (merge_seen m.contents layers (Some (record g { device = d }))) ≡ Some (merge_relayered f o) =
+      ap (λ b. mk b (layers d)) h.rest.contents_are ∙ ap (mk (m.contents g.device)) h.layers_are in
+      rw (eq-eqb g.number number mine) turned
+
+  snap_moving : (number : ℕ) (replied : Option Reply) (v w : Volumed B) → IsSnapRelayered m layers number f v w → moving_of m.contents layers replied w ≡ dev_relayered (Snap number) f (moving_of m.contents layers replied v)
+  snap_moving number replied v w h =
+      let o : Moving = moving_of m.contents layers replied v in
+      let mk : List Held → Option MergeHeld → Moving = λ hs g. record o { snaps = hs; merge = g } in
+      ap (moving_of m.contents layers replied) h.becomes
+      ∙ ap (λ hs. mk hs o.merge) (helds_at number h.place h.snap (record h.snap { device = h.device }) v.snaps (first_position (λ (x : Kept B). x.number == number) h.place h.snap v.snaps h.is h.found) (held_by h.snap h.device h.relayered_is))
+      ∙ ap (mk (helds_relayered number f o.snaps)) (sym (merge_stays number v.merge h.other))
+
+  merge_moving : (number : ℕ) (replied : Option Reply) (v w : Volumed B) → IsMergeRelayered m layers number f v w → moving_of m.contents layers replied w ≡ dev_relayered (Snap number) f (moving_of m.contents layers replied v)
+  merge_moving number replied v w h =
+      let o : Moving = moving_of m.contents layers replied v in
+      let mk : List Held → Option MergeHeld → Moving = λ hs g. record o { snaps = hs; merge = g } in
+      let turned : held_in (merge_seen m.contents layers (Some (record h.merge { device = h.device }))) ≡ numbered_relayered number f o.merge =
+      merge_turns number h.merge h.device h.mine h.relayered_is ∙ ap (λ (g : Option (Merging B)). numbered_relayered number f (held_in (merge_seen m.contents layers g))) (sym h.is) in
+      ap (moving_of m.contents layers replied) h.becomes
+      ∙ ap (mk o.snaps) turned
+      ∙ ap (λ hs. mk hs (numbered_relayered number f o.merge)) (sym (others_stay number v.snaps (position_none (λ (x : Kept B). x.number == number) v.snaps h.none)))
+
   pub at_moving : (dev : Dev) (replied : Option Reply) (v w : Volumed B) → IsRelayeredAt m layers dev f v w → moving_of m.contents layers replied w ≡ dev_relayered dev f (moving_of m.contents layers replied v)
   at_moving Origin replied v w h =
       let o : Moving = moving_of m.contents layers replied v in
       let mk : List ℕ → List Layer → Moving = λ bytes ls. record o { origin = record { bytes = bytes; layers = ls } } in
       ap (moving_of m.contents layers replied) h.becomes ∙ ap (λ b. mk b (layers w.origin)) h.device.rest.contents_are ∙ ap (mk (m.contents v.origin)) h.device.layers_are
-  at_moving (Snap number) replied v w h =
-      let o : Moving = moving_of m.contents layers replied v in
-      let mk : List Held → Moving = λ hs. record o { snaps = hs } in
-      ap (moving_of m.contents layers replied) h.becomes
-      ∙ ap mk (helds_at number h.place h.snap (record h.snap { device = h.device }) v.snaps (first_position (λ (x : Kept B). x.number == number) h.place h.snap v.snaps h.is h.found) (held_by h.snap h.device h.relayered_is))
+  at_moving (Snap number) replied v w (inl h) = snap_moving number replied v w h
+  at_moving (Snap number) replied v w (inr h) = merge_moving number replied v w h
+
+  -- a snapshot that is there has the store that was told
+  pub relayered_there : (number k : ℕ) (v w : Volumed B) → place_of_snap number v.snaps ≡ Some k → IsRelayeredAt m layers (Snap number) f v w → IsSnapRelayered m layers number f v w
+  relayered_there number k v w found (inl h) = h
+  relayered_there number k v w found (inr h) = (let two : Some k ≡ None = sym found ∙ h.none in absurd (cc))
 
 -- the same layers again
 helds_again : (number : ℕ) (hs : List Held) → helds_relayered number (λ ls. ls) hs ≡ hs
@@ -163,9 +224,18 @@ helds_again number (h ∷ hs) = elim (cases_Bool (h.snap.number == number)) [
   | inr other ↦ rw other (ap (λ zs. h ∷ zs) (helds_again number hs))
 ]
 
+numbered_again : (number : ℕ) (g : Option MergeHeld) → numbered_relayered number (λ ls. ls) g ≡ g
+numbered_again number None = refl
+numbered_again number (Some g) = elim (cases_Bool (g.merge.number == number)) [
+  | inl here ↦ rw here refl
+  | inr other ↦ rw other refl
+]
+
 dev_again : (dev : Dev) (v : Moving) → dev_relayered dev (λ ls. ls) v ≡ v
 dev_again Origin v = refl
-dev_again (Snap number) v = ap (λ (hs : List Held). (let w : Moving = record v { snaps = hs } in w)) (helds_again number v.snaps)
+dev_again (Snap number) v =
+    ap (λ (hs : List Held). (let w : Moving = record v { snaps = hs; merge = numbered_relayered number (λ ls. ls) v.merge } in w)) (helds_again number v.snaps)
+    ∙ ap (λ g. (let w : Moving = record v { merge = g } in w)) (numbered_again number v.merge)
 
 -- what is told
 module _ {B : Type 0} (contents : B → List ℕ) (layers : B → List Layer) where
@@ -185,12 +255,34 @@ module _ {B : Type 0} (contents : B → List ℕ) (layers : B → List Layer) wh
     | inr other ↦ (let rest : list_any (λ (y : Kept B). y.number == number) xs ≡ false = rw other at none in rw other (layers_none number xs rest))
   ]
 
-  -- a message to the store that is found, and to one that is not there
-  pub snap_told : (number k depth : ℕ) (message : Message) (s : Kept B) (v : Volumed B) → s ≡ get_or v.snaps k s → place_of_snap number v.snaps ≡ Some k → volume_told (Snap number) depth message (volume_in contents layers v) ≡ told (layers s.device) depth message
-  snap_told number k depth message s v is found = ap (λ o. told_under o depth message) (layers_first number k s v.snaps (first_position (λ (x : Kept B). x.number == number) k s v.snaps is found))
+  abbrev layers_of_merge : ℕ → Option (Merging B) → Option (List Layer)
+  layers_of_merge number g = merging_layers number (merge_in (held_in (merge_seen contents layers g)))
 
-  pub none_told : (number depth : ℕ) (message : Message) (v : Volumed B) → place_of_snap number v.snaps ≡ None → volume_told (Snap number) depth message (volume_in contents layers v) ≡ Refused NoSuchDevice
-  none_told number depth message v none = ap (λ o. told_under o depth message) (layers_none number v.snaps (position_none (λ (x : Kept B). x.number == number) v.snaps none))
+  other_layers : (number : ℕ) (g : Option (Merging B)) → IsNotMerging number g → layers_of_merge number g ≡ None
+  other_layers number None other = refl
+  other_layers number (Some g) other = rw (ne_eqb g.number number (other g refl)) refl
+
+  mine_layers : (number : ℕ) (g : Merging B) → g.number ≡ number → layers_of_merge number (Some g) ≡ Some (layers g.device)
+  mine_layers number g mine = rw (eq-eqb g.number number mine) refl
+
+  -- a message to the store that is found, to the merging one, and to one that is not there
+  pub snap_told : (number k depth : ℕ) (message : Message) (s : Kept B) (v : Volumed B) → s ≡ get_or v.snaps k s → place_of_snap number v.snaps ≡ Some k → volume_told (Snap number) depth message (merged_in contents layers v) ≡ told (layers s.device) depth message
+  snap_told number k depth message s v is found =
+      ap (λ o. told_under (layers_or o (layers_of_merge number v.merge)) depth message) (layers_first number k s v.snaps (first_position (λ (x : Kept B). x.number == number) k s v.snaps is found))
+
+  missing_told : (number depth : ℕ) (message : Message) (v : Volumed B) → place_of_snap number v.snaps ≡ None → volume_told (Snap number) depth message (merged_in contents layers v) ≡ told_under (layers_of_merge number v.merge) depth message
+  missing_told number depth message v none =
+      ap (λ o. told_under (layers_or o (layers_of_merge number v.merge)) depth message) (layers_none number v.snaps (position_none (λ (x : Kept B). x.number == number) v.snaps none))
+
+  pub merging_told : (number depth : ℕ) (message : Message) (g : Merging B) (v : Volumed B) → place_of_snap number v.snaps ≡ None → v.merge ≡ Some g → g.number ≡ number
+      → volume_told (Snap number) depth message (merged_in contents layers v) ≡ told (layers g.device) depth message
+  merging_told number depth message g v none is mine =
+      missing_told number depth message v none
+      ∙ ap (λ x. told_under (layers_of_merge number x) depth message) is
+      ∙ ap (λ o. told_under o depth message) (mine_layers number g mine)
+
+  pub none_told : (number depth : ℕ) (message : Message) (v : Volumed B) → place_of_snap number v.snaps ≡ None → IsNotMerging number v.merge → volume_told (Snap number) depth message (merged_in contents layers v) ≡ Refused NoSuchDevice
+  none_told number depth message v none other = missing_told number depth message v none ∙ ap (λ o. told_under o depth message) (other_layers number v.merge other)
 
 -- what a caller sees of a message
 module _ {B : Type 0} (m : Measures B) (layers : B → List Layer) (dev : Dev) (depth : ℕ) (message : Message) (v w : Volumed B) where
@@ -223,10 +315,6 @@ if_err_also : {X E : Type 0} (r : Result X E) (P Q : E → Type 0) (C : Type 0) 
 if_err_also (Ok x) P Q C f p c = tt
 if_err_also (Err e) P Q C f p c = f e p c
 
--- why a message to these layers is refused
-abbrev IsRefusal : List Layer → ℕ → Message → Refusal → Type 0
-IsRefusal ls depth message r = (told ls depth message ≡ Refused r) ⊎ ((r ≡ NoMemory) × NeedsRoom message (told ls depth message))
-
 -- the device under the origin answered a message
 module _ {B : Type 0} (m : Measures B) (layers : B → List Layer) (v : Volumed B) (o : B) (depth : ℕ) (message : Message) (r : Result Answer Refusal)
     (ok : IfOk r (λ a. told (layers v.origin) depth message ≡ Answered a (layers o))) (err : IfErr r (IsRefusal (layers v.origin) depth message)) (unchanged : OnErr r (layers o ≡ layers v.origin))
@@ -254,8 +342,15 @@ module _ {B : Type 0} (m : Measures B) (layers : B → List Layer) (v : Volumed 
       whole_alike m.contents layers m.size v told_origin
       (of_both r _ _ (λ a h. told_alike m layers Origin depth message v told_origin a h) (λ e h. untold_alike m layers Origin depth message v told_origin e h) origin_answered origin_refused) whole
 
+-- a snapshot that is there is not the one that is being merged
+pub apart_found : {B : Type 0} (contents : B → List ℕ) (layers : B → List Layer) (size : B → ℕ) (v : Volumed B) (number k : ℕ) (s : Kept B) → place_of_snap number v.snaps ≡ Some k → s ≡ get_or v.snaps k s → IsWhole contents layers size v → IsNotMerging number v.merge
+apart_found {B = B} contents layers size v number k s found at whole = λ g is same.
+    let on : GoesOn contents layers size (Some g) v = subst (λ (x : Option (Merging B)). GoesOn contents layers size x v) is whole.merge in
+    let first = first_position (λ (x : Kept B). x.number == number) k s v.snaps at found in
+    on.apart k s first.within (ap (λ (x : Kept B). x.number) (sym at) ∙ eqb-true s.number number first.passes ∙ sym same)
+
 -- the store of the snapshot at place k did
-module _ {B : Type 0} (m : Measures B) (layers : B → List Layer) (v : Volumed B) (number k : ℕ) (s t : Kept B) (found : place_of_snap number v.snaps ≡ Some k) (at : s ≡ get_or v.snaps k s) (depth : ℕ) (message : Message) (r : Result Answer Refusal)
+module _ {B : Type 0} (m : Measures B) (layers : B → List Layer) (v : Volumed B) (number k : ℕ) (s t : Kept B) (found : place_of_snap number v.snaps ≡ Some k) (other : IsNotMerging number v.merge) (at : s ≡ get_or v.snaps k s) (depth : ℕ) (message : Message) (r : Result Answer Refusal)
     (ok : IfOk r (λ a. told (layers s.device) depth message ≡ Answered a (layers t.device))) (err : IfErr r (IsRefusal (layers s.device) depth message)) (unchanged : OnErr r (layers t.device ≡ layers s.device))
     (rest : IsRelayered m.contents m.durable m.size m.faults m.done s.device t.device) (kept : t ≡ record s { device = t.device }) where
   abbrev told_store : Volumed B
@@ -268,20 +363,21 @@ module _ {B : Type 0} (m : Measures B) (layers : B → List Layer) (v : Volumed 
     device = t.device;
     found = found;
     is = at;
+    other = other;
     relayered_is = record { layers_are = is; rest = rest };
     becomes = ap (λ (x : Kept B). (let w : Volumed B = record v { snaps = set v.snaps k x } in w)) kept;
   }
 
-  told_is : volume_told (Snap number) depth message (volume_in m.contents layers v) ≡ told (layers s.device) depth message
+  told_is : volume_told (Snap number) depth message (merged_in m.contents layers v) ≡ told (layers s.device) depth message
   told_is = snap_told m.contents layers number k depth message s v at found
 
   by_store : (a : Answer) → told (layers s.device) depth message ≡ Answered a (layers t.device) → IsTold m layers (Snap number) depth message a v told_store
-  by_store a is = record { answer_is = ap answer_of (told_is ∙ is); device = relayered_by (layers_told depth message) (answered_layers (layers s.device) (layers t.device) depth message a is) }
+  by_store a is = record { answer_is = ap answer_of (told_is ∙ is); device = inl (relayered_by (layers_told depth message) (answered_layers (layers s.device) (layers t.device) depth message a is)) }
 
   by_unmoved : (e : Refusal) → IsRefusal (layers s.device) depth message e → layers t.device ≡ layers s.device → IsNotTold m layers (Snap number) depth message e v told_store
   by_unmoved e why same = record {
     why = elim why [ inl refused ↦ inl (told_is ∙ refused) | inr starved ↦ inr (starved.0, subst (NeedsRoom message) (sym told_is) starved.1) ];
-    same = inr (relayered_by (λ ls. ls) same);
+    same = inr (inl (relayered_by (λ ls. ls) same));
   }
 
   pub store_answered : IfOk r (λ a. IsTold m layers (Snap number) depth message a v told_store)
@@ -295,9 +391,67 @@ module _ {B : Type 0} (m : Measures B) (layers : B → List Layer) (v : Volumed 
       whole_alike m.contents layers m.size v told_store
       (of_both r _ _ (λ a h. told_alike m layers (Snap number) depth message v told_store a h) (λ e h. untold_alike m layers (Snap number) depth message v told_store e h) store_answered store_refused) whole
 
--- there is no such snapshot
-pub none_refused : {B : Type 0} (m : Measures B) (layers : B → List Layer) (v : Volumed B) (number depth : ℕ) (message : Message) → place_of_snap number v.snaps ≡ None → IsNotTold m layers (Snap number) depth message NoSuchDevice v v
-none_refused m layers v number depth message none = record { why = inl (none_told m.contents layers number depth message v none); same = inl refl }
+-- the merging store did, or there is no such snapshot
+module _ {B : Type 0} (m : Measures B) (layers : B → List Layer) (v : Volumed B) (number : ℕ) (none : place_of_snap number v.snaps ≡ None) (g : Option (Merging B)) (depth : ℕ) (message : Message) (r : Result Answer Refusal)
+    (ok : IfOk r (λ a. IsMergeTold m layers number depth message a v.merge g)) (err : IfErr r (λ e. IsMergeNotTold m layers number depth message e v.merge g)) where
+  abbrev told_merge : Volumed B
+  told_merge = record v { merge = g }
+
+  merge_by : (x : Merging B) (f : List Layer → List Layer) (h : IsMergeMet m number x v.merge g) → layers h.device ≡ f (layers x.device) → IsMergeRelayered m layers number f v told_merge
+  merge_by x f h is = record {
+    merge = x;
+    device = h.device;
+    none = none;
+    is = h.is;
+    mine = h.mine;
+    relayered_is = record { layers_are = is; rest = h.rest };
+    becomes = ap (λ (y : Option (Merging B)). (let w : Volumed B = record v { merge = y } in w)) h.becomes;
+  }
+
+  by_merge : (a : Answer) → IsMergeTold m layers number depth message a v.merge g → IsTold m layers (Snap number) depth message a v told_merge
+  by_merge a h = record {
+    answer_is = ap answer_of (merging_told m.contents layers number depth message h.merge v none h.met.is h.met.mine ∙ h.told_is);
+    device = inr (merge_by h.merge (layers_told depth message) h.met (answered_layers (layers h.merge.device) (layers h.met.device) depth message a h.told_is));
+  }
+
+  by_unheard : (e : Refusal) → IsMergeNotTold m layers number depth message e v.merge g → IsNotTold m layers (Snap number) depth message e v told_merge
+  by_unheard e (inl h) = record {
+    why = inl (none_told m.contents layers number depth message v none h.1 ∙ ap Refused (sym h.0));
+    same = inl (ap (λ (y : Option (Merging B)). (let w : Volumed B = record v { merge = y } in w)) h.2);
+  }
+  by_unheard e (inr h) =
+      let is : volume_told (Snap number) depth message (merged_in m.contents layers v) ≡ told (layers h.merge.device) depth message = merging_told m.contents layers number depth message h.merge v none h.met.is h.met.mine in
+      record {
+        why = elim h.why [ inl refused ↦ inl (is ∙ refused) | inr starved ↦ inr (starved.0, subst (NeedsRoom message) (sym is) starved.1) ];
+        same = inr (inr (merge_by h.merge (λ ls. ls) h.met h.same));
+      }
+
+  pub merge_answered : IfOk r (λ a. IsTold m layers (Snap number) depth message a v told_merge)
+  merge_answered = if_ok r _ _ by_merge ok
+
+  pub merge_refused : IfErr r (λ e. IsNotTold m layers (Snap number) depth message e v told_merge)
+  merge_refused = if_err r _ _ by_unheard err
+
+  pub merge_whole : IsWhole m.contents layers m.size v → IsWhole m.contents layers m.size told_merge
+  merge_whole whole =
+      whole_alike m.contents layers m.size v told_merge
+      (of_both r _ _ (λ a h. told_alike m layers (Snap number) depth message v told_merge a h) (λ e h. untold_alike m layers (Snap number) depth message v told_merge e h) merge_answered merge_refused) whole
+
+-- what the merging store answered
+module _ {B : Type 0} (m : Measures B) (layers : B → List Layer) (number depth : ℕ) (message : Message) (x y : Merging B) (mine : x.number ≡ number) (r : Result Answer Refusal)
+    (rest : IsRelayered m.contents m.durable m.size m.faults m.done x.device y.device) (kept : y ≡ record x { device = y.device }) where
+  abbrev merge_met : IsMergeMet m number x (Some x) (Some y)
+  merge_met = record { device = y.device; is = refl; mine = mine; rest = rest; becomes = ap Some kept }
+
+  pub met_answered : IfOk r (λ a. told (layers x.device) depth message ≡ Answered a (layers y.device)) → IfOk r (λ a. IsMergeTold m layers number depth message a (Some x) (Some y))
+  met_answered ok = if_ok r _ _ (λ a is. record { merge = x; met = merge_met; told_is = is }) ok
+
+  met_unheard : (e : Refusal) → IsRefusal (layers x.device) depth message e → layers y.device ≡ layers x.device → IsMergeNotTold m layers number depth message e (Some x) (Some y)
+  met_unheard e why same = inr (record { merge = x; met = merge_met; why = why; same = same })
+
+  pub met_refused : IfErr r (IsRefusal (layers x.device) depth message) → OnErr r (layers y.device ≡ layers x.device) → IfErr r (λ e. IsMergeNotTold m layers number depth message e (Some x) (Some y))
+  met_refused err unchanged =
+      if_err_also r (IsRefusal (layers x.device) depth message) (λ e. IsMergeNotTold m layers number depth message e (Some x) (Some y)) (layers y.device ≡ layers x.device) met_unheard err unchanged
 
 -- the clauses of a call
 module _ {B : Type 0} (m : Measures B) (layers : B → List Layer) (dev : Dev) (depth : ℕ) (message : Message) (v w : Volumed B) (r : Result Answer Refusal)
@@ -354,5 +508,33 @@ dev_rests sectors (Snap number) f v rest = record {
   whole = rest.whole;
   snaps = all_from (IsResting sectors) (helds_relayered number f v.snaps) (helds_rest sectors number f v.snaps (each_from (IsResting sectors) v.snaps rest.snaps));
   requests = rest.requests;
-  alone = rest.alone;
+  alone = ap (λ (g : Option MergeHeld). numbered_relayered number f g) rest.alone;
 }
+
+-- and beside a merge of which nothing is under way
+merge_rests : (f : List Layer → List Layer) (m : MergeHeld) → IsMergeResting m → IsMergeResting (merge_relayered f m)
+merge_rests f m rest = record { pairs = rest.pairs; free = ap (merge_relayered f) rest.free }
+
+some_is : (m g : MergeHeld) → Some m ≡ Some g → m ≡ g
+some_is m g is = cc
+
+numbered_rests : (number : ℕ) (f : List Layer → List Layer) (o : Option MergeHeld) → ((m : MergeHeld) → o ≡ Some m → IsMergeResting m) → (g : MergeHeld) → numbered_relayered number f o ≡ Some g → IsMergeResting g
+numbered_rests number f None rest g is = absurd (cc)
+numbered_rests number f (Some m) rest g is = elim (cases_Bool (m.merge.number == number)) [
+  | inl here ↦ (let turned : Some (merge_relayered f m) ≡ Some g = rw here at is in subst IsMergeResting (some_is (merge_relayered f m) g turned) (merge_rests f m (rest m refl)))
+  | inr other ↦ (let stayed : Some m ≡ Some g = rw other at is in subst IsMergeResting (some_is m g stayed) (rest m refl))
+]
+
+pub dev_between : (sectors : ℕ) (dev : Dev) (f : List Layer → List Layer) (v : Moving) → IsBetween sectors v → IsBetween sectors (dev_relayered dev f v)
+dev_between sectors Origin f v rest = record { whole = rest.whole; snaps = rest.snaps; requests = rest.requests; merge = rest.merge }
+dev_between sectors (Snap number) f v rest = record {
+  whole = rest.whole;
+  snaps = all_from (IsResting sectors) (helds_relayered number f v.snaps) (helds_rest sectors number f v.snaps (each_from (IsResting sectors) v.snaps rest.snaps));
+  requests = rest.requests;
+  merge = numbered_rests number f v.merge rest.merge;
+}
+
+-- without a merge only a snapshot's store is told
+pub dev_alone : (number : ℕ) (f : List Layer → List Layer) (v : Moving) → v.merge ≡ None → dev_relayered (Snap number) f v ≡ record v { snaps = helds_relayered number f v.snaps }
+dev_alone number f v alone =
+    ap (λ (g : Option MergeHeld). (let w : Moving = record v { snaps = helds_relayered number f v.snaps; merge = g } in w)) (ap (numbered_relayered number f) alone ∙ sym alone)

@@ -3,7 +3,7 @@
 use Rattle.std.specs.Prelude.{◌≡◌, ℕ, ◌<◌, List, Option, Some, None, length, map, slice_index_or}
 use Rattle.device.specs.Layers.{Layer}
 use Rattle.layers.specs.Ticks.{layers_ticked}
-use Rattle.event_machine.specs.Held.{Held, Moving}
+use Rattle.event_machine.specs.Held.{Held, MergeHeld, Moving, on_device}
 use Rattle.settled.specs.Moments.{relayered, store_relayered}
 use Rattle.store.specs.Layering.{IsRelayered}
 use Rattle.snapshot.specs.Kept.{Kept}
@@ -47,5 +47,12 @@ pub record IsTicked {B : Type 0} (m : Measures B) (layers : B → List Layer) (s
 abbrev pub held_relayered : (List Layer → List Layer) → Held → Held
 held_relayered f h = record h { snap = store_relayered f h.snap }
 
+abbrev pub merge_relayered : (List Layer → List Layer) → MergeHeld → MergeHeld
+merge_relayered f m = on_device m (relayered f m.merge.store)
+
+abbrev pub merging_relayered : (List Layer → List Layer) → Option MergeHeld → Option MergeHeld
+merging_relayered f None = None
+merging_relayered f (Some m) = Some (merge_relayered f m)
+
 abbrev pub moving_relayered : (List Layer → List Layer) → Moving → Moving
-moving_relayered f v = record v { origin = relayered f v.origin; snaps = map (held_relayered f) v.snaps }
+moving_relayered f v = record v { origin = relayered f v.origin; snaps = map (held_relayered f) v.snaps; merge = merging_relayered f v.merge }

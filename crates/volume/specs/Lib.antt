@@ -8,7 +8,10 @@ pub mod Exact
 pub mod Reaching
 pub mod Leaving
 pub mod Taking
+pub mod Asking
 pub mod Attached
+pub mod Beginning
+pub mod Finishing
 pub mod Submitting
 pub mod Peeking
 pub mod Layering

@@ -5,7 +5,7 @@ use Rattle.std.specs.Prelude.{◌≡◌, ◌≢◌, ◌⊎◌, ◌==◌, ◌&&�
 use Rattle.std.specs.List.{All}
 use Rattle.sector.specs.declared.range.Range.{Range}
 use Rattle.sector.specs.declared.refusal.Refusal.{Refusal}
-use Rattle.sector.specs.declared.refusal.Refusal.TheVariants.{NoSuchDevice, OutOfRange, Invalid, TooMany, NoMemory}
+use Rattle.sector.specs.declared.refusal.Refusal.TheVariants.{NoSuchDevice, MergingSnapshot, OutOfRange, Invalid, TooMany, NoMemory}
 use Rattle.device.specs.Layers.{Layer}
 use Rattle.plain.specs.declared.request.Dev.{Dev}
 use Rattle.plain.specs.declared.request.Dev.TheVariants.{Origin, Snap}
@@ -23,7 +23,9 @@ use Rattle.volume_laws.specs.Published.{IsPiece}
 use Rattle.snapshots.specs.Finding.{place_of_snap}
 use Rattle.snapshots.specs.Numbers.{count_in}
 use Rattle.snapshots.specs.Starting.{starts, overflows, overflowing, spoilt_of, unroomed}
-use Rattle.volume.specs.Volumed.{Volumed, piece_of, plain_of, is_loud_in_all}
+use Rattle.merge.specs.Merging.{Merging}
+use Rattle.merge_beside.specs.Routing.{is_merged_at}
+use Rattle.volume.specs.Volumed.{Volumed, piece_with, plain_of, is_loud_in_all}
 use Rattle.volume.specs.Causes.{lives_of}
 use Rattle.volume.specs.Exact.{IsSubmittedAs}
 use Rattle.volume.specs.Stepping.{KeepsDevices}
@@ -38,20 +40,27 @@ abbrev pub refusal_at : {B : Type 0} → List (Kept B) → Option ℕ → Option
 refusal_at snaps None = Some NoSuchDevice
 refusal_at snaps (Some k) = if slice_index_or (map (λ s. s.live) snaps) k false then None else Some Invalid
 
-abbrev pub dev_refusal : {B : Type 0} → Dev → List (Kept B) → Option Refusal
-dev_refusal Origin snaps = None
-dev_refusal (Snap number) snaps = refusal_at snaps (place_of_snap number snaps)
+-- whether a number is that of the snapshot that is being merged
+abbrev pub is_merging : {B : Type 0} → ℕ → Option (Merging B) → Bool
+is_merging number None = false
+is_merging number (Some m) = m.number == number
+
+-- a device that takes no request: the snapshot that is being merged, or another that is not there or is spoiled
+abbrev pub dev_refusal : {B : Type 0} → Dev → Option (Merging B) → List (Kept B) → Option Refusal
+dev_refusal Origin merge snaps = None
+dev_refusal (Snap number) merge snaps = if is_merging number merge then Some MergingSnapshot else refusal_at snaps (place_of_snap number snaps)
 
 -- a range of some sectors, inside a device of so many, and inside one piece
 abbrev pub is_piece_of : ℕ → ℕ → Range → Bool
 is_piece_of piece sectors range = nat_lt 0 range.count && nat_le (range.first + range.count) sectors && nat_le (range.first % piece + range.count) piece
 
--- how many copies a request at a sector starts
-abbrev pub starting : {B : Type 0} → Kind → ℕ → List (Kept B) → ℕ
-starting OriginRead first snaps = 0
-starting OriginWrite first snaps = count_by (starts first) snaps
-starting (SnapRead number) first snaps = 0
-starting (SnapWrite number) first snaps = count_by (λ s. (s.number == number) && starts first s) snaps
+-- How many copies a request at a sector starts. A write of the origin starts none where its chunk is in the merge's present
+-- group, or has its copy on the merging store.
+abbrev pub starting : {B : Type 0} → Kind → ℕ → Option (Merging B) → List (Kept B) → ℕ
+starting OriginRead first merge snaps = 0
+starting OriginWrite first merge snaps = if is_merged_at first merge then 0 else count_by (starts first) snaps
+starting (SnapRead number) first merge snaps = 0
+starting (SnapWrite number) first merge snaps = count_by (λ s. (s.number == number) && starts first s) snaps
 
 -- One request too many, or one copy, with so many new ones. (The numbers of copies never run out.)
 abbrev pub are_too_many : {B : Type 0} → ℕ → Volumed B → Bool
@@ -66,9 +75,9 @@ range_refusal piece sectors range = if is_piece_of piece sectors range then None
 -- the first reason to refuse a request; want of memory comes after it, and that a store is found full last
 abbrev pub submit_refusal : {B : Type 0} → (B → ℕ) → Request → Volumed B → Option Refusal
 submit_refusal size request v =
-    first_of_two (dev_refusal request.dev v.snaps)
-    (first_of_two (range_refusal (piece_of v.snaps) (size v.origin) request.range)
-    (limit_refusal (starting (kind_of request) request.range.first v.snaps) v))
+    first_of_two (dev_refusal request.dev v.merge v.snaps)
+    (first_of_two (range_refusal (piece_with v.merge v.snaps) (size v.origin) request.range)
+    (limit_refusal (starting (kind_of request) request.range.first v.merge v.snaps) v))
 
 -- a request is in flight, under the next number
 abbrev pub entered_of : {B : Type 0} → Flight → Volumed B → Volumed B
@@ -91,21 +100,21 @@ pub record IsAsked (sectors chunk : ℕ) (request : Request) : Type 0 where
   pub piece : IsPiece chunk request.range
   pub bytes : (bytes : List ℕ) → request.op ≡ Write bytes → length bytes ≡ 512 * request.range.count
 
--- The numbers of the snapshots that an accepted request at a sector spoils: a write of the origin spoils those live ones
--- that lack their chunk there and whose stores have no place for its copy, and no other request spoils any. (A write of a snapshot whose
--- own store is found full is refused, and spoils that one: IsFoundFull.)
-abbrev pub spoiled_by : {B : Type 0} → Kind → ℕ → List (Kept B) → List ℕ
-spoiled_by OriginRead first snaps = []
-spoiled_by OriginWrite first snaps = overflowing first snaps
-spoiled_by (SnapRead number) first snaps = []
-spoiled_by (SnapWrite number) first snaps = []
+-- The numbers of the snapshots that an accepted request at a sector spoils: a write of the origin that starts copies spoils
+-- those live ones that lack their chunk there and whose stores have no place for its copy, and no other request spoils any.
+-- (A write of a snapshot whose own store is found full is refused, and spoils that one: IsFoundFull.)
+abbrev pub spoiled_by : {B : Type 0} → Kind → ℕ → Option (Merging B) → List (Kept B) → List ℕ
+spoiled_by OriginRead first merge snaps = []
+spoiled_by OriginWrite first merge snaps = if is_merged_at first merge then [] else overflowing first snaps
+spoiled_by (SnapRead number) first merge snaps = []
+spoiled_by (SnapWrite number) first merge snaps = []
 
 -- which snapshots are live afterwards, in their order: those that were, but for the spoiled ones
-abbrev pub lives_after : {B : Type 0} → Kind → ℕ → List (Kept B) → List Bool
-lives_after OriginRead first snaps = map (λ s. s.live) snaps
-lives_after OriginWrite first snaps = map (λ s. if overflows first s then false else s.live) snaps
-lives_after (SnapRead number) first snaps = map (λ s. s.live) snaps
-lives_after (SnapWrite number) first snaps = map (λ s. s.live) snaps
+abbrev pub lives_after : {B : Type 0} → Kind → ℕ → Option (Merging B) → List (Kept B) → List Bool
+lives_after OriginRead first merge snaps = map (λ s. s.live) snaps
+lives_after OriginWrite first merge snaps = if is_merged_at first merge then map (λ s. s.live) snaps else map (λ s. if overflows first s then false else s.live) snaps
+lives_after (SnapRead number) first merge snaps = map (λ s. s.live) snaps
+lives_after (SnapWrite number) first merge snaps = map (λ s. s.live) snaps
 
 -- a request was accepted, under the next number; just the snapshots that it finds full were spoiled
 pub record IsAcceptedAs {B : Type 0} (contents : B → List ℕ) (layers : B → List Layer) (request : Request) (number : ℕ) (old new : Volumed B) : Type 0 where
@@ -115,8 +124,8 @@ pub record IsAcceptedAs {B : Type 0} (contents : B → List ℕ) (layers : B →
   pub fresh : All (λ r. r.number ≢ number) (plain_of contents layers old).requests
   pub loud : is_loud_in_all layers new ≡ is_loud_in_all layers old
   pub legal : is_loud_in_all layers old ≡ true
-      → IsSubmitted (spoiled_by (kind_of request) request.range.first old.snaps) (plain_of contents layers old) number request (plain_of contents layers new)
-  pub lives : lives_of new ≡ lives_after (kind_of request) request.range.first old.snaps
+      → IsSubmitted (spoiled_by (kind_of request) request.range.first old.merge old.snaps) (plain_of contents layers old) number request (plain_of contents layers new)
+  pub lives : lives_of new ≡ lives_after (kind_of request) request.range.first old.merge old.snaps
   pub flown : map in_flight new.flights ≡ map in_flight old.flights ++ record { number = number; request = request } ∷ []
   pub exact : IsSubmittedAs contents layers request number old new
   pub kept : KeepsDevices old new

@@ -29,6 +29,9 @@ impl<B: Block> Volume<B> {
         if stale {
             return Some(Refusal::Stale);
         }
+        if self.merge.is_some() {
+            return Some(Refusal::MergeInProgress);
+        }
         if !self.is_quiet() {
             return Some(Refusal::NotQuiet);
         }
@@ -54,8 +57,8 @@ impl<B: Block> Volume<B> {
 
     /// Takes a snapshot over a store, by a table line with this chunk size, and tells its number. Over a fresh store it
     /// shows the origin; a written store has a chunk size of its own, and its snapshot shows the chunks that it has in
-    /// place of the origin's. Refused, in this order: a stale store (`Stale`), a volume that is not quiet (`NotQuiet`), a
-    /// ninth snapshot or one whose number would be 2^32 (`TooMany`), a chunk size that is none (`BadChunk`); and then as
+    /// place of the origin's. Refused, in this order: a stale store (`Stale`), a volume with a merge
+    /// (`MergeInProgress`), one that is not quiet (`NotQuiet`), a ninth snapshot or one whose number would be 2^32 (`TooMany`), a chunk size that is none (`BadChunk`); and then as
     /// the store's load says. The store is given back with a refusal.
     pub fn attach(
         &mut self,
@@ -70,7 +73,7 @@ impl<B: Block> Volume<B> {
         ensures unread { IfErr result (λ e. attach_refusal store.stale chunk self.old ≡ Some e.0 → e.1 ≡ store) }
         ensures gained { IfOk result (λ number. IsGained B.layers B.size number store self.old self.new) }
         ensures exact { IfOk result (λ number. is_loud_in_all B.layers self.old ≡ true → is_loud (B.layers store.device) ≡ true → IsAttachedAs B.contents B.layers number chunk store self.old self.new) }
-        ensures back { IfErr result (λ e. e.0 ≢ NoMemory → is_quiet_of self.old ≡ true → is_loud_in_all B.layers self.old ≡ true → is_loud (B.layers store.device) ≡ true → attached_by (self.old.attached + 1) chunk (store_of B.contents B.layers store) (volume_in B.contents B.layers self.old) ≡ refused_attach e.0 (store_of B.contents B.layers e.1) (volume_in B.contents B.layers self.old)) }
+        ensures back { IfErr result (λ e. e.0 ≢ NoMemory → self.old.merge ≡ None → is_quiet_of self.old ≡ true → is_loud_in_all B.layers self.old ≡ true → is_loud (B.layers store.device) ≡ true → attached_by (self.old.attached + 1) chunk (store_of B.contents B.layers store) (volume_in B.contents B.layers self.old) ≡ refused_attach e.0 (store_of B.contents B.layers e.1) (volume_in B.contents B.layers self.old)) }
         ensures starved { IfErr result (λ e. e.0 ≡ NoMemory → (B.contents e.1.device ≡ B.contents store.device) × AreRead (B.layers store.device) (B.layers e.1.device)) }
         ensures size { IfErr result (λ e. B.size e.1.device ≡ B.size store.device) }
         ensures loud { MatchResult result (λ _. is_loud_in_all B.layers self.new ≡ (is_loud_in_all B.layers self.old && is_loud (B.layers store.device))) (λ e. is_loud (B.layers e.1.device) ≡ is_loud (B.layers store.device)) }

@@ -8,7 +8,7 @@ ghost use Rattle.volume.specs.Running.{AreReturned, IsFitCall, IsReturned, Keeps
 
 use crate::Volume;
 use layers::{Answer, Layered, Message};
-use plain::{Dev, Event, NotDue, Outcome, ReqId, Request};
+use plain::{Dev, Event, NotDue, Outcome, ReqId, Request, SnapId};
 use sector::Refusal;
 use std::alloc::Global;
 
@@ -23,6 +23,10 @@ pub enum Call {
     Tick(u32),
     /// Tells the layer at a depth of the device under the origin, or of a snapshot's store.
     Message(Dev, usize, Message),
+    /// Begins to merge a snapshot into the origin.
+    BeginMerge(SnapId),
+    /// Lets a merge that failed go on.
+    ResumeMerge,
 }
 
 /// What a call answered.
@@ -36,6 +40,10 @@ pub enum Returned {
     Ticked,
     /// The answer of a layer, or why the message is refused.
     Told(Result<Answer, Refusal>),
+    /// The merge is begun, or why it is not.
+    Begun(Result<(), Refusal>),
+    /// The merge may go on, or why there is none.
+    Resumed(Result<(), Refusal>),
 }
 
 impl<B: Layered> Volume<B> {
@@ -54,12 +62,14 @@ impl<B: Layered> Volume<B> {
             Call::Message(dev, depth, message) => {
                 Returned::Told(self.message(dev, depth, &message))
             }
+            Call::BeginMerge(number) => Returned::Begun(self.begin_merge(alloc, number)),
+            Call::ResumeMerge => Returned::Resumed(self.resume_merge()),
         }
     }
 
     /// Does calls one after another, and tells what each answered. Where no device drops writes, callers see a run of the
-    /// plain machine: each call is a step of it, or changes nothing; and a live snapshot that nobody writes shows the
-    /// array that it showed, or is lost. The room for the answers is taken first: where it is refused (`NoMemory`), no call
+    /// plain machine: each call is a step of it, or changes nothing; and a live snapshot that nobody writes or begins to
+    /// merge shows the array that it showed, or is lost. The room for the answers is taken first: where it is refused (`NoMemory`), no call
     /// is done.
     pub fn run(&mut self, alloc: Global, calls: Vec<Call>) -> Result<Vec<Returned>, Refusal>
         requires fits { All IsFitCall calls.items }

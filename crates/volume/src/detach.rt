@@ -13,8 +13,8 @@ use snapshot::StoreDev;
 use snapshots::snap_at;
 
 impl<B: Block> Volume<B> {
-    /// Takes a snapshot away, and gives the device of its store back, stale where its invalid mark failed. `NoSuchDevice`
-    /// where there is no such snapshot, `NotQuiet` where the volume is not quiet.
+    /// Takes a snapshot away, and gives the device of its store back, stale where its invalid mark failed. `MergeInProgress`
+    /// where it is being merged, `NoSuchDevice` where there is no such snapshot, `NotQuiet` where the volume is not quiet.
     pub fn detach(&mut self, number: SnapId) -> Result<StoreDev<B>, Refusal>
         ensures ok { IfOk result (λ store. detach_refusal number self.old ≡ None) }
         ensures taken { IfOk result (λ store. IsWithout number self.old self.new store) }
@@ -22,6 +22,9 @@ impl<B: Block> Volume<B> {
         ensures loud { IfOk result (λ store. is_loud_in_all B.layers self.old ≡ (is_loud_in_all B.layers self.new && is_loud (B.layers store.device))) }
         ensures err { IfErr result (λ refusal. (detach_refusal number self.old ≡ Some refusal) × (self.new ≡ self.old)) }
     {
+        if self.is_merging(number) {
+            return Err(Refusal::MergeInProgress);
+        }
         let Some(k) = snap_at(self.snaps.as_slice(), number) else {
             return Err(Refusal::NoSuchDevice);
         };

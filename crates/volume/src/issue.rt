@@ -1,8 +1,8 @@
 // Issue: the one read or write of a request's route, and its reply.
-ghost use Rattle.std.specs.Prelude.{◌≡◌, ◌==◌, ◌<◌, ℕ, false, length, IfNone, IfOk, IfSome, MatchOption, OnErr, Some, is_ok, slice_index_or};
+ghost use Rattle.std.specs.Prelude.{◌≡◌, ◌≢◌, ◌==◌, ◌<◌, ℕ, false, length, IfNone, IfOk, IfSome, MatchOption, OnErr, Some, is_ok, slice_index_or};
 ghost use Rattle.std.specs.List.{list_any, position};
 ghost use Rattle.plain.specs.declared.event.Event.TheVariants.{Issue};
-ghost use Rattle.plain.specs.declared.request.Dev.TheVariants.{Snap};
+ghost use Rattle.plain.specs.declared.request.Dev.TheVariants.{Origin as ToOrigin, Snap};
 ghost use Rattle.pending.specs.declared.flights.Flight.{Flight};
 ghost use Rattle.pending.specs.declared.flights.Route.TheVariants.{Origin, Refused, Store};
 ghost use Rattle.pending.specs.Due.{is_routed as goes_somewhere};
@@ -31,13 +31,18 @@ fn holder_at<B: Block>(snaps: &[Snapshot<B>], dev: Dev) -> Option<usize>
     }
 }
 
-/// The place and the route of the first request with this number.
-fn going(flights: &[Flight], number: ReqId) -> Option<(usize, Route)>
-    ensures found { IfSome result (λ p. (position (λ f. f.number == number) flights.now ≡ Some p.0) × ((f : Flight) → (slice_index_or flights.now p.0 f).route ≡ p.1)) }
-    ensures due { MatchOption result (is_issued number flights.now ≡ false) (λ p. is_issued number flights.now ≡ goes_somewhere p.1) }
+/// The place, the device and the route of the first request with this number.
+fn going(flights: &[Flight], number: ReqId) -> Option<(usize, Dev, Route)>
+    ensures found { IfSome result (λ p. position (λ f. f.number == number) flights.now ≡ Some p.0) }
+    ensures dev { IfSome result (λ p. (f : Flight) → (slice_index_or flights.now p.0 f).request.dev ≡ p.1) }
+    ensures route { IfSome result (λ p. (f : Flight) → (slice_index_or flights.now p.0 f).route ≡ p.2) }
+    ensures due { MatchOption result (is_issued number flights.now ≡ false) (λ p. is_issued number flights.now ≡ goes_somewhere p.2) }
 {
     match flight_at(flights, number) {
-        Some(place) => Some((place, flights[place].route)),
+        Some(place) => {
+            let flight = &flights[place];
+            Some((place, flight.request.dev, flight.route))
+        }
         None => None,
     }
 }
@@ -85,6 +90,7 @@ impl<B: Block> Volume<B> {
     fn issue_store(&mut self, number: ReqId, place: usize, at: Chunk) -> Outcome
         requires found { position (λ f. f.number == number) self.old.flights ≡ Some place }
         requires route { (f : Flight) → (slice_index_or self.old.flights place f).route ≡ Store at }
+        requires dev { (f : Flight) → (slice_index_or self.old.flights place f).request.dev ≢ ToOrigin }
         ensures step { IsStepped B.contents B.layers B.size B.fault_count B.done_count (Issue number) result self.old self.new }
         ensures exact { IsExact B.contents B.layers (Issue number) result self.old self.new }
     {
@@ -123,11 +129,14 @@ impl<B: Block> Volume<B> {
         ensures same { OnErr result (self.new ≡ self.old) }
     {
         match going(&self.flights, number) {
-            Some((place, route)) => match route {
+            Some((place, dev, route)) => match route {
                 Route::Held => Err(NotDue),
                 Route::Refused => Ok(self.issue_refused(number, place)),
                 Route::Origin => Ok(self.issue_disk(number, place)),
-                Route::Store(at) => Ok(self.issue_store(number, place, at)),
+                Route::Store(at) => match dev {
+                    Dev::Origin => Ok(self.issue_merging(number, place, at)),
+                    Dev::Snap(_) => Ok(self.issue_store(number, place, at)),
+                },
             },
             None => Err(NotDue),
         }

@@ -5,13 +5,35 @@ ghost use Rattle.plain.specs.declared.request.Dev.TheVariants.{Origin, Snap};
 ghost use Rattle.plain.specs.declared.request.Reply.{Reply};
 ghost use Rattle.volume.specs.Volumed.{books_of, is_loud_in_all, plain_of};
 ghost use Rattle.volume.specs.Moved.{moving_of};
-ghost use Rattle.volume.specs.Telling.{IsNotTold, IsTold, dev_relayered, layers_told};
+ghost use Rattle.volume.specs.Telling.{IsMergeNotTold, IsMergeTold, IsNotTold, IsTold, dev_relayered, layers_told};
 
 use crate::Volume;
 use layers::{Answer, Layered, Message};
+use merge::Merge;
 use plain::{Dev, SnapId};
 use sector::Refusal;
 use snapshots::snap_at;
+
+/// Tells a layer of the merging store, where its snapshot has this number; `NoSuchDevice` where none has.
+fn tell_merge<B: Layered>(
+    merge: &mut Option<Merge<B>>,
+    number: SnapId,
+    depth: usize,
+    message: &Message,
+) -> Result<Answer, Refusal>
+    ensures ok { IfOk result (λ answer. IsMergeTold (record { contents = B.contents; durable = B.durable; size = B.size; faults = B.fault_count; done = B.done_count }) B.layers number depth message.now answer merge.old merge.new) }
+    ensures err { IfErr result (λ refusal. IsMergeNotTold (record { contents = B.contents; durable = B.durable; size = B.size; faults = B.fault_count; done = B.done_count }) B.layers number depth message.now refusal merge.old merge.new) }
+{
+    match merge {
+        None => Err(Refusal::NoSuchDevice),
+        Some(merging) => {
+            if merging.number() != number {
+                return Err(Refusal::NoSuchDevice);
+            }
+            merging.message(depth, message)
+        }
+    }
+}
 
 impl<B: Layered> Volume<B> {
     /// Tells a layer of the device under the origin.
@@ -22,7 +44,7 @@ impl<B: Layered> Volume<B> {
         self.origin.message(depth, message)
     }
 
-    /// Tells a layer of a snapshot's store.
+    /// Tells a layer of a snapshot's store, also of the one that is being merged.
     fn tell_store(
         &mut self,
         number: SnapId,
@@ -33,13 +55,13 @@ impl<B: Layered> Volume<B> {
         ensures err { IfErr result (λ refusal. IsNotTold (record { contents = B.contents; durable = B.durable; size = B.size; faults = B.fault_count; done = B.done_count }) B.layers (Snap number) depth message.now refusal self.old self.new) }
     {
         let Some(k) = snap_at(self.snaps.as_slice(), number) else {
-            return Err(Refusal::NoSuchDevice);
+            return tell_merge(&mut self.merge, number, depth, message);
         };
         self.snaps[k].message(depth, message)
     }
 
-    /// Tells the layer at a depth, counted from the top, from 0, of the device under the origin or of a snapshot's store. In
-    /// this order: `NoSuchDevice` where there is no such snapshot, `BadTable` where that is no dust layer or there is none,
+    /// Tells the layer at a depth, counted from the top, from 0, of the device under the origin or of a snapshot's store, also
+    /// of the one that is being merged. In this order: `NoSuchDevice` where there is no such snapshot, `BadTable` where that is no dust layer or there is none,
     /// `OutOfRange` for a block past its end, `NoMemory` where a block is added and the allocator refuses room. No request,
     /// no copy and no byte changes, and no operation is counted; what is refused changes no layer either.
     pub fn message(&mut self, dev: Dev, depth: usize, message: &Message) -> Result<Answer, Refusal>

@@ -1,20 +1,22 @@
 // Why a request is refused, memory and full stores aside.
 ghost use Rattle.std.specs.Prelude.{◌≡◌};
 ghost use Rattle.pending.specs.Kinds.{kind_of};
-ghost use Rattle.volume.specs.Volumed.{piece_of};
-ghost use Rattle.volume.specs.Submitting.{are_too_many, dev_refusal, is_piece_of, starting as starting_of, submit_refusal};
+ghost use Rattle.volume.specs.Volumed.{piece_with};
+ghost use Rattle.snapshots.specs.Finding.{place_of_snap};
+ghost use Rattle.volume.specs.Submitting.{are_too_many, dev_refusal, is_merging as is_merging_of, is_piece_of, refusal_at, starting as starting_of, submit_refusal};
 
 use crate::Volume;
 use device::Block;
+use merge_beside::is_merged_at;
 use pending::{Kind, MAX_COPIES, MAX_REQUESTS, request_kind};
-use plain::{Dev, Request};
+use plain::{Dev, Request, SnapId};
 use sector::{Range, Refusal};
 use snapshots::{pending_count, snap_at, starting_count, starting_count_of};
 
 impl<B: Block> Volume<B> {
-    /// Why a request is refused, memory and full stores aside: there is no such snapshot (`NoSuchDevice`), it is spoiled
-    /// (`Invalid`), the range is empty or lies not inside the origin and one piece (`OutOfRange`), or there are too many
-    /// requests, copies or numbers (`TooMany`).
+    /// Why a request is refused, memory and full stores aside: there is no such snapshot (`NoSuchDevice`), it is being merged
+    /// (`MergingSnapshot`) or is spoiled (`Invalid`), the range is empty or lies not inside the origin and one piece
+    /// (`OutOfRange`), or there are too many requests, copies or numbers (`TooMany`).
     pub(crate) fn submit_refused(&self, request: &Request) -> Option<Refusal>
         ensures { result ≡ submit_refusal B.size request.now self.now }
     {
@@ -31,25 +33,48 @@ impl<B: Block> Volume<B> {
         }
     }
 
-    fn dev_refused(&self, dev: Dev) -> Option<Refusal>
-        ensures { result ≡ dev_refusal dev self.now.snaps }
+    /// Why a device takes no request: it is the snapshot that is being merged (`MergingSnapshot`), or another that is not
+    /// there (`NoSuchDevice`) or is spoiled (`Invalid`).
+    pub(crate) fn dev_refused(&self, dev: Dev) -> Option<Refusal>
+        ensures { result ≡ dev_refusal dev self.now.merge self.now.snaps }
     {
         match dev {
             Dev::Origin => None,
-            Dev::Snap(number) => match snap_at(self.snaps.as_slice(), number) {
-                None => Some(Refusal::NoSuchDevice),
-                Some(k) => if self.snaps[k].is_live() {
-                    None
-                } else {
-                    Some(Refusal::Invalid)
-                },
+            Dev::Snap(number) => if self.is_merging(number) {
+                Some(Refusal::MergingSnapshot)
+            } else {
+                self.snap_refused(number)
+            },
+        }
+    }
+
+    /// Whether a number is that of the snapshot that is being merged.
+    pub(crate) fn is_merging(&self, number: SnapId) -> bool
+        ensures { result ≡ is_merging_of number self.now.merge }
+    {
+        match &self.merge {
+            None => false,
+            Some(merge) => merge.number() == number,
+        }
+    }
+
+    /// Why a snapshot that is not being merged takes no request.
+    fn snap_refused(&self, number: SnapId) -> Option<Refusal>
+        ensures { result ≡ refusal_at self.now.snaps (place_of_snap number self.now.snaps) }
+    {
+        match snap_at(self.snaps.as_slice(), number) {
+            None => Some(Refusal::NoSuchDevice),
+            Some(k) => if self.snaps[k].is_live() {
+                None
+            } else {
+                Some(Refusal::Invalid)
             },
         }
     }
 
     /// Whether a range is not empty, and lies inside the origin and inside one piece.
     fn is_piece(&self, range: &Range) -> bool
-        ensures { result ≡ is_piece_of (piece_of self.now.snaps) (B.size self.now.origin) range.now }
+        ensures { result ≡ is_piece_of (piece_with self.now.merge self.now.snaps) (B.size self.now.origin) range.now }
     {
         let piece = self.piece() as u64;
         let count = range.count as u64;
@@ -60,13 +85,17 @@ impl<B: Block> Volume<B> {
 
     /// How many copies a request starts.
     fn starting(&self, request: &Request) -> usize
-        ensures { result ≡ starting_of (kind_of request.now) request.now.range.first self.now.snaps }
+        ensures { result ≡ starting_of (kind_of request.now) request.now.range.first self.now.merge self.now.snaps }
     {
         let snaps = self.snaps.as_slice();
         let first = request.range.first;
         match request_kind(request) {
             Kind::OriginRead => 0,
-            Kind::OriginWrite => starting_count(snaps, first),
+            Kind::OriginWrite => if is_merged_at(&self.merge, first) {
+                0
+            } else {
+                starting_count(snaps, first)
+            },
             Kind::SnapRead(_) => 0,
             Kind::SnapWrite(number) => starting_count_of(snaps, number, first),
         }

@@ -1,5 +1,5 @@
 // A request is accepted or refused: it is routed, and the copies that it waits for are started.
-ghost use Rattle.std.specs.Prelude.{◌≡◌, ◌≢◌, ◌*◌, ◌+◌, ◌<◌, ◌^◌, ◌≤◌, IfErr, IfOk, List, None, Option, Some, [], count_by, length, sum_by, ℕ};
+ghost use Rattle.std.specs.Prelude.{◌≡◌, ◌≢◌, ◌*◌, ◌+◌, ◌<◌, ◌^◌, ◌≤◌, IfErr, IfOk, List, None, Option, Some, [], count_by, false, length, sum_by, ℕ};
 ghost use Rattle.sector.specs.declared.refusal.Refusal.TheVariants.{Invalid, NoMemory};
 ghost use Rattle.plain.specs.declared.request.Failure.TheVariants.{Invalid as IsInvalid};
 ghost use Rattle.plain.specs.declared.request.Op.TheVariants.{Write};
@@ -7,20 +7,22 @@ ghost use Rattle.plain.specs.declared.request.Reply.{Reply};
 ghost use Rattle.plain.specs.declared.request.Reply.TheVariants.{Refused};
 ghost use Rattle.pending.specs.Kinds.{kind_of, room_of};
 ghost use Rattle.pending.specs.declared.flights.Flight.{Flight};
-ghost use Rattle.pending.specs.declared.flights.Kind.TheVariants.{OriginWrite};
+ghost use Rattle.pending.specs.declared.flights.Kind.TheVariants.{OriginRead, OriginWrite};
 ghost use Rattle.volume_laws.specs.Accepting.{IsTakenIn};
 ghost use Rattle.event_machine.specs.Submitting.{submitted};
 ghost use Rattle.snapshots.specs.Numbers.{count_in};
 ghost use Rattle.snapshots.specs.Starting.{starts};
+ghost use Rattle.merge_beside.specs.Routing.{is_merged_at as is_merged_in};
 ghost use Rattle.volume.specs.Moved.{moving_of};
 ghost use Rattle.volume.specs.Stepping.{KeepsAll, KeepsDevices};
-ghost use Rattle.volume.specs.Submitting.{IsAcceptedAs, IsAsked, IsEntered, IsRefusedAs, SameButRoom, entered_of, submit_refusal};
-ghost use Rattle.volume.specs.Volumed.{books_of, piece_of};
+ghost use Rattle.volume.specs.Submitting.{IsAcceptedAs, IsAsked, IsEntered, IsRefusedAs, SameButRoom, entered_of, starting, submit_refusal};
+ghost use Rattle.volume.specs.Volumed.{books_of, piece_with};
 ghost use Rattle.volume.specs.Whole.{IsWhole};
 
 use crate::Volume;
 use device::Block;
-use pending::{Flight, Kind, Route, request_kind, write_route};
+use merge_beside::{is_merged_at, merged_route, place_at};
+use pending::{Flight, Kind, Route, read_route, request_kind, write_route};
 use plain::{ReqId, Request};
 use sector::Refusal;
 use snapshots::{is_clear, save_in_all, take_rooms};
@@ -29,14 +31,17 @@ use std::alloc::Global;
 impl<B: Block> Volume<B> {
     /// Accepts a request, and tells its number. No device is asked for anything yet.
     ///
-    /// A read goes to the origin disk, or to the place of a snapshot's committed copy. A write of the origin is held until
-    /// each live snapshot has published its chunk, and starts the copies that are lacking: snapshots whose stores are full
-    /// are spoiled. A write of a snapshot is held until that one has published its chunk, and starts its copy.
+    /// A read goes to the origin disk, or to the place of a committed copy, of the snapshot or of the merge. A write of the
+    /// origin is held until each live snapshot has published its chunk, and starts the copies that are lacking: snapshots
+    /// whose stores are full are spoiled. Where a merge has the chunk it starts none: it goes to the place on the merging
+    /// store, or is held while the chunk is in the present group. A write of a snapshot is held until that one has published
+    /// its chunk, and starts its copy.
     ///
-    /// Refused, in this order: there is no such snapshot (`NoSuchDevice`), it is spoiled (`Invalid`), the range is empty or
-    /// lies not inside the origin and one piece (`OutOfRange`), it is the 65th request, starts the 257th copy, or is past the
-    /// last number (`TooMany`), memory is refused (`NoMemory`), or a snapshot's write finds its store full (`Invalid`: the
-    /// one refusal that changes something, for that snapshot is spoiled).
+    /// Refused, in this order: there is no such snapshot (`NoSuchDevice`), it is being merged (`MergingSnapshot`), it is
+    /// spoiled (`Invalid`), the range is empty or lies not inside the origin and one piece (`OutOfRange`), it is the 65th
+    /// request, starts the 257th copy, or is past the last number (`TooMany`), memory is refused (`NoMemory`), or a
+    /// snapshot's write finds its store full (`Invalid`: the one refusal that changes something, for that snapshot is
+    /// spoiled).
     pub fn submit(&mut self, alloc: Global, request: Request) -> Result<ReqId, Refusal>
         requires bytes { (bytes : List ℕ) → request.op ≡ Write bytes → length bytes ≡ 512 * request.range.count }
         ensures ok { IfOk result (λ number. IsAcceptedAs B.contents B.layers request number self.old self.new) }
@@ -55,7 +60,7 @@ impl<B: Block> Volume<B> {
             None => {}
         }
         match request_kind(&request) {
-            Kind::OriginRead => self.enter(alloc, request, Route::Origin),
+            Kind::OriginRead => self.submit_origin_read(alloc, request),
             Kind::OriginWrite => self.submit_origin_write(alloc, request),
             Kind::SnapRead(id) => self.submit_snap_read(alloc, request, id),
             Kind::SnapWrite(id) => self.submit_snap_write(alloc, request, id),
@@ -86,15 +91,44 @@ impl<B: Block> Volume<B> {
         Ok(self.requests)
     }
 
-    /// Accepts a write of the origin: each live snapshot that lacks its chunk there starts a copy of it, and the write
-    /// is held until each has published its own. Snapshots whose stores are full are spoiled.
-    pub(crate) fn submit_origin_write(
-        &mut self,
-        alloc: Global,
-        request: Request,
-    ) -> Result<ReqId, Refusal>
+    /// Accepts a read of the origin: it goes to the place of its chunk on the merging store, or to the origin disk.
+    fn submit_origin_read(&mut self, alloc: Global, request: Request) -> Result<ReqId, Refusal>
+        requires kind { kind_of request ≡ OriginRead }
+        requires asked { IsAsked (B.size self.old.origin) (piece_with self.old.merge self.old.snaps) request }
+        requires room { length self.old.flights < 64 }
+        requires numbers { self.old.requests + 1 < 2 ^ 64 }
+        ensures ok { IfOk result (λ number. IsAcceptedAs B.contents B.layers request number self.old self.new) }
+        ensures err { IfErr result (λ e. (e ≡ NoMemory) × (self.new ≡ self.old)) }
+    {
+        let route = read_route(place_at(&self.merge, request.range.first));
+        self.enter(alloc, request, route)
+    }
+
+    /// Accepts a write of the origin. Where a merge has its chunk it starts no copies.
+    fn submit_origin_write(&mut self, alloc: Global, request: Request) -> Result<ReqId, Refusal>
         requires kind { kind_of request ≡ OriginWrite }
-        requires asked { IsAsked (B.size self.old.origin) (piece_of self.old.snaps) request }
+        requires asked { IsAsked (B.size self.old.origin) (piece_with self.old.merge self.old.snaps) request }
+        requires room { length self.old.flights < 64 }
+        requires numbers { self.old.requests + 1 < 2 ^ 64 }
+        requires copies { self.old.copies + 8 < 2 ^ 64 }
+        requires few { sum_by count_in self.old.snaps + starting OriginWrite request.range.first self.old.merge self.old.snaps ≤ 256 }
+        ensures ok { IfOk result (λ number. IsAcceptedAs B.contents B.layers request number self.old self.new) }
+        ensures err { IfErr result (λ e. (e ≡ NoMemory) × SameButRoom self.old self.new) }
+    {
+        let first = request.range.first;
+        if is_merged_at(&self.merge, first) {
+            let route = merged_route(&self.merge, first);
+            return self.enter(alloc, request, route);
+        }
+        self.save_and_enter(alloc, request)
+    }
+
+    /// Accepts a write of the origin whose chunk no merge has: each live snapshot that lacks its chunk there starts a copy of
+    /// it, and the write is held until each has published its own. Snapshots whose stores are full are spoiled.
+    fn save_and_enter(&mut self, alloc: Global, request: Request) -> Result<ReqId, Refusal>
+        requires kind { kind_of request ≡ OriginWrite }
+        requires unmerged { is_merged_in request.range.first self.old.merge ≡ false }
+        requires asked { IsAsked (B.size self.old.origin) (piece_with self.old.merge self.old.snaps) request }
         requires room { length self.old.flights < 64 }
         requires numbers { self.old.requests + 1 < 2 ^ 64 }
         requires copies { self.old.copies + 8 < 2 ^ 64 }

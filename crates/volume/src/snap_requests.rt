@@ -4,7 +4,7 @@ ghost use Rattle.sector.specs.declared.refusal.Refusal.TheVariants.{NoMemory, In
 ghost use Rattle.pending.specs.Kinds.{kind_of};
 ghost use Rattle.pending.specs.declared.flights.Kind.TheVariants.{SnapRead, SnapWrite};
 ghost use Rattle.snapshot.specs.Kept.{Kept};
-ghost use Rattle.volume.specs.Volumed.{piece_of};
+ghost use Rattle.volume.specs.Volumed.{piece_with};
 ghost use Rattle.snapshots.specs.Numbers.{count_in};
 ghost use Rattle.snapshots.specs.Finding.{place_of_snap};
 ghost use Rattle.snapshots.specs.Starting.{lacks, starts};
@@ -27,8 +27,8 @@ impl<B: Block> Volume<B> {
         id: SnapId,
     ) -> Result<ReqId, Refusal>
         requires kind { kind_of request ≡ SnapRead id }
-        requires found { dev_refusal request.dev self.old.snaps ≡ None }
-        requires asked { IsAsked (B.size self.old.origin) (piece_of self.old.snaps) request }
+        requires found { dev_refusal request.dev self.old.merge self.old.snaps ≡ None }
+        requires asked { IsAsked (B.size self.old.origin) (piece_with self.old.merge self.old.snaps) request }
         requires room { length self.old.flights < 64 }
         requires numbers { self.old.requests + 1 < 2 ^ 64 }
         ensures ok { IfOk result (λ number. IsAcceptedAs B.contents B.layers request number self.old self.new) }
@@ -52,8 +52,8 @@ impl<B: Block> Volume<B> {
         id: SnapId,
     ) -> Result<ReqId, Refusal>
         requires kind { kind_of request ≡ SnapWrite id }
-        requires found { dev_refusal request.dev self.old.snaps ≡ None }
-        requires asked { IsAsked (B.size self.old.origin) (piece_of self.old.snaps) request }
+        requires found { dev_refusal request.dev self.old.merge self.old.snaps ≡ None }
+        requires asked { IsAsked (B.size self.old.origin) (piece_with self.old.merge self.old.snaps) request }
         requires room { length self.old.flights < 64 }
         requires numbers { self.old.requests + 1 < 2 ^ 64 }
         requires copies { self.old.copies + 8 < 2 ^ 64 }
@@ -85,10 +85,10 @@ impl<B: Block> Volume<B> {
         k: usize,
     ) -> Result<ReqId, Refusal>
         requires kind { kind_of request ≡ SnapWrite id }
-        requires found { dev_refusal request.dev self.old.snaps ≡ None }
+        requires found { dev_refusal request.dev self.old.merge self.old.snaps ≡ None }
         requires place { Some k ≡ place_of_snap id self.old.snaps }
         requires lacking { (s : Kept B) → s ≡ slice_index_or self.old.snaps k s → lacks request.range.first s ≡ true }
-        requires asked { IsAsked (B.size self.old.origin) (piece_of self.old.snaps) request }
+        requires asked { IsAsked (B.size self.old.origin) (piece_with self.old.merge self.old.snaps) request }
         requires room { length self.old.flights < 64 }
         requires numbers { self.old.requests + 1 < 2 ^ 64 }
         requires copies { self.old.copies + 8 < 2 ^ 64 }

@@ -1,19 +1,24 @@
 // What callers may ask of a volume and of its snapshots: whether it is quiet, a snapshot by its place, its store, its usage.
-ghost use Rattle.std.specs.Prelude.{◌≡◌, ◌*◌, ◌<◌, ◌≤◌, IfErr, IfOk, None, Option, Some, length, slice_index_or, true, ℕ};
+ghost use Rattle.std.specs.Prelude.{◌≡◌, ◌*◌, ◌<◌, ◌≤◌, IfErr, IfNone, IfOk, IfSome, None, Option, Some, false, length, slice_index_or, true};
 ghost use Rattle.std.specs.List.{All, list_all};
 ghost use Rattle.sector.specs.declared.refusal.Refusal.TheVariants.{NoSuchDevice};
 ghost use Rattle.plain.specs.declared.request.Reply.{Reply};
+ghost use Rattle.event_machine.specs.MergeRest.{IsBetween};
 ghost use Rattle.event_machine.specs.Rest.{IsAtRest};
 ghost use Rattle.snapshot.specs.Kept.{Kept};
 ghost use Rattle.snapshots.specs.Finding.{place_of_snap};
-ghost use Rattle.volume.specs.Leaving.{IsStillOn, is_done_of, is_quiet_of, usage_of};
+ghost use Rattle.volume.specs.Asking.{HasNone, HoldsOf, is_finished_in, merging_number, merging_usage};
+ghost use Rattle.volume.specs.Leaving.{IsStillOn, has_group_in, is_done_of, is_quiet_of, usage_of};
 ghost use Rattle.volume.specs.Moved.{moving_of};
+ghost use Rattle.volume.specs.Stepping.{has_failed};
+ghost use Rattle.volume.specs.Submitting.{is_merging};
 ghost use Rattle.volume.specs.Volumed.{is_loud_in_all};
 ghost use Rattle.volume.specs.Whole.{IsCounted};
 
 use crate::Volume;
 use chunk_alloc::Usage;
 use device::Block;
+use merge::Merge;
 use plain::{CopyId, ReqId, SnapId};
 use sector::Refusal;
 use snapshot::Snapshot;
@@ -41,13 +46,78 @@ fn are_done<B: Block>(snaps: &[Snapshot<B>]) -> bool
 }
 
 impl<B: Block> Volume<B> {
-    /// Whether no request is in flight, no copy is pending, and no invalid mark is untried. A quiet volume, no device of
-    /// which drops writes, is one at rest between two whole commands, whatever was done to it.
+    /// The number of the snapshot that is being merged, if one is.
+    pub fn merging(&self) -> Option<SnapId>
+        ensures { result ≡ merging_number self.now.merge }
+    {
+        match &self.merge {
+            Some(merge) => Some(merge.number()),
+            None => None,
+        }
+    }
+
+    /// The merge, if it is of the snapshot with this number.
+    fn merging_as(&self, number: SnapId) -> Option<&Merge<B>>
+        ensures some { IfSome result (λ merge. (self.now.merge ≡ Some merge.now) × (merge.now.number ≡ number)) }
+        ensures none { IfNone result (is_merging number self.now.merge ≡ false) }
+    {
+        match &self.merge {
+            Some(merge) => {
+                if merge.number() == number {
+                    Some(merge)
+                } else {
+                    None
+                }
+            }
+            None => None,
+        }
+    }
+
+    /// Whether a merge is begun that stopped at a fault, and was not resumed.
+    pub fn is_merge_failed(&self) -> bool
+        ensures { result ≡ has_failed self.now.merge }
+    {
+        match &self.merge {
+            Some(merge) => merge.is_failed(),
+            None => false,
+        }
+    }
+
+    /// Whether a merge is begun that has no pair left, and no group: it can be finished.
+    pub fn is_merge_finished(&self) -> bool
+        ensures { result ≡ is_finished_in self.now.merge }
+    {
+        match &self.merge {
+            Some(merge) => merge.is_finished(),
+            None => false,
+        }
+    }
+
+    /// Whether a group of the merge is formed.
+    fn has_group(&self) -> bool
+        ensures { result ≡ has_group_in self.now.merge }
+    {
+        match &self.merge {
+            Some(merge) => merge.has_group(),
+            None => false,
+        }
+    }
+
+    /// Whether no request is in flight, no group of a merge is formed, no copy is pending, and no invalid mark is untried. A
+    /// quiet volume, no device of which drops writes, is one at rest between two whole commands, whatever was done to it; and
+    /// between two groups of its merge, if one is begun.
     pub fn is_quiet(&self) -> bool
         ensures value { result ≡ is_quiet_of self.now }
-        ensures rest { result ≡ true → is_loud_in_all B.layers self.now ≡ true → (replied : Option Reply) → IsAtRest (B.size self.now.origin) (moving_of B.contents B.layers replied self.now) }
+        ensures between { result ≡ true → is_loud_in_all B.layers self.now ≡ true → (replied : Option Reply) → IsBetween (B.size self.now.origin) (moving_of B.contents B.layers replied self.now) }
+        ensures rest { result ≡ true → is_loud_in_all B.layers self.now ≡ true → self.now.merge ≡ None → (replied : Option Reply) → IsAtRest (B.size self.now.origin) (moving_of B.contents B.layers replied self.now) }
     {
-        self.flights.is_empty() && are_done(self.snaps.as_slice())
+        if !self.flights.is_empty() {
+            return false;
+        }
+        if self.has_group() {
+            return false;
+        }
+        are_done(self.snaps.as_slice())
     }
 
     /// The number of the request that was accepted last: so many were accepted so far.
@@ -77,22 +147,28 @@ impl<B: Block> Volume<B> {
         &self.snaps[k]
     }
 
-    /// The device of a snapshot's store.
+    /// The device of a snapshot's store, also of the one that is being merged.
     pub fn store(&self, number: SnapId) -> Result<&B, Refusal>
-        ensures ok { IfOk result (λ device. (k : ℕ) × (d : Kept B) × (place_of_snap number self.now.snaps ≡ Some k) × (device.now ≡ (slice_index_or self.now.snaps k d).device)) }
-        ensures err { IfErr result (λ refusal. (refusal ≡ NoSuchDevice) × (place_of_snap number self.now.snaps ≡ None)) }
+        ensures ok { IfOk result (λ device. HoldsOf (λ m. device.now ≡ m.device) (λ s. device.now ≡ s.device) number self.now) }
+        ensures err { IfErr result (λ refusal. (refusal ≡ NoSuchDevice) × HasNone number self.now) }
     {
+        if let Some(merge) = self.merging_as(number) {
+            return Ok(merge.device());
+        }
         match snap_at(self.snaps.as_slice(), number) {
             Some(k) => Ok(self.snaps[k].device()),
             None => Err(Refusal::NoSuchDevice),
         }
     }
 
-    /// The sectors in use on a snapshot's store; none of a snapshot that is spoiled.
+    /// The sectors in use on a snapshot's store, also of the one that is being merged; none of a snapshot that is spoiled.
     pub fn usage(&self, number: SnapId) -> Result<Option<Usage>, Refusal>
-        ensures ok { IfOk result (λ usage. (k : ℕ) × (d : Kept B) × (place_of_snap number self.now.snaps ≡ Some k) × (usage ≡ usage_of (slice_index_or self.now.snaps k d))) }
-        ensures err { IfErr result (λ refusal. (refusal ≡ NoSuchDevice) × (place_of_snap number self.now.snaps ≡ None)) }
+        ensures ok { IfOk result (λ usage. HoldsOf (λ m. usage ≡ Some (merging_usage m)) (λ s. usage ≡ usage_of s) number self.now) }
+        ensures err { IfErr result (λ refusal. (refusal ≡ NoSuchDevice) × HasNone number self.now) }
     {
+        if let Some(merge) = self.merging_as(number) {
+            return Ok(Some(merge.usage()));
+        }
         let Some(k) = snap_at(self.snaps.as_slice(), number) else {
             return Err(Refusal::NoSuchDevice);
         };

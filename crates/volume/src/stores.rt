@@ -1,6 +1,7 @@
 // What the snapshots' stores say, at every moment.
 ghost use Rattle.std.specs.List.{All};
 ghost use Rattle.snapshot.specs.InStep.{IsInStep};
+ghost use Rattle.volume.specs.Asking.{IsMergeInStep};
 
 use crate::Volume;
 use device::Block;
@@ -20,10 +21,16 @@ impl<B: Block> Volume<B> {
     /// failed, each store is in step with its snapshot: its pairs are such as a load accepts, with room for the area of
     /// the next pair, and the next place of a live one is the least that is free; and where its layers drop no writes, its
     /// bytes hold those pairs and its first sector is the header with its chunk size. So a live snapshot's store, and a
-    /// spoiled one's whose mark was not yet written, can be loaded as it is; once the mark was written it is invalid.
+    /// spoiled one's whose mark was not yet written, can be loaded as it is; once the mark was written it is invalid. The
+    /// merging store is in step with its merge in the same way, until it is finished.
     pub fn look_at_stores(&self)
         ensures in_step { All (IsInStep B.contents B.layers B.size) self.now.snaps }
+        ensures merge { IsMergeInStep B.contents B.layers B.size self.now.merge }
     {
-        look_at_each(self.snaps.as_slice())
+        look_at_each(self.snaps.as_slice());
+        match &self.merge {
+            Some(merge) => merge.look_at_store(),
+            None => {}
+        }
     }
 }

@@ -3,14 +3,16 @@ ghost use Rattle.std.specs.Prelude.{◌≡◌, ◌≤◌, [], None, IfErr, IfNon
 ghost use Rattle.chunk.specs.Sizes.{is_chunk};
 ghost use Rattle.std.specs.List.{All};
 ghost use Rattle.plain.specs.declared.request.Reply.{Reply};
-ghost use Rattle.event_machine.specs.Due.{due as due_in};
+ghost use Rattle.event_machine.specs.MergeDue.{due_all};
 ghost use Rattle.volume.specs.Moved.{moving_of};
 ghost use Rattle.sector.specs.declared.refusal.Refusal.TheVariants.{NoMemory};
 ghost use Rattle.volume_laws.specs.Waits.{IsQuiet};
-ghost use Rattle.volume.specs.Volumed.{books_of, next_of, piece_of};
+ghost use Rattle.volume.specs.Asking.{IsMergeStill};
+ghost use Rattle.volume.specs.Volumed.{books_of, next_of, piece_with};
 
 use device::Block;
 use merge::Merge;
+use merge_beside::merge_due;
 use pending::{Flight, MAX_REQUESTS};
 use plain::Event;
 use sector::Refusal;
@@ -91,26 +93,40 @@ impl<B: Block> Volume<B> {
         self.snaps.len()
     }
 
-    /// The sectors of a piece: of a chunk of the snapshots, or of the largest chunk where there is none. A request lies
-    /// inside one piece.
+    /// The sectors of a piece: of a chunk of the snapshots, the one that is being merged among them, or of the largest chunk
+    /// where there is none. A request lies inside one piece.
     pub fn piece(&self) -> u32
-        ensures piece { result ≡ piece_of self.now.snaps }
+        ensures piece { result ≡ piece_with self.now.merge self.now.snaps }
         ensures same { All (λ s. s.state.chunk ≡ result) self.now.snaps }
         ensures allowed { is_chunk result ≡ true }
     {
+        if let Some(merge) = &self.merge {
+            return merge.chunk();
+        }
         match self.snaps.as_slice() {
             [] => LARGEST_PIECE,
             [first, ..] => first.chunk(),
         }
     }
 
-    /// The event that is due first, by kind and then by number. None is due where the volume is quiet: no request is in
-    /// flight, and no copy, publication or mark of a spoiled store is left to do.
+    /// The event that is due first: of the snapshots and requests, by kind and then by number, and then of the merge. None is
+    /// due where the volume is quiet: no request is in flight, and no copy, publication or mark of a spoiled store is left to
+    /// do; and a merge that is begun has no group, and stopped at a fault or has no pair left.
     pub fn due(&self) -> Option<Event>
         ensures event { result ≡ next_of B.contents B.layers self.now }
-        ensures machine { (replied : Option Reply) → due_in (moving_of B.contents B.layers replied self.now) ≡ result }
-        ensures quiet { IfNone result (IsQuiet (books_of B.contents B.layers B.size self.now)) }
+        ensures machine { (replied : Option Reply) → due_all (moving_of B.contents B.layers replied self.now) ≡ result }
+        ensures quiet { IfNone result (IsQuiet (books_of B.contents B.layers B.size self.now) × IsMergeStill self.now.merge) }
     {
-        first_due(&self.snaps, &self.flights)
+        match first_due(&self.snaps, &self.flights) {
+            Some(event) => Some(event),
+            None => match &self.merge {
+                Some(merge) => {
+                    // A look: what the merge's looks say of its books is known from here on.
+                    let _ = merge.has_group();
+                    merge_due(merge, &self.snaps, &self.flights)
+                }
+                None => None,
+            },
+        }
     }
 }

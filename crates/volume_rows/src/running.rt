@@ -66,3 +66,35 @@ fn a_run_leaves_the_disks_that_its_calls_leave(rt: HostRuntime) -> Result<(), Fa
     assert!(rt; raw(&rt, rt.alloc(), ran.store(1)?)? == store, "store");
     Ok(())
 }
+
+// A merge begins, no second one does, and it may go on.
+fn merge_calls(alloc: Global) -> Result<Vec<Call>, Refusal>
+    ensures { IfOk result (λ calls. All IsFitCall calls.items) }
+{
+    let Ok(calls) = Vec::from_array(
+        alloc,
+        [Call::BeginMerge(1), Call::BeginMerge(1), Call::ResumeMerge],
+    ) else {
+        return Err(Refusal::NoMemory);
+    };
+    Ok(calls)
+}
+
+#[test]
+fn a_run_begins_one_merge(rt: HostRuntime) -> Result<(), Fail> {
+    let mut volume = volume_of(&rt, rt.alloc(), 64)?;
+    let returned = volume.run(rt.alloc(), merge_calls(rt.alloc())?)?;
+    match returned.as_slice() {
+        [
+            Returned::Begun(first),
+            Returned::Begun(second),
+            Returned::Resumed(last),
+        ] => {
+            assert_eq!(rt; *first, Ok(()));
+            assert_eq!(rt; *second, Err(Refusal::MergeInProgress));
+            assert_eq!(rt; *last, Ok(()));
+        }
+        _ => assert!(rt; false),
+    }
+    Ok(())
+}

@@ -1,5 +1,5 @@
 -- The request that was found.
-use Rattle.std.proofs.Common.{sym, get_or, nat_eq, refl}
+use Rattle.std.proofs.Common.{ap, sym, nat_eq}
 use Rattle.pending.specs.declared.flights.Flight.{Flight}
 use Rattle.snapshots.proofs.Finds.{position_within}
 use Rattle.volume.proofs.Issued.{issued_at, issued_none}
@@ -13,4 +13,4 @@ returns-in-None-clause-due c = issued_none c.args.number c.args.flights.now (sym
 
 pub returns-in-Some-clause-due : goal.returns-in-Some-clause-due
 returns-in-Some-clause-due c =
-    issued_at c.args.number c.args.flights.now c.in-Some.place c.index-flights-place.result (get_or c.args.flights.now c.in-Some.place c.index-flights-place.result).route (sym c.in-Some.ensures) refl
+    issued_at c.args.number c.args.flights.now c.in-Some.place c.index-flights-place.result c.index-flights-place.result.route (sym c.in-Some.ensures) (ap (λ (f : Flight). f.route) (sym c.index-flights-place.is))

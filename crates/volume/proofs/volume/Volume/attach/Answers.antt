@@ -1,17 +1,19 @@
 -- The snapshot that was opened is the last one.
 use Rattle.std.proofs.Common.{◌≡◌, ◌*◌, ◌+◌, ◌<◌, ◌≤◌, ℕ, List, [], ◌∷◌, ◌++◌, length, inr, refl, sym, ◌∙◌, ap, subst, arith, true, false}
 use Rattle.std.specs.Prelude.{Option, Some, None}
+use Rattle.std.specs.List.{All}
+use Rattle.std.specs.Option.{is_some}
 use Rattle.volume_laws.specs.Steps.{IsNewSnap}
 use Rattle.snapshot.specs.Kept.{Kept, books_of as snap_books}
 use Rattle.snapshot.specs.Opening.{IsWanted, IsOpenRefused, shown_array}
 use Rattle.snapshot.proofs.Openings.{opened_origin}
 use Rattle.volume.specs.Volumed.{Volumed}
 use Rattle.snapshots.specs.Numbers.{numbers_in}
-use Rattle.volume.specs.Whole.{IsCounted}
+use Rattle.volume.specs.Whole.{IsAttached, IsCounted}
 use Rattle.volume.specs.Leaving.{is_quiet_of}
 use Rattle.volume.specs.Taking.{wanted_of, attach_refusal}
-use Rattle.volume.proofs.Leaves.{quiet_none}
-use Rattle.volume.proofs.Attaches.{attach_fresh, taking_none, whole_taken, plain_taken_as}
+use Rattle.volume.proofs.Quieted.{quiet_flights}
+use Rattle.volume.proofs.Attaches.{attach_fresh, taking_none, none_begun, piece_alone, whole_taken, plain_taken_as}
 use Rattle.chunk.proofs.Limits.{is_chunk-some}
 use Rattle.snapshot.specs.Attaching.{AreSized}
 use Rattle.settled.specs.Attaching.{open_store, done}
@@ -28,8 +30,9 @@ invariant_of-self-in-Ok-open_snapshot g c =
     let v : Volumed g.row.B.Denot = record { origin = c.self.inside.origin; snaps = c.self.inside.snaps.items; merge = c.self.inside.merge; flights = c.self.inside.flights.items; requests = c.self.inside.requests; copies = c.self.inside.copies; attached = c.self.inside.attached } in
     let s : Kept g.row.B.Denot = c.in-Ok-open_snapshot.snap in
     let now = c.args.self.now in
-    let admitted = taking_none c.args.store.stale (is_quiet_of c.args.self.now) (length c.args.self.now.snaps) c.args.self.now.attached c.args.chunk (sym c.in-None.ensures) in
-    let none : v.flights ≡ [] = ap (λ (x : Volumed g.row.B.Denot). x.flights) c.self.view_is ∙ quiet_none c.args.self.now admitted.0 in
+    let admitted = taking_none c.args.store.stale (is_some c.args.self.now.merge) (is_quiet_of c.args.self.now) (length c.args.self.now.snaps) c.args.self.now.attached c.args.chunk (sym c.in-None.ensures) in
+    let none : v.flights ≡ [] = ap (λ (x : Volumed g.row.B.Denot). x.flights) c.self.view_is ∙ quiet_flights c.args.self.now admitted.0 in
+    let alone : v.merge ≡ None = none_begun v.merge (ap (λ (x : Volumed g.row.B.Denot). is_some x.merge) c.self.view_is ∙ admitted.2) in
     let same : length v.snaps ≡ length c.args.self.now.snaps = ap (λ (x : Volumed g.row.B.Denot). length x.snaps) c.self.view_is in
     let room : length v.snaps < 8 = omega (arith, same, admitted.1) in
     let o = c.in-Ok-open_snapshot.ensures.opened in
@@ -42,19 +45,20 @@ invariant_of-self-in-Ok-open_snapshot g c =
     let idle : numbers_in s ≡ [] = ap (λ (x : Kept g.row.B.Denot). numbers_in x) o.fields in
     let copies : s.copies ≡ [] = ap (λ (x : Kept g.row.B.Denot). x.copies) o.fields in
     let counts : IsCounted s = record { some = new.text.some; count = c.in-Ok-open_snapshot.ensures.counted; fits = λ _. c.in-Ok-open_snapshot.ensures.unfilled; idle = λ _. copies } in
-    rw (c.push_reserved.ensures.items, c.reserve.ensures.items) (whole_taken g.B.Block.contents g.B.Block.layers g.B.Block.size v s none c.self.invariant number new room small origin wanted idle counts)
+    rw (c.push_reserved.ensures.items, c.reserve.ensures.items) (whole_taken g.B.Block.contents g.B.Block.layers g.B.Block.size v s none alone c.self.invariant number new room small origin wanted idle counts)
 
 pub returns-in-Ok-open_snapshot-clause-taken : goal.returns-in-Ok-open_snapshot-clause-taken
 returns-in-Ok-open_snapshot-clause-taken g c = λ _ loud.
     let v : Volumed g.row.B.Denot = record { origin = c.self.inside.origin; snaps = c.self.inside.snaps.items; merge = c.self.inside.merge; flights = c.self.inside.flights.items; requests = c.self.inside.requests; copies = c.self.inside.copies; attached = c.self.inside.attached } in
     let s : Kept g.row.B.Denot = c.in-Ok-open_snapshot.snap in
-    let admitted = taking_none c.args.store.stale (is_quiet_of c.args.self.now) (length c.args.self.now.snaps) c.args.self.now.attached c.args.chunk (sym c.in-None.ensures) in
-    let none : v.flights ≡ [] = ap (λ (x : Volumed g.row.B.Denot). x.flights) c.self.view_is ∙ quiet_none c.args.self.now admitted.0 in
+    let admitted = taking_none c.args.store.stale (is_some c.args.self.now.merge) (is_quiet_of c.args.self.now) (length c.args.self.now.snaps) c.args.self.now.attached c.args.chunk (sym c.in-None.ensures) in
+    let none : v.flights ≡ [] = ap (λ (x : Volumed g.row.B.Denot). x.flights) c.self.view_is ∙ quiet_flights c.args.self.now admitted.0 in
+    let alone : v.merge ≡ None = none_begun v.merge (ap (λ (x : Volumed g.row.B.Denot). is_some x.merge) c.self.view_is ∙ admitted.2) in
     let number : s.number ≡ v.attached + 1 = ap (λ (x : Kept g.row.B.Denot). x.number) c.in-Ok-open_snapshot.ensures.opened.fields in
     let new : IsNewSnap (g.B.Block.contents v.origin) (snap_books g.B.Block.contents g.B.Block.layers s) = c.in-Ok-open_snapshot.ensures.new (g.B.Block.contents v.origin) (g.met.B.Block.whole v.origin ∙ ap (λ n. 512 * n) (sym c.sectors.ensures)) in
     let shows = c.in-Ok-open_snapshot.ensures.shown loud (g.B.Block.contents v.origin) in
     let pushed = c.push_reserved.ensures.items ∙ ap (λ (x : List (Kept g.row.B.Denot)). x ++ s ∷ []) c.reserve.ensures.items in
-    rw (← c.self.view_is) (plain_taken_as g.B.Block.contents g.B.Block.layers g.B.Block.size v s none c.self.invariant number new (shown_array (g.B.Block.contents v.origin) (g.B.Block.contents c.args.store.device)) c.push_reserved.new.self.items pushed shows)
+    rw (← c.self.view_is) (plain_taken_as g.B.Block.contents g.B.Block.layers g.B.Block.size v s none alone c.self.invariant number new (shown_array (g.B.Block.contents v.origin) (g.B.Block.contents c.args.store.device)) c.push_reserved.new.self.items pushed shows)
 
 pub returns-in-Err-open_snapshot-clause-refused : goal.returns-in-Err-open_snapshot-clause-refused
 returns-in-Err-open_snapshot-clause-refused g c =
@@ -97,13 +101,15 @@ returns-in-Ok-open_snapshot-clause-exact g c = λ _ loud.
     let o = c.in-Ok-open_snapshot.ensures.opened in
     let device = c.args.store.device in
     let none : attach_refusal c.args.store.stale c.args.chunk v ≡ None = ap (attach_refusal c.args.store.stale c.args.chunk) c.self.view_is ∙ sym c.in-None.ensures in
+    let taken = taking_none c.args.store.stale (is_some v.merge) (is_quiet_of v) (length v.snaps) v.attached c.args.chunk none in
+    let alone : v.merge ≡ None = none_begun v.merge taken.2 in
     let few : c.self.inside.attached ≤ 4294967295 = omega (arith, c.self.ranges) in
-    let goes = admitted c.args.store.stale (is_quiet_of v) (length v.snaps) v.attached c.args.chunk (store_of g.B.Block.contents g.B.Block.layers c.args.store) (volume_in g.B.Block.contents g.B.Block.layers v) few refl (count_in g.B.Block.contents g.B.Block.layers v) none in
+    let goes = admitted c.args.store.stale (is_some v.merge) (is_quiet_of v) (length v.snaps) v.attached c.args.chunk (store_of g.B.Block.contents g.B.Block.layers c.args.store) (volume_in g.B.Block.contents g.B.Block.layers v) few refl (count_in g.B.Block.contents g.B.Block.layers v) none in
     let size : c.sectors.result ≡ g.B.Block.size v.origin = c.sectors.ensures in
     let sectors = g.B.Block.size v.origin in
     let wanted : c.wanted.result ≡ wanted_of v.snaps = c.wanted.ensures ∙ ap wanted_of c.reserve.ensures.items in
     let snaps = (volume_in g.B.Block.contents g.B.Block.layers v).snaps in
-    let fits : AreSized c.wanted.result (volume_in g.B.Block.contents g.B.Block.layers v).snaps = subst (λ (w : Option ℕ). AreSized w (volume_in g.B.Block.contents g.B.Block.layers v).snaps) (sym wanted) (sized g.B.Block.contents g.B.Block.layers v.copies (g.B.Block.size v.origin) v.snaps c.self.invariant.snaps) in
+    let fits : AreSized c.wanted.result (volume_in g.B.Block.contents g.B.Block.layers v).snaps = subst (λ (w : Option ℕ). AreSized w (volume_in g.B.Block.contents g.B.Block.layers v).snaps) (sym wanted) (sized g.B.Block.contents g.B.Block.layers v.copies (g.B.Block.size v.origin) v.snaps (subst (λ (n : ℕ). All (IsAttached v.copies (g.B.Block.size v.origin) n) v.snaps) (piece_alone v.merge v.snaps alone) c.self.invariant.snaps)) in
     let opens : open_store (volume_in g.B.Block.contents g.B.Block.layers v).snaps (g.B.Block.size v.origin) c.args.chunk (device_of g.B.Block.contents g.B.Block.layers c.args.store.device) ≡ done s.state.chunk (device_of g.B.Block.contents g.B.Block.layers s.device) =
     ap (λ n. open_store (volume_in g.B.Block.contents g.B.Block.layers v).snaps n c.args.chunk (device_of g.B.Block.contents g.B.Block.layers c.args.store.device)) (sym size) ∙ e.exact loud (volume_in g.B.Block.contents g.B.Block.layers v).snaps fits in
     let number : s.number ≡ v.attached + 1 = ap (λ (x : Kept g.row.B.Denot). x.number) o.fields in
@@ -116,31 +122,34 @@ returns-in-Ok-open_snapshot-clause-exact g c = λ _ loud.
     (ap (λ (x : Kept g.row.B.Denot). x.live) o.fields) (ap (λ (x : Kept g.row.B.Denot). x.stale) o.fields) here pushed)
 
 pub returns-in-Err-open_snapshot-clause-back : goal.returns-in-Err-open_snapshot-clause-back
-returns-in-Err-open_snapshot-clause-back g c = λ some quiet _ loud.
+returns-in-Err-open_snapshot-clause-back g c = λ some _ quiet _ loud.
     let v : Volumed g.row.B.Denot = record { origin = c.self.inside.origin; snaps = c.self.inside.snaps.items; merge = c.self.inside.merge; flights = c.self.inside.flights.items; requests = c.self.inside.requests; copies = c.self.inside.copies; attached = c.self.inside.attached } in
     let e = c.in-Err-open_snapshot.ensures in
     let none : attach_refusal c.args.store.stale c.args.chunk v ≡ None = ap (attach_refusal c.args.store.stale c.args.chunk) c.self.view_is ∙ sym c.in-None.ensures in
+    let taken = taking_none c.args.store.stale (is_some v.merge) (is_quiet_of v) (length v.snaps) v.attached c.args.chunk none in
+    let alone : v.merge ≡ None = none_begun v.merge taken.2 in
     let few : c.self.inside.attached ≤ 4294967295 = omega (arith, c.self.ranges) in
-    let goes = admitted c.args.store.stale (is_quiet_of v) (length v.snaps) v.attached c.args.chunk (store_of g.B.Block.contents g.B.Block.layers c.args.store) (volume_in g.B.Block.contents g.B.Block.layers v) few refl (count_in g.B.Block.contents g.B.Block.layers v) none in
+    let goes = admitted c.args.store.stale (is_some v.merge) (is_quiet_of v) (length v.snaps) v.attached c.args.chunk (store_of g.B.Block.contents g.B.Block.layers c.args.store) (volume_in g.B.Block.contents g.B.Block.layers v) few refl (count_in g.B.Block.contents g.B.Block.layers v) none in
     let wanted : c.wanted.result ≡ wanted_of v.snaps = c.wanted.ensures ∙ ap wanted_of c.reserve.ensures.items in
-    let fits : AreSized c.wanted.result (volume_in g.B.Block.contents g.B.Block.layers v).snaps = subst (λ (w : Option ℕ). AreSized w (volume_in g.B.Block.contents g.B.Block.layers v).snaps) (sym wanted) (sized g.B.Block.contents g.B.Block.layers v.copies (g.B.Block.size v.origin) v.snaps c.self.invariant.snaps) in
+    let fits : AreSized c.wanted.result (volume_in g.B.Block.contents g.B.Block.layers v).snaps = subst (λ (w : Option ℕ). AreSized w (volume_in g.B.Block.contents g.B.Block.layers v).snaps) (sym wanted) (sized g.B.Block.contents g.B.Block.layers v.copies (g.B.Block.size v.origin) v.snaps (subst (λ (n : ℕ). All (IsAttached v.copies (g.B.Block.size v.origin) n) v.snaps) (piece_alone v.merge v.snaps alone) c.self.invariant.snaps)) in
     let opens = e.given_back some loud (volume_in g.B.Block.contents g.B.Block.layers v).snaps fits in
     rw (← c.self.view_is) (back_is g.B.Block.contents g.B.Block.layers v (v.attached + 1) c.sectors.result c.args.chunk c.args.store c.in-Err-open_snapshot.refused.1 c.in-Err-open_snapshot.refused.0 (g.met.B.Block.whole v.origin ∙ ap (λ n. 512 * n) (sym c.sectors.ensures)) goes.2 opens (e.stale ∙ goes.1))
 
 pub returns-in-Some-clause-back : goal.returns-in-Some-clause-back
-returns-in-Some-clause-back g c = λ _ quiet _ _.
+returns-in-Some-clause-back g c = λ _ alone quiet _ _.
     let v : Volumed g.row.B.Denot = record { origin = c.self.inside.origin; snaps = c.self.inside.snaps.items; merge = c.self.inside.merge; flights = c.self.inside.flights.items; requests = c.self.inside.requests; copies = c.self.inside.copies; attached = c.self.inside.attached } in
     let few : c.self.inside.attached ≤ 4294967295 = omega (arith, c.self.ranges) in
     let why : attach_refusal c.args.store.stale c.args.chunk v ≡ Some c.in-Some.refusal = ap (attach_refusal c.args.store.stale c.args.chunk) c.self.view_is ∙ sym c.in-Some.ensures in
+    let begun : is_some v.merge ≡ false = ap (λ (x : Volumed g.row.B.Denot). is_some x.merge) c.self.view_is ∙ ap is_some alone in
     let calm : is_quiet_of v ≡ true = ap is_quiet_of c.self.view_is ∙ quiet in
-    rw (← c.self.view_is) (refused_before c.args.store.stale (is_quiet_of v) (length v.snaps) v.attached c.args.chunk (store_of g.B.Block.contents g.B.Block.layers c.args.store) (volume_in g.B.Block.contents g.B.Block.layers v) c.in-Some.refusal few calm refl (count_in g.B.Block.contents g.B.Block.layers v) why)
+    rw (← c.self.view_is) (refused_before c.args.store.stale (is_some v.merge) (is_quiet_of v) (length v.snaps) v.attached c.args.chunk (store_of g.B.Block.contents g.B.Block.layers c.args.store) (volume_in g.B.Block.contents g.B.Block.layers v) c.in-Some.refusal few begun calm refl (count_in g.B.Block.contents g.B.Block.layers v) why)
 
 pub overflow_add-number : goal.overflow_add-number
 overflow_add-number g c =
     let v : Volumed g.row.B.Denot = record { origin = c.self.inside.origin; snaps = c.self.inside.snaps.items; merge = c.self.inside.merge; flights = c.self.inside.flights.items; requests = c.self.inside.requests; copies = c.self.inside.copies; attached = c.self.inside.attached } in
     let few : c.self.inside.attached ≤ 4294967295 = omega (arith, c.self.ranges) in
     let none : attach_refusal c.args.store.stale c.args.chunk v ≡ None = ap (attach_refusal c.args.store.stale c.args.chunk) c.self.view_is ∙ sym c.in-None.ensures in
-    let left = number_left c.args.store.stale (is_quiet_of v) (length v.snaps) v.attached c.args.chunk few none in
+    let left = number_left c.args.store.stale (is_some v.merge) (is_quiet_of v) (length v.snaps) v.attached c.args.chunk few none in
     omega (arith, left)
 
 pub returns-in-Ok-open_snapshot-clause-loud : goal.returns-in-Ok-open_snapshot-clause-loud

@@ -1,34 +1,111 @@
 -- What is found first is due first, and where nothing is, the volume is quiet.
-use Rattle.std.proofs.Common.{◌∙◌, sym, ap, map}
+use Rattle.std.proofs.Common.{◌≡◌, ◌<◌, ℕ, List, true, None, Some, refl, sym, ap, map, ◌∙◌, subst}
+use Rattle.std.specs.List.{All}
+use Rattle.std.specs.Prelude.{IfNone, Option}
+use Rattle.plain.specs.declared.event.Event.{Event}
+use Rattle.pending.specs.declared.flights.Flight.{Flight}
 use Rattle.volume_laws.specs.Due.{due_of}
-use Rattle.snapshot.specs.Kept.{due_of_kept}
-use Rattle.volume.specs.Volumed.{Volumed}
-use Rattle.volume.proofs.Alone.{next_alone}
-use Rattle.volume.proofs.Empty.{quiet_none}
-use Rattle.volume.proofs.MovedDue.{due_is}
+use Rattle.volume_laws.specs.MergeDue.{merge_due as due_of_merge}
+use Rattle.volume_laws.specs.Waits.{IsQuiet}
+use Rattle.snapshot.specs.Kept.{Kept, due_of_kept, books_of as snap_books}
+use Rattle.merge.specs.Merging.{due_of as merging_due}
+use Rattle.volume.specs.Asking.{IsMergeStill}
+use Rattle.volume.specs.Volumed.{Volumed, dues_of, next_of, books_of}
+use Rattle.volume.proofs.MergeDue.{next_first, next_merge, next_none, due_all_is, full_begins, quiet_alone, quiet_merging}
 use Rattle.volume.proofs.volume.Volume.due.Goals as goal
 
-pub returns-clause-event : goal.returns-clause-event
-returns-clause-event g c =
-    let v : Volumed g.row.B.Denot = record { origin = c.self.inside.origin; snaps = c.self.inside.snaps.items; merge = c.self.inside.merge; flights = c.self.inside.flights.items; requests = c.self.inside.requests; copies = c.self.inside.copies; attached = c.self.inside.attached } in
-    rw (← c.self.view_is)
-    (c.first_due.ensures ∙ ap (λ xs. due_of (map (due_of_kept g.B.Block.contents g.B.Block.layers) xs) c.deref-2.result.now) c.deref.ensures.value
-    ∙ ap (due_of (map (due_of_kept g.B.Block.contents g.B.Block.layers) c.self.inside.snaps.items)) c.deref-2.ensures.value
-    ∙ sym (next_alone g.B.Block.contents g.B.Block.layers v c.self.invariant.alone))
+pub merge_due-requires-clause-some : goal.merge_due-requires-clause-some
+merge_due-requires-clause-some g c = subst (All (λ (s : Kept g.row.B.Denot). 0 < s.state.chunk)) (sym c.deref-in-Some-merge.ensures.value) (λ k d lt. (c.self.invariant.counted k d lt).some)
 
-pub returns-clause-quiet : goal.returns-clause-quiet
-returns-clause-quiet g c =
+pub merge_due-requires-clause-begins : goal.merge_due-requires-clause-begins
+merge_due-requires-clause-begins g c = λ q full.
     let v : Volumed g.row.B.Denot = record { origin = c.self.inside.origin; snaps = c.self.inside.snaps.items; merge = c.self.inside.merge; flights = c.self.inside.flights.items; requests = c.self.inside.requests; copies = c.self.inside.copies; attached = c.self.inside.attached } in
-    rw (← c.self.view_is)
-    (quiet_none g.B.Block.contents g.B.Block.layers g.B.Block.size _ c.first_due.result c.self.invariant
-    (c.first_due.ensures ∙ ap (λ xs. due_of (map (due_of_kept g.B.Block.contents g.B.Block.layers) xs) c.deref-2.result.now) c.deref.ensures.value
-    ∙ ap (due_of (map (due_of_kept g.B.Block.contents g.B.Block.layers) c.self.inside.snaps.items)) c.deref-2.ensures.value
-    ∙ sym (next_alone g.B.Block.contents g.B.Block.layers v c.self.invariant.alone)))
+    full_begins g.B.Block.contents g.B.Block.layers g.B.Block.size v c.self.invariant (g.met.B.Block.small v.origin) c.in-Some-merge.merge q c.in-Some-merge.is full
 
-pub returns-clause-machine : goal.returns-clause-machine
-returns-clause-machine g c =
+pub returns-in-Some-clause-event : goal.returns-in-Some-clause-event
+returns-in-Some-clause-event g c =
     let v : Volumed g.row.B.Denot = record { origin = c.self.inside.origin; snaps = c.self.inside.snaps.items; merge = c.self.inside.merge; flights = c.self.inside.flights.items; requests = c.self.inside.requests; copies = c.self.inside.copies; attached = c.self.inside.attached } in
-    rw (← c.self.view_is)
-    (λ replied. due_is g.B.Block.contents g.B.Block.layers replied v c.self.invariant.counted
-    ∙ sym (c.first_due.ensures ∙ ap (λ xs. due_of (map (due_of_kept g.B.Block.contents g.B.Block.layers) xs) c.deref-2.result.now) c.deref.ensures.value
-    ∙ ap (due_of (map (due_of_kept g.B.Block.contents g.B.Block.layers) c.self.inside.snaps.items)) c.deref-2.ensures.value))
+    let first : c.first_due.result ≡ due_of (dues_of g.B.Block.contents g.B.Block.layers v) v.flights =
+    c.first_due.ensures ∙ ap (λ xs. due_of (map (due_of_kept g.B.Block.contents g.B.Block.layers) xs) c.deref-2.result.now) c.deref.ensures.value
+    ∙ ap (due_of (map (due_of_kept g.B.Block.contents g.B.Block.layers) c.self.inside.snaps.items)) c.deref-2.ensures.value in
+    rw (← c.self.view_is) (sym (next_first g.B.Block.contents g.B.Block.layers v c.in-Some.event (sym first ∙ c.in-Some.is)))
+
+pub returns-in-Some-clause-machine : goal.returns-in-Some-clause-machine
+returns-in-Some-clause-machine g c =
+    let v : Volumed g.row.B.Denot = record { origin = c.self.inside.origin; snaps = c.self.inside.snaps.items; merge = c.self.inside.merge; flights = c.self.inside.flights.items; requests = c.self.inside.requests; copies = c.self.inside.copies; attached = c.self.inside.attached } in
+    let first : c.first_due.result ≡ due_of (dues_of g.B.Block.contents g.B.Block.layers v) v.flights =
+    c.first_due.ensures ∙ ap (λ xs. due_of (map (due_of_kept g.B.Block.contents g.B.Block.layers) xs) c.deref-2.result.now) c.deref.ensures.value
+    ∙ ap (due_of (map (due_of_kept g.B.Block.contents g.B.Block.layers) c.self.inside.snaps.items)) c.deref-2.ensures.value in
+    rw (← c.self.view_is) (λ replied. due_all_is g.B.Block.contents g.B.Block.layers g.B.Block.size v c.self.invariant replied ∙ next_first g.B.Block.contents g.B.Block.layers v c.in-Some.event (sym first ∙ c.in-Some.is))
+
+pub returns-in-Some-merge-clause-event : goal.returns-in-Some-merge-clause-event
+returns-in-Some-merge-clause-event g c =
+    let v : Volumed g.row.B.Denot = record { origin = c.self.inside.origin; snaps = c.self.inside.snaps.items; merge = c.self.inside.merge; flights = c.self.inside.flights.items; requests = c.self.inside.requests; copies = c.self.inside.copies; attached = c.self.inside.attached } in
+    let first : c.first_due.result ≡ due_of (dues_of g.B.Block.contents g.B.Block.layers v) v.flights =
+    c.first_due.ensures ∙ ap (λ xs. due_of (map (due_of_kept g.B.Block.contents g.B.Block.layers) xs) c.deref-2.result.now) c.deref.ensures.value
+    ∙ ap (due_of (map (due_of_kept g.B.Block.contents g.B.Block.layers) c.self.inside.snaps.items)) c.deref-2.ensures.value in
+    let m = c.in-Some-merge.merge in
+    let here : c.merge_due.result ≡ next_of g.B.Block.contents g.B.Block.layers v =
+    c.merge_due.ensures
+    ∙ ap (λ xs. due_of_merge (map (snap_books g.B.Block.contents g.B.Block.layers) xs) c.deref-in-Some-merge-2.result.now (merging_due g.B.Block.contents true m)) c.deref-in-Some-merge.ensures.value
+    ∙ ap (λ fs. due_of_merge (map (snap_books g.B.Block.contents g.B.Block.layers) v.snaps) fs (merging_due g.B.Block.contents true m)) c.deref-in-Some-merge-2.ensures.value
+    ∙ sym (next_merge g.B.Block.contents g.B.Block.layers v m c.in-Some-merge.is (sym first ∙ c.in-None.is)) in
+    rw (← c.self.view_is) here
+
+pub returns-in-Some-merge-clause-machine : goal.returns-in-Some-merge-clause-machine
+returns-in-Some-merge-clause-machine g c =
+    let v : Volumed g.row.B.Denot = record { origin = c.self.inside.origin; snaps = c.self.inside.snaps.items; merge = c.self.inside.merge; flights = c.self.inside.flights.items; requests = c.self.inside.requests; copies = c.self.inside.copies; attached = c.self.inside.attached } in
+    let first : c.first_due.result ≡ due_of (dues_of g.B.Block.contents g.B.Block.layers v) v.flights =
+    c.first_due.ensures ∙ ap (λ xs. due_of (map (due_of_kept g.B.Block.contents g.B.Block.layers) xs) c.deref-2.result.now) c.deref.ensures.value
+    ∙ ap (due_of (map (due_of_kept g.B.Block.contents g.B.Block.layers) c.self.inside.snaps.items)) c.deref-2.ensures.value in
+    let m = c.in-Some-merge.merge in
+    let here : c.merge_due.result ≡ next_of g.B.Block.contents g.B.Block.layers v =
+    c.merge_due.ensures
+    ∙ ap (λ xs. due_of_merge (map (snap_books g.B.Block.contents g.B.Block.layers) xs) c.deref-in-Some-merge-2.result.now (merging_due g.B.Block.contents true m)) c.deref-in-Some-merge.ensures.value
+    ∙ ap (λ fs. due_of_merge (map (snap_books g.B.Block.contents g.B.Block.layers) v.snaps) fs (merging_due g.B.Block.contents true m)) c.deref-in-Some-merge-2.ensures.value
+    ∙ sym (next_merge g.B.Block.contents g.B.Block.layers v m c.in-Some-merge.is (sym first ∙ c.in-None.is)) in
+    rw (← c.self.view_is) (λ replied. due_all_is g.B.Block.contents g.B.Block.layers g.B.Block.size v c.self.invariant replied ∙ sym here)
+
+pub returns-in-Some-merge-clause-quiet : goal.returns-in-Some-merge-clause-quiet
+returns-in-Some-merge-clause-quiet g c =
+    let v : Volumed g.row.B.Denot = record { origin = c.self.inside.origin; snaps = c.self.inside.snaps.items; merge = c.self.inside.merge; flights = c.self.inside.flights.items; requests = c.self.inside.requests; copies = c.self.inside.copies; attached = c.self.inside.attached } in
+    let first : c.first_due.result ≡ due_of (dues_of g.B.Block.contents g.B.Block.layers v) v.flights =
+    c.first_due.ensures ∙ ap (λ xs. due_of (map (due_of_kept g.B.Block.contents g.B.Block.layers) xs) c.deref-2.result.now) c.deref.ensures.value
+    ∙ ap (due_of (map (due_of_kept g.B.Block.contents g.B.Block.layers) c.self.inside.snaps.items)) c.deref-2.ensures.value in
+    let m = c.in-Some-merge.merge in
+    let here : c.merge_due.result ≡ next_of g.B.Block.contents g.B.Block.layers v =
+    c.merge_due.ensures
+    ∙ ap (λ xs. due_of_merge (map (snap_books g.B.Block.contents g.B.Block.layers) xs) c.deref-in-Some-merge-2.result.now (merging_due g.B.Block.contents true m)) c.deref-in-Some-merge.ensures.value
+    ∙ ap (λ fs. due_of_merge (map (snap_books g.B.Block.contents g.B.Block.layers) v.snaps) fs (merging_due g.B.Block.contents true m)) c.deref-in-Some-merge-2.ensures.value
+    ∙ sym (next_merge g.B.Block.contents g.B.Block.layers v m c.in-Some-merge.is (sym first ∙ c.in-None.is)) in
+    rw (← c.self.view_is) (none_quiet c.merge_due.result _
+    (λ none. quiet_merging g.B.Block.contents g.B.Block.layers g.B.Block.size v c.self.invariant m c.in-Some-merge.is (c.has_group.ensures.looks true) (sym here ∙ none)))
+  where
+    none_quiet : (found : Option Event) (A : Type 0) → (found ≡ None → A) → IfNone found A
+    none_quiet None A h = h refl
+    none_quiet (Some e) A h = tt
+
+pub returns-in-None-merge-clause-event : goal.returns-in-None-merge-clause-event
+returns-in-None-merge-clause-event g c =
+    let v : Volumed g.row.B.Denot = record { origin = c.self.inside.origin; snaps = c.self.inside.snaps.items; merge = c.self.inside.merge; flights = c.self.inside.flights.items; requests = c.self.inside.requests; copies = c.self.inside.copies; attached = c.self.inside.attached } in
+    let first : c.first_due.result ≡ due_of (dues_of g.B.Block.contents g.B.Block.layers v) v.flights =
+    c.first_due.ensures ∙ ap (λ xs. due_of (map (due_of_kept g.B.Block.contents g.B.Block.layers) xs) c.deref-2.result.now) c.deref.ensures.value
+    ∙ ap (due_of (map (due_of_kept g.B.Block.contents g.B.Block.layers) c.self.inside.snaps.items)) c.deref-2.ensures.value in
+    rw (← c.self.view_is) (sym (next_none g.B.Block.contents g.B.Block.layers v c.in-None-merge.is (sym first ∙ c.in-None.is)))
+
+pub returns-in-None-merge-clause-machine : goal.returns-in-None-merge-clause-machine
+returns-in-None-merge-clause-machine g c =
+    let v : Volumed g.row.B.Denot = record { origin = c.self.inside.origin; snaps = c.self.inside.snaps.items; merge = c.self.inside.merge; flights = c.self.inside.flights.items; requests = c.self.inside.requests; copies = c.self.inside.copies; attached = c.self.inside.attached } in
+    let first : c.first_due.result ≡ due_of (dues_of g.B.Block.contents g.B.Block.layers v) v.flights =
+    c.first_due.ensures ∙ ap (λ xs. due_of (map (due_of_kept g.B.Block.contents g.B.Block.layers) xs) c.deref-2.result.now) c.deref.ensures.value
+    ∙ ap (due_of (map (due_of_kept g.B.Block.contents g.B.Block.layers) c.self.inside.snaps.items)) c.deref-2.ensures.value in
+    rw (← c.self.view_is) (λ replied. due_all_is g.B.Block.contents g.B.Block.layers g.B.Block.size v c.self.invariant replied ∙ next_none g.B.Block.contents g.B.Block.layers v c.in-None-merge.is (sym first ∙ c.in-None.is))
+
+pub returns-in-None-merge-clause-quiet : goal.returns-in-None-merge-clause-quiet
+returns-in-None-merge-clause-quiet g c =
+    let v : Volumed g.row.B.Denot = record { origin = c.self.inside.origin; snaps = c.self.inside.snaps.items; merge = c.self.inside.merge; flights = c.self.inside.flights.items; requests = c.self.inside.requests; copies = c.self.inside.copies; attached = c.self.inside.attached } in
+    let first : c.first_due.result ≡ due_of (dues_of g.B.Block.contents g.B.Block.layers v) v.flights =
+    c.first_due.ensures ∙ ap (λ xs. due_of (map (due_of_kept g.B.Block.contents g.B.Block.layers) xs) c.deref-2.result.now) c.deref.ensures.value
+    ∙ ap (due_of (map (due_of_kept g.B.Block.contents g.B.Block.layers) c.self.inside.snaps.items)) c.deref-2.ensures.value in
+    rw (← c.self.view_is) (quiet_alone g.B.Block.contents g.B.Block.layers g.B.Block.size v c.self.invariant c.in-None-merge.is
+    (next_none g.B.Block.contents g.B.Block.layers v c.in-None-merge.is (sym first ∙ c.in-None.is)))

@@ -9,12 +9,12 @@ use Rattle.volume.proofs.volume.Volume.issue.Goals as goal
 
 pub issue_refused-requires-clause-found : goal.issue_refused-requires-clause-found
 issue_refused-requires-clause-found g c =
-    let found = ap (λ (x : Volumed _). position (λ (f : Flight). nat_eq f.number c.args.number) x.flights) (sym c.self.view_is) ∙ ap (position (λ (f : Flight). nat_eq f.number c.args.number)) (sym c.deref.ensures.value) ∙ c.in-Some.ensures.found.0 in
+    let found = ap (λ (x : Volumed _). position (λ (f : Flight). nat_eq f.number c.args.number) x.flights) (sym c.self.view_is) ∙ ap (position (λ (f : Flight). nat_eq f.number c.args.number)) (sym c.deref.ensures.value) ∙ c.in-Some.ensures.found in
     found
 
 pub issue_refused-requires-clause-route : goal.issue_refused-requires-clause-route
 issue_refused-requires-clause-route g c =
-    λ f. ap (λ (x : Volumed _). (get_or x.flights c.in-Some.place f).route) (sym c.self.view_is) ∙ ap (λ xs. (get_or xs c.in-Some.place f).route) (sym c.deref.ensures.value) ∙ c.in-Some.ensures.found.1 f ∙ c.in-Refused.is
+    λ f. ap (λ (x : Volumed _). (get_or x.flights c.in-Some.place f).route) (sym c.self.view_is) ∙ ap (λ xs. (get_or xs c.in-Some.place f).route) (sym c.deref.ensures.value) ∙ c.in-Some.ensures.route f ∙ c.in-Refused.is
 
 pub returns-in-Refused-clause-due : goal.returns-in-Refused-clause-due
 returns-in-Refused-clause-due g c =
@@ -22,29 +22,34 @@ returns-in-Refused-clause-due g c =
 
 pub issue_disk-requires-clause-found : goal.issue_disk-requires-clause-found
 issue_disk-requires-clause-found g c =
-    let found = ap (λ (x : Volumed _). position (λ (f : Flight). nat_eq f.number c.args.number) x.flights) (sym c.self.view_is) ∙ ap (position (λ (f : Flight). nat_eq f.number c.args.number)) (sym c.deref.ensures.value) ∙ c.in-Some.ensures.found.0 in
+    let found = ap (λ (x : Volumed _). position (λ (f : Flight). nat_eq f.number c.args.number) x.flights) (sym c.self.view_is) ∙ ap (position (λ (f : Flight). nat_eq f.number c.args.number)) (sym c.deref.ensures.value) ∙ c.in-Some.ensures.found in
     found
 
 pub issue_disk-requires-clause-route : goal.issue_disk-requires-clause-route
 issue_disk-requires-clause-route g c =
-    λ f. ap (λ (x : Volumed _). (get_or x.flights c.in-Some.place f).route) (sym c.self.view_is) ∙ ap (λ xs. (get_or xs c.in-Some.place f).route) (sym c.deref.ensures.value) ∙ c.in-Some.ensures.found.1 f ∙ c.in-Origin.is
+    λ f. ap (λ (x : Volumed _). (get_or x.flights c.in-Some.place f).route) (sym c.self.view_is) ∙ ap (λ xs. (get_or xs c.in-Some.place f).route) (sym c.deref.ensures.value) ∙ c.in-Some.ensures.route f ∙ c.in-Origin.is
 
 pub returns-in-Origin-clause-due : goal.returns-in-Origin-clause-due
 returns-in-Origin-clause-due g c =
     sym (ap (λ (x : Volumed _). is_issued c.args.number x.flights) (sym c.self.view_is) ∙ ap (is_issued c.args.number) (sym c.deref.ensures.value) ∙ c.in-Some.ensures.due ∙ ap is_routed c.in-Origin.is)
 
+pub issue_merging-requires-clause-found : goal.issue_merging-requires-clause-found
+issue_merging-requires-clause-found g c =
+    let found = ap (λ (x : Volumed _). position (λ (f : Flight). nat_eq f.number c.args.number) x.flights) (sym c.self.view_is) ∙ ap (position (λ (f : Flight). nat_eq f.number c.args.number)) (sym c.deref.ensures.value) ∙ c.in-Some.ensures.found in
+    found
+
+pub issue_merging-requires-clause-route : goal.issue_merging-requires-clause-route
+issue_merging-requires-clause-route g c =
+    λ f. ap (λ (x : Volumed _). (get_or x.flights c.in-Some.place f).route) (sym c.self.view_is) ∙ ap (λ xs. (get_or xs c.in-Some.place f).route) (sym c.deref.ensures.value) ∙ c.in-Some.ensures.route f ∙ c.in-Store.is
+
 pub issue_store-requires-clause-found : goal.issue_store-requires-clause-found
 issue_store-requires-clause-found g c =
-    let found = ap (λ (x : Volumed _). position (λ (f : Flight). nat_eq f.number c.args.number) x.flights) (sym c.self.view_is) ∙ ap (position (λ (f : Flight). nat_eq f.number c.args.number)) (sym c.deref.ensures.value) ∙ c.in-Some.ensures.found.0 in
+    let found = ap (λ (x : Volumed _). position (λ (f : Flight). nat_eq f.number c.args.number) x.flights) (sym c.self.view_is) ∙ ap (position (λ (f : Flight). nat_eq f.number c.args.number)) (sym c.deref.ensures.value) ∙ c.in-Some.ensures.found in
     found
 
 pub issue_store-requires-clause-route : goal.issue_store-requires-clause-route
 issue_store-requires-clause-route g c =
-    λ f. ap (λ (x : Volumed _). (get_or x.flights c.in-Some.place f).route) (sym c.self.view_is) ∙ ap (λ xs. (get_or xs c.in-Some.place f).route) (sym c.deref.ensures.value) ∙ c.in-Some.ensures.found.1 f ∙ c.in-Store.is
-
-pub returns-in-Store-clause-due : goal.returns-in-Store-clause-due
-returns-in-Store-clause-due g c =
-    sym (ap (λ (x : Volumed _). is_issued c.args.number x.flights) (sym c.self.view_is) ∙ ap (is_issued c.args.number) (sym c.deref.ensures.value) ∙ c.in-Some.ensures.due ∙ ap is_routed c.in-Store.is)
+    λ f. ap (λ (x : Volumed _). (get_or x.flights c.in-Some.place f).route) (sym c.self.view_is) ∙ ap (λ xs. (get_or xs c.in-Some.place f).route) (sym c.deref.ensures.value) ∙ c.in-Some.ensures.route f ∙ c.in-Store.is
 
 pub returns-in-Held-clause-due : goal.returns-in-Held-clause-due
 returns-in-Held-clause-due g c =

@@ -30,8 +30,8 @@ unreachable-requires g c =
     let found : position (λ (f : Flight). nat_eq f.number c.args.number) v.flights.items ≡ Some c.args.place = ap (λ (x : Volumed _). position (λ (f : Flight). nat_eq f.number c.args.number) x.flights) c.self.view_is ∙ c.requires.found in
     let inside = position_within (λ (f : Flight). nat_eq f.number c.args.number) v.flights.items c.args.place found in
     let was : r ≡ get_or v.flights.items c.args.place r = c.remove-flight.ensures.value in
-    let route : r.route ≡ Store c.args.at = ap (λ (x : Flight). x.route) was ∙ ap (λ (x : Volumed _). (get_or x.flights c.args.place r).route) c.self.view_is ∙ c.requires.route r in
-    let snap = is_snap g.B.Block.contents g.B.Block.layers g.B.Block.size g.B.Block.fault_count g.B.Block.done_count _ c.self.invariant c.args.number c.args.place r found was c.args.at route in
+    let dev : r.request.dev ≡ (get_or c.args.self.now.flights c.args.place r).request.dev = ap (λ (x : Flight). x.request.dev) was ∙ ap (λ (x : Volumed _). (get_or x.flights c.args.place r).request.dev) c.self.view_is in
+    let snap = is_snap g.B.Block.contents g.B.Block.layers g.B.Block.size g.B.Block.fault_count g.B.Block.done_count _ c.self.invariant c.args.number c.args.place r found was (λ e. c.requires.dev r (sym dev ∙ e)) in
     false≢true (sym (c.in-None.ensures.none snap.0 snap.1) ∙ ap (list_any (λ (s : Kept _). nat_eq s.number snap.0)) c.deref.ensures.value ∙ held_any g.B.Block.contents g.B.Block.layers snap.0 v.snaps.items snap.2)
 
 pub nonzero_rem-first : goal.nonzero_rem-first

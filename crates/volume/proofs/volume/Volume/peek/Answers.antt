@@ -1,5 +1,5 @@
 -- The snapshot that is found is live, and its store's bytes say its pairs.
-use Rattle.std.proofs.Common.{◌≡◌, ℕ, List, Some, true, sym, ◌∙◌, ap, subst}
+use Rattle.std.proofs.Common.{◌≡◌, ℕ, List, Some, true, false, refl, sym, ◌∙◌, ap, subst}
 use Rattle.std.specs.Prelude.{◌==◌}
 use Rattle.sector.specs.Bytes.{sectors_at}
 use Rattle.plain.specs.Serves.{Shows}
@@ -9,10 +9,10 @@ use Rattle.snapshot.specs.Kept.{Kept}
 use Rattle.volume.specs.Peeking.{is_loud_under}
 use Rattle.volume.specs.Volumed.{Volumed, plain_of}
 use Rattle.snapshots.specs.Finding.{place_of_snap}
-use Rattle.volume.proofs.Alone.{origin_alone}
+use Rattle.volume.specs.Submitting.{is_merging}
 use Rattle.volume.proofs.MovedLists.{IsFirst, first_position}
 use Rattle.volume.proofs.Named.{found_within}
-use Rattle.volume.proofs.Peeked.{places_inside, pairs_stored, shown_snap, snap_loud, live_refusal}
+use Rattle.volume.proofs.Peeked.{places_inside, pairs_stored, shown_snap, snap_loud, live_refusal, spoilt_refusal}
 use Rattle.volume.proofs.volume.Volume.peek.Goals as goal
 
 pub peek_pieces-requires-clause-places : goal.peek_pieces-requires-clause-places
@@ -22,11 +22,19 @@ peek_pieces-requires-clause-places g c =
     let found : Some c.in-Some.k ≡ place_of_snap c.in-Snap.number v.snaps = c.in-Some.ensures ∙ ap (place_of_snap c.in-Snap.number) c.as_slice.ensures.value in
     places_inside g.B.Block.contents g.B.Block.layers g.B.Block.size v c.self.invariant c.in-Some.k s (found_within c.in-Snap.number v.snaps c.in-Some.k found) c.index-snap.ensures (sym c.if-not-is_live.ensures) g.met.B.Block.whole
 
+pub returns-then-not-is_live-clause-err : goal.returns-then-not-is_live-clause-err
+returns-then-not-is_live-clause-err g c =
+    let s : Kept g.row.B.Denot = c.index-snap.result.now in
+    let found : Some c.in-Some.k ≡ place_of_snap c.in-Snap.number c.self.inside.snaps.items = c.in-Some.ensures ∙ ap (place_of_snap c.in-Snap.number) c.as_slice.ensures.value in
+    let other : is_merging c.in-Snap.number c.self.inside.merge ≡ false = ap (λ (x : Volumed g.row.B.Denot). is_merging c.in-Snap.number x.merge) c.self.view_is ∙ sym c.is_merging.ensures ∙ c.if-is_merging.false in
+    rw (← c.self.view_is) (spoilt_refusal c.self.inside.merge c.self.inside.snaps.items c.args.dev c.in-Snap.number c.in-Some.k s c.in-Snap.is other found c.index-snap.ensures (sym c.is_live.ensures ∙ c.if-not-is_live.true), refl)
+
 pub returns-else-not-is_live-clause-there : goal.returns-else-not-is_live-clause-there
 returns-else-not-is_live-clause-there g c =
     let s : Kept g.row.B.Denot = c.index-snap.result.now in
     let found : Some c.in-Some.k ≡ place_of_snap c.in-Snap.number c.self.inside.snaps.items = c.in-Some.ensures ∙ ap (place_of_snap c.in-Snap.number) c.as_slice.ensures.value in
-    rw (← c.self.view_is) (live_refusal c.self.inside.snaps.items c.args.dev c.in-Snap.number c.in-Some.k s c.in-Snap.is found c.index-snap.ensures (sym c.if-not-is_live.ensures))
+    let other : is_merging c.in-Snap.number c.self.inside.merge ≡ false = ap (λ (x : Volumed g.row.B.Denot). is_merging c.in-Snap.number x.merge) c.self.view_is ∙ sym c.is_merging.ensures ∙ c.if-is_merging.false in
+    rw (← c.self.view_is) (live_refusal c.self.inside.merge c.self.inside.snaps.items c.args.dev c.in-Snap.number c.in-Some.k s c.in-Snap.is other found c.index-snap.ensures (sym c.if-not-is_live.ensures))
 
 pub returns-else-not-is_live-clause-bytes : goal.returns-else-not-is_live-clause-bytes
 returns-else-not-is_live-clause-bytes g c = λ loud array shown.
@@ -37,13 +45,12 @@ returns-else-not-is_live-clause-bytes g c = λ loud array shown.
     let first : IsFirst (λ (x : Kept g.row.B.Denot). x.number == c.in-Snap.number) c.in-Some.k s v.snaps = first_position (λ (x : Kept g.row.B.Denot). x.number == c.in-Snap.number) c.in-Some.k s v.snaps c.index-snap.ensures (sym found) in
     let mine : Shows (plain_of g.B.Block.contents g.B.Block.layers v) (Snap c.in-Snap.number) array =
     subst (λ (d : Dev). Shows (plain_of g.B.Block.contents g.B.Block.layers v) d array) c.in-Snap.is (subst (λ (x : Volumed g.row.B.Denot). Shows (plain_of g.B.Block.contents g.B.Block.layers x) c.args.dev array) (sym c.self.view_is) shown) in
-    let stored = pairs_stored g.B.Block.contents g.B.Block.layers g.B.Block.size v c.self.invariant c.in-Some.k s (found_within c.in-Snap.number v.snaps c.in-Some.k found) c.index-snap.ensures live (snap_loud g.B.Block.layers v.snaps c.args.dev c.in-Snap.number c.in-Some.k s c.in-Snap.is found c.index-snap.ensures (ap (λ (x : Volumed g.row.B.Denot). is_loud_under g.B.Block.layers c.args.dev x.snaps) c.self.view_is ∙ loud)) in
+    let stored = pairs_stored g.B.Block.contents g.B.Block.layers g.B.Block.size v c.self.invariant c.in-Some.k s (found_within c.in-Snap.number v.snaps c.in-Some.k found) c.index-snap.ensures live (snap_loud g.B.Block.layers v.merge v.snaps c.args.dev c.in-Snap.number c.in-Some.k s c.in-Snap.is found c.index-snap.ensures (ap (λ (x : Volumed g.row.B.Denot). is_loud_under g.B.Block.layers c.args.dev x.merge x.snaps) c.self.view_is ∙ loud)) in
     c.peek_pieces.ensures stored
     ∙ ap (λ (a : List ℕ). sectors_at a c.args.range.first c.args.range.count) (sym (shown_snap g.B.Block.contents (g.B.Block.contents v.origin) c.in-Snap.number c.in-Some.k s v.snaps array first live mine))
 
 pub returns-in-Origin-clause-bytes : goal.returns-in-Origin-clause-bytes
 returns-in-Origin-clause-bytes g c = λ loud array shown.
-    let v : Volumed g.row.B.Denot = record { origin = c.self.inside.origin; snaps = c.self.inside.snaps.items; merge = c.self.inside.merge; flights = c.self.inside.flights.items; requests = c.self.inside.requests; copies = c.self.inside.copies; attached = c.self.inside.attached } in
-    let mine : Shows (plain_of g.B.Block.contents g.B.Block.layers v) Origin array =
-    subst (λ (d : Dev). Shows (plain_of g.B.Block.contents g.B.Block.layers v) d array) c.in-Origin.is (subst (λ (x : Volumed g.row.B.Denot). Shows (plain_of g.B.Block.contents g.B.Block.layers x) c.args.dev array) (sym c.self.view_is) shown) in
-    c.peek.ensures ∙ ap (λ (a : List ℕ). sectors_at a c.args.range.first c.args.range.count) (sym (mine ∙ origin_alone g.B.Block.contents g.B.Block.layers v c.self.invariant.alone))
+    let now = c.args.self.now in
+    let mine : Shows (plain_of g.B.Block.contents g.B.Block.layers now) Origin array = subst (λ (d : Dev). Shows (plain_of g.B.Block.contents g.B.Block.layers now) d array) c.in-Origin.is shown in
+    c.peek_origin.ensures (ap (λ (d : Dev). is_loud_under g.B.Block.layers d now.merge now.snaps) (sym c.in-Origin.is) ∙ loud) ∙ ap (λ (a : List ℕ). sectors_at a c.args.range.first c.args.range.count) (sym mine)

@@ -1,7 +1,7 @@
 -- The largest chunk is allowed, and all snapshots have the first one's chunks.
 use Rattle.std.proofs.Common.{◌≡◌, ◌≤◌, List, [], ◌∷◌, length, get_or, refl, sym, ◌∙◌, ap, arith}
 use Rattle.snapshot.specs.Kept.{Kept}
-use Rattle.volume.specs.Volumed.{piece_of}
+use Rattle.volume.specs.Volumed.{piece_of, piece_with}
 use Rattle.volume.proofs.volume.Volume.piece.Goals as goal
 
 first_piece : {B : Type 0} (xs : List (Kept B)) (s : Kept B) → 1 ≤ length xs → s ≡ get_or xs 0 s → piece_of xs ≡ s.state.chunk
@@ -15,6 +15,6 @@ returns-in-empty-clause-allowed g c = refl
 pub returns-in-len1-up-clause-same : goal.returns-in-len1-up-clause-same
 returns-in-len1-up-clause-same g c =
     let some = c.in-len1-up.len_at_least in
-    let first : piece_of c.as_slice.result.now ≡ c.chunk.result = first_piece c.as_slice.result.now c.first-item.result some c.first-item.is ∙ sym c.chunk.ensures.is in
-    let here : piece_of c.self.inside.snaps.items ≡ c.chunk.result = ap piece_of (sym c.as_slice.ensures.value) ∙ first in
-    rw (← c.self.view_is) (λ k d lt. (c.self.invariant.snaps k d lt).chunk_is ∙ here)
+    let first : piece_of c.as_slice.result.now ≡ c.chunk-in-len1-up.result = first_piece c.as_slice.result.now c.first-item.result some c.first-item.is ∙ sym c.chunk-in-len1-up.ensures.is in
+    let here : piece_of c.self.inside.snaps.items ≡ c.chunk-in-len1-up.result = ap piece_of (sym c.as_slice.ensures.value) ∙ first in
+    rw (← c.self.view_is) (λ k d lt. (c.self.invariant.snaps k d lt).chunk_is ∙ ap (λ m. piece_with m c.self.inside.snaps.items) c.in_default.is ∙ here)

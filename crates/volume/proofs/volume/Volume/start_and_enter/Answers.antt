@@ -4,7 +4,7 @@ use Rattle.std.specs.Prelude.{◌&&◌, sum_by, count_by}
 use Rattle.std.proofs.lemmas.List.{get_or-set_same}
 use Rattle.pending.specs.declared.flights.Flight.{Flight}
 use Rattle.snapshot.specs.Kept.{Kept}
-use Rattle.volume.specs.Volumed.{Volumed, piece_of}
+use Rattle.volume.specs.Volumed.{Volumed, piece_with}
 use Rattle.snapshots.specs.Numbers.{count_in}
 use Rattle.snapshots.specs.Finding.{place_of_snap}
 use Rattle.snapshots.proofs.Finds.{position_within}
@@ -26,7 +26,7 @@ invariant_of-self g c =
     let v : Volumed g.row.B.Denot = record { origin = c.self.inside.origin; snaps = c.self.inside.snaps.items; merge = c.self.inside.merge; flights = c.self.inside.flights.items; requests = c.self.inside.requests; copies = c.self.inside.copies; attached = c.self.inside.attached } in
     let s : Kept g.row.B.Denot = c.index_mut.result.now in
     let place : Some c.args.k ≡ place_of_snap c.args.id c.self.inside.snaps.items = c.requires.place ∙ sym (ap (λ (x : Volumed g.row.B.Denot). place_of_snap c.args.id x.snaps) c.self.view_is) in
-    let free : dev_refusal c.args.request.dev c.self.inside.snaps.items ≡ None = ap (λ (x : Volumed g.row.B.Denot). dev_refusal c.args.request.dev x.snaps) c.self.view_is ∙ c.requires.found in
+    let free : dev_refusal c.args.request.dev c.self.inside.merge c.self.inside.snaps.items ≡ None = ap (λ (x : Volumed g.row.B.Denot). dev_refusal c.args.request.dev x.merge x.snaps) c.self.view_is ∙ c.requires.found in
     let named : IsNamed v c.args.id c.args.k s = is_named v c.self.inside.snaps.items c.args.request.dev c.args.id c.args.k s refl c.index_mut.ensures.value free (dev_of_write c.args.request c.args.id c.requires.kind) place in
     roomy_whole g.B.Block.contents g.B.Block.layers g.B.Block.size v c.self.invariant c.args.id c.args.k s named c.take_room.new.snap c.take_room.ensures.same
 
@@ -35,7 +35,7 @@ returns-in-Err-clause-err g c =
     let v : Volumed g.row.B.Denot = record { origin = c.self.inside.origin; snaps = c.self.inside.snaps.items; merge = c.self.inside.merge; flights = c.self.inside.flights.items; requests = c.self.inside.requests; copies = c.self.inside.copies; attached = c.self.inside.attached } in
     let s : Kept g.row.B.Denot = c.index_mut.result.now in
     let place : Some c.args.k ≡ place_of_snap c.args.id c.self.inside.snaps.items = c.requires.place ∙ sym (ap (λ (x : Volumed g.row.B.Denot). place_of_snap c.args.id x.snaps) c.self.view_is) in
-    let free : dev_refusal c.args.request.dev c.self.inside.snaps.items ≡ None = ap (λ (x : Volumed g.row.B.Denot). dev_refusal c.args.request.dev x.snaps) c.self.view_is ∙ c.requires.found in
+    let free : dev_refusal c.args.request.dev c.self.inside.merge c.self.inside.snaps.items ≡ None = ap (λ (x : Volumed g.row.B.Denot). dev_refusal c.args.request.dev x.merge x.snaps) c.self.view_is ∙ c.requires.found in
     let named : IsNamed v c.args.id c.args.k s = is_named v c.self.inside.snaps.items c.args.request.dev c.args.id c.args.k s refl c.index_mut.ensures.value free (dev_of_write c.args.request c.args.id c.requires.kind) place in
     rw (← c.self.view_is) (inl (c.in-Err.ensures.refusal, record { roomed = one_roomed g.B.Block.contents g.B.Block.layers g.B.Block.size v c.self.invariant c.args.id c.args.k s named c.take_room.new.snap c.take_room.ensures.same; becomes = refl }))
 
@@ -44,7 +44,7 @@ invariant_of-self-in_default g c =
     let v : Volumed g.row.B.Denot = record { origin = c.self.inside.origin; snaps = c.self.inside.snaps.items; merge = c.self.inside.merge; flights = c.self.inside.flights.items; requests = c.self.inside.requests; copies = c.self.inside.copies; attached = c.self.inside.attached } in
     let s : Kept g.row.B.Denot = c.index_mut.result.now in
     let place : Some c.args.k ≡ place_of_snap c.args.id c.self.inside.snaps.items = c.requires.place ∙ sym (ap (λ (x : Volumed g.row.B.Denot). place_of_snap c.args.id x.snaps) c.self.view_is) in
-    let free : dev_refusal c.args.request.dev c.self.inside.snaps.items ≡ None = ap (λ (x : Volumed g.row.B.Denot). dev_refusal c.args.request.dev x.snaps) c.self.view_is ∙ c.requires.found in
+    let free : dev_refusal c.args.request.dev c.self.inside.merge c.self.inside.snaps.items ≡ None = ap (λ (x : Volumed g.row.B.Denot). dev_refusal c.args.request.dev x.merge x.snaps) c.self.view_is ∙ c.requires.found in
     let named : IsNamed v c.args.id c.args.k s = is_named v c.self.inside.snaps.items c.args.request.dev c.args.id c.args.k s refl c.index_mut.ensures.value free (dev_of_write c.args.request c.args.id c.requires.kind) place in
     roomy_whole g.B.Block.contents g.B.Block.layers g.B.Block.size v c.self.invariant c.args.id c.args.k s named c.take_room.new.snap c.take_room.ensures.same
 
@@ -53,7 +53,7 @@ returns-in_default-clause-err g c =
     let v : Volumed g.row.B.Denot = record { origin = c.self.inside.origin; snaps = c.self.inside.snaps.items; merge = c.self.inside.merge; flights = c.self.inside.flights.items; requests = c.self.inside.requests; copies = c.self.inside.copies; attached = c.self.inside.attached } in
     let s : Kept g.row.B.Denot = c.index_mut.result.now in
     let place : Some c.args.k ≡ place_of_snap c.args.id c.self.inside.snaps.items = c.requires.place ∙ sym (ap (λ (x : Volumed g.row.B.Denot). place_of_snap c.args.id x.snaps) c.self.view_is) in
-    let free : dev_refusal c.args.request.dev c.self.inside.snaps.items ≡ None = ap (λ (x : Volumed g.row.B.Denot). dev_refusal c.args.request.dev x.snaps) c.self.view_is ∙ c.requires.found in
+    let free : dev_refusal c.args.request.dev c.self.inside.merge c.self.inside.snaps.items ≡ None = ap (λ (x : Volumed g.row.B.Denot). dev_refusal c.args.request.dev x.merge x.snaps) c.self.view_is ∙ c.requires.found in
     let named : IsNamed v c.args.id c.args.k s = is_named v c.self.inside.snaps.items c.args.request.dev c.args.id c.args.k s refl c.index_mut.ensures.value free (dev_of_write c.args.request c.args.id c.requires.kind) place in
     rw (← c.self.view_is) (inl (refl, record { roomed = one_roomed g.B.Block.contents g.B.Block.layers g.B.Block.size v c.self.invariant c.args.id c.args.k s named c.take_room.new.snap c.take_room.ensures.same; becomes = refl }))
 
@@ -62,7 +62,7 @@ invariant_of-self-in-Err-reserve g c =
     let v : Volumed g.row.B.Denot = record { origin = c.self.inside.origin; snaps = c.self.inside.snaps.items; merge = c.self.inside.merge; flights = c.self.inside.flights.items; requests = c.self.inside.requests; copies = c.self.inside.copies; attached = c.self.inside.attached } in
     let s : Kept g.row.B.Denot = c.index_mut.result.now in
     let place : Some c.args.k ≡ place_of_snap c.args.id c.self.inside.snaps.items = c.requires.place ∙ sym (ap (λ (x : Volumed g.row.B.Denot). place_of_snap c.args.id x.snaps) c.self.view_is) in
-    let free : dev_refusal c.args.request.dev c.self.inside.snaps.items ≡ None = ap (λ (x : Volumed g.row.B.Denot). dev_refusal c.args.request.dev x.snaps) c.self.view_is ∙ c.requires.found in
+    let free : dev_refusal c.args.request.dev c.self.inside.merge c.self.inside.snaps.items ≡ None = ap (λ (x : Volumed g.row.B.Denot). dev_refusal c.args.request.dev x.merge x.snaps) c.self.view_is ∙ c.requires.found in
     let named : IsNamed v c.args.id c.args.k s = is_named v c.self.inside.snaps.items c.args.request.dev c.args.id c.args.k s refl c.index_mut.ensures.value free (dev_of_write c.args.request c.args.id c.requires.kind) place in
     rw (c.reserve.ensures.items) (roomy_whole g.B.Block.contents g.B.Block.layers g.B.Block.size v c.self.invariant c.args.id c.args.k s named c.take_room.new.snap c.take_room.ensures.same)
 
@@ -71,7 +71,7 @@ returns-in-Err-reserve-clause-err g c =
     let v : Volumed g.row.B.Denot = record { origin = c.self.inside.origin; snaps = c.self.inside.snaps.items; merge = c.self.inside.merge; flights = c.self.inside.flights.items; requests = c.self.inside.requests; copies = c.self.inside.copies; attached = c.self.inside.attached } in
     let s : Kept g.row.B.Denot = c.index_mut.result.now in
     let place : Some c.args.k ≡ place_of_snap c.args.id c.self.inside.snaps.items = c.requires.place ∙ sym (ap (λ (x : Volumed g.row.B.Denot). place_of_snap c.args.id x.snaps) c.self.view_is) in
-    let free : dev_refusal c.args.request.dev c.self.inside.snaps.items ≡ None = ap (λ (x : Volumed g.row.B.Denot). dev_refusal c.args.request.dev x.snaps) c.self.view_is ∙ c.requires.found in
+    let free : dev_refusal c.args.request.dev c.self.inside.merge c.self.inside.snaps.items ≡ None = ap (λ (x : Volumed g.row.B.Denot). dev_refusal c.args.request.dev x.merge x.snaps) c.self.view_is ∙ c.requires.found in
     let named : IsNamed v c.args.id c.args.k s = is_named v c.self.inside.snaps.items c.args.request.dev c.args.id c.args.k s refl c.index_mut.ensures.value free (dev_of_write c.args.request c.args.id c.requires.kind) place in
     rw (← c.self.view_is) (inl (refl, record { roomed = one_roomed g.B.Block.contents g.B.Block.layers g.B.Block.size v c.self.invariant c.args.id c.args.k s named c.take_room.new.snap c.take_room.ensures.same; becomes = ap (λ (fs : List Flight). let w : Volumed g.row.B.Denot = record v { snaps = set c.self.inside.snaps.items c.args.k c.take_room.new.snap; flights = fs } in w) c.reserve.ensures.items }))
 
@@ -80,7 +80,7 @@ index_mut-requires-2 g c =
     let v : Volumed g.row.B.Denot = record { origin = c.self.inside.origin; snaps = c.self.inside.snaps.items; merge = c.self.inside.merge; flights = c.self.inside.flights.items; requests = c.self.inside.requests; copies = c.self.inside.copies; attached = c.self.inside.attached } in
     let s : Kept g.row.B.Denot = c.index_mut.result.now in
     let place : Some c.args.k ≡ place_of_snap c.args.id c.self.inside.snaps.items = c.requires.place ∙ sym (ap (λ (x : Volumed g.row.B.Denot). place_of_snap c.args.id x.snaps) c.self.view_is) in
-    let free : dev_refusal c.args.request.dev c.self.inside.snaps.items ≡ None = ap (λ (x : Volumed g.row.B.Denot). dev_refusal c.args.request.dev x.snaps) c.self.view_is ∙ c.requires.found in
+    let free : dev_refusal c.args.request.dev c.self.inside.merge c.self.inside.snaps.items ≡ None = ap (λ (x : Volumed g.row.B.Denot). dev_refusal c.args.request.dev x.merge x.snaps) c.self.view_is ∙ c.requires.found in
     let named : IsNamed v c.args.id c.args.k s = is_named v c.self.inside.snaps.items c.args.request.dev c.args.id c.args.k s refl c.index_mut.ensures.value free (dev_of_write c.args.request c.args.id c.requires.kind) place in
     let ok = c.self.inside.snaps.ok in
     let within = named.within in
@@ -91,12 +91,12 @@ save_in-given-requires-clause-begins g c =
     let v : Volumed g.row.B.Denot = record { origin = c.self.inside.origin; snaps = c.self.inside.snaps.items; merge = c.self.inside.merge; flights = c.self.inside.flights.items; requests = c.self.inside.requests; copies = c.self.inside.copies; attached = c.self.inside.attached } in
     let s : Kept g.row.B.Denot = c.index_mut.result.now in
     let place : Some c.args.k ≡ place_of_snap c.args.id c.self.inside.snaps.items = c.requires.place ∙ sym (ap (λ (x : Volumed g.row.B.Denot). place_of_snap c.args.id x.snaps) c.self.view_is) in
-    let free : dev_refusal c.args.request.dev c.self.inside.snaps.items ≡ None = ap (λ (x : Volumed g.row.B.Denot). dev_refusal c.args.request.dev x.snaps) c.self.view_is ∙ c.requires.found in
+    let free : dev_refusal c.args.request.dev c.self.inside.merge c.self.inside.snaps.items ≡ None = ap (λ (x : Volumed g.row.B.Denot). dev_refusal c.args.request.dev x.merge x.snaps) c.self.view_is ∙ c.requires.found in
     let named : IsNamed v c.args.id c.args.k s = is_named v c.self.inside.snaps.items c.args.request.dev c.args.id c.args.k s refl c.index_mut.ensures.value free (dev_of_write c.args.request c.args.id c.requires.kind) place in
     let roomy = one_roomed g.B.Block.contents g.B.Block.layers g.B.Block.size v c.self.invariant c.args.id c.args.k s named c.take_room.new.snap c.take_room.ensures.same in
     let within = within_roomy g.B.Block.contents g.B.Block.layers g.B.Block.size v c.self.invariant c.args.id c.args.k s named c.take_room.new.snap c.take_room.ensures.same in
     let now2 : c.index_mut-2.result.now ≡ c.take_room.new.snap = c.index_mut-2.ensures.value ∙ get_or-set_same c.self.inside.snaps.items c.args.k c.take_room.new.snap c.index_mut-2.result.now named.within in
-    let asked : IsAsked (g.B.Block.size c.self.inside.origin) (piece_of c.self.inside.snaps.items) c.args.request = subst (λ (x : Volumed g.row.B.Denot). IsAsked (g.B.Block.size x.origin) (piece_of x.snaps) c.args.request) (sym c.self.view_is) c.requires.asked in
+    let asked : IsAsked (g.B.Block.size c.self.inside.origin) (piece_with c.self.inside.merge c.self.inside.snaps.items) c.args.request = subst (λ (x : Volumed g.row.B.Denot). IsAsked (g.B.Block.size x.origin) (piece_with x.merge x.snaps) c.args.request) (sym c.self.view_is) c.requires.asked in
     let all = begins_all g.B.Block.contents g.B.Block.layers g.B.Block.size v c.self.invariant (set c.self.inside.snaps.items c.args.k c.take_room.new.snap) roomy c.args.request.range.first c.args.request.range.count asked.some asked.inside in
     subst (λ (x : Kept g.row.B.Denot). c.args.request.range.first < x.state.origin) (sym c.index_mut-2.ensures.value) (all c.args.k c.index_mut-2.result.now within)
 
@@ -105,12 +105,12 @@ save_in-given-requires-clause-room g c =
     let v : Volumed g.row.B.Denot = record { origin = c.self.inside.origin; snaps = c.self.inside.snaps.items; merge = c.self.inside.merge; flights = c.self.inside.flights.items; requests = c.self.inside.requests; copies = c.self.inside.copies; attached = c.self.inside.attached } in
     let s : Kept g.row.B.Denot = c.index_mut.result.now in
     let place : Some c.args.k ≡ place_of_snap c.args.id c.self.inside.snaps.items = c.requires.place ∙ sym (ap (λ (x : Volumed g.row.B.Denot). place_of_snap c.args.id x.snaps) c.self.view_is) in
-    let free : dev_refusal c.args.request.dev c.self.inside.snaps.items ≡ None = ap (λ (x : Volumed g.row.B.Denot). dev_refusal c.args.request.dev x.snaps) c.self.view_is ∙ c.requires.found in
+    let free : dev_refusal c.args.request.dev c.self.inside.merge c.self.inside.snaps.items ≡ None = ap (λ (x : Volumed g.row.B.Denot). dev_refusal c.args.request.dev x.merge x.snaps) c.self.view_is ∙ c.requires.found in
     let named : IsNamed v c.args.id c.args.k s = is_named v c.self.inside.snaps.items c.args.request.dev c.args.id c.args.k s refl c.index_mut.ensures.value free (dev_of_write c.args.request c.args.id c.requires.kind) place in
     let roomy = one_roomed g.B.Block.contents g.B.Block.layers g.B.Block.size v c.self.invariant c.args.id c.args.k s named c.take_room.new.snap c.take_room.ensures.same in
     let within = within_roomy g.B.Block.contents g.B.Block.layers g.B.Block.size v c.self.invariant c.args.id c.args.k s named c.take_room.new.snap c.take_room.ensures.same in
     let now2 : c.index_mut-2.result.now ≡ c.take_room.new.snap = c.index_mut-2.ensures.value ∙ get_or-set_same c.self.inside.snaps.items c.args.k c.take_room.new.snap c.index_mut-2.result.now named.within in
-    let asked : IsAsked (g.B.Block.size c.self.inside.origin) (piece_of c.self.inside.snaps.items) c.args.request = subst (λ (x : Volumed g.row.B.Denot). IsAsked (g.B.Block.size x.origin) (piece_of x.snaps) c.args.request) (sym c.self.view_is) c.requires.asked in
+    let asked : IsAsked (g.B.Block.size c.self.inside.origin) (piece_with c.self.inside.merge c.self.inside.snaps.items) c.args.request = subst (λ (x : Volumed g.row.B.Denot). IsAsked (g.B.Block.size x.origin) (piece_with x.merge x.snaps) c.args.request) (sym c.self.view_is) c.requires.asked in
     subst (λ (x : Kept g.row.B.Denot). HasRoomFor c.args.request.range.first x c.in-Ok.room) (sym now2) c.in-Ok.ensures.ok
 
 pub invariant_of-self-then-given-self : goal.invariant_of-self-then-given-self
@@ -118,12 +118,12 @@ invariant_of-self-then-given-self g c =
     let v : Volumed g.row.B.Denot = record { origin = c.self.inside.origin; snaps = c.self.inside.snaps.items; merge = c.self.inside.merge; flights = c.self.inside.flights.items; requests = c.self.inside.requests; copies = c.self.inside.copies; attached = c.self.inside.attached } in
     let s : Kept g.row.B.Denot = c.index_mut.result.now in
     let place : Some c.args.k ≡ place_of_snap c.args.id c.self.inside.snaps.items = c.requires.place ∙ sym (ap (λ (x : Volumed g.row.B.Denot). place_of_snap c.args.id x.snaps) c.self.view_is) in
-    let free : dev_refusal c.args.request.dev c.self.inside.snaps.items ≡ None = ap (λ (x : Volumed g.row.B.Denot). dev_refusal c.args.request.dev x.snaps) c.self.view_is ∙ c.requires.found in
+    let free : dev_refusal c.args.request.dev c.self.inside.merge c.self.inside.snaps.items ≡ None = ap (λ (x : Volumed g.row.B.Denot). dev_refusal c.args.request.dev x.merge x.snaps) c.self.view_is ∙ c.requires.found in
     let named : IsNamed v c.args.id c.args.k s = is_named v c.self.inside.snaps.items c.args.request.dev c.args.id c.args.k s refl c.index_mut.ensures.value free (dev_of_write c.args.request c.args.id c.requires.kind) place in
     let roomy = one_roomed g.B.Block.contents g.B.Block.layers g.B.Block.size v c.self.invariant c.args.id c.args.k s named c.take_room.new.snap c.take_room.ensures.same in
     let within = within_roomy g.B.Block.contents g.B.Block.layers g.B.Block.size v c.self.invariant c.args.id c.args.k s named c.take_room.new.snap c.take_room.ensures.same in
     let now2 : c.index_mut-2.result.now ≡ c.take_room.new.snap = c.index_mut-2.ensures.value ∙ get_or-set_same c.self.inside.snaps.items c.args.k c.take_room.new.snap c.index_mut-2.result.now named.within in
-    let asked : IsAsked (g.B.Block.size c.self.inside.origin) (piece_of c.self.inside.snaps.items) c.args.request = subst (λ (x : Volumed g.row.B.Denot). IsAsked (g.B.Block.size x.origin) (piece_of x.snaps) c.args.request) (sym c.self.view_is) c.requires.asked in
+    let asked : IsAsked (g.B.Block.size c.self.inside.origin) (piece_with c.self.inside.merge c.self.inside.snaps.items) c.args.request = subst (λ (x : Volumed g.row.B.Denot). IsAsked (g.B.Block.size x.origin) (piece_with x.merge x.snaps) c.args.request) (sym c.self.view_is) c.requires.asked in
     let slice = c.as_mut_slice.ensures.value ∙ c.reserve.ensures.items in
     let gs = c.save_in-given.new.flights in
     let t = c.save_in-given.new.snap in
@@ -141,12 +141,12 @@ returns-then-given-self-clause-err g c =
     let v : Volumed g.row.B.Denot = record { origin = c.self.inside.origin; snaps = c.self.inside.snaps.items; merge = c.self.inside.merge; flights = c.self.inside.flights.items; requests = c.self.inside.requests; copies = c.self.inside.copies; attached = c.self.inside.attached } in
     let s : Kept g.row.B.Denot = c.index_mut.result.now in
     let place : Some c.args.k ≡ place_of_snap c.args.id c.self.inside.snaps.items = c.requires.place ∙ sym (ap (λ (x : Volumed g.row.B.Denot). place_of_snap c.args.id x.snaps) c.self.view_is) in
-    let free : dev_refusal c.args.request.dev c.self.inside.snaps.items ≡ None = ap (λ (x : Volumed g.row.B.Denot). dev_refusal c.args.request.dev x.snaps) c.self.view_is ∙ c.requires.found in
+    let free : dev_refusal c.args.request.dev c.self.inside.merge c.self.inside.snaps.items ≡ None = ap (λ (x : Volumed g.row.B.Denot). dev_refusal c.args.request.dev x.merge x.snaps) c.self.view_is ∙ c.requires.found in
     let named : IsNamed v c.args.id c.args.k s = is_named v c.self.inside.snaps.items c.args.request.dev c.args.id c.args.k s refl c.index_mut.ensures.value free (dev_of_write c.args.request c.args.id c.requires.kind) place in
     let roomy = one_roomed g.B.Block.contents g.B.Block.layers g.B.Block.size v c.self.invariant c.args.id c.args.k s named c.take_room.new.snap c.take_room.ensures.same in
     let within = within_roomy g.B.Block.contents g.B.Block.layers g.B.Block.size v c.self.invariant c.args.id c.args.k s named c.take_room.new.snap c.take_room.ensures.same in
     let now2 : c.index_mut-2.result.now ≡ c.take_room.new.snap = c.index_mut-2.ensures.value ∙ get_or-set_same c.self.inside.snaps.items c.args.k c.take_room.new.snap c.index_mut-2.result.now named.within in
-    let asked : IsAsked (g.B.Block.size c.self.inside.origin) (piece_of c.self.inside.snaps.items) c.args.request = subst (λ (x : Volumed g.row.B.Denot). IsAsked (g.B.Block.size x.origin) (piece_of x.snaps) c.args.request) (sym c.self.view_is) c.requires.asked in
+    let asked : IsAsked (g.B.Block.size c.self.inside.origin) (piece_with c.self.inside.merge c.self.inside.snaps.items) c.args.request = subst (λ (x : Volumed g.row.B.Denot). IsAsked (g.B.Block.size x.origin) (piece_with x.merge x.snaps) c.args.request) (sym c.self.view_is) c.requires.asked in
     let slice = c.as_mut_slice.ensures.value ∙ c.reserve.ensures.items in
     let gs = c.save_in-given.new.flights in
     let t = c.save_in-given.new.snap in
@@ -164,12 +164,12 @@ invariant_of-self-2 g c =
     let v : Volumed g.row.B.Denot = record { origin = c.self.inside.origin; snaps = c.self.inside.snaps.items; merge = c.self.inside.merge; flights = c.self.inside.flights.items; requests = c.self.inside.requests; copies = c.self.inside.copies; attached = c.self.inside.attached } in
     let s : Kept g.row.B.Denot = c.index_mut.result.now in
     let place : Some c.args.k ≡ place_of_snap c.args.id c.self.inside.snaps.items = c.requires.place ∙ sym (ap (λ (x : Volumed g.row.B.Denot). place_of_snap c.args.id x.snaps) c.self.view_is) in
-    let free : dev_refusal c.args.request.dev c.self.inside.snaps.items ≡ None = ap (λ (x : Volumed g.row.B.Denot). dev_refusal c.args.request.dev x.snaps) c.self.view_is ∙ c.requires.found in
+    let free : dev_refusal c.args.request.dev c.self.inside.merge c.self.inside.snaps.items ≡ None = ap (λ (x : Volumed g.row.B.Denot). dev_refusal c.args.request.dev x.merge x.snaps) c.self.view_is ∙ c.requires.found in
     let named : IsNamed v c.args.id c.args.k s = is_named v c.self.inside.snaps.items c.args.request.dev c.args.id c.args.k s refl c.index_mut.ensures.value free (dev_of_write c.args.request c.args.id c.requires.kind) place in
     let roomy = one_roomed g.B.Block.contents g.B.Block.layers g.B.Block.size v c.self.invariant c.args.id c.args.k s named c.take_room.new.snap c.take_room.ensures.same in
     let within = within_roomy g.B.Block.contents g.B.Block.layers g.B.Block.size v c.self.invariant c.args.id c.args.k s named c.take_room.new.snap c.take_room.ensures.same in
     let now2 : c.index_mut-2.result.now ≡ c.take_room.new.snap = c.index_mut-2.ensures.value ∙ get_or-set_same c.self.inside.snaps.items c.args.k c.take_room.new.snap c.index_mut-2.result.now named.within in
-    let asked : IsAsked (g.B.Block.size c.self.inside.origin) (piece_of c.self.inside.snaps.items) c.args.request = subst (λ (x : Volumed g.row.B.Denot). IsAsked (g.B.Block.size x.origin) (piece_of x.snaps) c.args.request) (sym c.self.view_is) c.requires.asked in
+    let asked : IsAsked (g.B.Block.size c.self.inside.origin) (piece_with c.self.inside.merge c.self.inside.snaps.items) c.args.request = subst (λ (x : Volumed g.row.B.Denot). IsAsked (g.B.Block.size x.origin) (piece_with x.merge x.snaps) c.args.request) (sym c.self.view_is) c.requires.asked in
     let slice = c.as_mut_slice.ensures.value ∙ c.reserve.ensures.items in
     let gs = c.save_in-given.new.flights in
     let t = c.save_in-given.new.snap in
@@ -192,12 +192,12 @@ returns-clause-ok g c =
     let v : Volumed g.row.B.Denot = record { origin = c.self.inside.origin; snaps = c.self.inside.snaps.items; merge = c.self.inside.merge; flights = c.self.inside.flights.items; requests = c.self.inside.requests; copies = c.self.inside.copies; attached = c.self.inside.attached } in
     let s : Kept g.row.B.Denot = c.index_mut.result.now in
     let place : Some c.args.k ≡ place_of_snap c.args.id c.self.inside.snaps.items = c.requires.place ∙ sym (ap (λ (x : Volumed g.row.B.Denot). place_of_snap c.args.id x.snaps) c.self.view_is) in
-    let free : dev_refusal c.args.request.dev c.self.inside.snaps.items ≡ None = ap (λ (x : Volumed g.row.B.Denot). dev_refusal c.args.request.dev x.snaps) c.self.view_is ∙ c.requires.found in
+    let free : dev_refusal c.args.request.dev c.self.inside.merge c.self.inside.snaps.items ≡ None = ap (λ (x : Volumed g.row.B.Denot). dev_refusal c.args.request.dev x.merge x.snaps) c.self.view_is ∙ c.requires.found in
     let named : IsNamed v c.args.id c.args.k s = is_named v c.self.inside.snaps.items c.args.request.dev c.args.id c.args.k s refl c.index_mut.ensures.value free (dev_of_write c.args.request c.args.id c.requires.kind) place in
     let roomy = one_roomed g.B.Block.contents g.B.Block.layers g.B.Block.size v c.self.invariant c.args.id c.args.k s named c.take_room.new.snap c.take_room.ensures.same in
     let within = within_roomy g.B.Block.contents g.B.Block.layers g.B.Block.size v c.self.invariant c.args.id c.args.k s named c.take_room.new.snap c.take_room.ensures.same in
     let now2 : c.index_mut-2.result.now ≡ c.take_room.new.snap = c.index_mut-2.ensures.value ∙ get_or-set_same c.self.inside.snaps.items c.args.k c.take_room.new.snap c.index_mut-2.result.now named.within in
-    let asked : IsAsked (g.B.Block.size c.self.inside.origin) (piece_of c.self.inside.snaps.items) c.args.request = subst (λ (x : Volumed g.row.B.Denot). IsAsked (g.B.Block.size x.origin) (piece_of x.snaps) c.args.request) (sym c.self.view_is) c.requires.asked in
+    let asked : IsAsked (g.B.Block.size c.self.inside.origin) (piece_with c.self.inside.merge c.self.inside.snaps.items) c.args.request = subst (λ (x : Volumed g.row.B.Denot). IsAsked (g.B.Block.size x.origin) (piece_with x.merge x.snaps) c.args.request) (sym c.self.view_is) c.requires.asked in
     let slice = c.as_mut_slice.ensures.value ∙ c.reserve.ensures.items in
     let gs = c.save_in-given.new.flights in
     let t = c.save_in-given.new.snap in

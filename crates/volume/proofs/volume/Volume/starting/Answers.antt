@@ -5,10 +5,6 @@ use Rattle.volume.specs.Volumed.{Volumed}
 use Rattle.snapshots.specs.Starting.{starts}
 use Rattle.volume.proofs.volume.Volume.starting.Goals as goal
 
-pub returns-in-OriginWrite : goal.returns-in-OriginWrite
-returns-in-OriginWrite g c = rw (← c.in-OriginWrite.ensures)
-    (c.starting_count.ensures ∙ ap (count_by (starts c.args.request.now.range.first)) (c.as_slice-snaps.ensures.value ∙ ap (λ (x : Volumed g.row.B.Denot). x.snaps) c.self.view_is))
-
 pub returns-in-SnapWrite : goal.returns-in-SnapWrite
 returns-in-SnapWrite g c = rw (← c.in-SnapWrite.ensures)
     (c.starting_count_of.ensures

@@ -1,31 +1,32 @@
 -- A request that no limit, range or missing snapshot refuses is taken by its kind.
-use Rattle.std.proofs.Common.{◌≡◌, [], inl, refl, sym, ◌∙◌, ap, subst, arith}
-use Rattle.pending.specs.Kinds.{kind_of, room_of}
-use Rattle.volume_laws.proofs.Preparing.{prepared_none}
-use Rattle.volume.specs.Volumed.{Volumed, books_of, piece_of}
-use Rattle.volume.specs.Submitting.{starting, IsAsked}
+use Rattle.std.proofs.Common.{◌≡◌, inl, refl, sym, ap, subst, arith}
+use Rattle.volume.specs.Volumed.{Volumed}
+use Rattle.volume.specs.Submitting.{starting}
 use Rattle.volume.proofs.Admits.{admitted}
-use Rattle.volume.proofs.ByKind.{origin_read_enters}
-use Rattle.pending.specs.declared.flights.Kind.TheVariants.{OriginRead}
-use Rattle.pending.specs.declared.flights.Route.TheVariants.{Origin}
 use Rattle.volume.specs.Whole.{IsWhole}
-use Rattle.volume.proofs.Accepts.{if_ok, if_err, entered_accepted}
+use Rattle.volume.proofs.Accepts.{if_ok, if_err}
 use Rattle.volume.proofs.Refusals.{invalid_declined, others_unseen, same_refused, starved_refused, write_refused}
-use Rattle.volume.proofs.Keeping.{keeps_all, keeps_same, keeps_entered, keeps_refused, of_both}
-use Rattle.volume.proofs.Submitted.{origin_read_submitted}
+use Rattle.volume.proofs.Keeping.{keeps_all, keeps_same, keeps_refused, of_both}
 use Rattle.volume.proofs.volume.Volume.submit.Goals as goal
 
-pub enter-requires-clause-numbers : goal.enter-requires-clause-numbers
-enter-requires-clause-numbers g c =
+pub submit_origin_read-requires-clause-numbers : goal.submit_origin_read-requires-clause-numbers
+submit_origin_read-requires-clause-numbers g c =
     let a = admitted g.B.Block.size c.args.request c.args.self.now (sym c.in-None.ensures) in
     omega (arith, a.requests)
 
-pub enter-requires-clause-goes : goal.enter-requires-clause-goes
-enter-requires-clause-goes g c = λ f h number same route room.
+pub submit_origin_read-requires-clause-kind : goal.submit_origin_read-requires-clause-kind
+submit_origin_read-requires-clause-kind g c =
+    sym c.in-OriginRead.ensures
+
+pub submit_origin_read-requires-clause-asked : goal.submit_origin_read-requires-clause-asked
+submit_origin_read-requires-clause-asked g c =
     let a = admitted g.B.Block.size c.args.request c.args.self.now (sym c.in-None.ensures) in
-    let asked : IsAsked (g.B.Block.size c.args.self.now.origin) (piece_of c.args.self.now.snaps) c.args.request = record { some = a.some; inside = a.inside; piece = a.piece; bytes = c.requires.bytes } in
-    origin_read_enters g.B.Block.contents g.B.Block.layers g.B.Block.size c.args.self.now c.args.self.now [] (prepared_none (books_of g.B.Block.contents g.B.Block.layers g.B.Block.size c.args.self.now) h.holds h.waits) h f number
-    (subst (IsAsked (g.B.Block.size c.args.self.now.origin) (piece_of c.args.self.now.snaps)) (sym same) asked) (room ∙ ap room_of (sym same)) (ap kind_of same ∙ sym c.in-OriginRead.ensures) route
+    record { some = a.some; inside = a.inside; piece = a.piece; bytes = c.requires.bytes }
+
+pub submit_origin_read-requires-clause-room : goal.submit_origin_read-requires-clause-room
+submit_origin_read-requires-clause-room g c =
+    let a = admitted g.B.Block.size c.args.request c.args.self.now (sym c.in-None.ensures) in
+    a.flights
 
 pub submit_origin_write-requires-clause-numbers : goal.submit_origin_write-requires-clause-numbers
 submit_origin_write-requires-clause-numbers g c =
@@ -55,7 +56,7 @@ submit_origin_write-requires-clause-copies g c =
 pub submit_origin_write-requires-clause-few : goal.submit_origin_write-requires-clause-few
 submit_origin_write-requires-clause-few g c =
     let a = admitted g.B.Block.size c.args.request c.args.self.now (sym c.in-None.ensures) in
-    let kind = ap (λ k. starting k c.args.request.range.first c.args.self.now.snaps) c.in-OriginWrite.ensures in
+    let kind = ap (λ k. starting k c.args.request.range.first c.args.self.now.merge c.args.self.now.snaps) c.in-OriginWrite.ensures in
     omega (arith, a.few, kind)
 
 pub submit_snap_read-requires-clause-numbers : goal.submit_snap_read-requires-clause-numbers
@@ -115,7 +116,7 @@ submit_snap_write-requires-clause-copies g c =
 pub submit_snap_write-requires-clause-few : goal.submit_snap_write-requires-clause-few
 submit_snap_write-requires-clause-few g c =
     let a = admitted g.B.Block.size c.args.request c.args.self.now (sym c.in-None.ensures) in
-    let kind = ap (λ k. starting k c.args.request.range.first c.args.self.now.snaps) c.in-SnapWrite.ensures in
+    let kind = ap (λ k. starting k c.args.request.range.first c.args.self.now.merge c.args.self.now.snaps) c.in-SnapWrite.ensures in
     omega (arith, a.few, kind)
 
 pub returns-in-Some-clause-declined : goal.returns-in-Some-clause-declined
@@ -127,25 +128,19 @@ pub returns-in-Some-clause-starved : goal.returns-in-Some-clause-starved
 returns-in-Some-clause-starved g c =
     λ other replied. refl
 
-pub returns-in-OriginRead-clause-ok : goal.returns-in-OriginRead-clause-ok
-returns-in-OriginRead-clause-ok g c =
-    let whole : IsWhole g.B.Block.contents g.B.Block.layers g.B.Block.size c.args.self.now = subst (IsWhole g.B.Block.contents g.B.Block.layers g.B.Block.size) c.self.view_is c.self.invariant in
-    if_ok c.enter.result _ _ (λ number e. entered_accepted g.B.Block.contents g.B.Block.layers c.args.request Origin number c.args.self.now c.enter.new.self OriginRead (sym c.in-OriginRead.ensures) (λ n. refl) (λ n. refl) e (origin_read_submitted g.B.Block.contents g.B.Block.layers g.B.Block.size c.args.self.now whole c.args.request Origin number c.enter.new.self e (sym c.in-OriginRead.ensures) refl)) c.enter.ensures.ok
-
 pub returns-in-OriginRead-clause-exact : goal.returns-in-OriginRead-clause-exact
 returns-in-OriginRead-clause-exact g c =
-    let whole : IsWhole g.B.Block.contents g.B.Block.layers g.B.Block.size c.args.self.now = subst (IsWhole g.B.Block.contents g.B.Block.layers g.B.Block.size) c.self.view_is c.self.invariant in
-    if_ok c.enter.result _ _ (λ number e. origin_read_submitted g.B.Block.contents g.B.Block.layers g.B.Block.size c.args.self.now whole c.args.request Origin number c.enter.new.self e (sym c.in-OriginRead.ensures) refl) c.enter.ensures.ok
+    if_ok c.submit_origin_read.result _ _ (λ number e. e.exact) c.submit_origin_read.ensures.ok
 
 pub returns-in-OriginRead-clause-declined : goal.returns-in-OriginRead-clause-declined
 returns-in-OriginRead-clause-declined g c =
     let whole : IsWhole g.B.Block.contents g.B.Block.layers g.B.Block.size c.args.self.now = subst (IsWhole g.B.Block.contents g.B.Block.layers g.B.Block.size) c.self.view_is c.self.invariant in
-    if_err c.enter.result _ _ (λ e r. invalid_declined g.B.Block.contents g.B.Block.layers g.B.Block.size c.args.self.now c.enter.new.self whole c.args.request e (same_refused g.B.Block.contents g.B.Block.layers g.B.Block.size c.args.request e c.args.self.now c.enter.new.self (sym c.in-None.ensures) r)) c.enter.ensures.err
+    if_err c.submit_origin_read.result _ _ (λ e r. invalid_declined g.B.Block.contents g.B.Block.layers g.B.Block.size c.args.self.now c.submit_origin_read.new.self whole c.args.request e (same_refused g.B.Block.contents g.B.Block.layers g.B.Block.size c.args.request e c.args.self.now c.submit_origin_read.new.self (sym c.in-None.ensures) r)) c.submit_origin_read.ensures.err
 
 pub returns-in-OriginRead-clause-starved : goal.returns-in-OriginRead-clause-starved
 returns-in-OriginRead-clause-starved g c =
     let whole : IsWhole g.B.Block.contents g.B.Block.layers g.B.Block.size c.args.self.now = subst (IsWhole g.B.Block.contents g.B.Block.layers g.B.Block.size) c.self.view_is c.self.invariant in
-    if_err c.enter.result _ _ (λ e r. others_unseen g.B.Block.contents g.B.Block.layers g.B.Block.size c.args.self.now c.enter.new.self whole c.args.request e (same_refused g.B.Block.contents g.B.Block.layers g.B.Block.size c.args.request e c.args.self.now c.enter.new.self (sym c.in-None.ensures) r)) c.enter.ensures.err
+    if_err c.submit_origin_read.result _ _ (λ e r. others_unseen g.B.Block.contents g.B.Block.layers g.B.Block.size c.args.self.now c.submit_origin_read.new.self whole c.args.request e (same_refused g.B.Block.contents g.B.Block.layers g.B.Block.size c.args.request e c.args.self.now c.submit_origin_read.new.self (sym c.in-None.ensures) r)) c.submit_origin_read.ensures.err
 
 pub returns-in-OriginWrite-clause-exact : goal.returns-in-OriginWrite-clause-exact
 returns-in-OriginWrite-clause-exact g c =
@@ -199,11 +194,11 @@ returns-in-Some-clause-untouched g c =
 
 pub returns-in-OriginRead-clause-kept : goal.returns-in-OriginRead-clause-kept
 returns-in-OriginRead-clause-kept g c =
-    keeps_all g.B.Block.size c.args.self.now c.enter.new.self (of_both c.enter.result _ _ (λ number e. keeps_entered g.B.Block.contents g.B.Block.layers c.args.self.now c.enter.new.self e.flight e.becomes) (λ e r. keeps_refused g.B.Block.contents g.B.Block.layers g.B.Block.size c.args.request e c.args.self.now c.enter.new.self (same_refused g.B.Block.contents g.B.Block.layers g.B.Block.size c.args.request e c.args.self.now c.enter.new.self (sym c.in-None.ensures) r)) c.enter.ensures.ok c.enter.ensures.err)
+    keeps_all g.B.Block.size c.args.self.now c.submit_origin_read.new.self (of_both c.submit_origin_read.result _ _ (λ number e. e.kept) (λ e r. keeps_refused g.B.Block.contents g.B.Block.layers g.B.Block.size c.args.request e c.args.self.now c.submit_origin_read.new.self (same_refused g.B.Block.contents g.B.Block.layers g.B.Block.size c.args.request e c.args.self.now c.submit_origin_read.new.self (sym c.in-None.ensures) r)) c.submit_origin_read.ensures.ok c.submit_origin_read.ensures.err)
 
 pub returns-in-OriginRead-clause-untouched : goal.returns-in-OriginRead-clause-untouched
 returns-in-OriginRead-clause-untouched g c =
-    of_both c.enter.result _ _ (λ number e. keeps_entered g.B.Block.contents g.B.Block.layers c.args.self.now c.enter.new.self e.flight e.becomes) (λ e r. keeps_refused g.B.Block.contents g.B.Block.layers g.B.Block.size c.args.request e c.args.self.now c.enter.new.self (same_refused g.B.Block.contents g.B.Block.layers g.B.Block.size c.args.request e c.args.self.now c.enter.new.self (sym c.in-None.ensures) r)) c.enter.ensures.ok c.enter.ensures.err
+    of_both c.submit_origin_read.result _ _ (λ number e. e.kept) (λ e r. keeps_refused g.B.Block.contents g.B.Block.layers g.B.Block.size c.args.request e c.args.self.now c.submit_origin_read.new.self (same_refused g.B.Block.contents g.B.Block.layers g.B.Block.size c.args.request e c.args.self.now c.submit_origin_read.new.self (sym c.in-None.ensures) r)) c.submit_origin_read.ensures.ok c.submit_origin_read.ensures.err
 
 pub returns-in-OriginWrite-clause-kept : goal.returns-in-OriginWrite-clause-kept
 returns-in-OriginWrite-clause-kept g c =

@@ -7,7 +7,7 @@ use Rattle.pending.specs.Routes.{read_route_of}
 use Rattle.plain.specs.declared.request.Request.{Request}
 use Rattle.volume_laws.specs.Published.{is_published}
 use Rattle.snapshot.specs.Kept.{Kept}
-use Rattle.volume.specs.Volumed.{Volumed, piece_of}
+use Rattle.volume.specs.Volumed.{Volumed, piece_with}
 use Rattle.pending.specs.declared.flights.Route.TheVariants.{Held}
 use Rattle.volume.specs.Whole.{IsWhole}
 use Rattle.snapshots.specs.Finding.{place_of_snap}
@@ -21,7 +21,7 @@ use Rattle.volume.proofs.volume.Volume.submit_snap_write.Goals as goal
 pub returns-in_default-clause-err : goal.returns-in_default-clause-err
 returns-in_default-clause-err g c =
     let snaps = c.as_slice.ensures.value ∙ ap (λ (x : Volumed g.row.B.Denot). x.snaps) c.self.view_is in
-    absurd (found_some c.args.self.now.snaps c.args.request.dev c.args.id c.requires.found (dev_of_write c.args.request c.args.id c.requires.kind) (c.in_default.ensures ∙ ap (place_of_snap c.args.id) snaps))
+    absurd (found_some c.args.self.now.merge c.args.self.now.snaps c.args.request.dev c.args.id c.requires.found (dev_of_write c.args.request c.args.id c.requires.kind) (c.in_default.ensures ∙ ap (place_of_snap c.args.id) snaps))
 
 pub index-snap-requires : goal.index-snap-requires
 index-snap-requires g c =
@@ -31,7 +31,7 @@ index-snap-requires g c =
 pub enter-requires-clause-goes : goal.enter-requires-clause-goes
 enter-requires-clause-goes g c = λ f h number same route room.
     let s : Kept g.row.B.Denot = c.index-snap.result.now in
-    let asked : IsAsked (g.B.Block.size c.args.self.now.origin) (piece_of c.args.self.now.snaps) f.request = subst (IsAsked (g.B.Block.size c.args.self.now.origin) (piece_of c.args.self.now.snaps)) (sym same) c.requires.asked in
+    let asked : IsAsked (g.B.Block.size c.args.self.now.origin) (piece_with c.args.self.now.merge c.args.self.now.snaps) f.request = subst (IsAsked (g.B.Block.size c.args.self.now.origin) (piece_with c.args.self.now.merge c.args.self.now.snaps)) (sym same) c.requires.asked in
     let place = c.in-Some.ensures ∙ ap (place_of_snap c.args.id) c.as_slice.ensures.value in
     let named = is_named c.args.self.now c.self.inside.snaps.items c.args.request.dev c.args.id c.in-Some.k s (ap (λ (x : Volumed g.row.B.Denot). x.snaps) c.self.view_is) c.index-snap.ensures c.requires.found (dev_of_write c.args.request c.args.id c.requires.kind) place in
     let chunk : c.own_chunk-chunk.result ≡ f.request.range.first / s.state.chunk = c.own_chunk-chunk.ensures ∙ ap (λ (r : Request). r.range.first / s.state.chunk) (sym same) in
@@ -42,7 +42,7 @@ enter-requires-clause-goes g c = λ f h number same route room.
 pub enter-requires-2-clause-goes : goal.enter-requires-2-clause-goes
 enter-requires-2-clause-goes g c = λ f h number same route room.
     let s : Kept g.row.B.Denot = c.index-snap.result.now in
-    let asked : IsAsked (g.B.Block.size c.args.self.now.origin) (piece_of c.args.self.now.snaps) f.request = subst (IsAsked (g.B.Block.size c.args.self.now.origin) (piece_of c.args.self.now.snaps)) (sym same) c.requires.asked in
+    let asked : IsAsked (g.B.Block.size c.args.self.now.origin) (piece_with c.args.self.now.merge c.args.self.now.snaps) f.request = subst (IsAsked (g.B.Block.size c.args.self.now.origin) (piece_with c.args.self.now.merge c.args.self.now.snaps)) (sym same) c.requires.asked in
     let place = c.in-Some.ensures ∙ ap (place_of_snap c.args.id) c.as_slice.ensures.value in
     let named = is_named c.args.self.now c.self.inside.snaps.items c.args.request.dev c.args.id c.in-Some.k s (ap (λ (x : Volumed g.row.B.Denot). x.snaps) c.self.view_is) c.index-snap.ensures c.requires.found (dev_of_write c.args.request c.args.id c.requires.kind) place in
     let chunk : c.own_chunk-chunk.result ≡ f.request.range.first / s.state.chunk = c.own_chunk-chunk.ensures ∙ ap (λ (r : Request). r.range.first / s.state.chunk) (sym same) in
@@ -59,7 +59,7 @@ returns-then-is_published-clause-ok g c =
     let whole : IsWhole g.B.Block.contents g.B.Block.layers g.B.Block.size c.args.self.now = subst (IsWhole g.B.Block.contents g.B.Block.layers g.B.Block.size) c.self.view_is c.self.invariant in
     let route = c.read_route-route.ensures ∙ ap read_route_of c.place_of.ensures ∙ ap (λ (n : ℕ). read_route_of (place_of s.pairs n)) c.own_chunk-chunk.ensures in
     if_ok c.enter.result _ _
-    (λ number e. entered_accepted g.B.Block.contents g.B.Block.layers c.args.request c.read_route-route.result number c.args.self.now c.enter.new.self (SnapWrite c.args.id) c.requires.kind (λ n. refl) (λ n. refl) e
+    (λ number e. entered_accepted g.B.Block.contents g.B.Block.layers c.args.request c.read_route-route.result number c.args.self.now c.enter.new.self (SnapWrite c.args.id) c.requires.kind refl refl e
     (snap_placed_submitted g.B.Block.contents g.B.Block.layers g.B.Block.size c.args.self.now whole c.args.request c.read_route-route.result number c.enter.new.self e c.args.id c.in-Some.k s named c.requires.kind published route)) c.enter.ensures.ok
 
 pub returns-clause-ok : goal.returns-clause-ok
@@ -70,7 +70,7 @@ returns-clause-ok g c =
     let published = sym (ap (is_published s.pairs s.marks) c.own_chunk-chunk.ensures) ∙ sym c.if-is_published.ensures in
     let whole : IsWhole g.B.Block.contents g.B.Block.layers g.B.Block.size c.args.self.now = subst (IsWhole g.B.Block.contents g.B.Block.layers g.B.Block.size) c.self.view_is c.self.invariant in
     if_ok c.enter-2.result _ _
-    (λ number e. entered_accepted g.B.Block.contents g.B.Block.layers c.args.request Held number c.args.self.now c.enter-2.new.self (SnapWrite c.args.id) c.requires.kind (λ n. refl) (λ n. refl) e
+    (λ number e. entered_accepted g.B.Block.contents g.B.Block.layers c.args.request Held number c.args.self.now c.enter-2.new.self (SnapWrite c.args.id) c.requires.kind refl refl e
     (snap_waits_submitted g.B.Block.contents g.B.Block.layers g.B.Block.size c.args.self.now whole c.args.request Held number c.enter-2.new.self e c.args.id c.in-Some.k s named c.requires.kind published (sym c.if-is_lacking.ensures) refl)) c.enter-2.ensures.ok
 
 pub start_and_enter-requires-clause-lacking : goal.start_and_enter-requires-clause-lacking

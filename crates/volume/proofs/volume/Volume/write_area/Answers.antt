@@ -7,7 +7,7 @@ use Rattle.snapshot.specs.Kept.{Kept}
 use Rattle.snapshots.specs.Finding.{is_committing}
 use Rattle.volume.proofs.DueEvents.{due_by, snap_found, snap_due}
 use Rattle.volume.proofs.Spoilt.{spoilt_device}
-use Rattle.volume.proofs.StoreEvents.{commit_good, commit_fault, front_live, committing_front, committing_next, first_some}
+use Rattle.volume.proofs.StoreEvents.{commit_good, commit_fault, front_live, committing_front, committing_next}
 use Rattle.volume.proofs.Exactly.{area_exact, area_fault_exact}
 use Rattle.volume.proofs.volume.Volume.write_area.Goals as goal
 

@@ -1,0 +1,12 @@
+-- A snapshot's request uses no place of the group.
+use Rattle.std.proofs.Common.{◌∙◌, refl, sym}
+use Rattle.pending.specs.declared.flights.Kind.TheVariants.{SnapRead, SnapWrite}
+use Rattle.merge.specs.Lists.{group_pairs}
+use Rattle.merge_beside.proofs.Using.{unused}
+use Rattle.merge_beside.proofs.due.is_using_group.Goals as goal
+
+pub returns-in-SnapRead : goal.returns-in-SnapRead
+returns-in-SnapRead g c = unused (group_pairs c.args.merge.now.group) c.args.flight.now (SnapRead c.in-SnapRead.field-0) (sym c.request_kind.ensures ∙ c.in-SnapRead.is) (λ q. refl)
+
+pub returns-in-SnapWrite : goal.returns-in-SnapWrite
+returns-in-SnapWrite g c = unused (group_pairs c.args.merge.now.group) c.args.flight.now (SnapWrite c.in-SnapWrite.field-0) (sym c.request_kind.ensures ∙ c.in-SnapWrite.is) (λ q. refl)

@@ -1,0 +1,6 @@
+-- The snapshots before the present one are saved.
+use Rattle.merge_beside.proofs.NextStarts.{IsNextSavedBelow}
+use Rattle.merge_beside.proofs.saving_next.save_next.Given as goal
+
+abbrev pub invariant-loop-k : goal.invariant-loop-k
+invariant-loop-k g l = IsNextSavedBelow g.B.Block.contents g.B.Block.layers l.first l.k l.fn.snaps l.snaps l.copies l.given l.fn.flights l.flights

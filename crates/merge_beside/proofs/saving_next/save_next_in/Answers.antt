@@ -1,0 +1,30 @@
+-- The copy of the snapshot's own chunk is started.
+use Rattle.std.proofs.Common.{◌+◌, ◌*◌, ℕ, sym, ap, subst, arith}
+use Rattle.snapshot.specs.Calls.{StartsMerging, started}
+use Rattle.snapshots.proofs.Starts.{own_begins}
+use Rattle.merge_beside.proofs.NextStarts.{saved_started, not_given}
+use Rattle.merge_beside.proofs.saving_next.save_next_in.Goals as goal
+
+pub start_merging-requires-clause-kept : goal.start_merging-requires-clause-kept
+start_merging-requires-clause-kept g c = c.requires.room.some (sym c.if-not-is_lacking.ensures)
+
+pub start_merging-requires-clause-spare : goal.start_merging-requires-clause-spare
+start_merging-requires-clause-spare g c = c.requires.room.spare (sym c.if-not-is_lacking.ensures)
+
+pub start_merging-requires-clause-alone : goal.start_merging-requires-clause-alone
+start_merging-requires-clause-alone g c = c.requires.room.idle (sym c.if-not-is_lacking.ensures)
+
+pub start_merging-requires-clause-own : goal.start_merging-requires-clause-own
+start_merging-requires-clause-own g c = not_given c.args.copies c.args.snap.now.copies c.requires.room.given
+
+pub start_merging-requires-clause-begins : goal.start_merging-requires-clause-begins
+start_merging-requires-clause-begins g c =
+    let low = own_begins c.args.snap.now.state.chunk c.args.first in
+    let is = ap (λ (n : ℕ). c.args.snap.now.state.chunk * n) c.own_chunk-chunk.ensures in
+    omega (arith, low, is, c.requires.begins)
+
+pub returns-then-start_merging : goal.returns-then-start_merging
+returns-then-start_merging g c = let (buffer, at) = c.if-start_merging.ensures.started in record {
+  saved = saved_started g.B.Block.contents g.B.Block.layers c.args.first c.args.snap.now c.start_merging.new.self c.args.copies c.args.flights.now buffer (sym c.if-not-is_lacking.ensures) c.if-start_merging.ensures.place
+      (subst (λ (n : ℕ). StartsMerging g.B.Block.contents g.B.Block.layers (started (c.args.copies + 1) n c.args.snap.now.next buffer) c.args.snap.now c.start_merging.new.self) c.own_chunk-chunk.ensures at);
+}

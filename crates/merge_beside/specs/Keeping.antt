@@ -1,0 +1,15 @@
+-- What the snapshots keep back for a merge that begins. This project's own.
+use Rattle.std.specs.Prelude.{◌==◌, ◌&&◌, not, ℕ, true, false, None, if◌then◌else◌}
+use Rattle.snapshot.specs.Kept.{Kept}
+
+-- a snapshot that keeps nothing back for a merge
+abbrev pub unkept : {B : Type 0} → Kept B → Kept B
+unkept s = record s { kept_back = 0; spare = false; merging = None }
+
+-- a snapshot that keeps back room for so many copies, and the buffer for the first of them
+abbrev pub kept_back : {B : Type 0} → ℕ → Kept B → Kept B
+kept_back count s = record s { kept_back = count; spare = true; merging = None }
+
+-- and where the snapshot of a number is merged: each other live one does, and the rest are as they were
+abbrev pub kept_for : {B : Type 0} → ℕ → ℕ → Kept B → Kept B
+kept_for number count s = if s.live && not (s.number == number) then kept_back count s else s

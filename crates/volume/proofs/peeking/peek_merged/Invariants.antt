@@ -1,0 +1,13 @@
+-- The bytes so far are those of the picture, where the store's bytes say the pairs.
+use Rattle.std.proofs.Common.{◌≡◌, ◌+◌, ◌*◌, ◌<◌, get_or, ℕ}
+use Rattle.model.specs.Pairs.{pairs_of}
+use Rattle.model.specs.Picture.{picture}
+use Rattle.chunk.proofs.Runs.{StandsAt}
+use Rattle.volume.proofs.peeking.peek_merged.Given as goal
+
+abbrev pub invariant-loop-piece : goal.invariant-loop-piece
+invariant-loop-piece g l = record {
+  stands : StandsAt l.fn.geometry.chunk l.fn.range.first (l.fn.range.first + l.fn.range.count) l.from l.piece-iterator;
+  bytes : pairs_of l.fn.merge.state.chunk (g.B.Block.contents l.fn.merge.device) ≡ l.fn.merge.pairs → (k : ℕ) → k < l.from
+      → get_or l.out k 0 ≡ get_or (picture l.fn.merge.state.chunk (g.B.Block.contents l.fn.origin) (g.B.Block.contents l.fn.merge.device)) (512 * l.fn.range.first + k) 0;
+}

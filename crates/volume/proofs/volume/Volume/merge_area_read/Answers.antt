@@ -1,0 +1,139 @@
+-- The area of the merging store before the current one is read.
+use Rattle.std.proofs.Common.{◌≡◌, ap, sym, refl, ◌∙◌, true, false, map, subst, length, Some, None, ◌<◌, ◌*◌}
+use Rattle.std.specs.List.{All}
+use Rattle.device.specs.Layers.{is_loud}
+use Rattle.plain.specs.declared.event.Event.TheVariants.{MergeAreaRead, MergeRelease}
+use Rattle.volume_laws.specs.Again.{again_of}
+use Rattle.volume_laws.specs.MergeDue.{can_read_area}
+use Rattle.volume_laws.specs.Published.{is_clear}
+use Rattle.snapshot.specs.Kept.{Kept, books_of}
+use Rattle.merge.specs.Merging.{Merging, books_of as merging_books, due_of as merging_due}
+use Rattle.merge_beside.specs.Rooms.{merge_books}
+use Rattle.volume.specs.Volumed.{Volumed}
+use Rattle.volume.proofs.Chunks.{chunks_all}
+use Rattle.volume.proofs.MergeDues.{area_due, area_free}
+use Rattle.volume.proofs.MergeOperations.{area_good, store_stops, fails_from, stopped_from, due_running, due_unfinished}
+use Rattle.volume.proofs.MergeChanging.{disk_stays, merged_in}
+use Rattle.volume.proofs.MovedMerges.{area_moved, area_stopped}
+use Rattle.volume.proofs.volume.Volume.merge_area_read.Goals as goal
+
+pub returns-then-not-can_read_area-clause-due : goal.returns-then-not-can_read_area-clause-due
+returns-then-not-can_read_area-clause-due g c =
+    let v : Volumed g.row.B.Denot = record { origin = c.self.inside.origin; snaps = c.self.inside.snaps.items; merge = c.self.inside.merge; flights = c.self.inside.flights.items; requests = c.self.inside.requests; copies = c.self.inside.copies; attached = c.self.inside.attached } in
+    rw (← c.self.view_is) (sym (area_due g.B.Block.contents g.B.Block.layers v c.in-Some.merge c.in-Some.is ∙ sym (c.has_group.ensures.looks true).area ∙ sym c.if-not-can_read_area.ensures))
+
+pub invariant_of-self-in-Ok : goal.invariant_of-self-in-Ok
+invariant_of-self-in-Ok g c =
+    let v : Volumed g.row.B.Denot = record { origin = c.self.inside.origin; snaps = c.self.inside.snaps.items; merge = c.self.inside.merge; flights = c.self.inside.flights.items; requests = c.self.inside.requests; copies = c.self.inside.copies; attached = c.self.inside.attached } in
+    let fields = c.in-Ok.ensures.fields in
+    (area_good g.B.Block.contents g.B.Block.layers g.B.Block.size g.B.Block.fault_count g.B.Block.done_count v c.self.invariant c.in-Some.merge c.in-Some.is c.read_area.new.self
+    (record {
+      number = ap (λ x. x.number) fields;
+      chunk_is = ap (λ x. x.state.chunk) fields;
+      origin = ap (λ x. x.state.origin) fields;
+      loud = c.in-Ok.ensures.loud;
+      sized = c.in-Ok.ensures.size;
+    })
+    c.in-Ok.ensures.step (c.in-Ok.ensures.operation).faulty (c.in-Ok.ensures.operation).counted).whole
+
+pub returns-in-Ok-clause-step : goal.returns-in-Ok-clause-step
+returns-in-Ok-clause-step g c =
+    let v : Volumed g.row.B.Denot = record { origin = c.self.inside.origin; snaps = c.self.inside.snaps.items; merge = c.self.inside.merge; flights = c.self.inside.flights.items; requests = c.self.inside.requests; copies = c.self.inside.copies; attached = c.self.inside.attached } in
+    let fields = c.in-Ok.ensures.fields in
+    rw (← c.self.view_is) (area_good g.B.Block.contents g.B.Block.layers g.B.Block.size g.B.Block.fault_count g.B.Block.done_count v c.self.invariant c.in-Some.merge c.in-Some.is c.read_area.new.self
+    (record {
+      number = ap (λ x. x.number) fields;
+      chunk_is = ap (λ x. x.state.chunk) fields;
+      origin = ap (λ x. x.state.origin) fields;
+      loud = c.in-Ok.ensures.loud;
+      sized = c.in-Ok.ensures.size;
+    })
+    c.in-Ok.ensures.step (c.in-Ok.ensures.operation).faulty (c.in-Ok.ensures.operation).counted).stepped
+
+pub returns-in-Ok-clause-exact : goal.returns-in-Ok-clause-exact
+returns-in-Ok-clause-exact g c =
+    let v : Volumed g.row.B.Denot = record { origin = c.self.inside.origin; snaps = c.self.inside.snaps.items; merge = c.self.inside.merge; flights = c.self.inside.flights.items; requests = c.self.inside.requests; copies = c.self.inside.copies; attached = c.self.inside.attached } in
+    let due : can_read_area (merging_due g.B.Block.contents true c.in-Some.merge) ≡ true = sym (c.has_group.ensures.looks true).area ∙ sym c.if-not-can_read_area.ensures in
+    let fields = c.in-Ok.ensures.fields in
+    rw (← c.self.view_is) (record { step = λ loud replied. area_moved g.B.Block.contents g.B.Block.layers replied v c.in-Some.merge c.in-Some.is _ _ _ _ ((merged_in g.B.Block.contents g.B.Block.layers g.B.Block.size v c.in-Some.merge c.in-Some.is c.self.invariant).goes true).staged c.read_area.new.self due (area_free c.in-Some.merge (sym c.if-not-can_read_area.ensures)) ((merged_in g.B.Block.contents g.B.Block.layers g.B.Block.size v c.in-Some.merge c.in-Some.is c.self.invariant).goes true).area (c.in-Ok.ensures.step true) c.in-Ok.ensures.operation c.in-Ok.ensures.same (ap (λ x. x.next) fields) })
+
+pub returns-in-Ok-clause-due : goal.returns-in-Ok-clause-due
+returns-in-Ok-clause-due g c =
+    let v : Volumed g.row.B.Denot = record { origin = c.self.inside.origin; snaps = c.self.inside.snaps.items; merge = c.self.inside.merge; flights = c.self.inside.flights.items; requests = c.self.inside.requests; copies = c.self.inside.copies; attached = c.self.inside.attached } in
+    rw (← c.self.view_is) (sym (area_due g.B.Block.contents g.B.Block.layers v c.in-Some.merge c.in-Some.is ∙ sym (c.has_group.ensures.looks true).area ∙ sym c.if-not-can_read_area.ensures))
+
+pub fail-requires-clause-running : goal.fail-requires-clause-running
+fail-requires-clause-running g c =
+    let v : Volumed g.row.B.Denot = record { origin = c.self.inside.origin; snaps = c.self.inside.snaps.items; merge = c.self.inside.merge; flights = c.self.inside.flights.items; requests = c.self.inside.requests; copies = c.self.inside.copies; attached = c.self.inside.attached } in
+    let due : can_read_area (merging_due g.B.Block.contents true c.in-Some.merge) ≡ true = sym (c.has_group.ensures.looks true).area ∙ sym c.if-not-can_read_area.ensures in
+    ap (λ x. x.failed) c.in-Err.ensures.kept ∙ due_running g.B.Block.contents g.B.Block.layers g.B.Block.size g.B.Block.fault_count g.B.Block.done_count v c.self.invariant c.in-Some.merge c.in-Some.is MergeAreaRead due
+
+pub fail-requires-clause-unfinished : goal.fail-requires-clause-unfinished
+fail-requires-clause-unfinished g c =
+    let v : Volumed g.row.B.Denot = record { origin = c.self.inside.origin; snaps = c.self.inside.snaps.items; merge = c.self.inside.merge; flights = c.self.inside.flights.items; requests = c.self.inside.requests; copies = c.self.inside.copies; attached = c.self.inside.attached } in
+    let due : can_read_area (merging_due g.B.Block.contents true c.in-Some.merge) ≡ true = sym (c.has_group.ensures.looks true).area ∙ sym c.if-not-can_read_area.ensures in
+    subst (λ ps. 0 < length ps) (sym (ap (λ x. x.pairs) c.in-Err.ensures.kept)) (due_unfinished g.B.Block.contents g.B.Block.layers g.B.Block.size g.B.Block.fault_count g.B.Block.done_count v c.self.invariant c.in-Some.merge c.in-Some.is MergeAreaRead (λ e. cc) due)
+
+pub route_again-requires : goal.route_again-requires
+route_again-requires g c =
+    let v : Volumed g.row.B.Denot = record { origin = c.self.inside.origin; snaps = c.self.inside.snaps.items; merge = c.self.inside.merge; flights = c.self.inside.flights.items; requests = c.self.inside.requests; copies = c.self.inside.copies; attached = c.self.inside.attached } in
+    subst (All (λ (x : Kept _). 0 < x.state.chunk)) (sym c.deref.ensures.value) (chunks_all g.B.Block.contents g.B.Block.layers g.B.Block.size v c.self.invariant)
+
+pub invariant_of-self-in-Err : goal.invariant_of-self-in-Err
+invariant_of-self-in-Err g c =
+    let v : Volumed g.row.B.Denot = record { origin = c.self.inside.origin; snaps = c.self.inside.snaps.items; merge = c.self.inside.merge; flights = c.self.inside.flights.items; requests = c.self.inside.requests; copies = c.self.inside.copies; attached = c.self.inside.attached } in
+    let due : can_read_area (merging_due g.B.Block.contents true c.in-Some.merge) ≡ true = sym (c.has_group.ensures.looks true).area ∙ sym c.if-not-can_read_area.ensures in
+    let flights = c.route_again.ensures ∙ ap (λ xs. map (again_of (merge_books g.B.Block.contents g.B.Block.layers true (Some c.fail.new.self)) (is_clear (map (books_of g.B.Block.contents g.B.Block.layers) xs))) c.self.inside.flights.items) c.deref.ensures.value in
+    let m1 = c.read_area.new.self in
+    let kept_as : Merging g.row.B.Denot = record c.in-Some.merge { device = m1.device } in
+    let fields = stopped_from kept_as m1 c.fail.new.self c.fail.ensures.fields c.in-Err.ensures.kept in
+    let device = ap (λ x. x.device) c.fail.ensures.fields in
+    let step = fails_from g.B.Block.contents c.in-Some.merge m1 c.fail.new.self c.in-Err.ensures.kept c.in-Err.ensures.same c.fail.ensures.step in
+    (store_stops g.B.Block.contents g.B.Block.layers g.B.Block.size g.B.Block.fault_count g.B.Block.done_count v c.self.invariant c.in-Some.merge c.in-Some.is c.self.inside.origin c.fail.new.self
+    (record {
+      number = ap (λ x. x.number) fields;
+      chunk_is = ap (λ x. x.state.chunk) fields;
+      origin = ap (λ x. x.state.origin) fields;
+      loud = ap (λ d. is_loud (g.B.Block.layers d)) device ∙ c.in-Err.ensures.loud;
+      sized = ap g.B.Block.size device ∙ c.in-Err.ensures.size;
+    })
+    (disk_stays g.B.Block.layers g.B.Block.size c.self.inside.origin) refl c.route_again.new.flights.items flights MergeAreaRead (λ e. cc) (λ p q x. x) (λ xs ys e. e) refl due step (λ x. x) refl refl
+    (ap g.B.Block.fault_count device ∙ (c.in-Err.ensures.operation).faulty) (ap g.B.Block.done_count device ∙ (c.in-Err.ensures.operation).counted)).whole
+
+pub returns-in-Err-clause-step : goal.returns-in-Err-clause-step
+returns-in-Err-clause-step g c =
+    let v : Volumed g.row.B.Denot = record { origin = c.self.inside.origin; snaps = c.self.inside.snaps.items; merge = c.self.inside.merge; flights = c.self.inside.flights.items; requests = c.self.inside.requests; copies = c.self.inside.copies; attached = c.self.inside.attached } in
+    let due : can_read_area (merging_due g.B.Block.contents true c.in-Some.merge) ≡ true = sym (c.has_group.ensures.looks true).area ∙ sym c.if-not-can_read_area.ensures in
+    let flights = c.route_again.ensures ∙ ap (λ xs. map (again_of (merge_books g.B.Block.contents g.B.Block.layers true (Some c.fail.new.self)) (is_clear (map (books_of g.B.Block.contents g.B.Block.layers) xs))) c.self.inside.flights.items) c.deref.ensures.value in
+    let m1 = c.read_area.new.self in
+    let kept_as : Merging g.row.B.Denot = record c.in-Some.merge { device = m1.device } in
+    let fields = stopped_from kept_as m1 c.fail.new.self c.fail.ensures.fields c.in-Err.ensures.kept in
+    let device = ap (λ x. x.device) c.fail.ensures.fields in
+    let step = fails_from g.B.Block.contents c.in-Some.merge m1 c.fail.new.self c.in-Err.ensures.kept c.in-Err.ensures.same c.fail.ensures.step in
+    rw (← c.self.view_is) (store_stops g.B.Block.contents g.B.Block.layers g.B.Block.size g.B.Block.fault_count g.B.Block.done_count v c.self.invariant c.in-Some.merge c.in-Some.is c.self.inside.origin c.fail.new.self
+    (record {
+      number = ap (λ x. x.number) fields;
+      chunk_is = ap (λ x. x.state.chunk) fields;
+      origin = ap (λ x. x.state.origin) fields;
+      loud = ap (λ d. is_loud (g.B.Block.layers d)) device ∙ c.in-Err.ensures.loud;
+      sized = ap g.B.Block.size device ∙ c.in-Err.ensures.size;
+    })
+    (disk_stays g.B.Block.layers g.B.Block.size c.self.inside.origin) refl c.route_again.new.flights.items flights MergeAreaRead (λ e. cc) (λ p q x. x) (λ xs ys e. e) refl due step (λ x. x) refl refl
+    (ap g.B.Block.fault_count device ∙ (c.in-Err.ensures.operation).faulty) (ap g.B.Block.done_count device ∙ (c.in-Err.ensures.operation).counted)).stepped
+
+pub returns-in-Err-clause-exact : goal.returns-in-Err-clause-exact
+returns-in-Err-clause-exact g c =
+    let v : Volumed g.row.B.Denot = record { origin = c.self.inside.origin; snaps = c.self.inside.snaps.items; merge = c.self.inside.merge; flights = c.self.inside.flights.items; requests = c.self.inside.requests; copies = c.self.inside.copies; attached = c.self.inside.attached } in
+    let due : can_read_area (merging_due g.B.Block.contents true c.in-Some.merge) ≡ true = sym (c.has_group.ensures.looks true).area ∙ sym c.if-not-can_read_area.ensures in
+    let flights = c.route_again.ensures ∙ ap (λ xs. map (again_of (merge_books g.B.Block.contents g.B.Block.layers true (Some c.fail.new.self)) (is_clear (map (books_of g.B.Block.contents g.B.Block.layers) xs))) c.self.inside.flights.items) c.deref.ensures.value in
+    let m1 = c.read_area.new.self in
+    let kept_as : Merging g.row.B.Denot = record c.in-Some.merge { device = m1.device } in
+    let fields = stopped_from kept_as m1 c.fail.new.self c.fail.ensures.fields c.in-Err.ensures.kept in
+    let device = ap (λ x. x.device) c.fail.ensures.fields in
+    let step = fails_from g.B.Block.contents c.in-Some.merge m1 c.fail.new.self c.in-Err.ensures.kept c.in-Err.ensures.same c.fail.ensures.step in
+    rw (← c.self.view_is) (record { step = λ loud replied. area_stopped g.B.Block.contents g.B.Block.layers replied v c.in-Some.merge c.in-Some.is _ _ _ _ m1 c.fail.new.self (step true) (ap (λ x. x.group) fields) device (ap (λ x. x.next) fields) c.route_again.new.flights.items flights due ((merged_in g.B.Block.contents g.B.Block.layers g.B.Block.size v c.in-Some.merge c.in-Some.is c.self.invariant).goes true).area c.in-Err.ensures.operation c.in-Err.ensures.same })
+
+pub returns-in-Err-clause-due : goal.returns-in-Err-clause-due
+returns-in-Err-clause-due g c =
+    let v : Volumed g.row.B.Denot = record { origin = c.self.inside.origin; snaps = c.self.inside.snaps.items; merge = c.self.inside.merge; flights = c.self.inside.flights.items; requests = c.self.inside.requests; copies = c.self.inside.copies; attached = c.self.inside.attached } in
+    rw (← c.self.view_is) (sym (area_due g.B.Block.contents g.B.Block.layers v c.in-Some.merge c.in-Some.is ∙ sym (c.has_group.ensures.looks true).area ∙ sym c.if-not-can_read_area.ensures))

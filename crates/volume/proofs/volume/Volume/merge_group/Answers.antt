@@ -1,0 +1,47 @@
+-- A group is formed, and the copies of the chunk that is copied first are started.
+use Rattle.std.proofs.Common.{◌≡◌, ap, sym, ◌∙◌, true}
+use Rattle.plain.specs.declared.event.Event.TheVariants.{MergeGroup}
+use Rattle.volume_laws.specs.MergeDue.{can_group}
+use Rattle.merge.specs.Merging.{due_of as merging_due}
+use Rattle.volume.specs.Volumed.{Volumed}
+use Rattle.volume.proofs.MergeDues.{due_beside}
+use Rattle.volume.proofs.MergeGroups.{formed_can_save, formed_good, formed_exact}
+use Rattle.volume.proofs.volume.Volume.merge_group.Goals as goal
+
+pub returns-then-not-can_group-clause-due : goal.returns-then-not-can_group-clause-due
+returns-then-not-can_group-clause-due g c =
+    let v : Volumed g.row.B.Denot = record { origin = c.self.inside.origin; snaps = c.self.inside.snaps.items; merge = c.self.inside.merge; flights = c.self.inside.flights.items; requests = c.self.inside.requests; copies = c.self.inside.copies; attached = c.self.inside.attached } in
+    rw (← c.self.view_is) (sym (due_beside g.B.Block.contents g.B.Block.layers v c.in-Some.merge c.in-Some.is MergeGroup ∙ sym (c.has_group.ensures.looks true).group ∙ sym c.if-not-can_group.ensures))
+
+pub returns-else-not-can_group-clause-due : goal.returns-else-not-can_group-clause-due
+returns-else-not-can_group-clause-due g c =
+    let v : Volumed g.row.B.Denot = record { origin = c.self.inside.origin; snaps = c.self.inside.snaps.items; merge = c.self.inside.merge; flights = c.self.inside.flights.items; requests = c.self.inside.requests; copies = c.self.inside.copies; attached = c.self.inside.attached } in
+    rw (← c.self.view_is) (sym (due_beside g.B.Block.contents g.B.Block.layers v c.in-Some.merge c.in-Some.is MergeGroup ∙ sym (c.has_group.ensures.looks true).group ∙ sym c.if-not-can_group.ensures))
+
+pub save_waiting-self-inside-requires-clause-room : goal.save_waiting-self-inside-requires-clause-room
+save_waiting-self-inside-requires-clause-room g c =
+    let v : Volumed g.row.B.Denot = record { origin = c.self.inside.origin; snaps = c.self.inside.snaps.items; merge = c.self.inside.merge; flights = c.self.inside.flights.items; requests = c.self.inside.requests; copies = c.self.inside.copies; attached = c.self.inside.attached } in
+    let (first, count, i, same) = c.form_group.ensures.fields in
+    formed_can_save g.B.Block.contents g.B.Block.layers g.B.Block.size v c.self.invariant c.in-Some.merge c.in-Some.is c.form_group.new.self first count same c.form_group.ensures.step (g.met.B.Block.small v.origin)
+
+pub invariant_of-self-in-Some : goal.invariant_of-self-in-Some
+invariant_of-self-in-Some g c =
+    let v : Volumed g.row.B.Denot = record { origin = c.self.inside.origin; snaps = c.self.inside.snaps.items; merge = c.self.inside.merge; flights = c.self.inside.flights.items; requests = c.self.inside.requests; copies = c.self.inside.copies; attached = c.self.inside.attached } in
+    let (first, count, i, same) = c.form_group.ensures.fields in
+    (formed_good g.B.Block.contents g.B.Block.layers g.B.Block.size v c.self.invariant c.in-Some.merge c.in-Some.is c.form_group.new.self first count same c.form_group.ensures.step g.B.Block.fault_count g.B.Block.done_count
+    c.save_waiting-self-inside.new.snaps.items c.save_waiting-self-inside.result c.save_waiting-self-inside.new.flights.items c.save_waiting-self-inside.ensures.saved).whole
+
+pub returns-else-not-can_group-clause-step : goal.returns-else-not-can_group-clause-step
+returns-else-not-can_group-clause-step g c =
+    let v : Volumed g.row.B.Denot = record { origin = c.self.inside.origin; snaps = c.self.inside.snaps.items; merge = c.self.inside.merge; flights = c.self.inside.flights.items; requests = c.self.inside.requests; copies = c.self.inside.copies; attached = c.self.inside.attached } in
+    let (first, count, i, same) = c.form_group.ensures.fields in
+    rw (← c.self.view_is) (formed_good g.B.Block.contents g.B.Block.layers g.B.Block.size v c.self.invariant c.in-Some.merge c.in-Some.is c.form_group.new.self first count same c.form_group.ensures.step g.B.Block.fault_count g.B.Block.done_count
+    c.save_waiting-self-inside.new.snaps.items c.save_waiting-self-inside.result c.save_waiting-self-inside.new.flights.items c.save_waiting-self-inside.ensures.saved).stepped
+
+pub returns-else-not-can_group-clause-exact : goal.returns-else-not-can_group-clause-exact
+returns-else-not-can_group-clause-exact g c =
+    let v : Volumed g.row.B.Denot = record { origin = c.self.inside.origin; snaps = c.self.inside.snaps.items; merge = c.self.inside.merge; flights = c.self.inside.flights.items; requests = c.self.inside.requests; copies = c.self.inside.copies; attached = c.self.inside.attached } in
+    let (first, count, i, same) = c.form_group.ensures.fields in
+    let due : can_group (merging_due g.B.Block.contents true c.in-Some.merge) ≡ true = sym (c.has_group.ensures.looks true).group ∙ sym c.if-not-can_group.ensures in
+    rw (← c.self.view_is) (formed_exact g.B.Block.contents g.B.Block.layers g.B.Block.size v c.self.invariant c.in-Some.merge c.in-Some.is c.form_group.new.self first count same c.form_group.ensures.step i (sym c.if-not-can_group.ensures) due
+    c.save_waiting-self-inside.new.snaps.items c.save_waiting-self-inside.result c.save_waiting-self-inside.new.flights.items c.save_waiting-self-inside.ensures.saved)

@@ -1,0 +1,51 @@
+// Issue of a request of the origin whose chunk the merging store still has.
+ghost use Rattle.std.specs.Prelude.{◌≡◌, ◌==◌, Some, slice_index_or};
+ghost use Rattle.std.specs.List.{position};
+ghost use Rattle.plain.specs.declared.event.Event.TheVariants.{Issue};
+ghost use Rattle.plain.specs.declared.request.Dev.TheVariants.{Origin as ToOrigin};
+ghost use Rattle.pending.specs.declared.flights.Flight.{Flight};
+ghost use Rattle.pending.specs.declared.flights.Route.TheVariants.{Store};
+ghost use Rattle.volume.specs.Stepping.{IsStepped};
+ghost use Rattle.volume.specs.Exact.{IsExact};
+
+use crate::Volume;
+use device::{Block, Io};
+use pending::Flight;
+use plain::{Failure, Op, Outcome, Reply, ReqId, Request};
+use sector::{Buf, Chunk};
+
+impl<B: Block> Volume<B> {
+    /// Issues a request of the origin at its chunk's place on the merging store. Where the store fails, the reply is Io, and
+    /// the merge goes on.
+    pub(crate) fn issue_merging(&mut self, number: ReqId, place: usize, at: Chunk) -> Outcome
+        requires found { position (λ f. f.number == number) self.old.flights ≡ Some place }
+        requires route { (f : Flight) → (slice_index_or self.old.flights place f).route ≡ Store at }
+        requires dev { (f : Flight) → (slice_index_or self.old.flights place f).request.dev ≡ ToOrigin }
+        ensures step { IsStepped B.contents B.layers B.size B.fault_count B.done_count (Issue number) result self.old self.new }
+        ensures exact { IsExact B.contents B.layers (Issue number) result self.old self.new }
+    {
+        let flight = self.flights.remove(place);
+        let Flight {
+            number: _,
+            request,
+            route: _,
+            mut room,
+        } = flight;
+        let Request { dev: _, op, range } = request;
+        let merge = match &mut self.merge {
+            Some(merge) => merge,
+            None => unreachable!(),
+        };
+        let first = (range.first % merge.chunk() as u64) as u32;
+        match op {
+            Op::Read => match merge.read_at(at, first, range.count, room.as_mut_slice()) {
+                Ok(()) => Outcome::Reply(number, Reply::Data(Buf::from_vec(room))),
+                Err(Io) => Outcome::Reply(number, Reply::Refused(Failure::Io)),
+            },
+            Op::Write(bytes) => match merge.write_at(at, first, range.count, bytes.as_slice()) {
+                Ok(()) => Outcome::Reply(number, Reply::Written),
+                Err(Io) => Outcome::Reply(number, Reply::Refused(Failure::Io)),
+            },
+        }
+    }
+}

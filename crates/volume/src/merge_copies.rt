@@ -1,0 +1,71 @@
+// The events of a merge that start the copies of the chunk that is copied next, each a call of its own.
+ghost use Rattle.std.specs.Prelude.{◌≡◌, IfOk, OnErr, is_ok};
+ghost use Rattle.plain.specs.declared.event.Event.TheVariants.{MergeGroup, MergeWrite};
+ghost use Rattle.volume.specs.Volumed.{is_due_of};
+ghost use Rattle.volume.specs.Stepping.{IsStepped};
+ghost use Rattle.volume.specs.Exact.{IsExact};
+
+use crate::Volume;
+use device::{Block, Io};
+use merge_beside::{route_again, save_waiting};
+use plain::{NotDue, Outcome};
+use snapshots::is_clear;
+
+impl<B: Block> Volume<B> {
+    /// Forms the next group of the merge, and starts the copies of the chunk that is copied first in the other snapshots.
+    /// Those whose stores are full are spoiled, and their requests refused.
+    pub(crate) fn merge_group(&mut self) -> Result<Outcome, NotDue>
+        ensures step { IfOk result (λ outcome. IsStepped B.contents B.layers B.size B.fault_count B.done_count MergeGroup outcome self.old self.new) }
+        ensures exact { IfOk result (λ outcome. IsExact B.contents B.layers MergeGroup outcome self.old self.new) }
+        ensures due { is_ok result ≡ is_due_of B.contents B.layers self.old MergeGroup }
+        ensures same { OnErr result (self.new ≡ self.old) }
+    {
+        match &mut self.merge {
+            Some(merge) => {
+                // A look: what the merge's looks say of its books is known from here on.
+                let _ = merge.has_group();
+                if !merge.can_group() {
+                    return Err(NotDue);
+                }
+                merge.form_group();
+                self.copies = save_waiting(merge, &mut self.snaps, &mut self.flights, self.copies);
+                Ok(Outcome::Done)
+            }
+            None => Err(NotDue),
+        }
+    }
+
+    /// Writes the chunk in the merge's buffer to the origin disk, and starts the copies of the chunk that is copied next, if
+    /// one waits. Where the write fails, the merge stops, and held origin writes are routed again.
+    pub(crate) fn merge_write(&mut self) -> Result<Outcome, NotDue>
+        ensures step { IfOk result (λ outcome. IsStepped B.contents B.layers B.size B.fault_count B.done_count MergeWrite outcome self.old self.new) }
+        ensures exact { IfOk result (λ outcome. IsExact B.contents B.layers MergeWrite outcome self.old self.new) }
+        ensures due { is_ok result ≡ is_due_of B.contents B.layers self.old MergeWrite }
+        ensures same { OnErr result (self.new ≡ self.old) }
+    {
+        match &mut self.merge {
+            Some(merge) => {
+                let _ = merge.has_group();
+                let Some(pair) = merge.full() else {
+                    return Err(NotDue);
+                };
+                if !is_clear(&self.snaps, merge.chunk() as u64 * pair.old) {
+                    return Err(NotDue);
+                }
+                match merge.write_chunk(&mut self.origin) {
+                    Ok(()) => {
+                        self.copies =
+                            save_waiting(merge, &mut self.snaps, &mut self.flights, self.copies);
+                        Ok(Outcome::Done)
+                    }
+                    Err(Io) => {
+                        merge.fail();
+                        route_again(&self.snaps, &self.merge, &mut self.flights);
+                        Ok(Outcome::Fault)
+                    }
+                }
+            }
+            None => Err(NotDue),
+        }
+    }
+}
