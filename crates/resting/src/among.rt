@@ -20,6 +20,7 @@ use volume::Volume;
 
 /// Whether a request's device is a snapshot that is live.
 fn is_live<B: Block>(volume: &Volume<B>, dev: Dev) -> bool
+    requires alone { volume.now.merge ≡ None }
     ensures { result ≡ is_live_dev dev (rested_of volume.now) }
 {
     match dev {

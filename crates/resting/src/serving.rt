@@ -103,6 +103,7 @@ pub(crate) fn look<B: Block>(volume: &Volume<B>)
 
 /// Whether a request's device is there.
 pub(crate) fn is_there<B: Block>(volume: &Volume<B>, dev: Dev) -> bool
+    requires alone { volume.now.merge ≡ None }
     ensures { result ≡ has_dev dev (rested_of volume.now) }
 {
     match dev {
