@@ -7,6 +7,8 @@ use Rattle.std.proofs.lemmas.List.Quantifiers.{position-Some}
 use Rattle.std.proofs.lemmas.Bool.{eqb-true, false≢true}
 use Rattle.std.specs.Prelude.{slice_index_or, ◌==◌, if◌then◌else◌}
 use Rattle.device.specs.Layers.{Layer}
+use Rattle.sector.specs.declared.pair.Pair.{Pair}
+use Rattle.store.specs.declared.state.State.{State}
 use Rattle.sector.specs.declared.refusal.Refusal.TheVariants.{Invalid, NotQuiet}
 use Rattle.plain.specs.Plain.{Plain}
 use Rattle.plain.specs.Legal.{IsBegun}
@@ -47,6 +49,17 @@ admitted_at lives quiet k e = by_test (slice_index_or lives k false) quiet e
     by_test true true h = (refl, refl)
     by_test true false h = (let none : Some NotQuiet ≡ None = h in absurd (cc))
     by_test false calm h = (let none : Some Invalid ≡ None = h in absurd (cc))
+
+-- a merge with the store of a snapshot
+pub made_from : {B : Type 0} (s : Kept B) (number : ℕ) (device : B) (state : State) (next : ℕ) (pairs : List Pair) (buffer : List ℕ) → s.number ≡ number → device ≡ s.device → state ≡ s.state → next ≡ s.next → pairs ≡ s.pairs
+    → record { number = number; device = device; state = state; next = next; pairs = pairs; group = None; buffer = buffer; failed = false } ≡ merging_from s buffer
+made_from {B = B} s number device state next pairs buffer number_is device_is state_is next_is pairs_is =
+    let made : ℕ → B → State → ℕ → List Pair → Merging B = λ (n : ℕ) (d : B) (t : State) (p : ℕ) (ps : List Pair). record { number = n; device = d; state = t; next = p; pairs = ps; group = None; buffer = buffer; failed = false } in
+    ap (λ n. made n device state next pairs) (sym number_is)
+    ∙ ap (λ d. made s.number d state next pairs) device_is
+    ∙ ap (λ t. made s.number s.device t next pairs) state_is
+    ∙ ap (λ p. made s.number s.device s.state p pairs) next_is
+    ∙ ap (λ ps. made s.number s.device s.state s.next ps) pairs_is
 
 -- what is kept for the others, of a list
 pub all_unkept : {B : Type 0} (number count : ℕ) (xs : List (Kept B)) → map unkept (map (kept_for number count) xs) ≡ map unkept xs

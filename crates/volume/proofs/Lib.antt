@@ -30,6 +30,8 @@ pub mod MovedCopies
 pub mod MovedStores
 pub mod MovedMarks
 pub mod MovedMerges
+pub mod StoredPairs
+pub mod DueBeside
 pub mod MovedIssues
 pub mod MovedFound
 pub mod MovedCounts
@@ -81,3 +83,6 @@ pub mod MergeSaves
 pub mod MergeGroups
 pub mod MovedGroups
 pub mod Beginnings
+pub mod Finished
+pub mod MovedWrites
+pub mod MergeWritten

@@ -1,6 +1,6 @@
 -- What is due of a volume with a merge: of its snapshots and requests first, and then of the merge.
-use Rattle.std.proofs.Common.{◌≡◌, ◌⊎◌, inl, inr, ℕ, ◌+◌, ◌*◌, ◌^◌, ◌<◌, ◌≤◌, Bool, true, false, List, [], ◌∷◌, ◌++◌, Option, Some, None, length, map, refl, sym, ap, ◌∙◌, subst, arith}
-use Rattle.std.specs.Prelude.{◌&&◌, not, IfNone}
+use Rattle.std.proofs.Common.{◌≡◌, ◌⊎◌, inl, inr, ℕ, ◌*◌, ◌^◌, ◌<◌, ◌≤◌, Bool, true, List, [], ◌∷◌, ◌++◌, Option, Some, None, map, refl, sym, ap, ◌∙◌, subst, arith}
+use Rattle.std.specs.Prelude.{◌&&◌, not}
 use Rattle.std.specs.List.{All}
 use Rattle.std.proofs.lemmas.List.Elements.{All-head}
 use Rattle.device.specs.Layers.{Layer, is_loud}
@@ -9,9 +9,9 @@ use Rattle.model.specs.Pairs.{IsInside}
 use Rattle.plain.specs.declared.event.Event.{Event}
 use Rattle.plain.specs.declared.request.Reply.{Reply}
 use Rattle.pending.specs.declared.flights.Flight.{Flight}
-use Rattle.volume_laws.specs.Books.{SnapBooks, MergeBooks, Books, group_of}
+use Rattle.volume_laws.specs.Books.{MergeBooks}
 use Rattle.volume_laws.specs.Due.{DueSnap, due_of, books_of as books_due}
-use Rattle.volume_laws.specs.MergeDue.{DueMerge, is_none, has_group, is_finished, due_or, merge_due as due_of_merge}
+use Rattle.volume_laws.specs.MergeDue.{DueMerge, is_none, is_finished, due_or, merge_due as due_of_merge}
 use Rattle.volume_laws.specs.MergeWaits.{MergeGoes}
 use Rattle.volume_laws.specs.Merging.{MergeHolds}
 use Rattle.volume_laws.specs.Waits.{IsQuiet}
@@ -21,12 +21,10 @@ use Rattle.volume_laws.proofs.Quiet.{quiet}
 use Rattle.volume_laws.proofs.MergeQuiet.{quiet_with}
 use Rattle.event_machine.specs.MergeDue.{due_all, merge_due as due_in_machine}
 use Rattle.event_machine.specs.Seen.{Seen, going_of, held_of as held_seen}
-use Rattle.event_machine.specs.MergeSeen.{MergeSeen, held_in, IsFilledAsSeen}
+use Rattle.event_machine.specs.MergeSeen.{MergeSeen, held_in}
 use Rattle.event_machine.proofs.MergeTied.{merge_due_tied}
-use Rattle.event_machine.specs.Due.{due}
 use Rattle.snapshot.specs.Kept.{Kept, books_of as snap_books, due_of_kept}
-use Rattle.merge.specs.Due.{full_of, has_group_of, is_finished_of}
-use Rattle.merge.specs.Lists.{reading_of}
+use Rattle.merge.specs.Due.{full_of, is_finished_of}
 use Rattle.merge.specs.Looks.{LooksAgree, option_pairs}
 use Rattle.merge.specs.Merging.{Merging, books_of as merging_books, due_of as merging_due}
 use Rattle.merge.proofs.Looks.{full_is}

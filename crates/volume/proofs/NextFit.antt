@@ -35,6 +35,8 @@ use Rattle.volume.specs.Volumed.{Volumed, books_of, piece_with}
 use Rattle.volume.specs.Whole.{AreNumbers, SharesNone, IsAttached, IsCounted, starts_left}
 use Rattle.volume.proofs.Changing.{SnapsFit, piece_beside, changed, changes, spoils_one, same_disk, books_is}
 use Rattle.volume.proofs.Begins.{all_pairs_set_in, given_more, numbers_pushed}
+use Rattle.volume.proofs.MergeOperations.{rooms_seen}
+use Rattle.volume.proofs.Savings.{neither, not_lacking}
 use Rattle.volume.proofs.StartsLeft.{left_started, left_spoilt}
 use Rattle.volume.proofs.MovedCounts.{counted_begun, counted_spoilt}
 use Rattle.volume.proofs.NextSaved.{roomed, as_started}
@@ -43,33 +45,9 @@ and_first : (a b : Bool) → (a && b) ≡ true → a ≡ true
 and_first true b e = refl
 and_first false b e = e
 
-neither : (a b : Bool) → (a && not b) ≡ false → (a && b) ≡ false → a ≡ false
-neither false b e f = refl
-neither true true e f = f
-neither true false e f = e
-
 not_live : (l a b : Bool) → ((l && a) && b) ≡ true → (a && b) ≡ true
 not_live true a b e = e
 not_live false a b e = absurd (true≢false (sym e))
-
--- a live snapshot that does not lack its chunk of a sector has it, or a copy of it is under way
-not_lacking : {B : Type 0} (first : ℕ) (s : Kept B) → lacks first s ≡ false → s.live ≡ true → (place_of s.pairs (first / s.state.chunk) ≢ None) ⊎ Any (λ p. p.pair.old ≡ first / s.state.chunk) s.copies
-not_lacking first s e live = at (place_of s.pairs (first / s.state.chunk)) refl
-  where
-    some_ne_none : (n : ℕ) → Some n ≢ None
-    some_ne_none n is = cc
-
-    at : (found : Option ℕ) → place_of s.pairs (first / s.state.chunk) ≡ found → (place_of s.pairs (first / s.state.chunk) ≢ None) ⊎ Any (λ p. p.pair.old ≡ first / s.state.chunk) s.copies
-    at (Some n) is = inl (λ none. some_ne_none n (sym is ∙ none))
-    at None is = inr (elim (cases_Bool (list_any (λ p. nat_eq p.pair.old (first / s.state.chunk)) s.copies)) [
-      | inl any ↦ (let (k, p, lt, p_is, same) = Any-from_list_any (λ p. nat_eq p.pair.old (first / s.state.chunk)) s.copies any in (k, p, lt, p_is, eqb-true p.pair.old (first / s.state.chunk) same))
-      | inr none ↦ (let here : lacks first s ≡ true = rw (live, is, none) refl in absurd (true≢false (sym here ∙ e)))
-    ])
-
--- the books of what is kept back
-pub rooms_books : {B : Type 0} (contents : B → List ℕ) (layers : B → List Layer) (ss : List (Kept B)) → map room_books (map (room_of contents layers) ss) ≡ map (snap_books contents layers) ss
-rooms_books contents layers [] = refl
-rooms_books contents layers (s ∷ ss) = ap (λ (xs : List SnapBooks). snap_books contents layers s ∷ xs) (rooms_books contents layers ss)
 
 -- What a snapshot becomes that fits as well: maybe with a number more, and no more copies that count.
 pub record FitsOn {B : Type 0} (n n' : ℕ) (s s' : Kept B) : Type 0 where
@@ -171,7 +149,7 @@ module _ {B : Type 0} (contents : B → List ℕ) (layers : B → List Layer) (s
     room_is = ap (room_of contents layers) is ∙ sym (get_or-map (room_of contents layers) v.snaps k s (room_of contents layers s) within)
 
     all_hold : All (SnapHolds (contents v.origin) v.flights) (map room_books rooms)
-    all_hold = subst (All (SnapHolds (contents v.origin) v.flights)) (sym (rooms_books contents layers v.snaps)) h.starting.prepared.holds.snaps
+    all_hold = subst (All (SnapHolds (contents v.origin) v.flights)) (sym (rooms_seen contents layers v.snaps)) h.starting.prepared.holds.snaps
 
     is_live : lacks (chunk * q.old) s ≡ true → s.live ≡ true
     is_live e = and_first s.live (not (is_some (place_of s.pairs (chunk * q.old / s.state.chunk)))) (and_first (s.live && not (is_some (place_of s.pairs (chunk * q.old / s.state.chunk)))) (not (list_any (λ p. nat_eq p.pair.old (chunk * q.old / s.state.chunk)) s.copies)) e)

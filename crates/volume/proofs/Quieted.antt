@@ -1,5 +1,5 @@
 -- What a quiet volume is.
-use Rattle.std.proofs.Common.{◌≡◌, ◌∙◌, ap, sym, List, [], Bool, true, false, Option, Some, None, length, nat_eq, refl}
+use Rattle.std.proofs.Common.{◌≡◌, ◌∙◌, ap, sym, [], Bool, true, false, Option, Some, None, length, nat_eq, refl}
 use Rattle.std.specs.Prelude.{◌&&◌, not}
 use Rattle.std.specs.List.{list_all}
 use Rattle.std.proofs.lemmas.Bool.{eqb-true, false≢true}

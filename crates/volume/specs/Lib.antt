@@ -3,6 +3,7 @@ pub mod Whole
 pub mod Causes
 pub mod Flying
 pub mod Stepping
+pub mod Stored
 pub mod Moved
 pub mod Exact
 pub mod Reaching

@@ -1,12 +1,13 @@
 // One event of a volume.
-ghost use Rattle.std.specs.Prelude.{◌≡◌, ◌<◌, IfOk, IsOk, OnErr, OnOk, Some, is_ok, map, true};
+ghost use Rattle.std.specs.Prelude.{◌≡◌, ◌+◌, ◌<◌, ◌≤◌, IfOk, IsOk, OnErr, OnOk, Some, is_ok, map, true};
 ghost use Rattle.plain.specs.Legal.{IsLegalStep};
 ghost use Rattle.pending.specs.Kinds.{in_flight};
-ghost use Rattle.volume_laws.specs.Due.{is_due};
-ghost use Rattle.volume.specs.Volumed.{dues_of, is_due_of, is_loud_in_all, left_in_all, next_of, plain_of};
+ghost use Rattle.volume.specs.Asking.{is_finished_in};
+ghost use Rattle.volume.specs.Volumed.{is_due_of, is_loud_in_all, left_in_all, next_of, plain_of};
 ghost use Rattle.volume.specs.Causes.{HasCause, IsOneAtMost};
 ghost use Rattle.volume.specs.Flying.{IsFlown};
-ghost use Rattle.volume.specs.Stepping.{IsStepped, KeepsAll};
+ghost use Rattle.volume.specs.Stepping.{IsStepped, KeepsAll, failed_by, has_failed, starts_by};
+ghost use Rattle.volume.specs.Stored.{RemovesPairs, is_finished_on};
 ghost use Rattle.volume.specs.Exact.{IsExact};
 
 use crate::Volume;
@@ -14,11 +15,12 @@ use device::Block;
 use plain::{Event, NotDue, Outcome};
 
 impl<B: Block> Volume<B> {
-    /// Does an event by its kind. None of a merge is due here.
+    /// Does an event by its kind.
     fn step_by_kind(&mut self, event: Event) -> Result<Outcome, NotDue>
         ensures step { IfOk result (λ outcome. IsStepped B.contents B.layers B.size B.fault_count B.done_count event outcome self.old self.new) }
         ensures exact { IfOk result (λ outcome. IsExact B.contents B.layers event outcome self.old self.new) }
-        ensures due { is_ok result ≡ is_due (dues_of B.contents B.layers self.old) self.old.flights event }
+        ensures due { is_ok result ≡ is_due_of B.contents B.layers self.old event }
+        ensures removes { IfOk result (λ outcome. RemovesPairs B.contents B.layers event outcome self.old self.new) }
         ensures same { OnErr result (self.new ≡ self.old) }
     {
         match event {
@@ -29,20 +31,22 @@ impl<B: Block> Volume<B> {
             Event::WriteArea(number) => self.write_area(number),
             Event::Publish(number) => self.publish(number),
             Event::WriteInvalid(number) => self.write_invalid(number),
-            Event::MergeGroup => Err(NotDue),
-            Event::MergeAreaRead => Err(NotDue),
-            Event::MergeRead => Err(NotDue),
-            Event::MergeWrite => Err(NotDue),
-            Event::MergeFlush => Err(NotDue),
-            Event::MergeCommit => Err(NotDue),
-            Event::MergeRelease => Err(NotDue),
+            Event::MergeGroup => self.merge_group(),
+            Event::MergeAreaRead => self.merge_area_read(),
+            Event::MergeRead => self.merge_read(),
+            Event::MergeWrite => self.merge_write(),
+            Event::MergeFlush => self.merge_flush(),
+            Event::MergeCommit => self.merge_commit(),
+            Event::MergeRelease => self.merge_release(),
         }
     }
 
     /// Does one event, where it is due. It does at most one operation of one device, and where no device drops writes it
     /// is a step of the plain machine: only Issue replies, and every other event is not seen, or spoils the snapshot whose
-    /// device failed. Whatever the devices do, a request leaves only where it is answered, and a read that is not refused is
-    /// answered with as many bytes as were asked for. Where an event is not due, nothing changes at all.
+    /// device failed, or snapshots whose stores are full. Whatever the devices do, a request leaves only where it is
+    /// answered, and a read that is not refused is answered with as many bytes as were asked for; and a merge stops just
+    /// where one of its own operations fails. A commit of a merge takes pairs away, and it is finished where its store's
+    /// bytes have none. Where an event is not due, nothing changes at all.
     pub fn step(&mut self, event: Event) -> Result<Outcome, NotDue>
         ensures legal { IfOk result (λ outcome. is_loud_in_all B.layers self.old ≡ true → IsLegalStep (plain_of B.contents B.layers self.old) event outcome (plain_of B.contents B.layers self.new)) }
         ensures exact { IfOk result (λ outcome. IsExact B.contents B.layers event outcome self.old self.new) }
@@ -54,13 +58,19 @@ impl<B: Block> Volume<B> {
         ensures flown { IfOk result (λ outcome. IsFlown event outcome (map in_flight self.old.flights) (map in_flight self.new.flights)) }
         ensures one { OnOk result (IsOneAtMost B.done_count self.old self.new) }
         ensures kept { OnOk result (KeepsAll B.size self.old self.new) }
-        ensures counts { OnOk result ((self.new.requests ≡ self.old.requests) × (self.new.copies ≡ self.old.copies)) }
+        ensures failed { IfOk result (λ outcome. has_failed self.new.merge ≡ failed_by event outcome (has_failed self.old.merge)) }
+        ensures counts { OnOk result ((self.new.requests ≡ self.old.requests) × (self.new.copies ≤ self.old.copies + starts_by event) × (self.old.copies ≤ self.new.copies)) }
+        ensures removes { IfOk result (λ outcome. RemovesPairs B.contents B.layers event outcome self.old self.new) }
+        ensures finished { OnOk result (is_loud_in_all B.layers self.new ≡ true → is_finished_in self.new.merge ≡ is_finished_on B.contents self.new.merge) }
         ensures same { OnErr result (self.new ≡ self.old) }
     {
         // A look at a field: what the type keeps is known from here on.
         let _ = &self.flights;
         match self.step_by_kind(event) {
-            Ok(outcome) => Ok(outcome),
+            Ok(outcome) => {
+                let _ = &self.flights;
+                Ok(outcome)
+            }
             Err(NotDue) => Err(NotDue),
         }
     }

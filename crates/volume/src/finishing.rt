@@ -29,8 +29,9 @@ impl<B: Block> Volume<B> {
         ensures loud { IfOk result (λ store. is_loud_in_all B.layers self.old ≡ (is_loud_in_all B.layers self.new && is_loud (B.layers store.device))) }
         ensures err { IfErr result (λ refusal. (finish_refusal self.old ≡ Some refusal) × (self.new ≡ self.old)) }
     {
-        if let Some(refusal) = self.finish_refused() {
-            return Err(refusal);
+        match self.finish_refused() {
+            Some(refusal) => return Err(refusal),
+            None => {}
         }
         let Some(merge) = self.merge.take() else {
             return Err(Refusal::NotFinished);

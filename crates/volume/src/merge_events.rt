@@ -3,6 +3,7 @@ ghost use Rattle.std.specs.Prelude.{◌≡◌, IfOk, OnErr, is_ok};
 ghost use Rattle.plain.specs.declared.event.Event.TheVariants.{MergeAreaRead, MergeCommit, MergeFlush, MergeRead, MergeRelease};
 ghost use Rattle.volume.specs.Volumed.{is_due_of};
 ghost use Rattle.volume.specs.Stepping.{IsStepped};
+ghost use Rattle.volume.specs.Stored.{RemovesPairs};
 ghost use Rattle.volume.specs.Exact.{IsExact};
 
 use crate::Volume;
@@ -98,6 +99,7 @@ impl<B: Block> Volume<B> {
         ensures step { IfOk result (λ outcome. IsStepped B.contents B.layers B.size B.fault_count B.done_count MergeCommit outcome self.old self.new) }
         ensures exact { IfOk result (λ outcome. IsExact B.contents B.layers MergeCommit outcome self.old self.new) }
         ensures due { is_ok result ≡ is_due_of B.contents B.layers self.old MergeCommit }
+        ensures removes { IfOk result (λ outcome. RemovesPairs B.contents B.layers MergeCommit outcome self.old self.new) }
         ensures same { OnErr result (self.new ≡ self.old) }
     {
         match &mut self.merge {

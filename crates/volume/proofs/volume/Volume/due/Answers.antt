@@ -1,16 +1,13 @@
 -- What is found first is due first, and where nothing is, the volume is quiet.
-use Rattle.std.proofs.Common.{◌≡◌, ◌<◌, ℕ, List, true, None, Some, refl, sym, ap, map, ◌∙◌, subst}
+use Rattle.std.proofs.Common.{◌≡◌, ◌<◌, true, None, Some, refl, sym, ap, map, ◌∙◌, subst}
 use Rattle.std.specs.List.{All}
 use Rattle.std.specs.Prelude.{IfNone, Option}
 use Rattle.plain.specs.declared.event.Event.{Event}
-use Rattle.pending.specs.declared.flights.Flight.{Flight}
 use Rattle.volume_laws.specs.Due.{due_of}
 use Rattle.volume_laws.specs.MergeDue.{merge_due as due_of_merge}
-use Rattle.volume_laws.specs.Waits.{IsQuiet}
 use Rattle.snapshot.specs.Kept.{Kept, due_of_kept, books_of as snap_books}
 use Rattle.merge.specs.Merging.{due_of as merging_due}
-use Rattle.volume.specs.Asking.{IsMergeStill}
-use Rattle.volume.specs.Volumed.{Volumed, dues_of, next_of, books_of}
+use Rattle.volume.specs.Volumed.{Volumed, dues_of, next_of}
 use Rattle.volume.proofs.MergeDue.{next_first, next_merge, next_none, due_all_is, full_begins, quiet_alone, quiet_merging}
 use Rattle.volume.proofs.volume.Volume.due.Goals as goal
 

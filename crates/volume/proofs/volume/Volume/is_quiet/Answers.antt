@@ -1,5 +1,5 @@
 -- Each snapshot's done call says that its store is at rest.
-use Rattle.std.proofs.Common.{◌≡◌, [], List, None, ap, arith, sym, subst, true, false, vec_len, ◌∙◌}
+use Rattle.std.proofs.Common.{◌≡◌, [], List, ap, arith, sym, subst, true, false, vec_len, ◌∙◌}
 use Rattle.std.specs.List.{All, list_all}
 use Rattle.std.proofs.lemmas.Bool.{eqb-true}
 use Rattle.std.proofs.lemmas.List.{nil_from_length}

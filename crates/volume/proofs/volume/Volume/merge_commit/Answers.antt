@@ -1,6 +1,7 @@
 -- The merging store's area is written without the slots of the group.
 use Rattle.std.proofs.Common.{◌≡◌, ap, sym, refl, ◌∙◌, true, false, map, subst, length, Some, None, ◌<◌, ◌*◌}
 use Rattle.std.specs.List.{All}
+use Rattle.std.proofs.lemmas.Bool.{false≢true}
 use Rattle.device.specs.Layers.{is_loud}
 use Rattle.plain.specs.declared.event.Event.TheVariants.{MergeCommit, MergeRelease}
 use Rattle.volume_laws.specs.Again.{again_of}
@@ -15,6 +16,7 @@ use Rattle.volume.proofs.MergeDues.{commit_due}
 use Rattle.volume.proofs.MergeOperations.{loud_merging, commit_good, store_stops, fails_from, stopped_from, due_running, due_unfinished}
 use Rattle.volume.proofs.MergeChanging.{disk_stays, merged_in}
 use Rattle.volume.proofs.MovedMerges.{commit_moved, commit_stopped}
+use Rattle.volume.proofs.StoredPairs.{committed}
 use Rattle.volume.proofs.volume.Volume.merge_commit.Goals as goal
 
 pub returns-then-not-can_commit-clause-due : goal.returns-then-not-can_commit-clause-due
@@ -35,6 +37,22 @@ invariant_of-self-in-Ok g c =
       sized = c.in-Ok.ensures.size;
     })
     c.in-Ok.ensures.step (c.in-Ok.ensures.operation).faulty (c.in-Ok.ensures.operation).counted).whole
+
+pub returns-in-Ok-clause-removes : goal.returns-in-Ok-clause-removes
+returns-in-Ok-clause-removes g c =
+    let v : Volumed g.row.B.Denot = record { origin = c.self.inside.origin; snaps = c.self.inside.snaps.items; merge = c.self.inside.merge; flights = c.self.inside.flights.items; requests = c.self.inside.requests; copies = c.self.inside.copies; attached = c.self.inside.attached } in
+    let fields = c.in-Ok.ensures.fields in
+    let good = (commit_good g.B.Block.contents g.B.Block.layers g.B.Block.size g.B.Block.fault_count g.B.Block.done_count v c.self.invariant c.in-Some.merge c.in-Some.is c.commit.new.self
+    (record {
+      number = ap (λ x. x.number) fields;
+      chunk_is = ap (λ x. x.state.chunk) fields;
+      origin = ap (λ x. x.state.origin) fields;
+      loud = c.in-Ok.ensures.loud;
+      sized = c.in-Ok.ensures.size;
+    })
+    c.in-Ok.ensures.step (c.in-Ok.ensures.operation).faulty (c.in-Ok.ensures.operation).counted) in
+    let w : Volumed g.row.B.Denot = record v { merge = Some c.commit.new.self } in
+    rw (← c.self.view_is) (committed g.B.Block.contents g.B.Block.layers g.B.Block.size v w c.self.invariant good.whole good.stepped.loud c.in-Some.merge c.commit.new.self c.in-Some.is refl false (c.in-Ok.ensures.step false (λ e. absurd (false≢true e))).0)
 
 pub returns-in-Ok-clause-step : goal.returns-in-Ok-clause-step
 returns-in-Ok-clause-step g c =

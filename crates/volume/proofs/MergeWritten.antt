@@ -1,0 +1,164 @@
+-- MergeWrite: the chunk in the buffer is written to the origin disk, and the copies of the chunk that is copied next are started.
+use Rattle.std.proofs.Common.{◌≡◌, inr, ℕ, zero, suc, ◌+◌, ◌*◌, ◌<◌, ◌≤◌, Bool, true, false, List, [], ◌∷◌, Option, Some, length, get_or, take, map, refl, sym, ◌∙◌, ap, subst, arith}
+use Rattle.std.specs.List.{All}
+use Rattle.std.specs.Prelude.{IsTrue}
+use Rattle.std.proofs.lemmas.List.{get_or-map, length-map}
+use Rattle.sector.specs.Bytes.{next_count, with_sectors}
+use Rattle.sector.specs.declared.pair.Pair.{Pair}
+use Rattle.device.specs.Layers.{Layer, is_loud}
+use Rattle.device.specs.declared.operation.Operation.TheVariants.{Writes}
+use Rattle.plain.specs.declared.event.Event.TheVariants.{MergeWrite}
+use Rattle.plain.specs.declared.event.Outcome.TheVariants.{Done}
+use Rattle.pending.specs.Copies.{count_of}
+use Rattle.pending.specs.declared.flights.Flight.{Flight}
+use Rattle.store.specs.Operations.{IsOneOperation}
+use Rattle.volume_laws.specs.Books.{SnapBooks, MergeBooks, Books}
+use Rattle.volume_laws.specs.MergeDue.{DueMerge, can_write, last_of}
+use Rattle.volume_laws.specs.MergeRooms.{room_books}
+use Rattle.volume_laws.specs.MergeSteps.{WritesBack}
+use Rattle.volume_laws.specs.MergeWaits.{HaveChunk, IsSavedIn, IsSavedSoon, MergeGoes, next_pairs}
+use Rattle.volume_laws.specs.Published.{IsSaved}
+use Rattle.volume_laws.proofs.MergeRoomStarts.{HaveRoom, room_written}
+use Rattle.volume_laws.proofs.MergeSaved.{pieces_of, saved_everywhere}
+use Rattle.volume_laws.proofs.MergeSteps.{IsMergeChange, IsMergeStart, write_change, write_step}
+use Rattle.volume_laws.proofs.MergeTests.{MayWrite, write_test}
+use Rattle.snapshot.specs.Kept.{Kept, books_of as snap_books}
+use Rattle.merge.specs.Due.{full_of}
+use Rattle.merge.specs.Lists.{waiting_of, reading_of}
+use Rattle.merge.specs.Merging.{Merging, books_of as merging_books, due_of as merging_due}
+use Rattle.merge.specs.Steps.{WritesOrigin}
+use Rattle.merge.specs.declared.group.Group.{Group}
+use Rattle.merge_beside.specs.Rooms.{room_of}
+use Rattle.merge_beside.specs.Starting.{IsNextSaved, CanSaveNext}
+use Rattle.volume.specs.Volumed.{Volumed, books_of, piece_with, is_loud_in_all}
+use Rattle.volume.specs.Whole.{IsWhole}
+use Rattle.volume.specs.Exact.{IsExact}
+use Rattle.volume.proofs.Good.{IsGood}
+use Rattle.volume.proofs.MergeChanging.{StaysMerged, DiskStays, merged_to, loudness, merged_in, goes_here, merge_changes}
+use Rattle.volume.proofs.MergeCounting.{merged_same, merged_disk, disk_within}
+use Rattle.volume.proofs.MergeGroups.{can_save, room_kept}
+use Rattle.volume.proofs.MergeOperations.{holds_merge, rooms_seen}
+use Rattle.volume.proofs.MergeSaves.{regrouped, grouped, grouped_fit, saved_to, IsNextDone, next_done, saved_good}
+use Rattle.volume.proofs.MovedGroups.{stores_sized}
+use Rattle.volume.proofs.MovedWrites.{write_moved}
+use Rattle.volume.proofs.Shown.{and_left, loud_books}
+
+-- the first of two lists of one pair each that are the same
+only_pair : (p q : Pair) → p ∷ [] ≡ q ∷ [] → p ≡ q
+only_pair p q e = cc
+
+module _ {B : Type 0} (contents : B → List ℕ) (layers : B → List Layer) (size : B → ℕ) (v : Volumed B) (h : IsWhole contents layers size v) (m : Merging B) (was : v.merge ≡ Some m) where
+  abbrev sound : Bool
+  sound = loudness contents layers size v m was
+
+  -- all snapshots have chunks as large as the merged one's
+  same_chunks : HaveChunk m.state.chunk (map (snap_books contents layers) v.snaps)
+  same_chunks k d lt live =
+      let within : k < length v.snaps = omega (arith, lt, length-map v.snaps (snap_books contents layers)) in
+      let is = ap (λ (x : Option (Merging B)). piece_with x v.snaps) was in
+      at k d within (λ e. (h.snaps k e within).chunk_is ∙ is)
+    where
+      at : (i : ℕ) (d : SnapBooks) → i < length v.snaps → ((e : Kept B) → (get_or v.snaps i e).state.chunk ≡ m.state.chunk) → (get_or (map (snap_books contents layers) v.snaps) i d).chunk ≡ m.state.chunk
+      at i d within same = by v.snaps i within same
+        where
+          by : (ss : List (Kept B)) (j : ℕ) → j < length ss → ((e : Kept B) → (get_or ss j e).state.chunk ≡ m.state.chunk) → (get_or (map (snap_books contents layers) ss) j d).chunk ≡ m.state.chunk
+          by [] j lt f = absurd (omega (arith, lt))
+          by (s ∷ ss) zero lt f = f s
+          by (s ∷ ss) (suc j) lt f = by ss j (omega (arith, lt)) f
+
+  module _ (o' : B) (disk : DiskStays layers size v.origin o') (g : Option Group) (q : Pair) (due : can_write (map (snap_books contents layers) v.snaps) (merging_books contents true m) ≡ true)
+      (step : (loud : Bool) → (loud ≡ true → is_loud (layers v.origin) ≡ true) → WritesBack q (merging_due contents loud m) (merging_due contents loud (regrouped m g)) × WritesOrigin q (contents v.origin) (contents o') (merging_books contents loud m)) where
+    abbrev before : DueMerge
+    before = merging_due contents sound m
+
+    abbrev after : DueMerge
+    after = merging_due contents sound (regrouped m g)
+
+    abbrev stays : StaysMerged layers size m (regrouped m g)
+    stays = record { number = refl; chunk_is = refl; origin = refl; loud = refl; sized = refl }
+
+    stepped_as : WritesBack q (merging_due contents sound m) (merging_due contents sound (regrouped m g)) × WritesOrigin q (contents v.origin) (contents o') (merging_books contents sound m)
+    stepped_as = step sound (and_left (is_loud (layers v.origin)) (is_loud (layers m.device)))
+
+    waiting_same : waiting_of g ≡ waiting_of m.group
+    waiting_same = ap (λ (x : MergeBooks). x.waiting) stepped_as.0.books
+
+    reading_none : reading_of g ≡ []
+    reading_none = ap (λ (x : MergeBooks). x.reading) stepped_as.0.books
+
+    -- each live snapshot has published where the chunk begins, and so all of it
+    began : All (IsSaved (m.state.chunk * q.old)) (map (snap_books contents layers) v.snaps)
+    began =
+        let (p, may) = write_test (map (snap_books contents layers) v.snaps) (merging_due contents true m) ((merged_in contents layers size v m was h).goes true).staged due in
+        let one : p ≡ q = only_pair p q (sym may.full ∙ stepped_as.0.full) in
+        subst (λ (x : Pair). All (IsSaved (m.state.chunk * x.old)) (map (snap_books contents layers) v.snaps)) one may.published
+
+    published : IsSavedIn m.state.chunk m.state.origin (map (snap_books contents layers) v.snaps) q
+    published =
+        let some = (holds_merge contents layers size (λ x. 0) (λ x. 0) v h m was).text.some in
+        saved_everywhere m.state.chunk m.state.origin (map (snap_books contents layers) v.snaps) q (λ k d lt live. subst (λ n. 0 < n) (sym (same_chunks k d lt live)) some) (pieces_of m.state.chunk m.state.origin (map (snap_books contents layers) v.snaps) q some same_chunks) began
+
+    pub write_room : (p : Pair) → last_of (waiting_of g) ≡ Some p → HaveRoom m.state.chunk m.pairs p (map (room_of contents layers) v.snaps)
+    write_room p last =
+        let seen = rooms_seen contents layers v.snaps in
+        room_written (contents v.origin) v.flights (map (room_of contents layers) v.snaps) q p before after stepped_as.0 (holds_merge contents layers size (λ x. 0) (λ x. 0) v h m was)
+        (subst (λ (xs : List SnapBooks). MergeGoes xs (merging_due contents sound m)) (sym seen) (goes_here contents layers size v m was h))
+        (subst (All (IsSaved (m.state.chunk * q.old))) (sym seen) began) (ap last_of (sym waiting_same) ∙ last) (room_kept contents layers size v h m was)
+
+    pub write_can_save : size v.origin ≤ 16_777_216 → (p : Pair) → last_of (waiting_of g) ≡ Some p → CanSaveNext m.state.chunk v.copies v.snaps p
+    write_can_save small p last = can_save contents layers size v h m was small p (write_room p last)
+
+    pub write_good : (faults did : B → ℕ) → faults o' ≡ faults v.origin → did o' ≡ next_count (did v.origin) → (ts : List (Kept B)) (n : ℕ) (gs : List Flight) → IsNextSaved contents layers m.state.chunk (last_of (waiting_of g)) v.snaps ts v.copies n v.flights gs
+        → IsGood contents layers size faults did MergeWrite Done v (saved_to contents layers size v h m was o' disk g ts n gs)
+    write_good faults did calm counts ts n gs saved =
+        let u : Volumed B = merged_to v o' (regrouped m g) v.flights in
+        let w : Volumed B = record u { snaps = ts; copies = n; flights = gs } in
+        let changes = merge_changes contents layers size v m was o' (regrouped m g) stays disk in
+        let goes = goes_here contents layers size v m was h in
+        let s = stepped_as in
+        let change : IsMergeChange (books_of contents layers size v) (books_of contents layers size u) =
+        write_change (books_of contents layers size v) (books_of contents layers size u) before after h.holds h.waits goes changes q s.0 s.1.disk s.1.written published in
+        let done : IsNextDone contents layers size m (last_of (waiting_of g)) u w =
+        next_done contents layers size m u change.silent.holds change.waits (grouped_fit contents layers size v h m was o' disk g) (room_kept contents layers size v h m was) (last_of (waiting_of g)) write_room ts n gs saved in
+        let soon : All (IsSavedSoon m.state.chunk (map (snap_books contents layers) ts)) (next_pairs (reading_of g) (last_of (waiting_of g))) =
+        subst (λ ps. All (IsSavedSoon m.state.chunk (map (snap_books contents layers) ts)) (next_pairs ps (last_of (waiting_of g)))) (sym reading_none) done.soon in
+        let start : IsMergeStart done.which (books_of contents layers size v) (books_of contents layers size w) before after =
+        write_step (books_of contents layers size v) (books_of contents layers size u) before after h.holds h.waits goes changes done.which (books_of contents layers size w) done.starts soon q s.0 s.1.disk s.1.written published in
+        saved_good contents layers size v h m was o' disk g ts n gs (last_of (waiting_of g)) done faults did MergeWrite (λ p r x. x) (λ xs ys e. e) (λ b. refl) refl start (λ c. c) refl
+        (merged_same v m (regrouped m g) was o' v.flights faults calm refl)
+        (inr (0, disk_within v m (regrouped m g) was o' v.flights did, merged_disk v m (regrouped m g) was o' v.flights did counts refl))
+
+    pub write_exact : full_of m.group ≡ Some q → (faults faults' counts counts' : ℕ) → IsOneOperation (Writes (m.state.chunk * q.old) (count_of m.state.chunk m.state.origin q.old)) true (layers v.origin) (layers o') faults faults' counts counts'
+        → (IsTrue (is_loud (layers v.origin)) → contents o' ≡ with_sectors (contents v.origin) (m.state.chunk * q.old) (take (512 * count_of m.state.chunk m.state.origin q.old) m.buffer))
+        → (ts : List (Kept B)) (n : ℕ) (gs : List Flight) → IsNextSaved contents layers m.state.chunk (last_of (waiting_of g)) v.snaps ts v.copies n v.flights gs
+        → IsExact contents layers MergeWrite Done v (record v { origin = o'; snaps = ts; merge = Some (regrouped m g); flights = gs; copies = n })
+    write_exact full faults faults' counts counts' one wrote ts n gs saved = record {
+      step = λ loud replied.
+          (let s = (step true (λ _. disk_loud loud)).0 in
+          let sized = (holds_merge contents layers size (λ x. 0) (λ x. 0) v h m was).fits in
+          write_moved contents layers replied v m was faults faults' counts counts' q full due sized o' g s one (wrote (disk_loud loud)) (stores_sized contents layers size v h) ts n gs
+          (subst (λ (ps : List Pair). IsNextSaved contents layers m.state.chunk (last_of ps) v.snaps ts v.copies n v.flights gs) waiting_same saved));
+    }
+      where
+        disk_loud : is_loud_in_all layers v ≡ true → is_loud (layers v.origin) ≡ true
+        disk_loud loud = (loud_books contents layers size v loud).origin
+
+    -- the merge after write_chunk
+    module _ (m' : Merging B) (same : m' ≡ regrouped m g) where
+      pub written_can_save : size v.origin ≤ 16_777_216 → (p : Pair) → last_of (waiting_of m'.group) ≡ Some p → CanSaveNext m'.state.chunk v.copies v.snaps p
+      written_can_save small = subst (λ (x : Merging B). (p : Pair) → last_of (waiting_of x.group) ≡ Some p → CanSaveNext x.state.chunk v.copies v.snaps p) (sym same) (write_can_save small)
+
+      saved_as : (ts : List (Kept B)) (n : ℕ) (gs : List Flight) → IsNextSaved contents layers m'.state.chunk (last_of (waiting_of m'.group)) v.snaps ts v.copies n v.flights gs → IsNextSaved contents layers m.state.chunk (last_of (waiting_of g)) v.snaps ts v.copies n v.flights gs
+      saved_as ts n gs saved = subst (λ (x : Merging B). IsNextSaved contents layers x.state.chunk (last_of (waiting_of x.group)) v.snaps ts v.copies n v.flights gs) same saved
+
+      pub written_good : (faults did : B → ℕ) → faults o' ≡ faults v.origin → did o' ≡ next_count (did v.origin) → (ts : List (Kept B)) (n : ℕ) (gs : List Flight) → IsNextSaved contents layers m'.state.chunk (last_of (waiting_of m'.group)) v.snaps ts v.copies n v.flights gs
+          → IsGood contents layers size faults did MergeWrite Done v (record v { origin = o'; snaps = ts; merge = Some m'; flights = gs; copies = n })
+      written_good faults did calm counts ts n gs saved =
+          subst (λ (x : Merging B). IsGood contents layers size faults did MergeWrite Done v (record v { origin = o'; snaps = ts; merge = Some x; flights = gs; copies = n })) (sym same) (write_good faults did calm counts ts n gs (saved_as ts n gs saved))
+
+      pub written_exact : full_of m.group ≡ Some q → (faults faults' counts counts' : ℕ) → IsOneOperation (Writes (m.state.chunk * q.old) (count_of m.state.chunk m.state.origin q.old)) true (layers v.origin) (layers o') faults faults' counts counts'
+          → (IsTrue (is_loud (layers v.origin)) → contents o' ≡ with_sectors (contents v.origin) (m.state.chunk * q.old) (take (512 * count_of m.state.chunk m.state.origin q.old) m.buffer))
+          → (ts : List (Kept B)) (n : ℕ) (gs : List Flight) → IsNextSaved contents layers m'.state.chunk (last_of (waiting_of m'.group)) v.snaps ts v.copies n v.flights gs
+          → IsExact contents layers MergeWrite Done v (record v { origin = o'; snaps = ts; merge = Some m'; flights = gs; copies = n })
+      written_exact full faults faults' counts counts' one wrote ts n gs saved =
+          subst (λ (x : Merging B). IsExact contents layers MergeWrite Done v (record v { origin = o'; snaps = ts; merge = Some x; flights = gs; copies = n })) (sym same) (write_exact full faults faults' counts counts' one wrote ts n gs (saved_as ts n gs saved))
