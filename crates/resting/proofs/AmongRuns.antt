@@ -56,8 +56,8 @@ module _ {B : Type 0} (layers : B → List Layer) (size : B → ℕ) where
     pub few : taken ≤ from
     pub enough : 512 * range.count ≤ room
 
-  pub among_start : (v : Volumed B) → GoesAmong 0 v v
-  among_start v = record { kept = devices_none size layers (rested_of v); requests = omega arith; copies = omega arith }
+  pub among_start : (v : Volumed B) → v.merge ≡ None → GoesAmong 0 v v
+  among_start v alone = record { alone = alone; kept = devices_none size layers (rested_of v); requests = omega arith; copies = omega arith }
 
   pub among_next : (from count : ℕ) (old v new : Volumed B) → GoesAmong from old v → new.merge ≡ None → KeepsDevices layers size (rested_of v) (rested_of new) → new.requests ≤ v.requests + 1 → new.copies ≤ v.copies + 8 → 0 < count → GoesAmong (from + count * 512) old new
   among_next from count old v new so alone kept requests copies some = record {

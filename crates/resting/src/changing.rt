@@ -76,6 +76,7 @@ impl<B: Block> Resting<B> {
         store: StoreDev<B>,
         chunk: u32,
     ) -> Result<SnapId, (Refusal, StoreDev<B>)>
+        ensures alone { self.old.events.merge ≡ None }
         ensures number { IfOk result (λ number. number ≡ self.old.attached + 1) }
         ensures taken { IfOk result (λ number. IsTakenAs B.layers B.size number store self.old self.new) }
         ensures settled { IfOk result (λ number. IsSettled B.contents B.layers B.size self.old → is_loud (B.layers store.device) ≡ true → IsSettled B.contents B.layers B.size self.new) }

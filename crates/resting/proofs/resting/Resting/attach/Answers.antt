@@ -1,0 +1,6 @@
+-- No merge is begun.
+use Rattle.std.proofs.Common.{sym, ◌∙◌, ap}
+use Rattle.resting.proofs.resting.Resting.attach.Goals as goal
+
+pub returns-clause-alone : goal.returns-clause-alone
+returns-clause-alone g c = ap (λ v. v.events.merge) (sym c.self.view_is) ∙ c.self.invariant
