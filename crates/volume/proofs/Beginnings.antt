@@ -1,10 +1,10 @@
 -- A merge that is admitted begins, once the other snapshots keep back what it will start.
-use Rattle.std.proofs.Common.{◌≡◌, ℕ, ◌+◌, ◌*◌, ◌<◌, ◌≤◌, Bool, true, false, List, [], ◌∷◌, ◌++◌, Option, Some, None, length, get_or, take, drop, map, refl, sym, ◌∙◌, ap, subst, arith, nat_eq}
+use Rattle.std.proofs.Common.{◌≡◌, ℕ, ◌*◌, ◌<◌, Bool, true, false, List, [], ◌∷◌, Option, Some, None, length, get_or, map, refl, sym, ◌∙◌, ap, subst, arith, nat_eq}
 use Rattle.std.specs.List.{All, remove}
-use Rattle.std.proofs.lemmas.List.{get_or-map, get_or_default, length-map, take_at}
+use Rattle.std.proofs.lemmas.List.{get_or-map, get_or_default}
 use Rattle.std.proofs.lemmas.List.Elements.{All-map}
 use Rattle.std.proofs.lemmas.List.Quantifiers.{position-Some}
-use Rattle.std.proofs.lemmas.Bool.{eqb-true, false≢true}
+use Rattle.std.proofs.lemmas.Bool.{eqb-true}
 use Rattle.std.specs.Prelude.{slice_index_or, ◌==◌, if◌then◌else◌}
 use Rattle.device.specs.Layers.{Layer}
 use Rattle.sector.specs.declared.pair.Pair.{Pair}
@@ -32,10 +32,6 @@ use Rattle.volume.proofs.KeptBack.{all_done, whole_kept, plain_kept, moving_kept
 use Rattle.volume.proofs.MovedLists.{IsFirst, first_position}
 use Rattle.volume.proofs.Quieted.{quiet_flights, quiet_done}
 use Rattle.volume.proofs.Unlike.{hidden_at, hidden_length}
-
--- a slice that was written back
-pub written_back : {X : Type 0} (n : ℕ) (x y : List X) → length x ≡ n → take n (x ++ drop (length x) y) ≡ x
-written_back n x y len = take_at x (drop (length x) y) n len
 
 -- no merge is begun where one is admitted
 admitted_alone : {B : Type 0} (m : Option (Merging B)) (number : ℕ) (v : Volumed B) → begin_with m number v ≡ None → m ≡ None

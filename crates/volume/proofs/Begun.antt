@@ -1,6 +1,6 @@
 -- A merge begins in a quiet volume.
-use Rattle.std.proofs.Common.{◌≡◌, ◌≢◌, ℕ, zero, suc, ◌+◌, ◌*◌, ◌/◌, ◌<◌, ◌≤◌, Bool, true, false, List, [], ◌∷◌, Option, Some, None, length, get_or, map, inl, inr, refl, sym, ◌∙◌, ap, subst, arith, nat_eq, if◌then◌else◌}
-use Rattle.std.specs.Prelude.{sum_by, AllPairs, ◌&&◌, ◌==◌, not, is_some}
+use Rattle.std.proofs.Common.{◌≡◌, ◌≢◌, ℕ, zero, suc, ◌*◌, ◌/◌, ◌<◌, ◌≤◌, Bool, true, false, List, [], ◌∷◌, Option, Some, None, length, get_or, map, inl, inr, refl, sym, ◌∙◌, ap, subst, arith, nat_eq, if◌then◌else◌}
+use Rattle.std.specs.Prelude.{◌&&◌, ◌==◌, not, is_some}
 use Rattle.std.specs.List.{All, remove, list_all}
 use Rattle.std.proofs.lemmas.Bool.{cases_Bool, eqb-true, false≢true}
 use Rattle.std.proofs.lemmas.List.{append-nil, length-map, get_or-map}
@@ -139,11 +139,11 @@ module _ {B : Type 0} (contents : B → List ℕ) (layers : B → List Layer) (s
   apart : All (λ t. t.number ≢ s.number) (remove v.snaps k)
   apart = others_differ v.snaps k s
       (λ i j d lt inside.
-        (let n : length (map number_of_snap v.snaps) ≡ length v.snaps = length-map v.snaps number_of_snap in
-        let less : get_or (map number_of_snap v.snaps) i d.number < get_or (map number_of_snap v.snaps) j d.number = h.numbers.ascending i j d.number lt (omega (arith, inside, n)) in
-        let low = get_or-map number_of_snap v.snaps i d d.number (omega (arith, lt, inside)) in
-        let high = get_or-map number_of_snap v.snaps j d d.number inside in
-        omega (arith, less, low, high))) within is
+      (let n : length (map number_of_snap v.snaps) ≡ length v.snaps = length-map v.snaps number_of_snap in
+      let less : get_or (map number_of_snap v.snaps) i d.number < get_or (map number_of_snap v.snaps) j d.number = h.numbers.ascending i j d.number lt (omega (arith, inside, n)) in
+      let low = get_or-map number_of_snap v.snaps i d d.number (omega (arith, lt, inside)) in
+      let high = get_or-map number_of_snap v.snaps j d d.number inside in
+      omega (arith, less, low, high))) within is
 
   goes : (loud : Bool) → MergeGoes (map sb (remove v.snaps k)) (merging_due contents loud m)
   goes loud = record {

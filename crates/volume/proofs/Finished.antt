@@ -1,7 +1,7 @@
 -- A merge that came to its end is taken out of a quiet volume.
-use Rattle.std.proofs.Common.{◌≡◌, ℕ, ◌<◌, Bool, true, false, List, [], ◌∷◌, Option, Some, None, length, map, refl, sym, ◌∙◌, ap, subst, arith, nat_eq, if◌then◌else◌}
+use Rattle.std.proofs.Common.{◌≡◌, ℕ, Bool, true, false, List, [], Option, Some, None, length, map, refl, sym, ◌∙◌, ap, subst, nat_eq, if◌then◌else◌}
 use Rattle.std.specs.Prelude.{◌&&◌, not}
-use Rattle.std.specs.List.{All, list_all}
+use Rattle.std.specs.List.{All}
 use Rattle.std.proofs.lemmas.Bool.{eqb-true, false≢true}
 use Rattle.std.proofs.lemmas.List.{nil_from_length}
 use Rattle.std.proofs.lemmas.List.Elements.{All-nil}
@@ -17,12 +17,12 @@ use Rattle.volume_laws.specs.Whole.{Holds, UnmergedHolds, plain_of as plain_book
 use Rattle.volume_laws.proofs.Same.{books}
 use Rattle.volume_laws.proofs.Waiting.{waits_none}
 use Rattle.volume_laws.proofs.WholeMerge.{finish_event}
-use Rattle.event_machine.specs.Held.{Held, MergeHeld, Moving}
+use Rattle.event_machine.specs.Held.{MergeHeld, Moving}
 use Rattle.event_machine.specs.MergeDue.{is_finished}
 use Rattle.event_machine.specs.MergeSeen.{held_in, merge_held_of}
 use Rattle.event_machine.specs.Merging.{finished}
 use Rattle.event_machine.specs.Stepping.{for_some}
-use Rattle.snapshot.specs.Kept.{Kept, books_of as snap_books}
+use Rattle.snapshot.specs.Kept.{books_of as snap_books}
 use Rattle.merge.specs.declared.group.Group.{Group}
 use Rattle.merge.specs.Due.{has_group_of, is_finished_of}
 use Rattle.merge.specs.Lists.{group_pairs}
@@ -31,11 +31,12 @@ use Rattle.merge_beside.specs.Keeping.{unkept}
 use Rattle.merge_beside.specs.Rooms.{merge_books}
 use Rattle.volume.specs.Finishing.{finish_refusal, finish_with}
 use Rattle.volume.specs.Leaving.{is_quiet_of}
-use Rattle.volume.specs.Volumed.{Volumed, books_of, is_loud_in_all, piece_of, piece_with, plain_of}
-use Rattle.volume.specs.Whole.{IsAttached, IsWhole}
-use Rattle.volume.specs.Moved.{held_of, merge_seen, moving_of}
+use Rattle.volume.specs.Volumed.{Volumed, books_of, is_loud_in_all, piece_with, plain_of}
+use Rattle.volume.specs.Whole.{IsWhole}
+use Rattle.volume.specs.Moved.{merge_seen, moving_of}
 use Rattle.volume.proofs.Beginnings.{twice_unkept}
 use Rattle.volume.proofs.KeptBack.{whole_kept, plain_kept, moving_kept, loud_kept}
+use Rattle.volume.proofs.Leaves.{piece_left}
 use Rattle.volume.proofs.MovedLists.{if_true}
 use Rattle.volume.proofs.Quieted.{quiet_flights, quiet_done, no_group}
 use Rattle.volume.proofs.Shown.{and_left, and_right, loud_books, shown}
@@ -52,11 +53,6 @@ admitted_with m quiet e = by_test (is_finished_of m) quiet e
 not_true : (a : Bool) → not a ≡ true → a ≡ false
 not_true true e = absurd (false≢true e)
 not_true false e = refl
-
--- the piece goes by the first snapshot, where there is one
-piece_without : {B : Type 0} (copies sectors chunk : ℕ) (xs : List (Kept B)) → All (IsAttached copies sectors chunk) xs → All (IsAttached copies sectors (piece_of xs)) xs
-piece_without copies sectors chunk [] all = All-nil (IsAttached copies sectors 1024)
-piece_without copies sectors chunk (x ∷ xs) all = subst (λ n. All (IsAttached copies sectors n) (x ∷ xs)) (sym (all 0 x (omega arith)).chunk_is) all
 
 module _ {B : Type 0} (v : Volumed B) (m : Merging B) (is : v.merge ≡ Some m) (admitted : finish_refusal v ≡ None) where
   both : (is_finished_of m ≡ true) × (is_quiet_of v ≡ true)
@@ -98,7 +94,7 @@ module _ {B : Type 0} (v : Volumed B) (m : Merging B) (is : v.merge ≡ Some m) 
       holds = out_holds;
       waits = waits_none (books_of contents layers size out) none;
       merge = tt;
-      snaps = piece_without v.copies (size v.origin) (piece_with v.merge v.snaps) v.snaps h.snaps;
+      snaps = piece_left v.copies (size v.origin) (piece_with v.merge v.snaps) v.snaps h.snaps;
       counted = h.counted;
       apart = h.apart;
       numbers = h.numbers;

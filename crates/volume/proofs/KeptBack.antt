@@ -1,5 +1,5 @@
 -- What snapshots keep back for a merge changes in a quiet volume, and nothing else.
-use Rattle.std.proofs.Common.{◌≡◌, ℕ, suc, ◌+◌, ◌-◌, ◌<◌, ◌≤◌, Bool, true, List, [], ◌∷◌, Option, Some, None, length, get_or, map, refl, sym, ◌∙◌, ap, subst, arith, nat_eq}
+use Rattle.std.proofs.Common.{◌≡◌, ℕ, suc, ◌<◌, ◌≤◌, true, List, [], ◌∷◌, Option, Some, None, length, get_or, map, refl, sym, ◌∙◌, ap, subst, arith, nat_eq}
 use Rattle.std.specs.Prelude.{sum_by, ◌&&◌, not}
 use Rattle.std.specs.List.{All, list_all}
 use Rattle.std.proofs.lemmas.Bool.{eqb-true}
@@ -15,7 +15,7 @@ use Rattle.snapshot.specs.Kept.{Kept, books_of as snap_books}
 use Rattle.snapshots.specs.Numbers.{number_of_snap, numbers_in, count_in}
 use Rattle.merge.specs.Merging.{Merging}
 use Rattle.merge_beside.specs.Keeping.{unkept}
-use Rattle.volume.specs.Volumed.{Volumed, books_of, piece_of, piece_with, plain_of, is_loud_in_all, is_loud_with, snap_shape}
+use Rattle.volume.specs.Volumed.{Volumed, books_of, piece_of, piece_with, plain_of, is_loud_in_all, is_loud_with}
 use Rattle.volume.specs.Whole.{AreNumbers, SharesNone, IsAttached, IsWhole, IsCounted, GoesOn, starts_left}
 use Rattle.volume.specs.Moved.{held_of, moving_of}
 use Rattle.volume.specs.Leaving.{is_done_of}

@@ -1,6 +1,6 @@
 -- A snapshot leaves a quiet volume.
-use Rattle.std.proofs.Common.{◌≡◌, ◌≢◌, ℕ, zero, suc, ◌*◌, ◌/◌, ◌<◌, ◌≤◌, List, [], ◌∷◌, ◌++◌, length, get_or, map, refl, sym, ◌∙◌, ap, subst, arith, nat_eq, Bool, true, false, Option, Some, None}
-use Rattle.std.specs.Prelude.{sum_by, ◌&&◌}
+use Rattle.std.proofs.Common.{◌≡◌, ◌≢◌, ℕ, ◌*◌, ◌/◌, ◌<◌, ◌≤◌, List, [], ◌∷◌, ◌++◌, length, get_or, map, refl, sym, ◌∙◌, ap, subst, arith, nat_eq, Bool, true, false, Option, Some, None}
+use Rattle.std.specs.Prelude.{◌&&◌}
 use Rattle.std.specs.List.{All, remove, list_all}
 use Rattle.std.proofs.lemmas.Bool.{eqb-true}
 use Rattle.std.proofs.lemmas.List.{length-map}
@@ -34,7 +34,7 @@ use Rattle.snapshots.specs.Finding.{place_of_snap}
 use Rattle.volume.specs.Leaving.{IsWithout}
 use Rattle.std.proofs.lemmas.List.Quantifiers.{position-Some}
 use Rattle.volume.proofs.Shown.{shown, one_loud}
-use Rattle.volume.proofs.Sums.{sum_cons}
+use Rattle.volume.proofs.Removed.{all_removed, sum_left}
 
 -- the piece goes by the first that is left
 pub piece_left : {B : Type 0} (copies sectors chunk : ℕ) (xs : List (Kept B)) → All (IsAttached copies sectors chunk) xs → All (IsAttached copies sectors (piece_of xs)) xs
@@ -55,14 +55,6 @@ goes_removed snaps k d h = record {
   next = All-weaker (IsSavedSoon d.books.chunk snaps) (IsSavedSoon d.books.chunk (remove snaps k)) (λ q all. All-remove (λ (s : SnapBooks). s.live ≡ true → IsSaving (d.books.chunk * q.old / s.chunk) s) snaps k all) (next_in d.books) h.next;
   saved = All-weaker (IsSavedIn d.books.chunk d.books.sectors snaps) (IsSavedIn d.books.chunk d.books.sectors (remove snaps k)) (λ q all. All-remove (IsSavedOver (d.books.chunk * q.old) (count_of d.books.chunk d.books.sectors q.old)) snaps k all) (d.books.copied ++ d.books.released) h.saved;
 }
-
-sum_left : {X : Type 0} (f : X → ℕ) (xs : List X) (k : ℕ) → sum_by f (remove xs k) ≤ sum_by f xs
-sum_left f [] zero = let none : remove {X = _} [] 0 ≡ [] = refl in omega (arith, ap (sum_by f) none)
-sum_left f [] (suc k) = let none : remove {X = _} [] (suc k) ≡ [] = refl in omega (arith, ap (sum_by f) none)
-sum_left f (x ∷ xs) zero = let out : remove (x ∷ xs) 0 ≡ xs = refl in omega (arith, ap (sum_by f) out, sum_cons f x xs)
-sum_left f (x ∷ xs) (suc k) =
-    let rest : remove (x ∷ xs) (suc k) ≡ x ∷ remove xs k = refl in
-    omega (arith, sum_left f xs k, ap (sum_by f) rest, sum_cons f x (remove xs k), sum_cons f x xs)
 
 module _ {B : Type 0} (contents : B → List ℕ) (layers : B → List Layer) (size : B → ℕ) (v : Volumed B) (k : ℕ) (s : Kept B) (within : k < length v.snaps) (is : s ≡ get_or v.snaps k s) (none : v.flights ≡ []) where
   abbrev pub left : Volumed B
@@ -129,18 +121,6 @@ module _ {B : Type 0} (contents : B → List ℕ) (layers : B → List Layer) (s
 grouped : (a b c : Bool) → (a && (b && c)) ≡ ((a && b) && c)
 grouped true b c = refl
 grouped false b c = refl
-
--- a test of all is one of the others and of the one that leaves
-all_removed : {X : Type 0} (p : X → Bool) (xs : List X) (k : ℕ) (d : X) → k < length xs → list_all p xs ≡ (list_all p (remove xs k) && p (get_or xs k d))
-all_removed p [] k d lt = absurd (omega (arith, lt))
-all_removed p (x ∷ xs) zero d lt = swapped (p x) (list_all p xs)
-  where
-    swapped : (a b : Bool) → (a && b) ≡ (b && a)
-    swapped true true = refl
-    swapped true false = refl
-    swapped false true = refl
-    swapped false false = refl
-all_removed p (x ∷ xs) (suc k) d lt = ap (λ b. p x && b) (all_removed p xs k d (omega (arith, lt))) ∙ grouped (p x) (list_all p (remove xs k)) (p (get_or xs k d))
 
 -- the devices that stay and the one that is given back drop no writes just where none did
 pub without_loud : {B : Type 0} (layers : B → List Layer) (number : ℕ) (v w : Volumed B) (store : StoreDev B) (d : Kept B) → IsWithout number v w store → is_loud_in_all layers v ≡ (is_loud_in_all layers w && is_loud (layers store.device))

@@ -1,6 +1,6 @@
 -- The merge of a volume changes, and with it maybe the origin disk and where requests go: the volume stays whole, and the
 -- event does what a step promises.
-use Rattle.std.proofs.Common.{◌≡◌, ℕ, ◌+◌, ◌<◌, ◌≤◌, Bool, true, List, [], ◌∷◌, ◌++◌, Option, Some, length, map, refl, sym, ◌∙◌, ap, subst, arith}
+use Rattle.std.proofs.Common.{◌≡◌, ℕ, ◌<◌, ◌≤◌, Bool, true, List, [], ◌∷◌, ◌++◌, Option, Some, length, map, refl, sym, ◌∙◌, ap, subst, arith}
 use Rattle.std.specs.Prelude.{◌&&◌}
 use Rattle.std.specs.List.{All, list_all}
 use Rattle.std.proofs.lemmas.List.{length-map}
@@ -10,9 +10,8 @@ use Rattle.plain.specs.declared.event.Outcome.{Outcome}
 use Rattle.pending.specs.Due.{number_of_flight}
 use Rattle.pending.specs.Kinds.{in_flight}
 use Rattle.pending.specs.declared.flights.Flight.{Flight}
-use Rattle.volume_laws.specs.Books.{SnapBooks, MergeBooks, Books}
-use Rattle.volume_laws.specs.Due.{left_of}
-use Rattle.volume_laws.specs.MergeDue.{DueMerge, left_in_merge}
+use Rattle.volume_laws.specs.Books.{SnapBooks}
+use Rattle.volume_laws.specs.MergeDue.{left_in_merge}
 use Rattle.volume_laws.specs.MergeRooms.{KeepBack}
 use Rattle.volume_laws.specs.MergeSteps.{ChangesMerge}
 use Rattle.volume_laws.specs.MergeWaits.{MergeGoes}
@@ -22,10 +21,10 @@ use Rattle.volume_laws.proofs.MergeSteps.{IsMergeStep}
 use Rattle.snapshot.specs.Kept.{Kept, books_of as snap_books}
 use Rattle.merge.specs.Merging.{Merging, books_of as merging_books, due_of as merging_due}
 use Rattle.merge_beside.specs.Rooms.{merge_books, room_of}
-use Rattle.volume.specs.Volumed.{Volumed, books_of, plain_of, piece_with, is_loud_with, is_loud_in_all, left_in_all, left_by, dues_of, merge_due}
+use Rattle.volume.specs.Volumed.{Volumed, books_of, plain_of, piece_with, is_loud_with, is_loud_in_all, left_in_all, left_by, merge_due}
 use Rattle.volume.specs.Whole.{AreNumbers, IsAttached, IsMerged, GoesOn, IsWhole}
 use Rattle.volume.specs.Causes.{HasCause, IsOneAtMost, counts_of}
-use Rattle.volume.specs.Stepping.{IsStepped, KeepsAll, merged_of, has_failed, failed_by, starts_by}
+use Rattle.volume.specs.Stepping.{KeepsAll, merged_of, has_failed, failed_by}
 use Rattle.volume.proofs.Good.{IsGood, Spoiling, Staying, same_numbers, legal_by}
 
 -- whether writes are done changes nothing of what a merge needs to go on

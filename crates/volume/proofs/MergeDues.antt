@@ -1,6 +1,6 @@
 -- Where an event of the merge is due, beside the snapshots and requests.
-use Rattle.std.proofs.Common.{◌≡◌, ℕ, Bool, true, false, List, Option, Some, None, ap, sym, ◌∙◌, refl}
-use Rattle.std.specs.Prelude.{◌&&◌, not, IsSome}
+use Rattle.std.proofs.Common.{◌≡◌, ℕ, Bool, true, false, List, Option, Some, None, ap, refl}
+use Rattle.std.specs.Prelude.{not, IsSome}
 use Rattle.std.specs.List.{list_any}
 use Rattle.std.proofs.lemmas.Bool.{false≢true}
 use Rattle.sector.specs.declared.pair.Pair.{Pair}

@@ -1,5 +1,5 @@
 -- MergeGroup: a group is formed, and the copies of the chunk that is copied first are started.
-use Rattle.std.proofs.Common.{◌≡◌, inl, inr, ℕ, ◌+◌, ◌*◌, ◌/◌, ◌<◌, ◌≤◌, Bool, true, false, List, [], ◌∷◌, ◌++◌, Option, Some, length, get_or, map, refl, sym, ◌∙◌, ap, subst, arith, length-append, nat_eq}
+use Rattle.std.proofs.Common.{◌≡◌, inl, ℕ, ◌+◌, ◌*◌, ◌/◌, ◌<◌, ◌≤◌, Bool, true, false, List, [], ◌∷◌, ◌++◌, Option, Some, length, get_or, map, refl, sym, ◌∙◌, ap, subst, arith, length-append, nat_eq}
 use Rattle.std.specs.Prelude.{◌&&◌, not}
 use Rattle.std.specs.List.{All, list_any}
 use Rattle.std.specs.Option.{is_some}
@@ -14,17 +14,15 @@ use Rattle.plain.specs.declared.event.Outcome.TheVariants.{Done}
 use Rattle.pending.specs.Due.{number_of_copy, number_of_mark}
 use Rattle.pending.specs.declared.copies.ChunkCopy.{ChunkCopy}
 use Rattle.pending.specs.declared.flights.Flight.{Flight}
-use Rattle.volume_laws.specs.Books.{SnapBooks, Books}
 use Rattle.volume_laws.specs.Held.{SnapHolds}
 use Rattle.volume_laws.specs.MergeDue.{DueMerge, can_group, last_of}
-use Rattle.volume_laws.specs.MergeRooms.{RoomSnap, room_books, lacks_pair, KeepBack, ComesNext}
-use Rattle.volume_laws.specs.MergeSteps.{ChangesMerge, FormsGroup}
-use Rattle.volume_laws.specs.MergeWaits.{IsSavedSoon, MergeGoes, next_pairs}
+use Rattle.volume_laws.specs.MergeRooms.{RoomSnap, room_books, KeepBack, ComesNext}
+use Rattle.volume_laws.specs.MergeSteps.{FormsGroup}
+use Rattle.volume_laws.specs.MergeWaits.{IsSavedSoon, next_pairs}
 use Rattle.volume_laws.proofs.Lists.{All-back}
 use Rattle.volume_laws.proofs.MergeRoomStarts.{HaveRoom, has_room, room_grouped}
 use Rattle.volume_laws.proofs.MergeSteps.{IsMergeChange, IsMergeStart, group_change, group_step}
 use Rattle.snapshot.specs.Kept.{Kept, books_of as snap_books}
-use Rattle.snapshots.specs.Numbers.{numbers_in}
 use Rattle.snapshots.specs.Starting.{lacks}
 use Rattle.store.specs.Grouping.{IsGroup, run_at}
 use Rattle.merge.specs.Due.{can_group_of}
@@ -38,10 +36,10 @@ use Rattle.volume.specs.Whole.{IsWhole}
 use Rattle.volume.specs.Exact.{IsExact}
 use Rattle.volume.proofs.MovedGroups.{group_moved, stores_sized}
 use Rattle.volume.proofs.Good.{IsGood}
-use Rattle.volume.proofs.MergeChanging.{StaysMerged, DiskStays, disk_stays, merged_to, loudness, merged_in, goes_here, merge_changes}
+use Rattle.volume.proofs.MergeChanging.{StaysMerged, disk_stays, merged_to, loudness, merged_in, goes_here, merge_changes}
 use Rattle.volume.proofs.MergeCounting.{merged_same}
 use Rattle.volume.proofs.MergeOperations.{holds_merge, rooms_seen}
-use Rattle.volume.proofs.MergeSaves.{regrouped, grouped, grouped_fit, saved_to, IsNextDone, next_done, saved_good}
+use Rattle.volume.proofs.MergeSaves.{regrouped, grouped_fit, saved_to, IsNextDone, next_done, saved_good}
 
 live_first : (a b c : Bool) → ((a && b) && c) ≡ true → a ≡ true
 live_first true b c e = refl

@@ -1,27 +1,21 @@
 -- The events of a merge that start no copies leave its volume whole, and do what a step promises.
-use Rattle.std.proofs.Common.{◌≡◌, ◌≢◌, inl, inr, ℕ, ◌+◌, ◌-◌, ◌*◌, ◌<◌, Bool, true, false, List, [], ◌∷◌, ◌++◌, Option, Some, None, length, take, map, refl, sym, ◌∙◌, ap, subst, arith}
+use Rattle.std.proofs.Common.{◌≡◌, ◌≢◌, inl, inr, ℕ, ◌<◌, Bool, true, false, List, [], ◌∷◌, ◌++◌, Option, Some, None, length, map, refl, sym, ◌∙◌, ap, subst}
 use Rattle.std.specs.Prelude.{◌&&◌}
 use Rattle.std.specs.List.{All, list_all}
-use Rattle.sector.specs.Bytes.{next_count, sectors_at}
+use Rattle.sector.specs.Bytes.{next_count}
 use Rattle.sector.specs.declared.pair.Pair.{Pair}
 use Rattle.device.specs.Layers.{Layer, is_loud}
-use Rattle.device.specs.declared.operation.Operation.{Operation}
-use Rattle.device.specs.declared.operation.Operation.TheVariants.{Reads, Writes, Flushes}
 use Rattle.plain.specs.declared.event.Event.{Event}
-use Rattle.plain.specs.declared.event.Event.TheVariants.{MergeAreaRead, MergeCommit, MergeFlush, MergeRead, MergeRelease, MergeWrite}
+use Rattle.plain.specs.declared.event.Event.TheVariants.{MergeAreaRead, MergeCommit, MergeFlush, MergeRead, MergeRelease}
 use Rattle.plain.specs.declared.event.Outcome.TheVariants.{Done, Fault}
-use Rattle.model.specs.Places.{area_place, ChangesOnly}
-use Rattle.model.specs.Pairs.{pairs_of}
-use Rattle.pending.specs.Copies.{count_of}
 use Rattle.pending.specs.Kinds.{in_flight}
 use Rattle.pending.specs.declared.flights.Flight.{Flight}
-use Rattle.store.specs.Operations.{IsOneOperation}
 use Rattle.volume_laws.specs.Again.{again_of, Reroutes}
-use Rattle.volume_laws.specs.Books.{SnapBooks, MergeBooks, Books}
+use Rattle.volume_laws.specs.Books.{SnapBooks, Books}
 use Rattle.volume_laws.specs.Held.{SnapHolds}
 use Rattle.volume_laws.specs.Merging.{MergeHolds}
 use Rattle.volume_laws.specs.MergeDue.{DueMerge, last_of, is_merge_due, can_read, can_release, left_in_merge}
-use Rattle.volume_laws.specs.MergeRooms.{RoomSnap, room_books, KeepBack}
+use Rattle.volume_laws.specs.MergeRooms.{room_books, KeepBack}
 use Rattle.volume_laws.specs.MergeSteps.{ChangesMerge, ReadsBack, FlushesBack, CommitsGroup, ReleasesGroup, ReadsArea, FailsMerge}
 use Rattle.volume_laws.specs.MergeWaits.{MergeGoes}
 use Rattle.volume_laws.specs.Published.{is_clear}

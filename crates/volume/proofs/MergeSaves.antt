@@ -1,6 +1,6 @@
 -- A merge changes, and starts the copies of the chunk that it copies next: the volume is whole again, and the event does what a
 -- step promises.
-use Rattle.std.proofs.Common.{◌≡◌, ◌≢◌, inl, inr, ℕ, ◌+◌, ◌*◌, ◌<◌, ◌≤◌, Bool, true, false, List, [], ◌∷◌, ◌++◌, Option, None, Some, length, get_or, map, refl, sym, ◌∙◌, ap, subst, arith}
+use Rattle.std.proofs.Common.{◌≡◌, ◌≢◌, inl, inr, ℕ, ◌+◌, ◌*◌, ◌<◌, ◌≤◌, Bool, true, List, [], ◌∷◌, ◌++◌, Option, None, Some, length, get_or, map, refl, sym, ◌∙◌, ap, subst, arith}
 use Rattle.std.specs.Prelude.{◌&&◌, sum_by}
 use Rattle.std.specs.List.{All, list_all}
 use Rattle.std.proofs.lemmas.List.{length-map, get_or-map}
@@ -12,11 +12,10 @@ use Rattle.plain.specs.declared.event.Outcome.TheVariants.{Done}
 use Rattle.pending.specs.Due.{number_of_flight}
 use Rattle.pending.specs.Kinds.{in_flight}
 use Rattle.pending.specs.declared.flights.Flight.{Flight}
-use Rattle.volume_laws.specs.Books.{SnapBooks, MergeBooks, Books}
-use Rattle.volume_laws.specs.Due.{left_in, left_of}
-use Rattle.volume_laws.specs.MergeDue.{DueMerge, last_of, per_copy, per_pair, left_in_merge}
+use Rattle.volume_laws.specs.Due.{left_in}
+use Rattle.volume_laws.specs.MergeDue.{last_of, per_copy, per_pair, left_in_merge}
 use Rattle.volume_laws.specs.MergeRooms.{KeepBack}
-use Rattle.volume_laws.specs.MergeWaits.{IsSavedSoon, MergeGoes, next_pairs}
+use Rattle.volume_laws.specs.MergeWaits.{IsSavedSoon, next_pairs}
 use Rattle.volume_laws.specs.Waits.{Waits}
 use Rattle.volume_laws.specs.Whole.{Holds}
 use Rattle.volume_laws.proofs.MergeLeft.{with_left}
@@ -29,14 +28,14 @@ use Rattle.snapshot.specs.Kept.{Kept, books_of as snap_books, due_of_kept}
 use Rattle.snapshots.specs.Numbers.{number_of_snap}
 use Rattle.snapshots.specs.Starting.{overflowing}
 use Rattle.merge.specs.Lists.{waiting_of}
-use Rattle.merge.specs.Merging.{Merging, books_of as merging_books, due_of as merging_due}
+use Rattle.merge.specs.Merging.{Merging, due_of as merging_due}
 use Rattle.merge.specs.declared.group.Group.{Group}
 use Rattle.merge_beside.specs.Rooms.{room_of}
 use Rattle.merge_beside.specs.Starting.{IsNextSaved, AreNextSavedIn}
 use Rattle.volume.specs.Volumed.{Volumed, books_of, plain_of, piece_with, is_loud_with, is_loud_in_all, left_in_all, left_by, dues_of, merge_due}
 use Rattle.volume.specs.Whole.{AreNumbers, IsAttached, IsMerged, IsWhole}
 use Rattle.volume.specs.Causes.{HasCause, IsOneAtMost, SavesNext, counts_of, lives_saved}
-use Rattle.volume.specs.Stepping.{IsStepped, merged_of, has_failed, failed_by, starts_by as copies_by}
+use Rattle.volume.specs.Stepping.{merged_of, has_failed, failed_by, starts_by as copies_by}
 use Rattle.volume.proofs.Changing.{SnapsFit, snaps_fit}
 use Rattle.volume.proofs.Good.{IsGood, Spoiling, Staying, same_numbers, legal_by}
 use Rattle.volume.proofs.MergeChanging.{DiskStays, merged_to, loudness, merged_in, goes_any}

@@ -1,8 +1,8 @@
 -- MergeWrite: the chunk in the buffer is written to the origin disk, and the copies of the chunk that is copied next are started.
-use Rattle.std.proofs.Common.{◌≡◌, inr, ℕ, zero, suc, ◌+◌, ◌*◌, ◌<◌, ◌≤◌, Bool, true, false, List, [], ◌∷◌, Option, Some, length, get_or, take, map, refl, sym, ◌∙◌, ap, subst, arith}
+use Rattle.std.proofs.Common.{◌≡◌, inr, ℕ, zero, suc, ◌*◌, ◌<◌, ◌≤◌, Bool, true, List, [], ◌∷◌, Option, Some, length, get_or, take, map, refl, sym, ◌∙◌, ap, subst, arith}
 use Rattle.std.specs.List.{All}
 use Rattle.std.specs.Prelude.{IsTrue}
-use Rattle.std.proofs.lemmas.List.{get_or-map, length-map}
+use Rattle.std.proofs.lemmas.List.{length-map}
 use Rattle.sector.specs.Bytes.{next_count, with_sectors}
 use Rattle.sector.specs.declared.pair.Pair.{Pair}
 use Rattle.device.specs.Layers.{Layer, is_loud}
@@ -12,44 +12,62 @@ use Rattle.plain.specs.declared.event.Outcome.TheVariants.{Done}
 use Rattle.pending.specs.Copies.{count_of}
 use Rattle.pending.specs.declared.flights.Flight.{Flight}
 use Rattle.store.specs.Operations.{IsOneOperation}
-use Rattle.volume_laws.specs.Books.{SnapBooks, MergeBooks, Books}
-use Rattle.volume_laws.specs.MergeDue.{DueMerge, can_write, last_of}
-use Rattle.volume_laws.specs.MergeRooms.{room_books}
+use Rattle.volume_laws.specs.Books.{SnapBooks, MergeBooks}
+use Rattle.volume_laws.specs.MergeDue.{DueMerge, can_write, is_writable, last_of}
 use Rattle.volume_laws.specs.MergeSteps.{WritesBack}
 use Rattle.volume_laws.specs.MergeWaits.{HaveChunk, IsSavedIn, IsSavedSoon, MergeGoes, next_pairs}
-use Rattle.volume_laws.specs.Published.{IsSaved}
+use Rattle.volume_laws.specs.Published.{IsSaved, is_clear}
 use Rattle.volume_laws.proofs.MergeRoomStarts.{HaveRoom, room_written}
 use Rattle.volume_laws.proofs.MergeSaved.{pieces_of, saved_everywhere}
 use Rattle.volume_laws.proofs.MergeSteps.{IsMergeChange, IsMergeStart, write_change, write_step}
-use Rattle.volume_laws.proofs.MergeTests.{MayWrite, write_test}
+use Rattle.volume_laws.proofs.MergeTests.{write_test}
 use Rattle.snapshot.specs.Kept.{Kept, books_of as snap_books}
 use Rattle.merge.specs.Due.{full_of}
 use Rattle.merge.specs.Lists.{waiting_of, reading_of}
+use Rattle.merge.specs.Looks.{LooksAgree, option_pairs}
 use Rattle.merge.specs.Merging.{Merging, books_of as merging_books, due_of as merging_due}
 use Rattle.merge.specs.Steps.{WritesOrigin}
 use Rattle.merge.specs.declared.group.Group.{Group}
 use Rattle.merge_beside.specs.Rooms.{room_of}
 use Rattle.merge_beside.specs.Starting.{IsNextSaved, CanSaveNext}
-use Rattle.volume.specs.Volumed.{Volumed, books_of, piece_with, is_loud_in_all}
+use Rattle.volume.specs.Volumed.{Volumed, books_of, piece_with, is_due_of, is_loud_in_all}
 use Rattle.volume.specs.Whole.{IsWhole}
 use Rattle.volume.specs.Exact.{IsExact}
 use Rattle.volume.proofs.Good.{IsGood}
 use Rattle.volume.proofs.MergeChanging.{StaysMerged, DiskStays, merged_to, loudness, merged_in, goes_here, merge_changes}
 use Rattle.volume.proofs.MergeCounting.{merged_same, merged_disk, disk_within}
+use Rattle.volume.proofs.MergeDues.{due_beside}
 use Rattle.volume.proofs.MergeGroups.{can_save, room_kept}
 use Rattle.volume.proofs.MergeOperations.{holds_merge, rooms_seen}
-use Rattle.volume.proofs.MergeSaves.{regrouped, grouped, grouped_fit, saved_to, IsNextDone, next_done, saved_good}
+use Rattle.volume.proofs.MergeSaves.{regrouped, grouped_fit, saved_to, IsNextDone, next_done, saved_good}
 use Rattle.volume.proofs.MovedGroups.{stores_sized}
 use Rattle.volume.proofs.MovedWrites.{write_moved}
-use Rattle.volume.proofs.Shown.{and_left, loud_books}
+use Rattle.volume.proofs.Shown.{and_left, due_books, loud_books}
 
 -- the first of two lists of one pair each that are the same
 only_pair : (p q : Pair) → p ∷ [] ≡ q ∷ [] → p ≡ q
 only_pair p q e = cc
 
+-- the merge after a write, by another name
+pub step_from : {B : Type 0} (contents : B → List ℕ) (loud_disk : Bool) (origin origin' : List ℕ) (q : Pair) (m m' m'' : Merging B) → m' ≡ m''
+    → ((loud : Bool) → (loud ≡ true → loud_disk ≡ true) → WritesBack q (merging_due contents loud m) (merging_due contents loud m') × WritesOrigin q origin origin' (merging_books contents loud m))
+    → (loud : Bool) → (loud ≡ true → loud_disk ≡ true) → WritesBack q (merging_due contents loud m) (merging_due contents loud m'') × WritesOrigin q origin origin' (merging_books contents loud m)
+step_from contents loud_disk origin origin' q m m' m'' same step = subst (λ (x : Merging _). (loud : Bool) → (loud ≡ true → loud_disk ≡ true) → WritesBack q (merging_due contents loud m) (merging_due contents loud x) × WritesOrigin q origin origin' (merging_books contents loud m)) same step
+
 module _ {B : Type 0} (contents : B → List ℕ) (layers : B → List Layer) (size : B → ℕ) (v : Volumed B) (h : IsWhole contents layers size v) (m : Merging B) (was : v.merge ≡ Some m) where
   abbrev sound : Bool
   sound = loudness contents layers size v m was
+
+  -- it is due where the look at the snapshots says so
+  pub write_due : is_due_of contents layers v MergeWrite ≡ can_write (map (snap_books contents layers) v.snaps) (merging_books contents true m)
+  write_due = due_beside contents layers v m was MergeWrite ∙ ap (λ xs. can_write xs (merging_books contents true m)) (due_books contents layers v.snaps)
+
+  pub write_tested : LooksAgree contents true m → (q : Pair) → full_of m.group ≡ Some q → (b : Bool) (ss : List (Kept B)) (n : ℕ) → ss ≡ v.snaps → n ≡ m.state.chunk → b ≡ is_clear (map (snap_books contents layers) ss) (n * q.old)
+      → can_write (map (snap_books contents layers) v.snaps) (merging_books contents true m) ≡ b
+  write_tested looks q full b ss n snaps chunk test =
+      looks.write (map (snap_books contents layers) v.snaps)
+      ∙ ap (λ o. is_writable (map (snap_books contents layers) v.snaps) m.state.chunk (option_pairs o)) full
+      ∙ sym (test ∙ ap (λ (xs : List (Kept B)). is_clear (map (snap_books contents layers) xs) (n * q.old)) snaps ∙ ap (λ k. is_clear (map (snap_books contents layers) v.snaps) (k * q.old)) chunk)
 
   -- all snapshots have chunks as large as the merged one's
   same_chunks : HaveChunk m.state.chunk (map (snap_books contents layers) v.snaps)

@@ -1,53 +1,40 @@
 -- The events of a merge that start copies are the event machine's.
-use Rattle.std.proofs.Common.{◌≡◌, ◌⊎◌, inl, inr, ℕ, ◌+◌, ◌-◌, ◌*◌, ◌<◌, ◌≤◌, Bool, true, false, List, [], ◌∷◌, Option, Some, None, length, get_or, map, take, drop, refl, sym, ◌∙◌, ap, subst, arith, nat_lt}
+use Rattle.std.proofs.Common.{◌≡◌, ◌⊎◌, inl, inr, ℕ, ◌+◌, ◌-◌, ◌*◌, Bool, true, false, List, Option, Some, None, length, get_or, map, drop, refl, sym, ◌∙◌, ap, subst, arith, nat_lt}
 use Rattle.std.specs.Prelude.{◌&&◌, not}
 use Rattle.std.specs.List.{All}
-use Rattle.std.proofs.lemmas.Bool.{cond-true, cond-false, false≢true}
+use Rattle.std.proofs.lemmas.Bool.{cond-true, false≢true}
 use Rattle.std.proofs.lemmas.List.{get_or-map, length-map}
-use Rattle.sector.specs.Bytes.{with_sectors}
 use Rattle.sector.specs.declared.pair.Pair.{Pair}
 use Rattle.device.specs.Layers.{Layer}
-use Rattle.device.specs.declared.operation.Operation.{Operation}
-use Rattle.device.specs.declared.operation.Operation.TheVariants.{Writes}
 use Rattle.plain.specs.declared.event.Event.{Event}
-use Rattle.plain.specs.declared.event.Event.TheVariants.{MergeGroup, MergeWrite}
+use Rattle.plain.specs.declared.event.Event.TheVariants.{MergeGroup}
 use Rattle.plain.specs.declared.request.Reply.{Reply}
-use Rattle.pending.specs.Copies.{count_of}
 use Rattle.pending.specs.declared.flights.Flight.{Flight}
 use Rattle.store.specs.Grouping.{IsGroup, run_at}
-use Rattle.store.specs.Operations.{IsOneOperation}
-use Rattle.volume_laws.specs.Again.{again_of}
 use Rattle.volume_laws.specs.Held.{SnapHolds}
-use Rattle.volume_laws.specs.MergeDue.{can_group, can_write, is_writable, last_of}
-use Rattle.volume_laws.specs.MergeSteps.{FormsGroup, WritesBack, FailsMerge}
-use Rattle.volume_laws.specs.Published.{is_clear as is_clear_in}
-use Rattle.settled.specs.Devices.{Device, answers, written_by, sectors_of}
+use Rattle.volume_laws.specs.MergeDue.{can_group, last_of}
+use Rattle.volume_laws.specs.MergeSteps.{FormsGroup}
 use Rattle.settled.specs.Merges.{last_run}
 use Rattle.event_machine.specs.Held.{Held, Going, MergeHeld, Moving}
-use Rattle.event_machine.specs.MergeDue.{in_area, is_writable as is_writable_held}
+use Rattle.event_machine.specs.MergeDue.{in_area}
 use Rattle.event_machine.specs.Seen.{going_of}
 use Rattle.event_machine.specs.MergeSeen.{MergeSeen, merge_held_of}
-use Rattle.event_machine.specs.MergeStepping.{stepped_all, start_next, write_chunk, stop}
-use Rattle.event_machine.specs.Submitting.{started_all, started_by, refused_by}
+use Rattle.event_machine.specs.MergeStepping.{stepped_all, start_next}
+use Rattle.event_machine.specs.Submitting.{started_by, refused_by}
 use Rattle.event_machine.proofs.Grouped.{group_is}
-use Rattle.event_machine.proofs.MergeMoves.{formed_is, write_is, stop_is}
+use Rattle.event_machine.proofs.MergeMoves.{formed_is}
 use Rattle.event_machine.proofs.MergeTied.{group_same}
 use Rattle.snapshot.specs.Kept.{Kept, books_of as snap_books}
 use Rattle.merge.specs.Due.{has_group_of, can_group_of}
-use Rattle.merge.specs.Lists.{formed, waiting_of}
-use Rattle.merge.specs.Merging.{Merging, books_of as merging_books, due_of as merging_due, flushed_of}
+use Rattle.merge.specs.Lists.{formed}
+use Rattle.merge.specs.Merging.{Merging, due_of as merging_due, flushed_of}
 use Rattle.merge.specs.declared.group.Group.{Group}
-use Rattle.merge_beside.specs.Rooms.{merge_books}
 use Rattle.merge_beside.specs.Starting.{IsNextSaved}
 use Rattle.volume.specs.Volumed.{Volumed}
 use Rattle.volume.specs.Whole.{IsWhole}
-use Rattle.volume.specs.Moved.{device_of, held_of, moving_of}
+use Rattle.volume.specs.Moved.{held_of, moving_of}
 use Rattle.volume.proofs.MergeChanging.{merged_to}
 use Rattle.volume.proofs.MergeSaves.{regrouped}
-use Rattle.volume.proofs.MovedCopies.{sectors_is}
-use Rattle.volume.proofs.MovedMarks.{clear_seen}
-use Rattle.volume.proofs.MovedMerges.{rerouted_merged}
-use Rattle.volume.proofs.MovedSnaps.{wrote_is, failed_is}
 use Rattle.volume.proofs.MovedSubmits.{IsSized, AreAll, all_are}
 use Rattle.volume.proofs.NextSaved.{as_saved}
 

@@ -1,5 +1,5 @@
 -- The events of a merge that start no copies are the event machine's.
-use Rattle.std.proofs.Common.{◌≡◌, ◌≢◌, inl, inr, ℕ, ◌+◌, ◌-◌, ◌*◌, ◌/◌, Bool, true, false, List, [], ◌∷◌, ◌++◌, Option, Some, None, length, take, replicate, map, refl, sym, ◌∙◌, ap, subst, arith}
+use Rattle.std.proofs.Common.{◌≡◌, ◌≢◌, inl, inr, ℕ, ◌+◌, ◌-◌, ◌*◌, Bool, true, false, List, [], ◌∷◌, ◌++◌, Option, Some, None, length, replicate, map, refl, sym, ◌∙◌, ap}
 use Rattle.std.specs.Prelude.{◌&&◌, not}
 use Rattle.std.proofs.lemmas.Bool.{cases_Bool, cond-true, cond-false, false≢true}
 use Rattle.sector.specs.Bytes.{sectors_at, with_part}
@@ -17,11 +17,11 @@ use Rattle.store.specs.Operations.{IsOneOperation}
 use Rattle.store.specs.Slots.{slot_start}
 use Rattle.store.proofs.Groups.{length-run}
 use Rattle.volume_laws.specs.Again.{again_of}
-use Rattle.volume_laws.specs.MergeDue.{is_none, last_of, can_read, can_read_area, can_flush, can_commit_group, can_release}
+use Rattle.volume_laws.specs.MergeDue.{last_of, can_read, can_read_area, can_flush, can_commit_group, can_release}
 use Rattle.volume_laws.specs.MergeSteps.{ReadsBack, FlushesBack, CommitsGroup, ReleasesGroup, ReadsArea, FailsMerge}
-use Rattle.volume_laws.specs.MergeWaits.{IsStaged, MergeGoes}
+use Rattle.volume_laws.specs.MergeWaits.{IsStaged}
 use Rattle.volume_laws.specs.Published.{is_clear as is_clear_in}
-use Rattle.volume_laws.proofs.MergeTests.{commit_test, flush_test}
+use Rattle.volume_laws.proofs.MergeTests.{commit_test}
 use Rattle.settled.specs.Devices.{Device, answers, met, written_by, sectors_of}
 use Rattle.settled.specs.Merges.{without_slots}
 use Rattle.event_machine.specs.Held.{Going, MergeHeld, Moving, on_device}
@@ -29,10 +29,10 @@ use Rattle.event_machine.specs.Seen.{going_of}
 use Rattle.event_machine.specs.Again.{rerouted}
 use Rattle.event_machine.specs.MergeDue.{in_area}
 use Rattle.event_machine.specs.MergeSeen.{MergeSeen, merge_held_of}
-use Rattle.event_machine.specs.MergeStepping.{stepped_all, read_chunk, flush_origin, commit_group, read_area, end_group, stop}
-use Rattle.event_machine.proofs.MergeMoves.{store_of, read_is, flush_is, commit_is, area_is, release_is, stop_is}
+use Rattle.event_machine.specs.MergeStepping.{stepped_all, read_chunk, flush_origin, stop}
+use Rattle.event_machine.proofs.MergeMoves.{read_is, flush_is, commit_is, area_is, release_is, stop_is}
 use Rattle.event_machine.proofs.MergeTied.{filled_same, area_same, copied_same, read_same, release_same}
-use Rattle.snapshot.specs.Kept.{Kept, books_of as snap_books}
+use Rattle.snapshot.specs.Kept.{books_of as snap_books}
 use Rattle.merge.specs.declared.group.Group.{Group}
 use Rattle.merge.specs.declared.group.Progress.{Progress}
 use Rattle.merge.specs.declared.group.Progress.TheVariants.{Open, Full, Flushed, Committed}
@@ -47,7 +47,7 @@ use Rattle.volume.proofs.MergeChanging.{merged_to}
 use Rattle.volume.proofs.MergeOperations.{last_end}
 use Rattle.volume.proofs.MovedCopies.{sectors_is}
 use Rattle.volume.proofs.MovedMarks.{again_seen}
-use Rattle.volume.proofs.MovedSnaps.{met_is, wrote_is, failed_is, device_by}
+use Rattle.volume.proofs.MovedSnaps.{met_is, wrote_is, failed_is}
 
 -- a list that cannot have elements
 none_by : (xs : List Pair) → (xs ≢ [] → ⊥) → xs ≡ []
@@ -208,7 +208,7 @@ module _ {B : Type 0} (contents : B → List ℕ) (layers : B → List Layer) (r
           let kept : length (in_area held) - length (copied_of m.group) ≡ m.state.filled - copied_count m.group = ap (λ n. n - length (copied_of m.group)) slots ∙ ap (λ n. m.state.filled - n) count in
           let bytes : List ℕ = without_slots m.state.chunk (contents m.device) m.state.current (length (in_area held) - length (copied_of m.group)) (length (copied_of m.group)) in
           let same : contents m'.device ≡ bytes = written
-              ∙ sym (ap (λ n. without_slots m.state.chunk (contents m.device) m.state.current n (length (copied_of m.group))) kept ∙ ap (without_slots m.state.chunk (contents m.device) m.state.current (m.state.filled - copied_count m.group)) count) in
+          ∙ sym (ap (λ n. without_slots m.state.chunk (contents m.device) m.state.current n (length (copied_of m.group))) kept ∙ ap (without_slots m.state.chunk (contents m.device) m.state.current (m.state.filled - copied_count m.group)) count) in
           machine_is MergeCommit
           ∙ cond-true _ _ _ (ap (λ b. b && flushed_of m.group) (copied_same (seen m)) ∙ due)
           ∙ commit_is (seen m) (seen m') machine m'.pairs step (ap flushed_of group ∙ commit_flushed m.group ready ∙ sym (commit_test (merging_due contents true m) due).1)

@@ -1,5 +1,5 @@
 -- MergeWrite is the event machine's.
-use Rattle.std.proofs.Common.{◌≡◌, ℕ, ◌+◌, ◌*◌, Bool, true, false, List, [], ◌∷◌, Option, Some, None, length, map, take, refl, sym, ◌∙◌, ap}
+use Rattle.std.proofs.Common.{◌≡◌, ℕ, ◌*◌, true, false, List, [], ◌∷◌, Option, Some, None, length, map, take, refl, sym, ◌∙◌, ap}
 use Rattle.std.specs.List.{All}
 use Rattle.std.proofs.lemmas.Bool.{cond-true, cond-false}
 use Rattle.sector.specs.Bytes.{with_sectors}
@@ -7,7 +7,6 @@ use Rattle.sector.specs.declared.pair.Pair.{Pair}
 use Rattle.device.specs.Layers.{Layer}
 use Rattle.device.specs.declared.operation.Operation.{Operation}
 use Rattle.device.specs.declared.operation.Operation.TheVariants.{Writes}
-use Rattle.plain.specs.declared.event.Event.{Event}
 use Rattle.plain.specs.declared.event.Event.TheVariants.{MergeWrite}
 use Rattle.plain.specs.declared.request.Reply.{Reply}
 use Rattle.pending.specs.Copies.{count_of}
@@ -18,7 +17,7 @@ use Rattle.volume_laws.specs.MergeDue.{can_write, is_writable, last_of}
 use Rattle.volume_laws.specs.MergeSteps.{WritesBack, FailsMerge}
 use Rattle.volume_laws.specs.Published.{is_clear as is_clear_in}
 use Rattle.settled.specs.Devices.{Device, answers, written_by, sectors_of}
-use Rattle.event_machine.specs.Held.{Held, MergeHeld, Moving}
+use Rattle.event_machine.specs.Held.{MergeHeld, Moving}
 use Rattle.event_machine.specs.MergeDue.{is_writable as is_writable_held}
 use Rattle.event_machine.specs.MergeSeen.{MergeSeen, merge_held_of}
 use Rattle.event_machine.specs.MergeStepping.{stepped_all, write_chunk, stop}

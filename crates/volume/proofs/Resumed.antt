@@ -1,5 +1,5 @@
 -- A merge that failed goes on.
-use Rattle.std.proofs.Common.{◌≡◌, ℕ, Bool, true, false, List, Option, Some, None, refl, sym, ◌∙◌, ap, subst}
+use Rattle.std.proofs.Common.{◌≡◌, ℕ, false, List, Option, Some, refl, sym, ap, subst}
 use Rattle.std.proofs.lemmas.Bool.{false≢true}
 use Rattle.device.specs.Layers.{Layer, is_loud}
 use Rattle.plain.specs.declared.request.Reply.{Reply}
@@ -8,15 +8,12 @@ use Rattle.volume_laws.specs.MergeDue.{DueMerge}
 use Rattle.volume_laws.specs.MergeWaits.{MergeGoes}
 use Rattle.volume_laws.specs.Whole.{Holds}
 use Rattle.volume_laws.specs.Waits.{Waits}
-use Rattle.event_machine.specs.Held.{MergeHeld, Moving}
-use Rattle.event_machine.specs.MergeSeen.{held_in}
 use Rattle.event_machine.specs.Merging.{resumed}
-use Rattle.snapshot.specs.Kept.{Kept}
 use Rattle.merge.specs.Merging.{Merging, due_of as merging_due}
 use Rattle.merge_beside.specs.Rooms.{merge_books}
 use Rattle.volume.specs.Volumed.{Volumed, books_of, piece_with, plain_of, is_loud_in_all}
 use Rattle.volume.specs.Whole.{IsAttached, IsMerged, IsWhole, GoesOn}
-use Rattle.volume.specs.Moved.{merge_seen, moving_of}
+use Rattle.volume.specs.Moved.{moving_of}
 use Rattle.std.specs.List.{All}
 
 goes_again : (snaps : List SnapBooks) (d d' : DueMerge) → d' ≡ record d { failed = false } → MergeGoes snaps d → MergeGoes snaps d'

@@ -1,5 +1,5 @@
 -- Where no device drops writes, the pairs that a merge has left are those of its store's bytes.
-use Rattle.std.proofs.Common.{◌≡◌, ℕ, ◌<◌, Bool, true, List, [], ◌∷◌, ◌++◌, Option, Some, None, length, refl, sym, ◌∙◌, ap, subst, arith, length-append}
+use Rattle.std.proofs.Common.{◌≡◌, ℕ, ◌<◌, Bool, true, List, Option, Some, None, length, refl, sym, ◌∙◌, ap, subst, arith, length-append}
 use Rattle.std.specs.Prelude.{◌==◌, ◌&&◌, not}
 use Rattle.device.specs.Layers.{Layer, is_loud}
 use Rattle.plain.specs.declared.event.Event.TheVariants.{MergeCommit}
@@ -40,6 +40,7 @@ pub committed : {B : Type 0} (contents : B → List ℕ) (layers : B → List La
 committed contents layers size v w h k same m m' was is sound step =
     let less : length m'.pairs < length m.pairs = omega (arith, ap length step.ends, length-append m'.pairs (merging_books contents true m).copied, some_pairs (merging_books contents true m).copied step.some) in
     let old : pairs_left v.merge ≡ m.pairs = ap pairs_left was in
-    let new : pairs_left w.merge ≡ m'.pairs = ap pairs_left is in
-    (omega (arith, less, ap length old, ap length new),
-    λ loud. (let a = stored contents layers size v h loud in let b = stored contents layers size w k (same ∙ loud) in omega (arith, less, ap length old, ap length new, ap length a, ap length b)))
+    let new : pairs_left w.merge ≡ m'.pairs = ap pairs_left is in (
+      omega (arith, less, ap length old, ap length new),
+      λ loud. (let a = stored contents layers size v h loud in let b = stored contents layers size w k (same ∙ loud) in omega (arith, less, ap length old, ap length new, ap length a, ap length b)),
+    )

@@ -68,10 +68,18 @@ impl<B: Block> Volume<B> {
         let _ = &self.flights;
         match self.step_by_kind(event) {
             Ok(outcome) => {
-                let _ = &self.flights;
+                self.look_at_merge();
                 Ok(outcome)
             }
             Err(NotDue) => Err(NotDue),
         }
+    }
+
+    /// A look at its merge, which does nothing: where no device drops writes, it is finished where its store's bytes have no
+    /// pair, and no group is formed.
+    fn look_at_merge(&self)
+        ensures finished { is_loud_in_all B.layers self.now ≡ true → is_finished_in self.now.merge ≡ is_finished_on B.contents self.now.merge }
+    {
+        let _ = &self.flights;
     }
 }

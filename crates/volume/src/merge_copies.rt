@@ -54,8 +54,12 @@ impl<B: Block> Volume<B> {
                 }
                 match merge.write_chunk(&mut self.origin) {
                     Ok(()) => {
-                        self.copies =
-                            save_waiting(merge, &mut self.snaps, &mut self.flights, self.copies);
+                        self.copies = save_waiting(
+                            merge,
+                            &mut self.snaps,
+                            &mut self.flights,
+                            self.copies,
+                        );
                         Ok(Outcome::Done)
                     }
                     Err(Io) => {

@@ -1,5 +1,4 @@
 -- One snapshot more keeps nothing back.
-use Rattle.std.proofs.Common.{◌≡◌}
 use Rattle.std.proofs.lemmas.List.Edits.{map_over_more}
 use Rattle.merge_beside.specs.Keeping.{unkept}
 use Rattle.merge_beside.proofs.keeping.let_go_all.Goals as goal

@@ -1,5 +1,5 @@
 -- The snapshot that is found is merged, once the others keep back what that starts.
-use Rattle.std.proofs.Common.{◌≡◌, ◌*◌, ℕ, inl, inr, None, List, Option, Some, length, get_or, map, refl, sym, ◌∙◌, ap, subst, arith}
+use Rattle.std.proofs.Common.{◌≡◌, ◌*◌, inr, None, List, Some, length, get_or, map, refl, sym, ◌∙◌, ap, arith}
 use Rattle.std.specs.List.{remove}
 use Rattle.std.proofs.lemmas.List.{get_or_default}
 use Rattle.store.specs.Held.{committed}
@@ -9,7 +9,8 @@ use Rattle.snapshots.specs.Finding.{place_of_snap}
 use Rattle.merge_beside.specs.Keeping.{unkept, kept_for}
 use Rattle.volume.specs.Beginning.{begin_refusal}
 use Rattle.volume.specs.Volumed.{Volumed}
-use Rattle.volume.proofs.Beginnings.{written_back, twice_unkept, made_from, alone, calm, within, live_now, number_now, idle_now, unmarked_now, chunk_now, whole_after, plain_after, exact_after, loud_after, is_begun}
+use Rattle.volume.proofs.Beginnings.{twice_unkept, made_from, alone, calm, within, live_now, number_now, idle_now, unmarked_now, chunk_now, whole_after, plain_after, exact_after, loud_after, is_begun}
+use Rattle.volume.proofs.Finishes.{back}
 use Rattle.volume.proofs.KeptBack.{whole_kept, moving_kept, loud_kept}
 use Rattle.volume.proofs.Quieted.{quiet_done}
 use Rattle.volume.proofs.volume.Volume.begin_merge.Goals as goal
@@ -35,32 +36,32 @@ invariant_of-self g c =
     let v : Volumed g.row.B.Denot = record { origin = c.self.inside.origin; snaps = c.self.inside.snaps.items; merge = c.self.inside.merge; flights = c.self.inside.flights.items; requests = c.self.inside.requests; copies = c.self.inside.copies; attached = c.self.inside.attached } in
     let admitted : begin_refusal c.args.number v ≡ None = ap (begin_refusal c.args.number) c.self.view_is ∙ c.in-Ok.ensures.ok.0 in
     let place : Some c.in-Ok.k ≡ place_of_snap c.args.number v.snaps = c.in-Ok.ensures.ok.1 ∙ ap (λ (x : Volumed g.row.B.Denot). place_of_snap c.args.number x.snaps) (sym c.self.view_is) in
-    let back = written_back c.self.inside.snaps.len c.keep_back_all.new.snaps c.self.inside.snaps.items (c.keep_back_all.auto.snaps ∙ c.as_mut_slice.ensures.len) in
+    let after = back c.self.inside.snaps.len c.keep_back_all.new.snaps c.self.inside.snaps.items (c.keep_back_all.auto.snaps ∙ c.as_mut_slice.ensures.len) in
     let same : map (unkept {B = g.row.B.Denot}) c.keep_back_all.new.snaps ≡ map unkept v.snaps = ap (map (unkept {B = g.row.B.Denot})) (c.in-Err-keep_back_all.ensures.err ∙ ap (map (unkept {B = g.row.B.Denot})) c.as_mut_slice.ensures.value) ∙ twice_unkept v.snaps in
-    rw (back) (whole_kept g.B.Block.contents g.B.Block.layers g.B.Block.size v c.keep_back_all.new.snaps same (alone v c.args.number c.in-Ok.k admitted place) (quiet_done v (calm v c.args.number c.in-Ok.k admitted place)) c.self.invariant)
+    rw (after) (whole_kept g.B.Block.contents g.B.Block.layers g.B.Block.size v c.keep_back_all.new.snaps same (alone v c.args.number c.in-Ok.k admitted place) (quiet_done v (calm v c.args.number c.in-Ok.k admitted place)) c.self.invariant)
 
 pub returns-in-Err-keep_back_all-clause-loud : goal.returns-in-Err-keep_back_all-clause-loud
 returns-in-Err-keep_back_all-clause-loud g c =
     let v : Volumed g.row.B.Denot = record { origin = c.self.inside.origin; snaps = c.self.inside.snaps.items; merge = c.self.inside.merge; flights = c.self.inside.flights.items; requests = c.self.inside.requests; copies = c.self.inside.copies; attached = c.self.inside.attached } in
-    let back = written_back c.self.inside.snaps.len c.keep_back_all.new.snaps c.self.inside.snaps.items (c.keep_back_all.auto.snaps ∙ c.as_mut_slice.ensures.len) in
+    let after = back c.self.inside.snaps.len c.keep_back_all.new.snaps c.self.inside.snaps.items (c.keep_back_all.auto.snaps ∙ c.as_mut_slice.ensures.len) in
     let same : map (unkept {B = g.row.B.Denot}) c.keep_back_all.new.snaps ≡ map unkept v.snaps = ap (map (unkept {B = g.row.B.Denot})) (c.in-Err-keep_back_all.ensures.err ∙ ap (map (unkept {B = g.row.B.Denot})) c.as_mut_slice.ensures.value) ∙ twice_unkept v.snaps in
-    rw (← c.self.view_is, back) (loud_kept g.B.Block.contents g.B.Block.layers g.B.Block.size v c.keep_back_all.new.snaps same)
+    rw (← c.self.view_is, after) (loud_kept g.B.Block.contents g.B.Block.layers g.B.Block.size v c.keep_back_all.new.snaps same)
 
 pub returns-in-Err-keep_back_all-clause-refused : goal.returns-in-Err-keep_back_all-clause-refused
 returns-in-Err-keep_back_all-clause-refused g c =
     let v : Volumed g.row.B.Denot = record { origin = c.self.inside.origin; snaps = c.self.inside.snaps.items; merge = c.self.inside.merge; flights = c.self.inside.flights.items; requests = c.self.inside.requests; copies = c.self.inside.copies; attached = c.self.inside.attached } in
     let admitted : begin_refusal c.args.number v ≡ None = ap (begin_refusal c.args.number) c.self.view_is ∙ c.in-Ok.ensures.ok.0 in
     let place : Some c.in-Ok.k ≡ place_of_snap c.args.number v.snaps = c.in-Ok.ensures.ok.1 ∙ ap (λ (x : Volumed g.row.B.Denot). place_of_snap c.args.number x.snaps) (sym c.self.view_is) in
-    let back = written_back c.self.inside.snaps.len c.keep_back_all.new.snaps c.self.inside.snaps.items (c.keep_back_all.auto.snaps ∙ c.as_mut_slice.ensures.len) in
+    let after = back c.self.inside.snaps.len c.keep_back_all.new.snaps c.self.inside.snaps.items (c.keep_back_all.auto.snaps ∙ c.as_mut_slice.ensures.len) in
     let same : map (unkept {B = g.row.B.Denot}) c.keep_back_all.new.snaps ≡ map unkept v.snaps = ap (map (unkept {B = g.row.B.Denot})) (c.in-Err-keep_back_all.ensures.err ∙ ap (map (unkept {B = g.row.B.Denot})) c.as_mut_slice.ensures.value) ∙ twice_unkept v.snaps in
-    rw (← c.self.view_is, back) (inr (admitted, c.in-Err-keep_back_all.ensures.refusal, record { kept = same; becomes = refl }))
+    rw (← c.self.view_is, after) (inr (admitted, c.in-Err-keep_back_all.ensures.refusal, record { kept = same; becomes = refl }))
 
 pub returns-in-Err-keep_back_all-clause-starved : goal.returns-in-Err-keep_back_all-clause-starved
 returns-in-Err-keep_back_all-clause-starved g c =
     let v : Volumed g.row.B.Denot = record { origin = c.self.inside.origin; snaps = c.self.inside.snaps.items; merge = c.self.inside.merge; flights = c.self.inside.flights.items; requests = c.self.inside.requests; copies = c.self.inside.copies; attached = c.self.inside.attached } in
-    let back = written_back c.self.inside.snaps.len c.keep_back_all.new.snaps c.self.inside.snaps.items (c.keep_back_all.auto.snaps ∙ c.as_mut_slice.ensures.len) in
+    let after = back c.self.inside.snaps.len c.keep_back_all.new.snaps c.self.inside.snaps.items (c.keep_back_all.auto.snaps ∙ c.as_mut_slice.ensures.len) in
     let same : map (unkept {B = g.row.B.Denot}) c.keep_back_all.new.snaps ≡ map unkept v.snaps = ap (map (unkept {B = g.row.B.Denot})) (c.in-Err-keep_back_all.ensures.err ∙ ap (map (unkept {B = g.row.B.Denot})) c.as_mut_slice.ensures.value) ∙ twice_unkept v.snaps in
-    λ replied. rw (← c.self.view_is, back) (moving_kept g.B.Block.contents g.B.Block.layers g.B.Block.size v c.keep_back_all.new.snaps same replied)
+    λ replied. rw (← c.self.view_is, after) (moving_kept g.B.Block.contents g.B.Block.layers g.B.Block.size v c.keep_back_all.new.snaps same replied)
 
 pub remove-snap-requires : goal.remove-snap-requires
 remove-snap-requires g c =
@@ -76,10 +77,10 @@ into_store-requires-clause-live g c =
     let v : Volumed g.row.B.Denot = record { origin = c.self.inside.origin; snaps = c.self.inside.snaps.items; merge = c.self.inside.merge; flights = c.self.inside.flights.items; requests = c.self.inside.requests; copies = c.self.inside.copies; attached = c.self.inside.attached } in
     let admitted : begin_refusal c.args.number v ≡ None = ap (begin_refusal c.args.number) c.self.view_is ∙ c.in-Ok.ensures.ok.0 in
     let place : Some c.in-Ok.k ≡ place_of_snap c.args.number v.snaps = c.in-Ok.ensures.ok.1 ∙ ap (λ (x : Volumed g.row.B.Denot). place_of_snap c.args.number x.snaps) (sym c.self.view_is) in
-    let back = written_back c.self.inside.snaps.len c.keep_back_all.new.snaps c.self.inside.snaps.items (c.keep_back_all.auto.snaps ∙ c.as_mut_slice.ensures.len) in
+    let after = back c.self.inside.snaps.len c.keep_back_all.new.snaps c.self.inside.snaps.items (c.keep_back_all.auto.snaps ∙ c.as_mut_slice.ensures.len) in
     let kept : c.keep_back_all.new.snaps ≡ map (kept_for c.args.number c.len-count.result) v.snaps = c.in-Ok-keep_back_all.ensures.ok ∙ ap (map (kept_for c.args.number c.len-count.result)) c.as_mut_slice.ensures.value in
     let s : Kept g.row.B.Denot = c.remove-snap.result in
-    let is : s ≡ get_or c.keep_back_all.new.snaps c.in-Ok.k s = c.remove-snap.ensures.value ∙ ap (λ (xs : List (Kept g.row.B.Denot)). get_or xs c.in-Ok.k s) back in
+    let is : s ≡ get_or c.keep_back_all.new.snaps c.in-Ok.k s = c.remove-snap.ensures.value ∙ ap (λ (xs : List (Kept g.row.B.Denot)). get_or xs c.in-Ok.k s) after in
     live_now v c.args.number c.in-Ok.k admitted place c.len-count.result c.keep_back_all.new.snaps kept s is
 
 pub into_store-requires-clause-copied : goal.into_store-requires-clause-copied
@@ -87,10 +88,10 @@ into_store-requires-clause-copied g c =
     let v : Volumed g.row.B.Denot = record { origin = c.self.inside.origin; snaps = c.self.inside.snaps.items; merge = c.self.inside.merge; flights = c.self.inside.flights.items; requests = c.self.inside.requests; copies = c.self.inside.copies; attached = c.self.inside.attached } in
     let admitted : begin_refusal c.args.number v ≡ None = ap (begin_refusal c.args.number) c.self.view_is ∙ c.in-Ok.ensures.ok.0 in
     let place : Some c.in-Ok.k ≡ place_of_snap c.args.number v.snaps = c.in-Ok.ensures.ok.1 ∙ ap (λ (x : Volumed g.row.B.Denot). place_of_snap c.args.number x.snaps) (sym c.self.view_is) in
-    let back = written_back c.self.inside.snaps.len c.keep_back_all.new.snaps c.self.inside.snaps.items (c.keep_back_all.auto.snaps ∙ c.as_mut_slice.ensures.len) in
+    let after = back c.self.inside.snaps.len c.keep_back_all.new.snaps c.self.inside.snaps.items (c.keep_back_all.auto.snaps ∙ c.as_mut_slice.ensures.len) in
     let kept : c.keep_back_all.new.snaps ≡ map (kept_for c.args.number c.len-count.result) v.snaps = c.in-Ok-keep_back_all.ensures.ok ∙ ap (map (kept_for c.args.number c.len-count.result)) c.as_mut_slice.ensures.value in
     let s : Kept g.row.B.Denot = c.remove-snap.result in
-    let is : s ≡ get_or c.keep_back_all.new.snaps c.in-Ok.k s = c.remove-snap.ensures.value ∙ ap (λ (xs : List (Kept g.row.B.Denot)). get_or xs c.in-Ok.k s) back in
+    let is : s ≡ get_or c.keep_back_all.new.snaps c.in-Ok.k s = c.remove-snap.ensures.value ∙ ap (λ (xs : List (Kept g.row.B.Denot)). get_or xs c.in-Ok.k s) after in
     idle_now v c.args.number c.in-Ok.k admitted place c.len-count.result c.keep_back_all.new.snaps kept s is
 
 pub into_store-requires-clause-published : goal.into_store-requires-clause-published
@@ -98,10 +99,10 @@ into_store-requires-clause-published g c =
     let v : Volumed g.row.B.Denot = record { origin = c.self.inside.origin; snaps = c.self.inside.snaps.items; merge = c.self.inside.merge; flights = c.self.inside.flights.items; requests = c.self.inside.requests; copies = c.self.inside.copies; attached = c.self.inside.attached } in
     let admitted : begin_refusal c.args.number v ≡ None = ap (begin_refusal c.args.number) c.self.view_is ∙ c.in-Ok.ensures.ok.0 in
     let place : Some c.in-Ok.k ≡ place_of_snap c.args.number v.snaps = c.in-Ok.ensures.ok.1 ∙ ap (λ (x : Volumed g.row.B.Denot). place_of_snap c.args.number x.snaps) (sym c.self.view_is) in
-    let back = written_back c.self.inside.snaps.len c.keep_back_all.new.snaps c.self.inside.snaps.items (c.keep_back_all.auto.snaps ∙ c.as_mut_slice.ensures.len) in
+    let after = back c.self.inside.snaps.len c.keep_back_all.new.snaps c.self.inside.snaps.items (c.keep_back_all.auto.snaps ∙ c.as_mut_slice.ensures.len) in
     let kept : c.keep_back_all.new.snaps ≡ map (kept_for c.args.number c.len-count.result) v.snaps = c.in-Ok-keep_back_all.ensures.ok ∙ ap (map (kept_for c.args.number c.len-count.result)) c.as_mut_slice.ensures.value in
     let s : Kept g.row.B.Denot = c.remove-snap.result in
-    let is : s ≡ get_or c.keep_back_all.new.snaps c.in-Ok.k s = c.remove-snap.ensures.value ∙ ap (λ (xs : List (Kept g.row.B.Denot)). get_or xs c.in-Ok.k s) back in
+    let is : s ≡ get_or c.keep_back_all.new.snaps c.in-Ok.k s = c.remove-snap.ensures.value ∙ ap (λ (xs : List (Kept g.row.B.Denot)). get_or xs c.in-Ok.k s) after in
     unmarked_now v c.args.number c.in-Ok.k admitted place c.len-count.result c.keep_back_all.new.snaps kept s is
 
 pub begin-begun-requires-clause-room : goal.begin-begun-requires-clause-room
@@ -109,10 +110,10 @@ begin-begun-requires-clause-room g c =
     let v : Volumed g.row.B.Denot = record { origin = c.self.inside.origin; snaps = c.self.inside.snaps.items; merge = c.self.inside.merge; flights = c.self.inside.flights.items; requests = c.self.inside.requests; copies = c.self.inside.copies; attached = c.self.inside.attached } in
     let admitted : begin_refusal c.args.number v ≡ None = ap (begin_refusal c.args.number) c.self.view_is ∙ c.in-Ok.ensures.ok.0 in
     let place : Some c.in-Ok.k ≡ place_of_snap c.args.number v.snaps = c.in-Ok.ensures.ok.1 ∙ ap (λ (x : Volumed g.row.B.Denot). place_of_snap c.args.number x.snaps) (sym c.self.view_is) in
-    let back = written_back c.self.inside.snaps.len c.keep_back_all.new.snaps c.self.inside.snaps.items (c.keep_back_all.auto.snaps ∙ c.as_mut_slice.ensures.len) in
+    let after = back c.self.inside.snaps.len c.keep_back_all.new.snaps c.self.inside.snaps.items (c.keep_back_all.auto.snaps ∙ c.as_mut_slice.ensures.len) in
     let kept : c.keep_back_all.new.snaps ≡ map (kept_for c.args.number c.len-count.result) v.snaps = c.in-Ok-keep_back_all.ensures.ok ∙ ap (map (kept_for c.args.number c.len-count.result)) c.as_mut_slice.ensures.value in
     let s : Kept g.row.B.Denot = c.remove-snap.result in
-    let is : s ≡ get_or c.keep_back_all.new.snaps c.in-Ok.k s = c.remove-snap.ensures.value ∙ ap (λ (xs : List (Kept g.row.B.Denot)). get_or xs c.in-Ok.k s) back in
+    let is : s ≡ get_or c.keep_back_all.new.snaps c.in-Ok.k s = c.remove-snap.ensures.value ∙ ap (λ (xs : List (Kept g.row.B.Denot)). get_or xs c.in-Ok.k s) after in
     let lt = within v c.args.number c.in-Ok.k admitted place in
     let at : c.index.result.now ≡ get_or v.snaps c.in-Ok.k s = c.index.ensures ∙ get_or_default v.snaps c.in-Ok.k c.index.result.now s lt in
     let sized : length c.in-Ok-vec.buffer.items ≡ 512 * s.state.chunk =
@@ -124,10 +125,10 @@ invariant_of-self-2 g c =
     let v : Volumed g.row.B.Denot = record { origin = c.self.inside.origin; snaps = c.self.inside.snaps.items; merge = c.self.inside.merge; flights = c.self.inside.flights.items; requests = c.self.inside.requests; copies = c.self.inside.copies; attached = c.self.inside.attached } in
     let admitted : begin_refusal c.args.number v ≡ None = ap (begin_refusal c.args.number) c.self.view_is ∙ c.in-Ok.ensures.ok.0 in
     let place : Some c.in-Ok.k ≡ place_of_snap c.args.number v.snaps = c.in-Ok.ensures.ok.1 ∙ ap (λ (x : Volumed g.row.B.Denot). place_of_snap c.args.number x.snaps) (sym c.self.view_is) in
-    let back = written_back c.self.inside.snaps.len c.keep_back_all.new.snaps c.self.inside.snaps.items (c.keep_back_all.auto.snaps ∙ c.as_mut_slice.ensures.len) in
+    let after = back c.self.inside.snaps.len c.keep_back_all.new.snaps c.self.inside.snaps.items (c.keep_back_all.auto.snaps ∙ c.as_mut_slice.ensures.len) in
     let kept : c.keep_back_all.new.snaps ≡ map (kept_for c.args.number c.len-count.result) v.snaps = c.in-Ok-keep_back_all.ensures.ok ∙ ap (map (kept_for c.args.number c.len-count.result)) c.as_mut_slice.ensures.value in
     let s : Kept g.row.B.Denot = c.remove-snap.result in
-    let is : s ≡ get_or c.keep_back_all.new.snaps c.in-Ok.k s = c.remove-snap.ensures.value ∙ ap (λ (xs : List (Kept g.row.B.Denot)). get_or xs c.in-Ok.k s) back in
+    let is : s ≡ get_or c.keep_back_all.new.snaps c.in-Ok.k s = c.remove-snap.ensures.value ∙ ap (λ (xs : List (Kept g.row.B.Denot)). get_or xs c.in-Ok.k s) after in
     let lt = within v c.args.number c.in-Ok.k admitted place in
     let at : c.index.result.now ≡ get_or v.snaps c.in-Ok.k s = c.index.ensures ∙ get_or_default v.snaps c.in-Ok.k c.index.result.now s lt in
     let sized : length c.in-Ok-vec.buffer.items ≡ 512 * s.state.chunk =
@@ -136,7 +137,7 @@ invariant_of-self-2 g c =
     let mine = number_now v c.args.number c.in-Ok.k admitted place c.len-count.result c.keep_back_all.new.snaps kept s is in
     let e = c.into_store.ensures in
     let made = c.replace.ensures.after ∙ ap Some (c.begin-begun.ensures.begun ∙ made_from s c.args.number c.into_store.result.device c.into_store.result.state c.into_store.result.places.next (committed c.into_store.result.exceptions) c.in-Ok-vec.buffer.items mine e.device e.state e.next e.pairs) in
-    let left = c.remove-snap.ensures.items ∙ ap (λ (xs : List (Kept g.row.B.Denot)). remove xs c.in-Ok.k) back in
+    let left = c.remove-snap.ensures.items ∙ ap (λ (xs : List (Kept g.row.B.Denot)). remove xs c.in-Ok.k) after in
     rw (left, made) (whole_after v c.args.number c.in-Ok.k admitted place c.len-count.result c.keep_back_all.new.snaps kept s is g.B.Block.contents g.B.Block.layers g.B.Block.size c.self.invariant c.in-Ok-vec.buffer.items sized counts)
 
 pub returns-clause-begun : goal.returns-clause-begun
@@ -144,10 +145,10 @@ returns-clause-begun g c =
     let v : Volumed g.row.B.Denot = record { origin = c.self.inside.origin; snaps = c.self.inside.snaps.items; merge = c.self.inside.merge; flights = c.self.inside.flights.items; requests = c.self.inside.requests; copies = c.self.inside.copies; attached = c.self.inside.attached } in
     let admitted : begin_refusal c.args.number v ≡ None = ap (begin_refusal c.args.number) c.self.view_is ∙ c.in-Ok.ensures.ok.0 in
     let place : Some c.in-Ok.k ≡ place_of_snap c.args.number v.snaps = c.in-Ok.ensures.ok.1 ∙ ap (λ (x : Volumed g.row.B.Denot). place_of_snap c.args.number x.snaps) (sym c.self.view_is) in
-    let back = written_back c.self.inside.snaps.len c.keep_back_all.new.snaps c.self.inside.snaps.items (c.keep_back_all.auto.snaps ∙ c.as_mut_slice.ensures.len) in
+    let after = back c.self.inside.snaps.len c.keep_back_all.new.snaps c.self.inside.snaps.items (c.keep_back_all.auto.snaps ∙ c.as_mut_slice.ensures.len) in
     let kept : c.keep_back_all.new.snaps ≡ map (kept_for c.args.number c.len-count.result) v.snaps = c.in-Ok-keep_back_all.ensures.ok ∙ ap (map (kept_for c.args.number c.len-count.result)) c.as_mut_slice.ensures.value in
     let s : Kept g.row.B.Denot = c.remove-snap.result in
-    let is : s ≡ get_or c.keep_back_all.new.snaps c.in-Ok.k s = c.remove-snap.ensures.value ∙ ap (λ (xs : List (Kept g.row.B.Denot)). get_or xs c.in-Ok.k s) back in
+    let is : s ≡ get_or c.keep_back_all.new.snaps c.in-Ok.k s = c.remove-snap.ensures.value ∙ ap (λ (xs : List (Kept g.row.B.Denot)). get_or xs c.in-Ok.k s) after in
     let lt = within v c.args.number c.in-Ok.k admitted place in
     let at : c.index.result.now ≡ get_or v.snaps c.in-Ok.k s = c.index.ensures ∙ get_or_default v.snaps c.in-Ok.k c.index.result.now s lt in
     let sized : length c.in-Ok-vec.buffer.items ≡ 512 * s.state.chunk =
@@ -156,7 +157,7 @@ returns-clause-begun g c =
     let mine = number_now v c.args.number c.in-Ok.k admitted place c.len-count.result c.keep_back_all.new.snaps kept s is in
     let e = c.into_store.ensures in
     let made = c.replace.ensures.after ∙ ap Some (c.begin-begun.ensures.begun ∙ made_from s c.args.number c.into_store.result.device c.into_store.result.state c.into_store.result.places.next (committed c.into_store.result.exceptions) c.in-Ok-vec.buffer.items mine e.device e.state e.next e.pairs) in
-    let left = c.remove-snap.ensures.items ∙ ap (λ (xs : List (Kept g.row.B.Denot)). remove xs c.in-Ok.k) back in
+    let left = c.remove-snap.ensures.items ∙ ap (λ (xs : List (Kept g.row.B.Denot)). remove xs c.in-Ok.k) after in
     rw (← c.self.view_is, left, made) (is_begun v c.args.number c.in-Ok.k admitted place c.len-count.result c.keep_back_all.new.snaps kept s is g.B.Block.contents g.B.Block.layers g.B.Block.size c.self.invariant c.in-Ok-vec.buffer.items sized counts)
 
 pub returns-clause-legal : goal.returns-clause-legal
@@ -164,10 +165,10 @@ returns-clause-legal g c =
     let v : Volumed g.row.B.Denot = record { origin = c.self.inside.origin; snaps = c.self.inside.snaps.items; merge = c.self.inside.merge; flights = c.self.inside.flights.items; requests = c.self.inside.requests; copies = c.self.inside.copies; attached = c.self.inside.attached } in
     let admitted : begin_refusal c.args.number v ≡ None = ap (begin_refusal c.args.number) c.self.view_is ∙ c.in-Ok.ensures.ok.0 in
     let place : Some c.in-Ok.k ≡ place_of_snap c.args.number v.snaps = c.in-Ok.ensures.ok.1 ∙ ap (λ (x : Volumed g.row.B.Denot). place_of_snap c.args.number x.snaps) (sym c.self.view_is) in
-    let back = written_back c.self.inside.snaps.len c.keep_back_all.new.snaps c.self.inside.snaps.items (c.keep_back_all.auto.snaps ∙ c.as_mut_slice.ensures.len) in
+    let after = back c.self.inside.snaps.len c.keep_back_all.new.snaps c.self.inside.snaps.items (c.keep_back_all.auto.snaps ∙ c.as_mut_slice.ensures.len) in
     let kept : c.keep_back_all.new.snaps ≡ map (kept_for c.args.number c.len-count.result) v.snaps = c.in-Ok-keep_back_all.ensures.ok ∙ ap (map (kept_for c.args.number c.len-count.result)) c.as_mut_slice.ensures.value in
     let s : Kept g.row.B.Denot = c.remove-snap.result in
-    let is : s ≡ get_or c.keep_back_all.new.snaps c.in-Ok.k s = c.remove-snap.ensures.value ∙ ap (λ (xs : List (Kept g.row.B.Denot)). get_or xs c.in-Ok.k s) back in
+    let is : s ≡ get_or c.keep_back_all.new.snaps c.in-Ok.k s = c.remove-snap.ensures.value ∙ ap (λ (xs : List (Kept g.row.B.Denot)). get_or xs c.in-Ok.k s) after in
     let lt = within v c.args.number c.in-Ok.k admitted place in
     let at : c.index.result.now ≡ get_or v.snaps c.in-Ok.k s = c.index.ensures ∙ get_or_default v.snaps c.in-Ok.k c.index.result.now s lt in
     let sized : length c.in-Ok-vec.buffer.items ≡ 512 * s.state.chunk =
@@ -176,7 +177,7 @@ returns-clause-legal g c =
     let mine = number_now v c.args.number c.in-Ok.k admitted place c.len-count.result c.keep_back_all.new.snaps kept s is in
     let e = c.into_store.ensures in
     let made = c.replace.ensures.after ∙ ap Some (c.begin-begun.ensures.begun ∙ made_from s c.args.number c.into_store.result.device c.into_store.result.state c.into_store.result.places.next (committed c.into_store.result.exceptions) c.in-Ok-vec.buffer.items mine e.device e.state e.next e.pairs) in
-    let left = c.remove-snap.ensures.items ∙ ap (λ (xs : List (Kept g.row.B.Denot)). remove xs c.in-Ok.k) back in
+    let left = c.remove-snap.ensures.items ∙ ap (λ (xs : List (Kept g.row.B.Denot)). remove xs c.in-Ok.k) after in
     λ _. rw (← c.self.view_is, left, made) (plain_after v c.args.number c.in-Ok.k admitted place c.len-count.result c.keep_back_all.new.snaps kept s is g.B.Block.contents g.B.Block.layers g.B.Block.size c.self.invariant c.in-Ok-vec.buffer.items sized counts)
 
 pub returns-clause-exact : goal.returns-clause-exact
@@ -184,10 +185,10 @@ returns-clause-exact g c =
     let v : Volumed g.row.B.Denot = record { origin = c.self.inside.origin; snaps = c.self.inside.snaps.items; merge = c.self.inside.merge; flights = c.self.inside.flights.items; requests = c.self.inside.requests; copies = c.self.inside.copies; attached = c.self.inside.attached } in
     let admitted : begin_refusal c.args.number v ≡ None = ap (begin_refusal c.args.number) c.self.view_is ∙ c.in-Ok.ensures.ok.0 in
     let place : Some c.in-Ok.k ≡ place_of_snap c.args.number v.snaps = c.in-Ok.ensures.ok.1 ∙ ap (λ (x : Volumed g.row.B.Denot). place_of_snap c.args.number x.snaps) (sym c.self.view_is) in
-    let back = written_back c.self.inside.snaps.len c.keep_back_all.new.snaps c.self.inside.snaps.items (c.keep_back_all.auto.snaps ∙ c.as_mut_slice.ensures.len) in
+    let after = back c.self.inside.snaps.len c.keep_back_all.new.snaps c.self.inside.snaps.items (c.keep_back_all.auto.snaps ∙ c.as_mut_slice.ensures.len) in
     let kept : c.keep_back_all.new.snaps ≡ map (kept_for c.args.number c.len-count.result) v.snaps = c.in-Ok-keep_back_all.ensures.ok ∙ ap (map (kept_for c.args.number c.len-count.result)) c.as_mut_slice.ensures.value in
     let s : Kept g.row.B.Denot = c.remove-snap.result in
-    let is : s ≡ get_or c.keep_back_all.new.snaps c.in-Ok.k s = c.remove-snap.ensures.value ∙ ap (λ (xs : List (Kept g.row.B.Denot)). get_or xs c.in-Ok.k s) back in
+    let is : s ≡ get_or c.keep_back_all.new.snaps c.in-Ok.k s = c.remove-snap.ensures.value ∙ ap (λ (xs : List (Kept g.row.B.Denot)). get_or xs c.in-Ok.k s) after in
     let lt = within v c.args.number c.in-Ok.k admitted place in
     let at : c.index.result.now ≡ get_or v.snaps c.in-Ok.k s = c.index.ensures ∙ get_or_default v.snaps c.in-Ok.k c.index.result.now s lt in
     let sized : length c.in-Ok-vec.buffer.items ≡ 512 * s.state.chunk =
@@ -196,7 +197,7 @@ returns-clause-exact g c =
     let mine = number_now v c.args.number c.in-Ok.k admitted place c.len-count.result c.keep_back_all.new.snaps kept s is in
     let e = c.into_store.ensures in
     let made = c.replace.ensures.after ∙ ap Some (c.begin-begun.ensures.begun ∙ made_from s c.args.number c.into_store.result.device c.into_store.result.state c.into_store.result.places.next (committed c.into_store.result.exceptions) c.in-Ok-vec.buffer.items mine e.device e.state e.next e.pairs) in
-    let left = c.remove-snap.ensures.items ∙ ap (λ (xs : List (Kept g.row.B.Denot)). remove xs c.in-Ok.k) back in
+    let left = c.remove-snap.ensures.items ∙ ap (λ (xs : List (Kept g.row.B.Denot)). remove xs c.in-Ok.k) after in
     λ replied. rw (← c.self.view_is, left, made) (exact_after v c.args.number c.in-Ok.k admitted place c.len-count.result c.keep_back_all.new.snaps kept s is g.B.Block.contents g.B.Block.layers g.B.Block.size c.self.invariant c.in-Ok-vec.buffer.items sized counts replied)
 
 pub returns-clause-loud : goal.returns-clause-loud
@@ -204,10 +205,10 @@ returns-clause-loud g c =
     let v : Volumed g.row.B.Denot = record { origin = c.self.inside.origin; snaps = c.self.inside.snaps.items; merge = c.self.inside.merge; flights = c.self.inside.flights.items; requests = c.self.inside.requests; copies = c.self.inside.copies; attached = c.self.inside.attached } in
     let admitted : begin_refusal c.args.number v ≡ None = ap (begin_refusal c.args.number) c.self.view_is ∙ c.in-Ok.ensures.ok.0 in
     let place : Some c.in-Ok.k ≡ place_of_snap c.args.number v.snaps = c.in-Ok.ensures.ok.1 ∙ ap (λ (x : Volumed g.row.B.Denot). place_of_snap c.args.number x.snaps) (sym c.self.view_is) in
-    let back = written_back c.self.inside.snaps.len c.keep_back_all.new.snaps c.self.inside.snaps.items (c.keep_back_all.auto.snaps ∙ c.as_mut_slice.ensures.len) in
+    let after = back c.self.inside.snaps.len c.keep_back_all.new.snaps c.self.inside.snaps.items (c.keep_back_all.auto.snaps ∙ c.as_mut_slice.ensures.len) in
     let kept : c.keep_back_all.new.snaps ≡ map (kept_for c.args.number c.len-count.result) v.snaps = c.in-Ok-keep_back_all.ensures.ok ∙ ap (map (kept_for c.args.number c.len-count.result)) c.as_mut_slice.ensures.value in
     let s : Kept g.row.B.Denot = c.remove-snap.result in
-    let is : s ≡ get_or c.keep_back_all.new.snaps c.in-Ok.k s = c.remove-snap.ensures.value ∙ ap (λ (xs : List (Kept g.row.B.Denot)). get_or xs c.in-Ok.k s) back in
+    let is : s ≡ get_or c.keep_back_all.new.snaps c.in-Ok.k s = c.remove-snap.ensures.value ∙ ap (λ (xs : List (Kept g.row.B.Denot)). get_or xs c.in-Ok.k s) after in
     let lt = within v c.args.number c.in-Ok.k admitted place in
     let at : c.index.result.now ≡ get_or v.snaps c.in-Ok.k s = c.index.ensures ∙ get_or_default v.snaps c.in-Ok.k c.index.result.now s lt in
     let sized : length c.in-Ok-vec.buffer.items ≡ 512 * s.state.chunk =
@@ -216,5 +217,5 @@ returns-clause-loud g c =
     let mine = number_now v c.args.number c.in-Ok.k admitted place c.len-count.result c.keep_back_all.new.snaps kept s is in
     let e = c.into_store.ensures in
     let made = c.replace.ensures.after ∙ ap Some (c.begin-begun.ensures.begun ∙ made_from s c.args.number c.into_store.result.device c.into_store.result.state c.into_store.result.places.next (committed c.into_store.result.exceptions) c.in-Ok-vec.buffer.items mine e.device e.state e.next e.pairs) in
-    let left = c.remove-snap.ensures.items ∙ ap (λ (xs : List (Kept g.row.B.Denot)). remove xs c.in-Ok.k) back in
+    let left = c.remove-snap.ensures.items ∙ ap (λ (xs : List (Kept g.row.B.Denot)). remove xs c.in-Ok.k) after in
     rw (← c.self.view_is, left, made) (loud_after v c.args.number c.in-Ok.k admitted place c.len-count.result c.keep_back_all.new.snaps kept s is g.B.Block.contents g.B.Block.layers g.B.Block.size c.self.invariant c.in-Ok-vec.buffer.items sized counts)

@@ -1,10 +1,10 @@
 -- The merge is taken out, and its store's device is given back.
-use Rattle.std.proofs.Common.{◌≡◌, List, None, Option, Some, length, map, refl, sym, ◌∙◌, ap}
+use Rattle.std.proofs.Common.{◌≡◌, None, Some, map, refl, sym, ◌∙◌, ap}
 use Rattle.merge.specs.Merging.{Merging}
 use Rattle.merge_beside.specs.Keeping.{unkept}
 use Rattle.volume.specs.Finishing.{finish_refusal}
 use Rattle.volume.specs.Volumed.{Volumed, is_loud_in_all}
-use Rattle.volume.proofs.Beginnings.{written_back}
+use Rattle.volume.proofs.Finishes.{back}
 use Rattle.volume.proofs.Finished.{whole_finished, plain_finished, disk_finished, exact_finished, loud_finished}
 use Rattle.volume.proofs.volume.Volume.finish_merge.Goals as goal
 
@@ -14,7 +14,7 @@ invariant_of-self-2 g c =
     let m : Merging g.row.B.Denot = c.in-Some-take.merge in
     let is : v.merge ≡ Some m = sym c.in-Some-take.ensures.value in
     let admitted : finish_refusal v ≡ None = ap finish_refusal c.self.view_is ∙ sym c.in-None.ensures in
-    let left = written_back c.self.inside.snaps.len c.let_go_all.new.snaps c.self.inside.snaps.items (c.let_go_all.auto.snaps ∙ c.as_mut_slice.ensures.len) ∙ c.let_go_all.ensures ∙ ap (map (unkept {B = g.row.B.Denot})) c.as_mut_slice.ensures.value in
+    let left = back c.self.inside.snaps.len c.let_go_all.new.snaps c.self.inside.snaps.items (c.let_go_all.auto.snaps ∙ c.as_mut_slice.ensures.len) ∙ c.let_go_all.ensures ∙ ap (map (unkept {B = g.row.B.Denot})) c.as_mut_slice.ensures.value in
     let gone : c.take.new.self ≡ None = c.take.ensures.after in
     rw (left, gone) (whole_finished v m is admitted g.B.Block.contents g.B.Block.layers g.B.Block.size c.self.invariant)
 
@@ -24,7 +24,7 @@ returns-clause-taken g c =
     let m : Merging g.row.B.Denot = c.in-Some-take.merge in
     let is : v.merge ≡ Some m = sym c.in-Some-take.ensures.value in
     let admitted : finish_refusal v ≡ None = ap finish_refusal c.self.view_is ∙ sym c.in-None.ensures in
-    let left = written_back c.self.inside.snaps.len c.let_go_all.new.snaps c.self.inside.snaps.items (c.let_go_all.auto.snaps ∙ c.as_mut_slice.ensures.len) ∙ c.let_go_all.ensures ∙ ap (map (unkept {B = g.row.B.Denot})) c.as_mut_slice.ensures.value in
+    let left = back c.self.inside.snaps.len c.let_go_all.new.snaps c.self.inside.snaps.items (c.let_go_all.auto.snaps ∙ c.as_mut_slice.ensures.len) ∙ c.let_go_all.ensures ∙ ap (map (unkept {B = g.row.B.Denot})) c.as_mut_slice.ensures.value in
     let gone : c.take.new.self ≡ None = c.take.ensures.after in
     rw (← c.self.view_is, left, gone) (record { merge = m; was = is; device = c.into_device.ensures; stale = refl; becomes = refl })
 
@@ -34,7 +34,7 @@ returns-clause-legal g c =
     let m : Merging g.row.B.Denot = c.in-Some-take.merge in
     let is : v.merge ≡ Some m = sym c.in-Some-take.ensures.value in
     let admitted : finish_refusal v ≡ None = ap finish_refusal c.self.view_is ∙ sym c.in-None.ensures in
-    let left = written_back c.self.inside.snaps.len c.let_go_all.new.snaps c.self.inside.snaps.items (c.let_go_all.auto.snaps ∙ c.as_mut_slice.ensures.len) ∙ c.let_go_all.ensures ∙ ap (map (unkept {B = g.row.B.Denot})) c.as_mut_slice.ensures.value in
+    let left = back c.self.inside.snaps.len c.let_go_all.new.snaps c.self.inside.snaps.items (c.let_go_all.auto.snaps ∙ c.as_mut_slice.ensures.len) ∙ c.let_go_all.ensures ∙ ap (map (unkept {B = g.row.B.Denot})) c.as_mut_slice.ensures.value in
     let gone : c.take.new.self ≡ None = c.take.ensures.after in
     λ loud. rw (← c.self.view_is, left, gone) (plain_finished v m is admitted g.B.Block.contents g.B.Block.layers g.B.Block.size c.self.invariant (ap (is_loud_in_all g.B.Block.layers) c.self.view_is ∙ loud))
 
@@ -44,7 +44,7 @@ returns-clause-disk g c =
     let m : Merging g.row.B.Denot = c.in-Some-take.merge in
     let is : v.merge ≡ Some m = sym c.in-Some-take.ensures.value in
     let admitted : finish_refusal v ≡ None = ap finish_refusal c.self.view_is ∙ sym c.in-None.ensures in
-    let left = written_back c.self.inside.snaps.len c.let_go_all.new.snaps c.self.inside.snaps.items (c.let_go_all.auto.snaps ∙ c.as_mut_slice.ensures.len) ∙ c.let_go_all.ensures ∙ ap (map (unkept {B = g.row.B.Denot})) c.as_mut_slice.ensures.value in
+    let left = back c.self.inside.snaps.len c.let_go_all.new.snaps c.self.inside.snaps.items (c.let_go_all.auto.snaps ∙ c.as_mut_slice.ensures.len) ∙ c.let_go_all.ensures ∙ ap (map (unkept {B = g.row.B.Denot})) c.as_mut_slice.ensures.value in
     let gone : c.take.new.self ≡ None = c.take.ensures.after in
     λ loud. rw (← c.self.view_is) (disk_finished v m is admitted g.B.Block.contents g.B.Block.layers g.B.Block.size c.self.invariant (ap (is_loud_in_all g.B.Block.layers) c.self.view_is ∙ loud))
 
@@ -54,7 +54,7 @@ returns-clause-exact g c =
     let m : Merging g.row.B.Denot = c.in-Some-take.merge in
     let is : v.merge ≡ Some m = sym c.in-Some-take.ensures.value in
     let admitted : finish_refusal v ≡ None = ap finish_refusal c.self.view_is ∙ sym c.in-None.ensures in
-    let left = written_back c.self.inside.snaps.len c.let_go_all.new.snaps c.self.inside.snaps.items (c.let_go_all.auto.snaps ∙ c.as_mut_slice.ensures.len) ∙ c.let_go_all.ensures ∙ ap (map (unkept {B = g.row.B.Denot})) c.as_mut_slice.ensures.value in
+    let left = back c.self.inside.snaps.len c.let_go_all.new.snaps c.self.inside.snaps.items (c.let_go_all.auto.snaps ∙ c.as_mut_slice.ensures.len) ∙ c.let_go_all.ensures ∙ ap (map (unkept {B = g.row.B.Denot})) c.as_mut_slice.ensures.value in
     let gone : c.take.new.self ≡ None = c.take.ensures.after in
     λ replied. rw (← c.self.view_is, left, gone) (exact_finished v m is admitted g.B.Block.contents g.B.Block.layers g.B.Block.size c.self.invariant replied)
 
@@ -64,6 +64,6 @@ returns-clause-loud g c =
     let m : Merging g.row.B.Denot = c.in-Some-take.merge in
     let is : v.merge ≡ Some m = sym c.in-Some-take.ensures.value in
     let admitted : finish_refusal v ≡ None = ap finish_refusal c.self.view_is ∙ sym c.in-None.ensures in
-    let left = written_back c.self.inside.snaps.len c.let_go_all.new.snaps c.self.inside.snaps.items (c.let_go_all.auto.snaps ∙ c.as_mut_slice.ensures.len) ∙ c.let_go_all.ensures ∙ ap (map (unkept {B = g.row.B.Denot})) c.as_mut_slice.ensures.value in
+    let left = back c.self.inside.snaps.len c.let_go_all.new.snaps c.self.inside.snaps.items (c.let_go_all.auto.snaps ∙ c.as_mut_slice.ensures.len) ∙ c.let_go_all.ensures ∙ ap (map (unkept {B = g.row.B.Denot})) c.as_mut_slice.ensures.value in
     let gone : c.take.new.self ≡ None = c.take.ensures.after in
     rw (← c.self.view_is, left, gone, c.into_device.ensures) (loud_finished v m is admitted g.B.Block.contents g.B.Block.layers g.B.Block.size c.self.invariant)

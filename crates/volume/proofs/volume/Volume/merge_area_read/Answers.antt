@@ -1,13 +1,13 @@
 -- The area of the merging store before the current one is read.
-use Rattle.std.proofs.Common.{◌≡◌, ap, sym, refl, ◌∙◌, true, false, map, subst, length, Some, None, ◌<◌, ◌*◌}
+use Rattle.std.proofs.Common.{◌≡◌, ap, sym, refl, ◌∙◌, true, map, subst, length, Some, ◌<◌}
 use Rattle.std.specs.List.{All}
 use Rattle.device.specs.Layers.{is_loud}
-use Rattle.plain.specs.declared.event.Event.TheVariants.{MergeAreaRead, MergeRelease}
+use Rattle.plain.specs.declared.event.Event.TheVariants.{MergeAreaRead}
 use Rattle.volume_laws.specs.Again.{again_of}
 use Rattle.volume_laws.specs.MergeDue.{can_read_area}
 use Rattle.volume_laws.specs.Published.{is_clear}
 use Rattle.snapshot.specs.Kept.{Kept, books_of}
-use Rattle.merge.specs.Merging.{Merging, books_of as merging_books, due_of as merging_due}
+use Rattle.merge.specs.Merging.{Merging, due_of as merging_due}
 use Rattle.merge_beside.specs.Rooms.{merge_books}
 use Rattle.volume.specs.Volumed.{Volumed}
 use Rattle.volume.proofs.Chunks.{chunks_all}

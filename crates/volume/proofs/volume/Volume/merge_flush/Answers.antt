@@ -1,19 +1,18 @@
 -- The origin disk is flushed for the merge.
-use Rattle.std.proofs.Common.{◌≡◌, ap, sym, refl, ◌∙◌, true, false, map, subst, length, Some, None, ◌<◌, ◌*◌}
+use Rattle.std.proofs.Common.{◌≡◌, ap, sym, refl, ◌∙◌, true, map, subst, length, Some, ◌<◌}
 use Rattle.std.specs.List.{All}
 use Rattle.device.specs.Layers.{is_loud}
-use Rattle.plain.specs.declared.event.Event.TheVariants.{MergeFlush, MergeRelease}
+use Rattle.plain.specs.declared.event.Event.TheVariants.{MergeFlush}
 use Rattle.volume_laws.specs.Again.{again_of}
 use Rattle.volume_laws.specs.MergeDue.{can_flush}
 use Rattle.volume_laws.specs.Published.{is_clear}
 use Rattle.snapshot.specs.Kept.{Kept, books_of}
-use Rattle.merge.specs.Merging.{Merging, books_of as merging_books, due_of as merging_due}
+use Rattle.merge.specs.Merging.{due_of as merging_due}
 use Rattle.merge_beside.specs.Rooms.{merge_books}
 use Rattle.volume.specs.Volumed.{Volumed}
 use Rattle.volume.proofs.Chunks.{chunks_all}
 use Rattle.volume.proofs.MergeDues.{flush_due}
 use Rattle.volume.proofs.MergeOperations.{flush_good, disk_stops, stopped_from, stops_from, due_running, due_unfinished}
-use Rattle.volume.proofs.MergeChanging.{disk_stays, merged_in}
 use Rattle.volume.proofs.MovedMerges.{flush_moved, flush_stopped}
 use Rattle.volume.proofs.volume.Volume.merge_flush.Goals as goal
 

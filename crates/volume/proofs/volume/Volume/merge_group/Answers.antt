@@ -1,5 +1,5 @@
 -- A group is formed, and the copies of the chunk that is copied first are started.
-use Rattle.std.proofs.Common.{◌≡◌, ap, sym, ◌∙◌, true}
+use Rattle.std.proofs.Common.{◌≡◌, sym, ◌∙◌, true}
 use Rattle.plain.specs.declared.event.Event.TheVariants.{MergeGroup}
 use Rattle.volume_laws.specs.MergeDue.{can_group}
 use Rattle.merge.specs.Merging.{due_of as merging_due}

@@ -1,13 +1,13 @@
 -- A chunk is read from the merging store.
-use Rattle.std.proofs.Common.{◌≡◌, ap, sym, refl, ◌∙◌, true, false, map, subst, length, Some, None, ◌<◌, ◌*◌}
+use Rattle.std.proofs.Common.{◌≡◌, ap, sym, refl, ◌∙◌, true, map, subst, length, Some, ◌<◌, ◌*◌}
 use Rattle.std.specs.List.{All}
 use Rattle.device.specs.Layers.{is_loud}
-use Rattle.plain.specs.declared.event.Event.TheVariants.{MergeRead, MergeRelease}
+use Rattle.plain.specs.declared.event.Event.TheVariants.{MergeRead}
 use Rattle.volume_laws.specs.Again.{again_of}
 use Rattle.volume_laws.specs.MergeDue.{can_read}
 use Rattle.volume_laws.specs.Published.{is_clear}
 use Rattle.snapshot.specs.Kept.{Kept, books_of}
-use Rattle.merge.specs.Merging.{Merging, books_of as merging_books, due_of as merging_due}
+use Rattle.merge.specs.Merging.{Merging, books_of as merging_books}
 use Rattle.merge_beside.specs.Rooms.{merge_books}
 use Rattle.merge.specs.Due.{next_read_of, can_release_of}
 use Rattle.volume.specs.Volumed.{Volumed}

@@ -1,9 +1,9 @@
 -- A group whose slots are cleared ends.
-use Rattle.std.proofs.Common.{◌≡◌, ap, sym, refl, ◌∙◌, true, false, map, subst, Some, ◌<◌}
+use Rattle.std.proofs.Common.{◌≡◌, ap, sym, refl, ◌∙◌, true, map, subst, Some, ◌<◌}
 use Rattle.std.specs.List.{All}
 use Rattle.device.specs.Layers.{is_loud}
 use Rattle.volume_laws.specs.Again.{again_of}
-use Rattle.volume_laws.specs.MergeDue.{is_none, is_using, can_release}
+use Rattle.volume_laws.specs.MergeDue.{can_release}
 use Rattle.volume_laws.specs.Published.{is_clear}
 use Rattle.snapshot.specs.Kept.{Kept, books_of}
 use Rattle.merge.specs.Merging.{books_of as merging_books}

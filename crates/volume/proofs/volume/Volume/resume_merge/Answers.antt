@@ -1,6 +1,5 @@
 -- A merge that failed goes on, and one that did not is as it was.
-use Rattle.std.proofs.Common.{◌≡◌, false, List, Option, Some, refl, sym, ◌∙◌, ap, subst}
-use Rattle.merge.specs.Merging.{Merging}
+use Rattle.std.proofs.Common.{refl, sym, ◌∙◌, ap, subst}
 use Rattle.volume.specs.Volumed.{Volumed, plain_of, is_loud_in_all}
 use Rattle.volume.specs.Whole.{IsWhole}
 use Rattle.volume.specs.Moved.{moving_of}

@@ -2,7 +2,6 @@
 use Rattle.std.proofs.Common.{◌∙◌, sym, ap}
 use Rattle.volume.specs.Volumed.{Volumed, is_due_of, next_of}
 use Rattle.volume.proofs.DueBeside.{first_due}
-use Rattle.volume.proofs.StoredPairs.{finished}
 use Rattle.volume.proofs.volume.Volume.step.Goals as goal
 
 pub returns-in-Err-clause-first : goal.returns-in-Err-clause-first
