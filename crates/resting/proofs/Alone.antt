@@ -1,5 +1,5 @@
 -- A volume without a merge stays without one, its events are those of snapshots and requests, and none of them starts copies.
-use Rattle.std.proofs.Common.{◌≡◌, inl, inr, ℕ, ◌+◌, ◌≤◌, Bool, true, false, List, Option, Some, None, refl, sym, ◌∙◌, ap, arith}
+use Rattle.std.proofs.Common.{◌≡◌, ◌⊎◌, inl, inr, ℕ, ◌+◌, ◌≤◌, Bool, true, false, List, Option, Some, None, refl, sym, ◌∙◌, ap, arith}
 use Rattle.device.specs.Layers.{Layer}
 use Rattle.plain.specs.declared.event.Event.{Event}
 use Rattle.plain.specs.declared.event.Event.TheVariants.{Issue, CopyRead, CopyWrite, ZeroNext, WriteArea, Publish, WriteInvalid, MergeGroup, MergeAreaRead, MergeRead, MergeWrite, MergeFlush, MergeCommit, MergeRelease}
@@ -14,15 +14,11 @@ use Rattle.event_machine.specs.Stepping.{stepped}
 use Rattle.event_machine.specs.Seen.{replied_by}
 use Rattle.event_machine.proofs.Alone.{due_alone, stepped_alone}
 use Rattle.merge.specs.Merging.{Merging}
-use Rattle.snapshot.specs.Kept.{Kept}
-use Rattle.snapshots.specs.Finding.{place_of_snap}
-use Rattle.std.specs.Prelude.{slice_index_or}
-use Rattle.volume.specs.Asking.{HoldsOf}
 use Rattle.volume.specs.Volumed.{Volumed, dues_of, merge_due, is_due_by, is_due_of, is_loud_in_all, piece_of, piece_with}
 use Rattle.volume.specs.Moved.{moving_of, merge_seen}
 use Rattle.volume.specs.Stepping.{KeepsAll, merged_of, starts_by}
 use Rattle.volume.specs.Exact.{IsExact}
-use Rattle.volume.specs.Submitting.{SameButRoom}
+use Rattle.volume.specs.Submitting.{is_merging, SameButRoom}
 use Rattle.resting.specs.Rested.{rested_of, IsSettled}
 
 merged_none : {B : Type 0} (m : Option (Merging B)) → merged_of m ≡ None → m ≡ None
@@ -40,10 +36,10 @@ pub piece_alone : {B : Type 0} (v : Volumed B) (n : ℕ) → v.merge ≡ None �
 piece_alone v n alone is = is ∙ ap (λ m. piece_with m v.snaps) alone
 
 -- what holds of the snapshot with a number holds of one of the snapshots
-pub holds_alone : {B : Type 0} (of_merge : Merging B → Type 0) (of_snap : Kept B → Type 0) (number : ℕ) (v : Volumed B) → v.merge ≡ None → HoldsOf of_merge of_snap number v
-    → (k : ℕ) × (d : Kept B) × (place_of_snap number v.snaps ≡ Some k) × of_snap (slice_index_or v.snaps k d)
-holds_alone of_merge of_snap number v alone (inl merging) = absurd (let two : None ≡ Some merging.0 = sym alone ∙ merging.1 in cc)
-holds_alone of_merge of_snap number v alone (inr other) = other.1
+pub holds_alone : {B OfSnap : Type 0} (OfMerge : Merging B → Type 0) (number : ℕ) (v : Volumed B) → v.merge ≡ None
+    → ((m : Merging B) × (v.merge ≡ Some m) × (m.number ≡ number) × OfMerge m) ⊎ ((is_merging number v.merge ≡ false) × OfSnap) → OfSnap
+holds_alone OfMerge number v alone (inl merging) = absurd (let two : None ≡ Some merging.0 = sym alone ∙ merging.1 in cc)
+holds_alone OfMerge number v alone (inr other) = other.1
 
 -- an event that is due without a merge starts no copy
 starts_none : (snaps : List DueSnap) (rs : List Flight) (event : Event) → is_due snaps rs event ≡ true → starts_by event ≡ 0

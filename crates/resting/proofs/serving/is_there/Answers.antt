@@ -7,7 +7,7 @@ use Rattle.resting.proofs.serving.is_there.Goals as goal
 
 pub returns-in-Ok : goal.returns-in-Ok
 returns-in-Ok g c =
-    let ok = holds_alone _ _ c.in-Snap.number c.args.volume.now c.requires.alone c.in-Ok.ensures.ok in
+    let ok = holds_alone _ c.in-Snap.number c.args.volume.now c.requires.alone c.in-Ok.ensures.ok in
     sym (ap (λ d. has_dev d (rested_of c.args.volume.now)) c.in-Snap.is ∙ dev_found c.in-Snap.number ok.0 c.args.volume.now ok.2)
 
 pub returns-in-Err : goal.returns-in-Err

@@ -8,7 +8,7 @@ use Rattle.resting.proofs.resting.Resting.store.Goals as goal
 
 pub returns-in-Ok-clause-ok : goal.returns-in-Ok-clause-ok
 returns-in-Ok-clause-ok g c =
-    let at = holds_alone _ _ c.args.number c.self.inside.volume c.self.invariant c.in-Ok.ensures.ok in
+    let at = holds_alone _ c.args.number c.self.inside.volume c.self.invariant c.in-Ok.ensures.ok in
     rw (← c.self.view_is) (attached_of (get_or c.self.inside.volume.snaps at.0 at.1), found_snap c.args.number at.0 at.1 c.self.inside.volume at.2, at.3)
 
 pub returns-in-Err-clause-err : goal.returns-in-Err-clause-err
