@@ -1,5 +1,5 @@
 -- What changes layers alone leaves all that is in flight.
-use Rattle.std.proofs.Common.{◌≡◌, ℕ, Bool, true, false, List, [], ◌∷◌, map, None, refl, sym, ap, ◌∙◌}
+use Rattle.std.proofs.Common.{◌≡◌, ℕ, Bool, true, false, List, [], ◌∷◌, map, None, refl, ap, ◌∙◌}
 use Rattle.std.specs.Prelude.{◌==◌, if◌then◌else◌}
 use Rattle.device.specs.Layers.{Layer}
 use Rattle.plain.specs.declared.request.Dev.{Dev}
