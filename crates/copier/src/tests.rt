@@ -4,15 +4,15 @@ ghost use Rattle.copier.specs.declared.ticket.PendingCopy.{PendingCopy};
 
 use crate::{Copies, Count, Ended, Gate, Pass, PendingCopy, Ticket, Tickets, work};
 use std::alloc::{AllocError, Global};
-use std::sync::Wait;
 use std::sync::atomic::{AtomicU64, Ordering};
+use std::sync::{Arc, Wait};
 use std::test::Fail;
 use std::thread::{Threads, join};
 
 // A gate that keeps the count of the last ticket and adds up all.
 #[derive(Drop)]
 struct Counts {
-    last: AtomicU64,
+    last: Arc<AtomicU64, Global>,
     sum: AtomicU64,
 }
 
@@ -25,13 +25,13 @@ impl Gate for Counts {
 
 // The counts of the copies that were done, and which of them the gate had just let through.
 #[derive(Drop)]
-struct Done<'a> {
+struct Done {
     counts: Vec<u64>,
     gated: u64,
-    gate: &'a AtomicU64,
+    gate: Arc<AtomicU64, Global>,
 }
 
-impl Copies for Done<'_> {
+impl Copies for Done {
     ghost does = { λ before copy after. ⊤ };
 
     fn copy<R: Wait>(&mut self, rt: &R, tickets: &Tickets, pass: &mut Pass, copy: PendingCopy) {
@@ -53,19 +53,22 @@ impl Copies for Done<'_> {
     }
 }
 
-fn gate() -> Counts {
-    Counts {
-        last: AtomicU64::new(0),
+fn gate(alloc: Global) -> Result<Counts, AllocError> {
+    let Ok(last) = Arc::new(alloc, AtomicU64::new(0)) else {
+        return Err(AllocError);
+    };
+    Ok(Counts {
+        last,
         sum: AtomicU64::new(0),
-    }
+    })
 }
 
-fn none_done(alloc: Global, gate: &Counts) -> Done<'_> {
-    Done {
+fn none_done(alloc: Global, gate: &Counts) -> Result<Done, AllocError> {
+    Ok(Done {
         counts: Vec::new(alloc),
         gated: 0,
-        gate: &gate.last,
-    }
+        gate: Arc::try_clone(&gate.last)?,
+    })
 }
 
 fn numbered(copy: u64, count: u64) -> Ticket {
@@ -79,8 +82,8 @@ fn numbered(copy: u64, count: u64) -> Ticket {
 #[test]
 fn a_worker_ends_at_the_word_to_stop(rt: HostRuntime) -> Result<(), Fail> {
     let (tickets, mut pass) = Tickets::new(rt.alloc())?;
-    let gate = gate();
-    let mut done = none_done(rt.alloc(), &gate);
+    let gate = gate(rt.alloc())?;
+    let mut done = none_done(rt.alloc(), &gate)?;
     assert_eq!(rt; tickets.put(&rt, &mut pass, numbered(5, 1)), Ok(()));
     assert_eq!(rt; tickets.put(&rt, &mut pass, numbered(3, 2)), Ok(()));
     assert_eq!(rt; tickets.put(&rt, &mut pass, Ticket::Stop), Ok(()));
@@ -124,13 +127,13 @@ fn put_all<R: Wait>(rt: &R, tickets: &Tickets, mut pass: Pass) -> (Pass, u64)
 }
 
 // A worker in a thread of its own.
-fn worked<'a, R: Wait>(
+fn worked<R: Wait>(
     rt: &R,
     tickets: &Tickets,
     gate: &Counts,
     mut pass: Pass,
-    mut done: Done<'a>,
-) -> (Pass, Done<'a>, Ended)
+    mut done: Done,
+) -> (Pass, Done, Ended)
     requires { pass.queue ≡ tickets.now }
     ensures { (result.0.queue ≡ tickets.now) × (result.0.parts ≡ pass.parts) }
 {
@@ -138,12 +141,37 @@ fn worked<'a, R: Wait>(
     (pass, done, ended)
 }
 
+// A worker beside the one that puts.
+fn beside<R: Threads + Wait + Sync>(
+    rt: &R,
+    tickets: &Tickets,
+    gate: &Counts,
+    pass: Pass,
+    done: Done,
+    putter: Pass,
+) -> ((Pass, Done, Ended), (Pass, u64))
+    requires { (pass.queue ≡ tickets.now) × (putter.queue ≡ tickets.now) }
+    ensures { (result.0.0.queue ≡ pass.queue) × (result.0.0.parts ≡ pass.parts) × (result.1.0.queue ≡ putter.queue) × (result.1.0.parts ≡ putter.parts) }
+{
+    join(
+        rt,
+        move || -> (Pass, Done, Ended)
+            requires { pass.queue ≡ tickets.now }
+            ensures { (result.0.queue ≡ pass.queue) × (result.0.parts ≡ pass.parts) }
+        { worked(rt, tickets, gate, pass, done) },
+        move || -> (Pass, u64)
+            requires { putter.queue ≡ tickets.now }
+            ensures { (result.0.queue ≡ putter.queue) × (result.0.parts ≡ putter.parts) }
+        { put_all(rt, tickets, putter) },
+    )
+}
+
 #[test]
 fn two_workers_do_what_is_put_once_each(rt: HostRuntime) -> Result<(), Fail> {
     let (tickets, mut pass) = Tickets::new(rt.alloc())?;
-    let gate = gate();
-    let first = none_done(rt.alloc(), &gate);
-    let second = none_done(rt.alloc(), &gate);
+    let gate = gate(rt.alloc())?;
+    let first = none_done(rt.alloc(), &gate)?;
+    let second = none_done(rt.alloc(), &gate)?;
     let one = tickets.another(&mut pass);
     let other = tickets.another(&mut pass);
     let putter = tickets.another(&mut pass);
@@ -152,26 +180,14 @@ fn two_workers_do_what_is_put_once_each(rt: HostRuntime) -> Result<(), Fail> {
     let shared = &gate;
     let ((one, first, first_ended), ((other, second, second_ended), (putter, put))) = join(
         handle,
-        move || -> (Pass, Done<'_>, Ended)
+        move || -> (Pass, Done, Ended)
             requires { one.queue ≡ queue.now }
-            ensures { (result.0.queue ≡ queue.now) × (result.0.parts ≡ one.parts) }
+            ensures { (result.0.queue ≡ one.queue) × (result.0.parts ≡ one.parts) }
         { worked(handle, queue, shared, one, first) },
-        move || -> ((Pass, Done<'_>, Ended), (Pass, u64))
+        move || -> ((Pass, Done, Ended), (Pass, u64))
             requires { (other.queue ≡ queue.now) × (putter.queue ≡ queue.now) }
-            ensures { (result.0.0.queue ≡ queue.now) × (result.0.0.parts ≡ other.parts) × (result.1.0.queue ≡ queue.now) × (result.1.0.parts ≡ putter.parts) }
-        {
-            join(
-                handle,
-                move || -> (Pass, Done<'_>, Ended)
-                    requires { other.queue ≡ queue.now }
-                    ensures { (result.0.queue ≡ queue.now) × (result.0.parts ≡ other.parts) }
-                { worked(handle, queue, shared, other, second) },
-                move || -> (Pass, u64)
-                    requires { putter.queue ≡ queue.now }
-                    ensures { (result.0.queue ≡ queue.now) × (result.0.parts ≡ putter.parts) }
-                { put_all(handle, queue, putter) },
-            )
-        },
+            ensures { (result.0.0.queue ≡ other.queue) × (result.0.0.parts ≡ other.parts) × (result.1.0.queue ≡ putter.queue) × (result.1.0.parts ≡ putter.parts) }
+        { beside(handle, queue, shared, other, second, putter) },
     );
     tickets.absorb(&mut pass, one);
     tickets.absorb(&mut pass, other);
