@@ -1,9 +1,9 @@
 // The board itself.
 
 ghost use Rattle.std.specs.Prelude.{◌≡◌, true, false, [], ◌∷◌, ◌++◌, IfOk};
-ghost use Rattle.atomic_table.specs.Seated.{TableId};
 ghost use Rattle.board.specs.Words.{IsNarrow, no_usage};
 ghost use Rattle.board.specs.Growth.{StartsWith, EndsIn};
+ghost use Rattle.board.specs.Passes.{BoardId};
 
 use crate::pass::Pass;
 use crate::rule::{Another, Grows, Publishes, Reads, Takes, View};
@@ -19,7 +19,7 @@ pub struct Board {
 }
 
 impl Model for Board {
-    ghost Value = { TableId };
+    ghost Value = { BoardId };
 
     ghost view = { λ b. b.table.shared.table_id };
 
