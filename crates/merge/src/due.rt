@@ -1,5 +1,5 @@
 // Looks at how far a merge is, and at which of its events may be due.
-ghost use Rattle.std.specs.Prelude.{◌≡◌, Bool};
+ghost use Rattle.std.specs.Prelude.{◌≡◌, Bool, false, true};
 ghost use Rattle.volume_laws.specs.Again.{has_chunk};
 ghost use Rattle.merge.specs.Lists.{group_pairs, has_place as has_place_in};
 ghost use Rattle.merge.specs.Looks.{LooksAgree};
@@ -26,9 +26,10 @@ impl<B: Block> Merge<B> {
         self.group.is_some()
     }
 
-    /// Whether no pair is left, and no group.
+    /// Whether no pair is left, and no group: it has not failed then.
     pub fn is_finished(&self) -> bool
-        ensures { result ≡ is_finished_of self.now }
+        ensures value { result ≡ is_finished_of self.now }
+        ensures running { result ≡ true → self.now.failed ≡ false }
     {
         self.store.len() == 0 && self.group.is_none()
     }

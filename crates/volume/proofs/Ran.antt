@@ -1,5 +1,5 @@
 -- Calls one after another: what callers see of them, and that no call changes which devices drop writes.
-use Rattle.std.proofs.Common.{◌≡◌, inl, inr, ℕ, true, List, [], ◌∷◌, ◌++◌, map, refl, sym, ◌∙◌, ap, subst}
+use Rattle.std.proofs.Common.{◌≡◌, ◌⊎◌, inl, inr, ℕ, true, List, [], ◌∷◌, ◌++◌, map, refl, sym, ◌∙◌, ap, subst}
 use Rattle.std.proofs.lemmas.List.{map-id}
 use Rattle.std.specs.Prelude.{None, Result, Ok, Err, MatchResult}
 use Rattle.device.specs.Layers.{Layer}
@@ -25,9 +25,15 @@ use Rattle.volume.specs.Volumed.{Volumed, plain_of, is_loud_in_all, snap_shape}
 use Rattle.volume.specs.Beginning.{IsNotBegun, SameButKept}
 use Rattle.volume.specs.Layering.{Measures}
 use Rattle.volume.specs.Running.{IsSubmitReturned, IsStepReturned, IsMessageReturned, IsBegunAs, IsBeginRefused, IsResumedAs, IsReturned, AreReturned, MayBegin, MayCall}
+use Rattle.volume.proofs.Beginnings.{twice_unkept}
 use Rattle.volume.proofs.Declines.{refused_declined, refused_loud}
 use Rattle.volume.proofs.Relayered.{IsVolumeAlike, map_twice, ticked_alike}
 use Rattle.volume.proofs.Told.{plain_alike, loud_alike, told_alike, untold_alike}
+
+-- what is kept back aside, nothing changed
+still_but_kept : {B : Type 0} (xs ys : List (Kept B)) → (ys ≡ xs) ⊎ (ys ≡ map unkept xs) → map unkept ys ≡ map unkept xs
+still_but_kept xs ys (inl e) = ap (map unkept) e
+still_but_kept xs ys (inr e) = ap (map unkept) e ∙ twice_unkept xs
 
 -- a merge that did not begin changed nothing that is seen
 module _ {B : Type 0} (contents : B → List ℕ) (layers : B → List Layer) where
@@ -37,7 +43,7 @@ module _ {B : Type 0} (contents : B → List ℕ) (layers : B → List Layer) wh
   plain_kept : (v w : Volumed B) → SameButKept v w → plain_of contents layers w ≡ plain_of contents layers v
   plain_kept v w same =
       let mk : List (SnapShape B) → Plain = λ ss. record (plain_of contents layers v) { saved = map (shown_entry contents (contents v.origin)) ss } in
-      ap (plain_of contents layers) same.becomes ∙ ap mk (shapes_kept v.snaps w.snaps same.kept)
+      ap (plain_of contents layers) same.becomes ∙ ap mk (shapes_kept v.snaps w.snaps (still_but_kept v.snaps w.snaps same.kept))
 
   pub unbegun_same : (number : ℕ) (refusal : Refusal) (v w : Volumed B) → IsNotBegun number refusal v w → plain_of contents layers w ≡ plain_of contents layers v
   unbegun_same number refusal v w (inl first) = ap (plain_of contents layers) first.1

@@ -43,9 +43,9 @@ pub record IsMergeBegun {B : Type 0} (number : ℕ) (old new : Volumed B) : Type
   pub is : snap ≡ slice_index_or old.snaps place snap
   pub becomes : new ≡ record old { snaps = map (kept_for number (length snap.pairs)) (remove old.snaps place); merge = Some (merging_from snap buffer) }
 
--- nothing but what snapshots keep back for a merge is changed
+-- nothing is changed, but that snapshots may keep nothing back for a merge any more
 pub record SameButKept {B : Type 0} (old new : Volumed B) : Type 0 where
-  pub kept : map unkept new.snaps ≡ map unkept old.snaps
+  pub kept : (new.snaps ≡ old.snaps) ⊎ (new.snaps ≡ map unkept old.snaps)
   pub becomes : new ≡ record old { snaps = new.snaps }
 
 -- a merge does not begin: for the first reason, and nothing changed, or for want of memory

@@ -11,6 +11,7 @@ ghost use Rattle.volume.specs.Asking.{HasNone, HoldsOf, is_finished_in, merging_
 ghost use Rattle.volume.specs.Leaving.{IsStillOn, has_group_in, is_done_of, is_quiet_of, usage_of};
 ghost use Rattle.volume.specs.Moved.{moving_of};
 ghost use Rattle.volume.specs.Stepping.{has_failed};
+ghost use Rattle.volume.specs.Stored.{is_finished_on};
 ghost use Rattle.volume.specs.Submitting.{is_merging};
 ghost use Rattle.volume.specs.Volumed.{is_loud_in_all};
 ghost use Rattle.volume.specs.Whole.{IsCounted};
@@ -83,9 +84,11 @@ impl<B: Block> Volume<B> {
         }
     }
 
-    /// Whether a merge is begun that has no pair left, and no group: it can be finished.
+    /// Whether a merge is begun that has no pair left, and no group: it can be finished, and it has not failed.
     pub fn is_merge_finished(&self) -> bool
-        ensures { result ≡ is_finished_in self.now.merge }
+        ensures value { result ≡ is_finished_in self.now.merge }
+        ensures running { result ≡ true → has_failed self.now.merge ≡ false }
+        ensures stored { is_loud_in_all B.layers self.now ≡ true → result ≡ is_finished_on B.contents self.now.merge }
     {
         match &self.merge {
             Some(merge) => merge.is_finished(),

@@ -53,8 +53,8 @@ returns-in-Err-keep_back_all-clause-refused g c =
     let admitted : begin_refusal c.args.number v ≡ None = ap (begin_refusal c.args.number) c.self.view_is ∙ c.in-Ok.ensures.ok.0 in
     let place : Some c.in-Ok.k ≡ place_of_snap c.args.number v.snaps = c.in-Ok.ensures.ok.1 ∙ ap (λ (x : Volumed g.row.B.Denot). place_of_snap c.args.number x.snaps) (sym c.self.view_is) in
     let after = back c.self.inside.snaps.len c.keep_back_all.new.snaps c.self.inside.snaps.items (c.keep_back_all.auto.snaps ∙ c.as_mut_slice.ensures.len) in
-    let same : map (unkept {B = g.row.B.Denot}) c.keep_back_all.new.snaps ≡ map unkept v.snaps = ap (map (unkept {B = g.row.B.Denot})) (c.in-Err-keep_back_all.ensures.err ∙ ap (map (unkept {B = g.row.B.Denot})) c.as_mut_slice.ensures.value) ∙ twice_unkept v.snaps in
-    rw (← c.self.view_is, after) (inr (admitted, c.in-Err-keep_back_all.ensures.refusal, record { kept = same; becomes = refl }))
+    let none : c.keep_back_all.new.snaps ≡ map unkept v.snaps = c.in-Err-keep_back_all.ensures.err ∙ ap (map (unkept {B = g.row.B.Denot})) c.as_mut_slice.ensures.value in
+    rw (← c.self.view_is, after) (inr (admitted, c.in-Err-keep_back_all.ensures.refusal, record { kept = inr none; becomes = refl }))
 
 pub returns-in-Err-keep_back_all-clause-starved : goal.returns-in-Err-keep_back_all-clause-starved
 returns-in-Err-keep_back_all-clause-starved g c =
