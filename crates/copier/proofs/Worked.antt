@@ -1,8 +1,7 @@
 -- Copies done one after another.
-use Rattle.std.proofs.Common.{◌≡◌, List, [], ◌∷◌, ◌++◌, map, refl, sym, ◌∙◌, subst, append-nil, append_assoc}
+use Rattle.std.proofs.Common.{List, [], ◌∷◌, ◌++◌, map, refl, sym, ◌∙◌, subst, append-nil, append_assoc}
 use Rattle.std.proofs.lemmas.List.{map-append}
-use Rattle.copier.specs.Passes.{Passed, passed, with_taken}
-use Rattle.copier.specs.declared.ticket.Ticket.{Ticket}
+use Rattle.copier.specs.Passes.{Passed}
 use Rattle.copier.specs.declared.ticket.Ticket.TheVariants.{Copy}
 use Rattle.copier.specs.declared.ticket.PendingCopy.{PendingCopy}
 use Rattle.copier.specs.Working.{AreDone, HasDone, HasWorked}
