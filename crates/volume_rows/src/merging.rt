@@ -150,7 +150,7 @@ impl Merging {
 fn begun(
     rt: &impl Abort,
     alloc: Global,
-    sectors: usize,
+    size: ChunkSize,
     written: (&[u64], &[u64]),
     left: (u64, u64),
 ) -> Result<Merging, Fail> {
@@ -165,7 +165,7 @@ fn begun(
     };
     let mut merging = Merging {
         volume,
-        size: ChunkSize { sectors },
+        size,
         origin,
         second: Vec::new(alloc),
         asked: (0, 0),
@@ -184,7 +184,8 @@ fn begun(
 
 /// A merge of six chunks of two sectors, one of which is short, in four groups.
 fn short(rt: &impl Abort, alloc: Global, left: (u64, u64)) -> Result<Merging, Fail> {
-    begun(rt, alloc, 2, (&[0, 3, 4, 36, 8], &[5, 6]), left)
+    let size = ChunkSize { sectors: 2 };
+    begun(rt, alloc, size, (&[0, 3, 4, 36, 8], &[5, 6]), left)
 }
 
 #[test]
@@ -197,7 +198,7 @@ fn requests_at_each_moment_of_a_merge(rt: HostRuntime) -> Result<(), Fail> {
                 assert!(rt; at > 15, "a short merge");
                 break;
             }
-            assert_eq!(rt; merging.origin[sector as usize], 0xee);
+            assert_eq!(rt; merging.origin.get(sector as usize), Some(&0xee));
         }
     }
     Ok(())
@@ -210,14 +211,14 @@ fn a_merge_goes_on_after_a_fault_at_each_operation(rt: HostRuntime) -> Result<()
     for k in 0..200u64 {
         let first = (done.0.saturating_add(k), u64::MAX);
         let second = (u64::MAX, done.1.saturating_add(k));
-        let mut failed = 0;
+        let mut failed = false;
         for left in [first, second] {
             let mut merging = short(&rt, rt.alloc(), left)?;
             merging.asked = (5, 0xee);
             merging.run(&rt, rt.alloc(), 12)?;
-            failed += merging.failed;
+            failed = failed || merging.failed != 0;
         }
-        if failed == 0 {
+        if !failed {
             assert!(rt; k > 8, "a short merge");
             return Ok(());
         }
@@ -232,7 +233,8 @@ fn a_merge_of_two_areas_comes_to_its_end(rt: HostRuntime) -> Result<(), Fail> {
     for sector in 0..34u64 {
         sectors.push(sector)?;
     }
-    let mut merging = begun(&rt, rt.alloc(), 1, (&sectors, &[3, 34]), NEVER)?;
+    let size = ChunkSize { sectors: 1 };
+    let mut merging = begun(&rt, rt.alloc(), size, (&sectors, &[3, 34]), NEVER)?;
     merging.run(&rt, rt.alloc(), u64::MAX)?;
     Ok(())
 }
