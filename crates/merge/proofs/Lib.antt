@@ -3,3 +3,4 @@ pub mod Groups
 pub mod Looks
 pub mod Stages
 pub mod Steps
+pub mod Stops

@@ -8,6 +8,7 @@ ghost use Rattle.model.specs.Pairs.{IsInside};
 ghost use Rattle.pending.specs.Copies.{count_of};
 ghost use Rattle.store.specs.Held.{committed, pending};
 ghost use Rattle.store.specs.Operations.{IsOneOperation};
+ghost use Rattle.store.specs.Shown.{StopsUnder};
 ghost use Rattle.merge.specs.Due.{next_read_of, full_of, can_flush_of};
 ghost use Rattle.merge.specs.Lists.{waiting_of, changed, taken_in, written_in, flushed_in};
 ghost use Rattle.merge.specs.Merging.{books_of, due_of};
@@ -51,7 +52,8 @@ impl<B: Block> Merge<B> {
     }
 
     /// Writes the chunk in the buffer to its place on the origin disk, as many sectors as the origin has there. At `Io`
-    /// nothing changed but that disk's counts and layers.
+    /// nothing changed but that disk's counts and layers. The store is loaded again with its pairs, and over whatever a stop
+    /// within it leaves of the origin disk it shows the same array.
     pub fn write_chunk(&mut self, origin: &mut B) -> Result<(), Io>
         requires due { IsSome (full_of self.old.group) }
         requires sectors { B.size origin.old ≡ self.old.state.origin }
@@ -66,6 +68,7 @@ impl<B: Block> Merge<B> {
         ensures fields { OnOk result (self.new ≡ record self.old { group = changed written_in self.old.group }) }
         ensures step { (q : Pair) → full_of self.old.group ≡ Some q → OnOk result ((loud : Bool) → (loud ≡ true → is_loud (B.layers origin.old) ≡ true) → WritesBack q (due_of B.contents loud self.old) (due_of B.contents loud self.new) × WritesOrigin q (B.contents origin.old) (B.contents origin.new) (books_of B.contents loud self.old)) }
         ensures kept { OnErr result (self.new ≡ self.old) }
+        ensures stops { IsTrue (is_loud (B.layers self.old.device)) → StopsUnder self.old.state.chunk self.old.state.origin self.old.state.size self.old.pairs (B.contents self.old.device) (B.contents origin.old) (B.contents origin.new) }
     {
         let Some(pair) = self.full() else {
             unreachable!()

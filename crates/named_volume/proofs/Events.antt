@@ -1,15 +1,13 @@
 -- What a call did to the volume of events, as the volume with names shows it.
-use Rattle.std.proofs.Common.{◌≡◌, ◌≢◌, ℕ, true, false, List, refl, sym, ap, ◌∙◌, subst}
-use Rattle.std.specs.Prelude.{MatchResult, Result, Ok, Err, IfOk, IfErr, OnOk, OnErr, is_ok}
+use Rattle.std.proofs.Common.{◌≡◌, ℕ, List, refl, sym, ap, ◌∙◌, subst}
+use Rattle.std.specs.Prelude.{Result, Ok, Err, IfOk, IfErr, OnOk}
 use Rattle.sector.specs.declared.range.Range.{Range}
 use Rattle.sector.specs.declared.refusal.Refusal.{Refusal}
-use Rattle.chunk.specs.Pieces.{Span, span_of}
+use Rattle.chunk.specs.Pieces.{span_of}
 use Rattle.layers.specs.declared.stack.Stack.{Stack}
 use Rattle.layers.specs.Stack.{stack_contents, stack_layers, stack_size}
 use Rattle.plain.specs.declared.request.Dev.{Dev}
 use Rattle.plain.specs.declared.request.Op.{Op}
-use Rattle.plain.specs.declared.request.Request.{Request}
-use Rattle.volume.specs.Volumed.{Volumed}
 use Rattle.volume.specs.Leaving.{is_quiet_of}
 use Rattle.volume.specs.Submitting.{IsAcceptedAs, IsRefusedAs}
 use Rattle.plain.specs.declared.request.Replied.{Replied}
@@ -19,7 +17,7 @@ use Rattle.resting.specs.Among.{AreReadAmong, AreWrittenAmong, IsReadRefusedAmon
 use Rattle.named.specs.State.{Volume}
 use Rattle.named.specs.Sectors.{Asked}
 use Rattle.named_volume.specs.Held.{flying_in, settled_in}
-use Rattle.named_volume.specs.Flights.{IsBehind, InEvents, IsStarted, IsNotStarted, IsReadServed, IsWriteServed}
+use Rattle.named_volume.specs.Flights.{IsBehind, IsStarted, IsNotStarted, IsReadServed, IsWriteServed}
 
 -- the volume of events that stands behind
 pub behind : (before : Rested Stack) (volume : Volume) → IsWhole before → volume.state ≡ settled_in before → volume.quiet ≡ is_quiet_of before.events → volume.flying ≡ flying_in before.events → IsBehind before.events volume

@@ -1,6 +1,6 @@
 -- A request that is accepted is in flight.
 use Rattle.std.proofs.Common.{◌≡◌, ℕ, Bool, true, false, List, [], ◌∷◌, ◌++◌, length, map, refl, sym, ap, ◌∙◌, subst, arith}
-use Rattle.std.specs.Prelude.{Option, Some, None, Result, Ok, Err, IfOk, OnOk, ◌==◌, ◌/◌, ◌&&◌, if◌then◌else◌}
+use Rattle.std.specs.Prelude.{Option, Some, None, Result, Ok, Err, IfOk, OnOk, ◌==◌, ◌/◌, ◌&&◌, not, if◌then◌else◌}
 use Rattle.std.specs.List.{list_all}
 use Rattle.std.proofs.lemmas.List.{length-map}
 use Rattle.sector.specs.declared.refusal.Refusal.{Refusal}
@@ -16,7 +16,7 @@ use Rattle.event_machine.specs.Stepping.{for_some, first_that, spoil}
 use Rattle.event_machine.specs.Submitting.{is_filled, needs_none, accepted, declined, read_snap, write_held, write_placed, write_snap, submitted_as}
 use Rattle.volume.specs.Volumed.{Volumed}
 use Rattle.volume.specs.Moved.{moving_of}
-use Rattle.volume.specs.Leaving.{is_quiet_of, is_done_of}
+use Rattle.volume.specs.Leaving.{has_group_in, is_quiet_of, is_done_of}
 use Rattle.volume.specs.Submitting.{IsAcceptedAs}
 
 -- where nothing was answered, a request is in flight
@@ -69,7 +69,7 @@ accepted_flies {B} contents layers request number old new is =
     let h = subst IsFlown (is.exact None) (as_flown number request (kind_of request) (moving_of contents layers None old)) in
     let some : (length (map going_of new.flights) == 0) ≡ false = h.some refl in
     let none : (length new.flights == 0) ≡ false = ap (λ n. n == 0) (sym (length-map new.flights going_of)) ∙ some in
-    ap (λ b. b && list_all is_done_of new.snaps) none
+    ap (λ b. b && (not (has_group_in new.merge) && list_all is_done_of new.snaps)) none
 
 -- nor where a request was started
 pub start_flies : {B : Type 0} (contents : B → List ℕ) (layers : B → List Layer) (request : Request) (old new : Volumed B) (r : Result ℕ Refusal) → IfOk r (λ number. IsAcceptedAs contents layers request number old new) → OnOk r (is_quiet_of new ≡ false)

@@ -1,6 +1,6 @@
 -- A stack meets a volume, as the settled machine's attach says.
 use Rattle.std.proofs.Common.{◌≡◌, ◌⊎◌, ℕ, ◌+◌, Bool, true, false, List, [], ◌∷◌, ◌++◌, length, refl, sym, ap, ◌∙◌, inl, inr}
-use Rattle.std.specs.Prelude.{Some, None, ◌&&◌, if◌then◌else◌}
+use Rattle.std.specs.Prelude.{Some, None, is_some, ◌&&◌, if◌then◌else◌}
 use Rattle.sector.specs.declared.refusal.Refusal.{Refusal}
 use Rattle.sector.specs.declared.refusal.Refusal.TheVariants.{NoMemory, NotQuiet, Stale}
 use Rattle.device.specs.Layers.{is_loud}
@@ -31,27 +31,29 @@ pub unmet : (name : List ℕ) (chunk : ℕ) (stacked back : Stacked) (volume : V
 unfolding meet
 unmet name chunk stacked back volume refusal store exact is = rw exact (rw is (refl, refl))
 
--- A volume that is not quiet takes none.
-busy_is : (stale quiet : Bool) (count given chunk : ℕ) (e : Refusal) → quiet ≡ false → taking_refusal stale quiet count given chunk ≡ Some e → e ≡ (if stale then Stale else NotQuiet)
+-- A volume that is not quiet takes none; no merge is begun.
+busy_is : (stale quiet : Bool) (count given chunk : ℕ) (e : Refusal) → quiet ≡ false → taking_refusal stale false quiet count given chunk ≡ Some e → e ≡ (if stale then Stale else NotQuiet)
 busy_is true quiet count given chunk e busy is = cc
 busy_is false false count given chunk e busy is = cc
 busy_is false true count given chunk e busy is = absurd (cc)
 
-never_taken : (stale quiet : Bool) (count given chunk : ℕ) → quiet ≡ false → taking_refusal stale quiet count given chunk ≡ None → ⊥
+never_taken : (stale quiet : Bool) (count given chunk : ℕ) → quiet ≡ false → taking_refusal stale false quiet count given chunk ≡ None → ⊥
 never_taken true quiet count given chunk busy is = absurd (cc)
 never_taken false false count given chunk busy is = absurd (cc)
 never_taken false true count given chunk busy is = absurd (cc)
 
 -- and the stack comes back as it was
-pub busy_back : (chunk origin size : ℕ) (bytes : List ℕ) (names : List (List ℕ)) (device : Stack) (stale : Bool) (store : StoreDev Stack) (stacked back : Stacked) (v : Volumed Stack) (e : Refusal) → is_quiet_of v ≡ false → IsNotTaken stale chunk origin size bytes v e
+pub busy_back : (chunk origin size : ℕ) (bytes : List ℕ) (names : List (List ℕ)) (device : Stack) (stale : Bool) (store : StoreDev Stack) (stacked back : Stacked) (v : Volumed Stack) (e : Refusal) → v.merge ≡ None → is_quiet_of v ≡ false → IsNotTaken stale chunk origin size bytes v e
     → (attach_refusal stale chunk v ≡ Some e → store ≡ record { device = device; stale = stale })
     → stacked ≡ record { names = names; device = device_of device; stale = stale }
     → back ≡ record { names = names; device = device_of store.device; stale = store.stale }
     → ((e ≡ NoMemory) ⊎ (e ≡ (if stacked.stale then Stale else NotQuiet))) × (back ≡ stacked)
-busy_back chunk origin size bytes names device stale store stacked back v e busy why same is back_is = elim why [
-  | inl first ↦ (inr (rw is (busy_is stale (is_quiet_of v) (length v.snaps) v.attached chunk e busy first)), rw back_is (rw (same first) (rw is refl)))
-  | inr later ↦ absurd (never_taken stale (is_quiet_of v) (length v.snaps) v.attached chunk busy later.0)
-]
+busy_back chunk origin size bytes names device stale store stacked back v e alone busy why same is back_is =
+    let plain = ap (λ m. taking_refusal stale (is_some m) (is_quiet_of v) (length v.snaps) v.attached chunk) alone in
+    elim why [
+      | inl first ↦ (inr (rw is (busy_is stale (is_quiet_of v) (length v.snaps) v.attached chunk e busy (sym plain ∙ first))), rw back_is (rw (same first) (rw is refl)))
+      | inr later ↦ absurd (never_taken stale (is_quiet_of v) (length v.snaps) v.attached chunk busy (sym plain ∙ later.0))
+    ]
 
 -- some reads leave the layers of a stack
 all_read : (s : Stack) (ranges : List (ℕ × ℕ)) → layers_read (stack_layers s) ranges ≡ stack_layers s

@@ -1,6 +1,6 @@
 -- A volume whose devices' layers may have become others, and that drops writes as before: nothing that is in memory changed.
-use Rattle.std.proofs.Common.{◌≡◌, ℕ, suc, ◌*◌, ◌<◌, Bool, List, [], ◌∷◌, length, get_or, map, None, refl, sym, ◌∙◌, ap, subst, arith}
-use Rattle.std.specs.Prelude.{◌==◌, ◌&&◌}
+use Rattle.std.proofs.Common.{◌≡◌, ℕ, suc, ◌*◌, ◌<◌, Bool, List, [], ◌∷◌, length, get_or, map, Option, Some, None, refl, sym, ◌∙◌, ap, subst, arith}
+use Rattle.std.specs.Prelude.{◌==◌, ◌&&◌, not}
 use Rattle.std.specs.List.{All, list_all}
 use Rattle.std.proofs.lemmas.List.Elements.{All-nil, All-cons, All-head, All-tail}
 use Rattle.device.specs.Layers.{Layer, is_loud}
@@ -14,12 +14,15 @@ use Rattle.snapshot.specs.Kept.{Kept}
 use Rattle.volume.specs.Volumed.{Volumed, is_loud_in_all, is_loud_with}
 use Rattle.volume.specs.Moved.{held_of, moving_of}
 use Rattle.snapshots.specs.Numbers.{number_of_snap}
-use Rattle.volume.specs.Leaving.{is_done_of, is_quiet_of}
+use Rattle.merge.specs.Due.{has_group_of}
+use Rattle.merge.specs.Merging.{Merging}
+use Rattle.volume.specs.Leaving.{has_group_in, is_done_of, is_quiet_of}
 use Rattle.volume.specs.Stepping.{KeepsAll}
 use Rattle.volume.specs.Layering.{held_relayered, moving_relayered}
-use Rattle.volume.proofs.Relayered.{IsSnapAlike, IsVolumeAlike, map_at, merge_loud_alike, merge_sized_alike, merged_alike}
+use Rattle.volume.proofs.Relayered.{IsMergeAlike, IsSnapAlike, IsVolumeAlike, map_at, merge_loud_alike, merge_sized_alike, merged_alike}
 use Rattle.resting.specs.Rested.{rested_of, settled_of, IsSettled}
 use Rattle.resting.specs.Kept.{KeepsDevices}
+use Rattle.resting.proofs.Alone.{kept_alone, moving_alone, settled_alone}
 use Rattle.resting.proofs.Seen.{settled_same, devices_kept}
 use Rattle.volume.specs.Causes.{counts_with}
 
@@ -64,6 +67,12 @@ module _ {B : Type 0} (contents : B → List ℕ) (layers : B → List Layer) (s
       let rest = all_rest sectors xs ys (omega (arith, len)) (λ k d lt. each (suc k) d (omega (arith, lt))) (All-tail (IsResting sectors) (held_of contents layers x) (map (held_of contents layers) xs) all) in
       All-cons (IsResting sectors) (held_of contents layers y) (map (held_of contents layers) ys) here rest
 
+  group_alike : (x y : Option (Merging B)) → IsMergeAlike contents layers size x y → has_group_in y ≡ has_group_in x
+  group_alike None None h = refl
+  group_alike None (Some y) h = absurd h
+  group_alike (Some x) None h = absurd h
+  group_alike (Some x) (Some y) h = ap (λ (z : Merging B). has_group_of z.group) h.1
+
   module _ (v w : Volumed B) (h : IsVolumeAlike contents layers size v w) where
     kept_map : {X : Type 0} (f : Kept B → X) → ((s t : Kept B) → IsSnapAlike contents layers size s t → f t ≡ f s) → map f w.snaps ≡ map f v.snaps
     kept_map f same = map_at f f v.snaps w.snaps h.count (λ k d lt. same (get_or v.snaps k d) (get_or w.snaps k d) (h.snaps k d lt))
@@ -87,10 +96,14 @@ module _ {B : Type 0} (contents : B → List ℕ) (layers : B → List Layer) (s
     pub alike_kept : KeepsDevices layers size (rested_of v) (rested_of w)
     alike_kept = devices_kept size layers v w keeps_alike loud_alike
 
+    pub alike_alone : v.merge ≡ None → w.merge ≡ None
+    alike_alone = kept_alone size v w keeps_alike
+
     pub quiet_alike : is_quiet_of w ≡ is_quiet_of v
     quiet_alike =
-        ap (λ (fs : List _). (length fs == 0) && list_all is_done_of w.snaps) (ap (λ (x : Volumed B). x.flights) h.becomes)
-        ∙ ap (λ b. (length v.flights == 0) && b) (list_all_map is_done_of (λ b. b) w.snaps v.snaps (kept_map is_done_of (λ s t k. ap is_done_of k.same)))
+        ap (λ (fs : List _). (length fs == 0) && (not (has_group_in w.merge) && list_all is_done_of w.snaps)) (ap (λ (x : Volumed B). x.flights) h.becomes)
+        ∙ ap (λ b. (length v.flights == 0) && (not b && list_all is_done_of w.snaps)) (group_alike v.merge w.merge h.merge)
+        ∙ ap (λ b. (length v.flights == 0) && (not (has_group_in v.merge) && b)) (list_all_map is_done_of (λ b. b) w.snaps v.snaps (kept_map is_done_of (λ s t k. ap is_done_of k.same)))
 
     pub alike_settles : IsSettled contents layers size (rested_of v) → IsSettled contents layers size (rested_of w)
     alike_settles settled = record {
@@ -99,7 +112,7 @@ module _ {B : Type 0} (contents : B → List ℕ) (layers : B → List Layer) (s
         whole = ap length h.origin.bytes ∙ settled.rest.whole ∙ ap (λ n. 512 * n) (sym h.origin.sectors);
         snaps = subst (λ (n : ℕ). All (IsResting n) (map (held_of contents layers) w.snaps)) (sym h.origin.sectors) (all_rest (size v.origin) v.snaps w.snaps h.count h.snaps settled.rest.snaps);
         requests = ap (λ (x : Volumed B). map going_of x.flights) h.becomes ∙ settled.rest.requests;
-        alone = refl;
+        alone = moving_alone contents layers w (alike_alone (settled_alone contents layers size v settled)) None;
       };
     }
 

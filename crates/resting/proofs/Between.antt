@@ -18,6 +18,7 @@ use Rattle.resting.specs.Kept.{KeepsDevices}
 use Rattle.resting.specs.Between.{IsBetween}
 use Rattle.resting.specs.Serving.{CanServe}
 use Rattle.resting.proofs.Seen.{settled_same, loud_same, size_kept, length_kept}
+use Rattle.resting.proofs.Alone.{room_alone}
 use Rattle.resting.proofs.Refusing.{room_quiet}
 use Rattle.resting.proofs.Served.{served_rests, served_answer}
 
@@ -25,12 +26,12 @@ module _ {B : Type 0} (contents : B → List ℕ) (layers : B → List Layer) (s
   loud_in_all : (v : Volumed B) → IsSettled contents layers size (rested_of v) → is_loud_in_all layers v ≡ true
   loud_in_all v settled = sym (loud_same contents layers v) ∙ settled.loud
 
-  pub between_after : (old new : Volumed B) → IsBetween old → is_quiet_of new ≡ true → KeepsDevices layers size (rested_of old) (rested_of new) → IsBetween new
-  between_after old new between quiet kept = record { quiet = quiet; few = (let few = between.few in let same = length_kept size layers old new kept in omega (arith, few, same)) }
+  pub between_after : (old new : Volumed B) → IsBetween old → new.merge ≡ None → is_quiet_of new ≡ true → KeepsDevices layers size (rested_of old) (rested_of new) → IsBetween new
+  between_after old new between alone quiet kept = record { alone = alone; quiet = quiet; few = (let few = between.few in let same = length_kept size layers old new kept in omega (arith, few, same)) }
 
   -- memory was refused
   pub starved_between : (old new : Volumed B) → IsBetween old → SameButRoom old new → KeepsDevices layers size (rested_of old) (rested_of new) → IsBetween new
-  starved_between old new between room kept = between_after old new between (room_quiet old new room ∙ between.quiet) kept
+  starved_between old new between room kept = between_after old new between (room_alone old new room between.alone) (room_quiet old new room ∙ between.quiet) kept
 
   pub starved_settles : (old new : Volumed B) → moving_of contents layers None new ≡ moving_of contents layers None old → KeepsDevices layers size (rested_of old) (rested_of new)
       → IsSettled contents layers size (rested_of old) → IsSettled contents layers size (rested_of new)

@@ -1,6 +1,6 @@
 -- What callers ask of a volume between two commands, and how it is closed.
-use Rattle.std.proofs.Common.{◌≡◌, ◌⊎◌, inl, inr, ℕ, true, false, List, [], ◌∷◌, length, get_or, map, Option, Some, None, refl, sym, ◌∙◌, ap, arith}
-use Rattle.std.specs.Prelude.{◌==◌, ◌&&◌, if◌then◌else◌}
+use Rattle.std.proofs.Common.{◌≡◌, ◌⊎◌, inl, inr, ℕ, Bool, true, false, List, [], ◌∷◌, length, get_or, map, Option, Some, None, refl, sym, ◌∙◌, ap, arith}
+use Rattle.std.specs.Prelude.{◌==◌, ◌&&◌, not, is_some, if◌then◌else◌}
 use Rattle.std.specs.List.{list_all}
 use Rattle.std.proofs.lemmas.Bool.{cond-false}
 use Rattle.std.proofs.lemmas.List.Quantifiers.{position-Some}
@@ -10,7 +10,7 @@ use Rattle.pending.specs.declared.flights.Flight.{Flight}
 use Rattle.snapshot.specs.Kept.{Kept}
 use Rattle.volume.specs.Volumed.{Volumed}
 use Rattle.snapshots.specs.Finding.{place_of_snap}
-use Rattle.volume.specs.Leaving.{is_done_of, is_quiet_of, close_refusal}
+use Rattle.volume.specs.Leaving.{has_group_in, is_done_of, is_quiet_of, close_refusal}
 use Rattle.resting.specs.Rested.{attached_of, rested_of, snap_at}
 use Rattle.resting.proofs.Leaves.{at_place}
 
@@ -43,7 +43,7 @@ open_as v [] (f ∷ rest) refusal snaps flights e =
     let same : refusal ≡ NotQuiet = cc in
     let none : map attached_of v.snaps ≡ [] = ap (map attached_of) snaps in
     let busy : (length v.flights == 0) ≡ false = ap (λ (fs : List Flight). length fs == 0) flights ∙ some in
-    inr (same, none, ap (λ b. b && list_all is_done_of v.snaps) busy)
+    inr (same, none, ap (λ b. b && (not (has_group_in v.merge) && list_all is_done_of v.snaps)) busy)
 open_as v (s ∷ rest) flights' refusal snaps flights e =
     let some : (length (s ∷ rest) == 0) ≡ false = search (arith) in
     let got : Some Busy ≡ Some refusal = sym (cond-false _ _ _ some) ∙ e in
@@ -51,12 +51,25 @@ open_as v (s ∷ rest) flights' refusal snaps flights e =
     let there : map attached_of v.snaps ≡ attached_of s ∷ map attached_of rest = ap (map attached_of) snaps in
     inl (same, λ empty. (let two : attached_of s ∷ map attached_of rest ≡ [] = sym there ∙ empty in cc))
 
-pub closed : {B : Type 0} (v : Volumed B) → close_refusal v ≡ None → ((rested_of v).snaps ≡ []) × (is_quiet_of v ≡ true)
-unfolding refused_as
-closed v e =
-    let none = none_left v.snaps v.flights e in
-    (ap (map attached_of) none.0, ap (λ (fs : List Flight). (length fs == 0) && list_all is_done_of v.snaps) none.1 ∙ ap (list_all is_done_of) none.0)
+-- without a merge its snapshots and requests alone are why
+both_true : (b : Bool) → (b && true) ≡ b
+both_true true = refl
+both_true false = refl
 
-pub not_closed : {B : Type 0} (v : Volumed B) (refusal : Refusal) → close_refusal v ≡ Some refusal → WhyOpen v refusal
+alone_refused : {B : Type 0} (v : Volumed B) → v.merge ≡ None → close_refusal v ≡ refused_as v.snaps v.flights
 unfolding refused_as
-not_closed v refusal e = open_as v v.snaps v.flights refusal refl refl e
+alone_refused v alone =
+    ap (λ m. if (length v.snaps == 0) && not (is_some m) then (if length v.flights == 0 then None else Some NotQuiet) else Some Busy) alone
+    ∙ ap (λ b. if b then (if length v.flights == 0 then None else Some NotQuiet) else Some Busy) (both_true (length v.snaps == 0))
+
+pub closed : {B : Type 0} (v : Volumed B) → v.merge ≡ None → close_refusal v ≡ None → ((rested_of v).snaps ≡ []) × (is_quiet_of v ≡ true)
+closed v alone e =
+    let none = none_left v.snaps v.flights (sym (alone_refused v alone) ∙ e) in (
+      ap (map attached_of) none.0,
+      ap (λ (fs : List Flight). (length fs == 0) && (not (has_group_in v.merge) && list_all is_done_of v.snaps)) none.1
+          ∙ ap (λ m. not (has_group_in m) && list_all is_done_of v.snaps) alone
+          ∙ ap (list_all is_done_of) none.0,
+    )
+
+pub not_closed : {B : Type 0} (v : Volumed B) → v.merge ≡ None → (refusal : Refusal) → close_refusal v ≡ Some refusal → WhyOpen v refusal
+not_closed v alone refusal e = open_as v v.snaps v.flights refusal refl refl (sym (alone_refused v alone) ∙ e)

@@ -1,6 +1,6 @@
 -- A snapshot leaves.
 use Rattle.std.proofs.Common.{◌≡◌, ◌⊎◌, inl, inr, ℕ, zero, suc, ◌<◌, Bool, true, false, List, [], ◌∷◌, length, get_or, map, Option, Some, None, refl, sym, ◌∙◌, ap, subst, arith}
-use Rattle.std.specs.Prelude.{◌==◌, ◌&&◌}
+use Rattle.std.specs.Prelude.{◌==◌, ◌&&◌, not, if◌then◌else◌}
 use Rattle.std.specs.List.{All, list_all, remove}
 use Rattle.std.proofs.lemmas.Bool.{cases_Bool, cond-true, cond-false}
 use Rattle.std.proofs.lemmas.List.Quantifiers.{position-Some}
@@ -15,13 +15,15 @@ use Rattle.volume_laws.proofs.Lists.{All-remove, map-remove}
 use Rattle.volume.specs.Volumed.{Volumed, is_loud_in_all, is_loud_with}
 use Rattle.volume.specs.Moved.{device_of, held_of, moving_of}
 use Rattle.snapshots.specs.Finding.{place_of_snap}
-use Rattle.volume.specs.Leaving.{is_done_of, is_quiet_of, leaving_refusal, detach_refusal, IsWithout}
+use Rattle.volume.specs.Leaving.{has_group_in, is_done_of, is_quiet_of, leaving_refusal, detach_refusal, IsWithout}
+use Rattle.volume.specs.Submitting.{is_merging}
 use Rattle.resting.specs.Rested.{Attached, attached_of, rested_of, snap_of, IsSettled, has_dev, snap_at, without}
 use Rattle.resting.specs.Leaving.{IsDetachedAs}
 use Rattle.resting.proofs.Seen.{loud_same, dev_found, dev_missing}
 use Rattle.sector.specs.declared.refusal.Refusal.{Refusal}
-use Rattle.sector.specs.declared.refusal.Refusal.TheVariants.{NoSuchDevice, NotQuiet}
+use Rattle.sector.specs.declared.refusal.Refusal.TheVariants.{NoSuchDevice, NotQuiet, MergeInProgress}
 use Rattle.plain.specs.declared.request.Dev.TheVariants.{Snap as ToSnap}
+use Rattle.volume.proofs.Quieted.{quiet_done, quiet_flights, quiet_free}
 use Rattle.volume.proofs.Shown.{loud_others}
 
 module _ {B : Type 0} (number : ℕ) (d : Kept B) where
@@ -100,6 +102,10 @@ all_without test (x ∷ xs) (suc k) e = elim (cases_Bool (test x)) [
   | inr fails ↦ absurd (let both : false ≡ true = sym (ap (λ b. b && list_all test xs) fails) ∙ e in cc)
 ]
 
+-- without a merge, only for its place's sake, or the volume's
+alone_leaving : {B : Type 0} (number : ℕ) (v : Volumed B) → v.merge ≡ None → detach_refusal number v ≡ leaving_refusal (place_of_snap number v.snaps) (is_quiet_of v)
+alone_leaving number v alone = ap (λ m. if is_merging number m then Some MergeInProgress else leaving_refusal (place_of_snap number v.snaps) (is_quiet_of v)) alone
+
 -- a snapshot leaves a quiet volume alone
 quiet_left : (o : Option ℕ) (quiet : Bool) → leaving_refusal o quiet ≡ None → quiet ≡ true
 quiet_left None quiet e = absurd (cc)
@@ -108,13 +114,18 @@ quiet_left (Some k) false e = absurd (cc)
 
 module _ {B : Type 0} (number : ℕ) (old new : Volumed B) (store : StoreDev B) (out : IsWithout number old new store) where
   -- the volume was quiet, and is
-  pub left_quiet : detach_refusal number old ≡ None → (is_quiet_of old ≡ true) × (is_quiet_of new ≡ true)
-  left_quiet admitted =
-      let was = quiet_left (place_of_snap number old.snaps) (is_quiet_of old) admitted in (
+  pub left_alone : old.merge ≡ None → new.merge ≡ None
+  left_alone alone = ap (λ (v : Volumed B). v.merge) out.becomes ∙ alone
+
+  pub left_quiet : old.merge ≡ None → detach_refusal number old ≡ None → (is_quiet_of old ≡ true) × (is_quiet_of new ≡ true)
+  left_quiet alone admitted =
+      let was = quiet_left (place_of_snap number old.snaps) (is_quiet_of old) (sym (alone_leaving number old alone) ∙ admitted) in
+      let others : List (Kept B) = remove old.snaps out.place in (
         was,
         ap (λ (v : Volumed B). is_quiet_of v) out.becomes
-            ∙ ap (λ b. b && list_all is_done_of (remove old.snaps out.place)) (and_first (length old.flights == 0) (list_all is_done_of old.snaps) was)
-            ∙ all_without is_done_of old.snaps out.place (and_second (length old.flights == 0) (list_all is_done_of old.snaps) was),
+            ∙ ap (λ fs. (length fs == 0) && (not (has_group_in old.merge) && list_all is_done_of others)) (quiet_flights old was)
+            ∙ ap (λ b. not b && list_all is_done_of others) (quiet_free old was)
+            ∙ all_without is_done_of old.snaps out.place (quiet_done old was),
       )
 
   -- what is left of a settled volume is settled
@@ -132,7 +143,7 @@ module _ {B : Type 0} (number : ℕ) (old new : Volumed B) (store : StoreDev B) 
           whole = settled.rest.whole;
           snaps = subst (All (IsResting (size old.origin))) (sym (map-remove (held_of contents layers) old.snaps out.place)) (All-remove (IsResting (size old.origin)) held out.place settled.rest.snaps);
           requests = settled.rest.requests;
-          alone = refl;
+          alone = settled.rest.alone;
         });
       }
 
@@ -146,5 +157,5 @@ refused_at number v None quiet refusal none e = (let same : refusal ≡ NoSuchDe
 refused_at number v (Some k) true refusal at e = absurd (cc)
 refused_at number v (Some k) false refusal at e = (let same : refusal ≡ NotQuiet = cc in (inr (same, refl), λ other. dev_found number k v at))
 
-pub not_left : {B : Type 0} (number : ℕ) (v : Volumed B) (refusal : Refusal) → detach_refusal number v ≡ Some refusal → WhyNone number v (is_quiet_of v) refusal × (refusal ≡ NotQuiet → has_dev (ToSnap number) (rested_of v) ≡ true)
-not_left number v refusal e = refused_at number v (place_of_snap number v.snaps) (is_quiet_of v) refusal refl e
+pub not_left : {B : Type 0} (number : ℕ) (v : Volumed B) → v.merge ≡ None → (refusal : Refusal) → detach_refusal number v ≡ Some refusal → WhyNone number v (is_quiet_of v) refusal × (refusal ≡ NotQuiet → has_dev (ToSnap number) (rested_of v) ≡ true)
+not_left number v alone refusal e = refused_at number v (place_of_snap number v.snaps) (is_quiet_of v) refusal refl (sym (alone_leaving number v alone) ∙ e)

@@ -1,6 +1,7 @@
 pub mod Settled
 pub mod Quiet
 pub mod WriteRuns
+pub mod Alone
 pub mod Seen
 pub mod Limits
 pub mod Served

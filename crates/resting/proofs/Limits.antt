@@ -16,13 +16,13 @@ use Rattle.pending.specs.declared.flights.Kind.{Kind}
 use Rattle.pending.specs.declared.flights.Kind.TheVariants.{OriginRead, OriginWrite, SnapRead, SnapWrite}
 use Rattle.chunk.proofs.PiecePlaces.{piece_high}
 use Rattle.snapshot.specs.Kept.{Kept}
-use Rattle.volume.specs.Volumed.{Volumed, piece_of}
+use Rattle.volume.specs.Volumed.{Volumed, piece_of, piece_with}
 use Rattle.snapshots.specs.Numbers.{count_in, numbers_in}
 use Rattle.snapshots.specs.Finding.{place_of_snap}
 use Rattle.volume.specs.Leaving.{is_done_of, is_quiet_of}
 use Rattle.snapshots.specs.Starting.{starts}
 use Rattle.volume.specs.Submitting.{first_of_two, refusal_at, dev_refusal, range_refusal, limit_refusal, is_piece_of, are_too_many, starting, submit_refusal}
-use Rattle.volume.proofs.Leaves.{quiet_none}
+use Rattle.volume.proofs.Quieted.{quiet_done, quiet_flights}
 use Rattle.volume.proofs.Sums.{sum_cons}
 use Rattle.resting.specs.Rested.{rested_of, has_dev}
 use Rattle.resting.specs.Serving.{CanServe}
@@ -65,7 +65,7 @@ counts_none (s ∷ snaps) e =
     let rest = counts_none snaps (and_second (is_done_of s) (list_all is_done_of snaps) e) in
     omega (arith, sum_cons count_in s snaps, here, rest)
 
-starting_few : {B : Type 0} (kind : Kind) (first : ℕ) (snaps : List (Kept B)) → starting kind first snaps ≤ length snaps
+starting_few : {B : Type 0} (kind : Kind) (first : ℕ) (snaps : List (Kept B)) → starting kind first None snaps ≤ length snaps
 starting_few OriginRead first snaps = omega arith
 starting_few OriginWrite first snaps = count_by-le-length (starts first) snaps
 starting_few (SnapRead number) first snaps = omega arith
@@ -81,7 +81,7 @@ refused_at dev v (Some k) refusal there e = elim (cases_Bool (slice_index_or (Ra
   | inr dead ↦ (let some : Some Invalid ≡ Some refusal = rw dead at e in cc)
 ]
 
-dev_refused : {B : Type 0} (dev : Dev) (v : Volumed B) (refusal : Refusal) → has_dev dev (rested_of v) ≡ true → dev_refusal dev v.snaps ≡ Some refusal → refusal ≡ Invalid
+dev_refused : {B : Type 0} (dev : Dev) (v : Volumed B) (refusal : Refusal) → has_dev dev (rested_of v) ≡ true → dev_refusal dev None v.snaps ≡ Some refusal → refusal ≡ Invalid
 dev_refused Origin v refusal there e = absurd (cc)
 dev_refused (ToSnap n) v refusal there e = refused_at (ToSnap n) v (place_of_snap n v.snaps) refusal (λ none. true≢false (sym there ∙ dev_missing n v none)) e
 
@@ -89,7 +89,7 @@ first_only : (a b : Option Refusal) (refusal : Refusal) → b ≡ None → first
 first_only None b refusal none e = absurd (let both : None ≡ Some refusal = sym none ∙ e in cc)
 first_only (Some other) b refusal none e = e
 
-module _ {B : Type 0} (size : B → ℕ) (request : Request) (v : Volumed B) (can : CanServe size request.dev request.op request.range v) (quiet : is_quiet_of v ≡ true) (few : length v.snaps ≤ 8) where
+module _ {B : Type 0} (size : B → ℕ) (request : Request) (v : Volumed B) (can : CanServe size request.dev request.op request.range v) (alone : v.merge ≡ None) (quiet : is_quiet_of v ≡ true) (few : length v.snaps ≤ 8) where
   range_none : range_refusal (piece_of v.snaps) (size v.origin) request.range ≡ None
   range_none =
       let whole : request.range.first / piece_of v.snaps * piece_of v.snaps + request.range.first % piece_of v.snaps ≡ request.range.first = div-add-mod' request.range.first (piece_of v.snaps) in
@@ -101,11 +101,11 @@ module _ {B : Type 0} (size : B → ℕ) (request : Request) (v : Volumed B) (ca
       ∙ le-true (request.range.first % piece_of v.snaps + request.range.count) (piece_of v.snaps) within in
       rw fits refl
 
-  limit_none : limit_refusal (starting (kind_of request) request.range.first v.snaps) v ≡ None
+  limit_none : limit_refusal (starting (kind_of request) request.range.first None v.snaps) v ≡ None
   limit_none =
-      let new : ℕ = starting (kind_of request) request.range.first v.snaps in
-      let flights : length v.flights ≡ 0 = ap length (quiet_none v quiet) in
-      let counts : sum_by count_in v.snaps ≡ 0 = counts_none v.snaps (and_second (nat_eq (length v.flights) 0) (list_all is_done_of v.snaps) quiet) in
+      let new : ℕ = starting (kind_of request) request.range.first None v.snaps in
+      let flights : length v.flights ≡ 0 = ap length (quiet_flights v quiet) in
+      let counts : sum_by count_in v.snaps ≡ 0 = counts_none v.snaps (quiet_done v quiet) in
       let started : new ≤ length v.snaps = starting_few (kind_of request) request.range.first v.snaps in
       let a : nat_le 64 (length v.flights) ≡ false = le-false 64 (length v.flights) (omega (arith, flights)) in
       let b : nat_le 18_446_744_073_709_551_615 v.requests ≡ false = le-false 18_446_744_073_709_551_615 v.requests (omega (arith, can.requests)) in
@@ -116,5 +116,6 @@ module _ {B : Type 0} (size : B → ℕ) (request : Request) (v : Volumed B) (ca
   -- its snapshot is spoiled
   pub only_invalid : (refusal : Refusal) → submit_refusal size request v ≡ Some refusal → refusal ≡ Invalid
   only_invalid refusal e =
-      let later : first_of_two (range_refusal (piece_of v.snaps) (size v.origin) request.range) (limit_refusal (starting (kind_of request) request.range.first v.snaps) v) ≡ None = rw range_none limit_none in
-      dev_refused request.dev v refusal can.there (first_only (dev_refusal request.dev v.snaps) _ refusal later e)
+      let later : first_of_two (range_refusal (piece_of v.snaps) (size v.origin) request.range) (limit_refusal (starting (kind_of request) request.range.first None v.snaps) v) ≡ None = rw range_none limit_none in
+      let plain = ap (λ m. first_of_two (dev_refusal request.dev m v.snaps) (first_of_two (range_refusal (piece_with m v.snaps) (size v.origin) request.range) (limit_refusal (starting (kind_of request) request.range.first m v.snaps) v))) alone in
+      dev_refused request.dev v refusal can.there (first_only (dev_refusal request.dev None v.snaps) _ refusal later (sym plain ∙ e))

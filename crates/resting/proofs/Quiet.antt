@@ -1,5 +1,5 @@
 -- A volume of which nothing is left to do.
-use Rattle.std.proofs.Common.{◌≡◌, ℕ, true, false, List, [], ◌∷◌, length, map, refl, ap, ◌∙◌}
+use Rattle.std.proofs.Common.{◌≡◌, ℕ, true, false, List, [], ◌∷◌, length, map, None, refl, ap, ◌∙◌}
 use Rattle.std.specs.Prelude.{◌==◌, ◌&&◌, not}
 use Rattle.std.specs.List.{All, list_all}
 use Rattle.std.proofs.lemmas.List.Elements.{All-head, All-tail}
@@ -12,8 +12,9 @@ use Rattle.event_machine.specs.Seen.{copying_of, going_of}
 use Rattle.snapshot.specs.Kept.{Kept, books_of as snap_books}
 use Rattle.volume.specs.Volumed.{Volumed, books_of}
 use Rattle.volume.specs.Moved.{held_of}
-use Rattle.volume.specs.Leaving.{is_done_of, is_quiet_of}
+use Rattle.volume.specs.Leaving.{has_group_in, is_done_of, is_quiet_of}
 use Rattle.resting.specs.Rested.{rested_of, IsSettled}
+use Rattle.resting.proofs.Alone.{settled_alone}
 
 is_none : {X : Type 0} (xs : List X) → xs ≡ [] → (length xs == 0) ≡ true
 is_none xs e = ap (λ ys. length ys == 0) e
@@ -31,8 +32,14 @@ module _ {B : Type 0} (contents : B → List ℕ) (layers : B → List Layer) (s
       ap (λ b. b && list_all is_done_of snaps) (done_is s (All-head IsDone (snap_books contents layers s) (map (snap_books contents layers) snaps) all))
       ∙ all_done snaps (All-tail IsDone (snap_books contents layers s) (map (snap_books contents layers) snaps) all)
 
-  pub quiet_is : (v : Volumed B) → IsQuiet (books_of contents layers size v) → is_quiet_of v ≡ true
-  quiet_is v quiet = ap (λ b. b && list_all is_done_of v.snaps) (is_none v.flights quiet.requests) ∙ all_done v.snaps quiet.snaps
+  -- without a merge a volume with nothing in flight is quiet where its snapshots are done
+  none_flies : (v : Volumed B) → v.merge ≡ None → v.flights ≡ [] → list_all is_done_of v.snaps ≡ true → is_quiet_of v ≡ true
+  none_flies v alone flights done =
+      ap (λ b. b && (not (has_group_in v.merge) && list_all is_done_of v.snaps)) (is_none v.flights flights)
+      ∙ ap (λ m. not (has_group_in m) && list_all is_done_of v.snaps) alone ∙ done
+
+  pub quiet_is : (v : Volumed B) → v.merge ≡ None → IsQuiet (books_of contents layers size v) → is_quiet_of v ≡ true
+  quiet_is v alone quiet = none_flies v alone quiet.requests (all_done v.snaps quiet.snaps)
 
   copies_none : (ps : List ChunkCopy) → map copying_of ps ≡ [] → ps ≡ []
   copies_none [] e = refl
@@ -51,4 +58,4 @@ module _ {B : Type 0} (contents : B → List ℕ) (layers : B → List Layer) (s
 
   -- a settled volume is quiet
   pub settled_quiet : (v : Volumed B) → IsSettled contents layers size (rested_of v) → is_quiet_of v ≡ true
-  settled_quiet v settled = ap (λ b. b && list_all is_done_of v.snaps) (is_none v.flights (flights_none v.flights settled.rest.requests)) ∙ all_rested (size v.origin) v.snaps settled.rest.snaps
+  settled_quiet v settled = none_flies v (settled_alone contents layers size v settled) (flights_none v.flights settled.rest.requests) (all_rested (size v.origin) v.snaps settled.rest.snaps)

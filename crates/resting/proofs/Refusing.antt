@@ -1,6 +1,6 @@
 -- A request that was not accepted.
-use Rattle.std.proofs.Common.{◌≡◌, ◌≢◌, inl, inr, ℕ, Bool, ◌+◌, ◌≤◌, true, List, [], ◌∷◌, length, map, refl, sym, ◌∙◌, ap, arith}
-use Rattle.std.specs.Prelude.{◌&&◌}
+use Rattle.std.proofs.Common.{◌≡◌, ◌≢◌, inl, inr, ℕ, Bool, ◌+◌, ◌≤◌, true, List, [], ◌∷◌, length, map, None, refl, sym, ◌∙◌, ap, arith}
+use Rattle.std.specs.Prelude.{◌&&◌, not}
 use Rattle.std.specs.List.{list_all}
 use Rattle.sector.specs.declared.refusal.Refusal.{Refusal}
 use Rattle.sector.specs.declared.refusal.Refusal.TheVariants.{NoMemory, Invalid}
@@ -8,7 +8,7 @@ use Rattle.device.specs.Layers.{Layer, is_loud}
 use Rattle.plain.specs.declared.request.Request.{Request}
 use Rattle.snapshot.specs.Kept.{Kept}
 use Rattle.volume.specs.Volumed.{Volumed, is_loud_in_all, is_loud_with}
-use Rattle.volume.specs.Leaving.{is_done_of, is_quiet_of}
+use Rattle.volume.specs.Leaving.{has_group_in, is_done_of, is_quiet_of}
 use Rattle.snapshots.specs.Starting.{unroomed}
 use Rattle.volume.specs.Submitting.{SameButRoom, IsRefusedAs}
 use Rattle.resting.specs.Serving.{CanServe}
@@ -27,7 +27,7 @@ all_roomed test xs ys e same = sym (all_unroomed test xs same) ∙ ap (list_all 
 -- where nothing but room was made, the volume is as quiet and as loud
 pub room_quiet : {B : Type 0} (old new : Volumed B) → SameButRoom old new → is_quiet_of new ≡ is_quiet_of old
 room_quiet {B} old new same =
-    ap (λ (v : Volumed B). is_quiet_of v) same.becomes ∙ ap (λ b. Rattle.std.specs.Prelude.◌==◌ (length old.flights) 0 && b) (all_roomed is_done_of new.snaps old.snaps same.roomed (λ s. refl))
+    ap (λ (v : Volumed B). is_quiet_of v) same.becomes ∙ ap (λ b. Rattle.std.specs.Prelude.◌==◌ (length old.flights) 0 && (not (has_group_in old.merge) && b)) (all_roomed is_done_of new.snaps old.snaps same.roomed (λ s. refl))
 
 pub room_loud : {B : Type 0} (layers : B → List Layer) (old new : Volumed B) → SameButRoom old new → is_loud_in_all layers new ≡ is_loud_in_all layers old
 room_loud {B} layers old new same =
@@ -35,9 +35,9 @@ room_loud {B} layers old new same =
 
 module _ {B : Type 0} (contents : B → List ℕ) (layers : B → List Layer) (size : B → ℕ) (request : Request) (refusal : Refusal) (old new : Volumed B) (refused : IsRefusedAs contents layers size request refusal old new) where
   -- refused for another reason than its snapshot: memory
-  pub starved_only : CanServe size request.dev request.op request.range old → is_quiet_of old ≡ true → length old.snaps ≤ 8 → refusal ≢ Invalid → (refusal ≡ NoMemory) × SameButRoom old new
-  starved_only can quiet few other = elim refused [
-    | inl first ↦ absurd (other (only_invalid size request old can quiet few refusal first.0))
+  pub starved_only : CanServe size request.dev request.op request.range old → old.merge ≡ None → is_quiet_of old ≡ true → length old.snaps ≤ 8 → refusal ≢ Invalid → (refusal ≡ NoMemory) × SameButRoom old new
+  starved_only can alone quiet few other = elim refused [
+    | inl first ↦ absurd (other (only_invalid size request old can alone quiet few refusal first.0))
     | inr later ↦ elim later [
       | inl starved ↦ (starved.1, starved.2)
       | inr full ↦ absurd (other full.1)

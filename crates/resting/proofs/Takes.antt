@@ -1,6 +1,6 @@
 -- A snapshot is taken.
 use Rattle.std.proofs.Common.{◌≡◌, ℕ, Bool, true, false, List, [], ◌∷◌, ◌++◌, length, map, None, refl, sym, ◌∙◌, ap, subst}
-use Rattle.std.specs.Prelude.{◌==◌, ◌&&◌}
+use Rattle.std.specs.Prelude.{◌==◌, ◌&&◌, not, is_some}
 use Rattle.std.specs.List.{list_all}
 use Rattle.sector.specs.declared.refusal.Refusal.{Refusal}
 use Rattle.device.specs.Layers.{Layer, is_loud}
@@ -10,7 +10,7 @@ use Rattle.event_machine.specs.Rest.{IsAtRest}
 use Rattle.snapshot.specs.declared.opening.StoreDev.{StoreDev}
 use Rattle.volume.specs.Volumed.{Volumed, is_loud_in_all}
 use Rattle.volume.specs.Moved.{moving_of}
-use Rattle.volume.specs.Leaving.{is_done_of, is_quiet_of}
+use Rattle.volume.specs.Leaving.{has_group_in, is_done_of, is_quiet_of}
 use Rattle.volume.specs.Taking.{taking_refusal, attach_refusal}
 use Rattle.resting.specs.Rested.{attached_of, rested_of, settled_of, IsSettled}
 use Rattle.resting.specs.Taking.{IsTakenAs}
@@ -42,10 +42,11 @@ and_second true b e = e
 and_second false b e = absurd (cc)
 
 -- quiet before
-quiet_before : (stale quiet : Bool) (count attached chunk : ℕ) → taking_refusal stale quiet count attached chunk ≡ None → quiet ≡ true
-quiet_before true quiet count attached chunk e = absurd (cc)
-quiet_before false false count attached chunk e = absurd (cc)
-quiet_before false true count attached chunk e = refl
+quiet_before : (stale begun quiet : Bool) (count attached chunk : ℕ) → taking_refusal stale begun quiet count attached chunk ≡ None → quiet ≡ true
+quiet_before true begun quiet count attached chunk e = absurd (cc)
+quiet_before false true quiet count attached chunk e = absurd (cc)
+quiet_before false false false count attached chunk e = absurd (cc)
+quiet_before false false true count attached chunk e = refl
 
 module _ {B : Type 0} (contents : B → List ℕ) (layers : B → List Layer) (size : B → ℕ) (number chunk : ℕ) (store : StoreDev B) (old new : Volumed B) (gained : IsGained layers size number store old new) where
   done_snap : is_done_of gained.snap ≡ true
@@ -54,14 +55,17 @@ module _ {B : Type 0} (contents : B → List ℕ) (layers : B → List Layer) (s
   -- the volume was quiet, and is
   pub taken_quiet : attach_refusal store.stale chunk old ≡ None → (is_quiet_of old ≡ true) × (is_quiet_of new ≡ true)
   taken_quiet admitted =
-      let was = quiet_before store.stale (is_quiet_of old) (length old.snaps) old.attached chunk admitted in
+      let was = quiet_before store.stale (is_some old.merge) (is_quiet_of old) (length old.snaps) old.attached chunk admitted in
       let done : list_all is_done_of (old.snaps ++ gained.snap ∷ []) ≡ list_all is_done_of old.snaps =
       all_one_more is_done_of old.snaps gained.snap ∙ ap (λ b. list_all is_done_of old.snaps && b) done_snap ∙ and_true (list_all is_done_of old.snaps) in
-      (was, ap (λ (v : Volumed B). is_quiet_of v) gained.becomes ∙ ap (λ b. (length old.flights == 0) && b) done ∙ was)
+      (was, ap (λ (v : Volumed B). is_quiet_of v) gained.becomes ∙ ap (λ b. (length old.flights == 0) && (not (has_group_in old.merge) && b)) done ∙ was)
     where
       and_true : (a : Bool) → (a && true) ≡ a
       and_true true = refl
       and_true false = refl
+
+  pub taken_alone : old.merge ≡ None → new.merge ≡ None
+  taken_alone alone = ap (λ (v : Volumed B). v.merge) gained.becomes ∙ alone
 
   pub taken_as : IsTakenAs layers size number store (rested_of old) (rested_of new)
   taken_as = record {

@@ -19,7 +19,7 @@ use Rattle.volume.specs.Layering.{Measures}
 use Rattle.volume.specs.Moved.{device_of, moving_of}
 use Rattle.volume.specs.Telling.{layers_left, layers_told, IsTold, IsNotTold}
 use Rattle.snapshots.proofs.Finds.{position_within}
-use Rattle.volume.proofs.Told.{snap_told, untold_moving}
+use Rattle.volume.proofs.Told.{relayered_there, snap_told, untold_moving}
 use Rattle.resting.specs.Rested.{Attached, attached_of, rested_of, snap_of, settled_of}
 use Rattle.resting.specs.Telling.{place_relayered, IsOriginTold, IsStoreTold, IsTellRefused}
 use Rattle.resting.proofs.Seen.{settled_same}
@@ -85,18 +85,19 @@ module _ {B : Type 0} (m : Measures B) (layers : B → List Layer) (depth : ℕ)
 
     pub store_told : (a : Answer) → IsTold m layers (ToSnap n) depth message a v w → IsStoreTold m.contents layers k depth message a (rested_of v) (rested_of w)
     store_told a h =
-        let s : Kept B = h.device.snap in
-        let two : Some h.device.place ≡ Some k = sym h.device.found ∙ found in
-        let same : h.device.place ≡ k = cc in
-        let at : s ≡ get_or v.snaps k s = h.device.is ∙ ap (λ i. get_or v.snaps i s) same in
+        let there = relayered_there m layers (layers_told depth message) n k v w found h.device in
+        let s : Kept B = there.snap in
+        let two : Some there.place ≡ Some k = sym there.found ∙ found in
+        let same : there.place ≡ k = cc in
+        let at : s ≡ get_or v.snaps k s = there.is ∙ ap (λ i. get_or v.snaps i s) same in
         let after : List Layer = layers_told depth message (layers s.device) in
-        let t : Kept B = record s { device = h.device.device } in
+        let t : Kept B = record s { device = there.device } in
         let f : Snap → Snap = store_relayered (λ ls. after) in
         let turned : snap_of m.contents layers (attached_of t) ≡ f (snap_of m.contents layers (attached_of s)) =
-        ap (λ (d : Device). (let x : Snap = record (snap_of m.contents layers (attached_of s)) { store = d } in x)) (told_device s.device h.device.device h.device.relayered_is.rest.contents_are h.device.relayered_is.layers_are) in
+        ap (λ (d : Device). (let x : Snap = record (snap_of m.contents layers (attached_of s)) { store = d } in x)) (told_device s.device there.device there.relayered_is.rest.contents_are there.relayered_is.layers_are) in
         let told_here : told (layers s.device) depth message ≡ Answered a after =
         answered (layers s.device) (told (layers s.device) depth message) a (ap answer_of (sym (snap_told m.contents layers n k depth message s v at found)) ∙ h.answer_is) in
-        let becomes : w ≡ record v { snaps = set v.snaps k t } = h.device.becomes ∙ ap (λ i. (let x : Volumed B = record v { snaps = set v.snaps i t } in x)) same in
+        let becomes : w ≡ record v { snaps = set v.snaps k t } = there.becomes ∙ ap (λ i. (let x : Volumed B = record v { snaps = set v.snaps i t } in x)) same in
         record {
           after = after;
           told_is = λ d. subst (λ (x : Attached B). told (layers x.store) depth message ≡ Answered a after) (sym (seen s at d)) told_here;

@@ -1,5 +1,5 @@
 // One request of a command, among requests in flight: it is submitted, and then all that is due is done.
-ghost use Rattle.std.specs.Prelude.{◌≡◌, ◌⊎◌, ◌+◌, ◌*◌, ◌≤◌, ℕ, List, length, IfOk, IfErr, true, false};
+ghost use Rattle.std.specs.Prelude.{◌≡◌, ◌⊎◌, ◌+◌, ◌*◌, ◌≤◌, ℕ, List, length, IfOk, IfErr, true, false, None};
 ghost use Rattle.sector.specs.declared.refusal.Refusal.TheVariants.{Invalid, NoMemory};
 ghost use Rattle.plain.specs.declared.request.Op.TheVariants.{Write};
 ghost use Rattle.resting.specs.Rested.{rested_of};
@@ -20,6 +20,7 @@ use volume::Volume;
 
 /// Whether a request's device is a snapshot that is live.
 fn is_live<B: Block>(volume: &Volume<B>, dev: Dev) -> bool
+    requires alone { volume.now.merge ≡ None }
     ensures { result ≡ is_live_dev dev (rested_of volume.now) }
 {
     match dev {
@@ -35,6 +36,8 @@ fn is_live<B: Block>(volume: &Volume<B>, dev: Dev) -> bool
 /// What follows a request that is answered `Invalid` at once: where its snapshot was live it is spoiled by that, and all that
 /// is due then is done. Tells the refusal, which is `NoMemory` where room for a reply is refused.
 fn follow<B: Block>(volume: &mut Volume<B>, live: bool, ended: &mut Vec<Replied>) -> Refusal
+    requires alone { volume.old.merge ≡ None }
+    ensures alone { volume.new.merge ≡ None }
     ensures why { (result ≡ Invalid) ⊎ (result ≡ NoMemory) }
     ensures drained { IsDrained B.contents B.layers volume.old volume.new ended.old.items ended.new.items }
     ensures dead { live ≡ false → (volume.new ≡ volume.old) × (ended.new.items ≡ ended.old.items) }
@@ -61,7 +64,9 @@ pub(crate) fn serve_among<B: Block>(
     request: Request,
     ended: &mut Vec<Replied>,
 ) -> Result<Reply, Refusal>
+    requires alone { volume.old.merge ≡ None }
     requires bytes { (bytes : List ℕ) → request.op ≡ Write bytes → length bytes ≡ 512 * request.range.count }
+    ensures alone { volume.new.merge ≡ None }
     ensures served { IfOk result (λ reply. IsServedAmong B.contents B.layers request reply volume.old volume.new ended.old.items ended.new.items) }
     ensures refused { IfErr result (λ refusal. IsRefusedAmong B.contents B.layers B.size request refusal volume.old volume.new ended.old.items ended.new.items) }
     ensures kept { KeepsDevices B.layers B.size (rested_of volume.old) (rested_of volume.new) }

@@ -1,6 +1,6 @@
 // A command of a volume with requests in flight, cut into pieces: each is served before the next, and the first that is not
 // done ends it.
-ghost use Rattle.std.specs.Prelude.{◌≡◌, ◌⊎◌, ℕ, ◌+◌, ◌*◌, ◌≤◌, ◌<◌, ◌++◌, [], take, length, vec_capacity, vec_len, IfOk, IfErr, OnOk, true, false};
+ghost use Rattle.std.specs.Prelude.{◌≡◌, ◌⊎◌, ℕ, ◌+◌, ◌*◌, ◌≤◌, ◌<◌, ◌++◌, [], take, length, vec_capacity, vec_len, IfOk, IfErr, OnOk, true, false, None};
 ghost use Rattle.plain.specs.declared.request.Reply.{Reply as AnyReply};
 ghost use Rattle.plain.specs.declared.request.Op.TheVariants.{Read, Write};
 ghost use Rattle.chunk.specs.Pieces.{span_of, pieces_of};
@@ -30,7 +30,9 @@ fn write_piece_among<B: Block>(
     bytes: &[u8],
     ended: &mut Vec<Replied>,
 ) -> Result<(), Refusal>
+    requires alone { volume.old.merge ≡ None }
     requires room { length bytes.now ≡ 512 * piece.count }
+    ensures alone { volume.new.merge ≡ None }
     ensures written { OnOk result ((reply : AnyReply) × IsPieceServed B.contents B.layers dev (Write bytes.now) (span_of piece) reply volume.old volume.new ended.old.items ended.new.items) }
     ensures failed { IfErr result (λ refusal. IsPieceFailed B.contents B.layers B.size dev (Write bytes.now) (span_of piece) refusal volume.old volume.new ended.old.items ended.new.items) }
     ensures kept { KeepsDevices B.layers B.size (rested_of volume.old) (rested_of volume.new) }
@@ -62,7 +64,9 @@ fn read_piece_among<B: Block>(
     out: &mut Vec<u8>,
     ended: &mut Vec<Replied>,
 ) -> Result<(), Refusal>
+    requires alone { volume.old.merge ≡ None }
     requires room { vec_len out.old + 512 * piece.count ≤ vec_capacity out.old }
+    ensures alone { volume.new.merge ≡ None }
     ensures read { OnOk result ((reply : AnyReply) × IsPieceServed B.contents B.layers dev Read (span_of piece) reply volume.old volume.new ended.old.items ended.new.items × (out.new.items ≡ out.old.items ++ take (512 * piece.count) (bytes_in reply))) }
     ensures failed { IfErr result (λ refusal. IsPieceFailed B.contents B.layers B.size dev Read (span_of piece) refusal volume.old volume.new ended.old.items ended.new.items) }
     ensures len { vec_len out.new ≤ vec_len out.old + 512 * piece.count }
@@ -100,7 +104,9 @@ fn write_pieces_among<B: Block>(
     bytes: &[u8],
     ended: &mut Vec<Replied>,
 ) -> Result<(), Refusal>
+    requires alone { volume.old.merge ≡ None }
     requires room { length bytes.now ≡ 512 * range.count }
+    ensures alone { volume.new.merge ≡ None }
     ensures written { OnOk result (AreWrittenAmong B.contents B.layers dev (pieces_of (piece_of volume.old.snaps) (span_of range)) bytes.now volume.old volume.new ended.old.items ended.new.items) }
     ensures stopped { IfErr result (λ refusal. IsWriteStopped B.contents B.layers B.size dev (pieces_of (piece_of volume.old.snaps) (span_of range)) bytes.now refusal volume.old volume.new ended.old.items ended.new.items) }
     ensures kept { KeepsDevices B.layers B.size (rested_of volume.old) (rested_of volume.new) }
@@ -132,9 +138,11 @@ fn read_pieces_among<B: Block>(
     out: &mut Vec<u8>,
     ended: &mut Vec<Replied>,
 ) -> Result<(), Refusal>
+    requires alone { volume.old.merge ≡ None }
     requires empty { out.old.items ≡ [] }
     requires none { vec_len out.old ≡ 0 }
     requires room { 512 * range.count ≤ vec_capacity out.old }
+    ensures alone { volume.new.merge ≡ None }
     ensures read { OnOk result (AreReadAmong B.contents B.layers dev (pieces_of (piece_of volume.old.snaps) (span_of range)) out.new.items volume.old volume.new ended.old.items ended.new.items) }
     ensures stopped { IfErr result (λ refusal. IsReadStopped B.contents B.layers B.size dev (pieces_of (piece_of volume.old.snaps) (span_of range)) refusal volume.old volume.new ended.old.items ended.new.items) }
     ensures kept { KeepsDevices B.layers B.size (rested_of volume.old) (rested_of volume.new) }

@@ -27,6 +27,8 @@ fn take<B: Block>(
     store: StoreDev<B>,
     chunk: u32,
 ) -> Result<SnapId, (Refusal, StoreDev<B>)>
+    requires alone { volume.old.merge ≡ None }
+    ensures alone { volume.new.merge ≡ None }
     ensures quiet { OnOk result ((is_quiet_of volume.old ≡ true) × (is_quiet_of volume.new ≡ true)) }
     ensures number { IfOk result (λ number. number ≡ volume.old.attached + 1) }
     ensures taken { IfOk result (λ number. IsTakenAs B.layers B.size number store (rested_of volume.old) (rested_of volume.new)) }
@@ -49,6 +51,8 @@ fn take<B: Block>(
 
 /// A snapshot leaves a volume of events.
 fn leave<B: Block>(volume: &mut Volume<B>, number: SnapId) -> Result<StoreDev<B>, Refusal>
+    requires alone { volume.old.merge ≡ None }
+    ensures alone { volume.new.merge ≡ None }
     ensures quiet { OnOk result ((is_quiet_of volume.old ≡ true) × (is_quiet_of volume.new ≡ true)) }
     ensures settled { IsSettled B.contents B.layers B.size (rested_of volume.old) → IsSettled B.contents B.layers B.size (rested_of volume.new) }
     ensures left { IfOk result (λ store. IsDetachedAs B.contents B.layers number store (rested_of volume.old) (rested_of volume.new)) }
@@ -72,6 +76,7 @@ impl<B: Block> Resting<B> {
         store: StoreDev<B>,
         chunk: u32,
     ) -> Result<SnapId, (Refusal, StoreDev<B>)>
+        ensures alone { self.old.events.merge ≡ None }
         ensures number { IfOk result (λ number. number ≡ self.old.attached + 1) }
         ensures taken { IfOk result (λ number. IsTakenAs B.layers B.size number store self.old self.new) }
         ensures settled { IfOk result (λ number. IsSettled B.contents B.layers B.size self.old → is_loud (B.layers store.device) ≡ true → IsSettled B.contents B.layers B.size self.new) }

@@ -1,5 +1,5 @@
 // All that is due is done while requests of several commands are in flight.
-ghost use Rattle.std.specs.Prelude.{◌≡◌, IfErr, OnOk, IfOk, true};
+ghost use Rattle.std.specs.Prelude.{◌≡◌, IfErr, OnOk, IfOk, true, None};
 ghost use Rattle.sector.specs.declared.refusal.Refusal.TheVariants.{NoMemory};
 ghost use Rattle.volume.specs.Leaving.{is_quiet_of};
 ghost use Rattle.resting.specs.Rested.{rested_of};
@@ -18,6 +18,8 @@ pub(crate) fn drain<B: Block>(
     volume: &mut Volume<B>,
     ended: &mut Vec<Replied>,
 ) -> Result<(), Refusal>
+    requires alone { volume.old.merge ≡ None }
+    ensures alone { volume.new.merge ≡ None }
     ensures drained { IsDrained B.contents B.layers volume.old volume.new ended.old.items ended.new.items }
     ensures quiet { OnOk result (is_quiet_of volume.new ≡ true) }
     ensures err { IfErr result (λ refusal. refusal ≡ NoMemory) }
@@ -45,6 +47,8 @@ pub(crate) fn drain_for<B: Block>(
     own: ReqId,
     ended: &mut Vec<Replied>,
 ) -> Result<Reply, Refusal>
+    requires alone { volume.old.merge ≡ None }
+    ensures alone { volume.new.merge ≡ None }
     ensures answered { IfOk result (λ reply. IsAnsweredAmong B.contents B.layers own reply volume.old volume.new ended.old.items ended.new.items) }
     ensures quiet { OnOk result (is_quiet_of volume.new ≡ true) }
     ensures err { IfErr result (λ refusal. refusal ≡ NoMemory) }

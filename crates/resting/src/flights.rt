@@ -27,6 +27,7 @@ use volume::Volume;
 
 /// Whether a volume of events is quiet. One that is, and of which no device drops writes, is settled.
 fn is_still<B: Block>(volume: &Volume<B>) -> bool
+    requires alone { volume.now.merge ≡ None }
     ensures value { result ≡ is_quiet_of volume.now }
     ensures rest { result ≡ true → is_loud_in B.layers (rested_of volume.now) ≡ true → IsSettled B.contents B.layers B.size (rested_of volume.now) }
     ensures still { IsSettled B.contents B.layers B.size (rested_of volume.now) → result ≡ true }
@@ -40,7 +41,9 @@ fn begin<B: Block>(
     alloc: Global,
     request: Request,
 ) -> Result<ReqId, Refusal>
+    requires alone { volume.old.merge ≡ None }
     requires bytes { (bytes : List ℕ) → request.op ≡ Write bytes → length bytes ≡ 512 * request.range.count }
+    ensures alone { volume.new.merge ≡ None }
     ensures ok { IfOk result (λ number. IsAcceptedAs B.contents B.layers request number volume.old volume.new) }
     ensures admitted { IfOk result (λ _. submit_refusal B.size request volume.old ≡ None) }
     ensures exact { IfOk result (λ number. (replied : Option AnyReply) → submitted number request (moving_of B.contents B.layers replied volume.old) ≡ moving_of B.contents B.layers replied volume.new) }
@@ -61,6 +64,8 @@ fn begin<B: Block>(
 
 /// Does an event of a volume of events.
 fn advance<B: Block>(volume: &mut Volume<B>, event: Event) -> Result<Outcome, NotDue>
+    requires alone { volume.old.merge ≡ None }
+    ensures alone { volume.new.merge ≡ None }
     ensures legal { IfOk result (λ outcome. is_loud_in_all B.layers volume.old ≡ true → IsLegalStep (plain_of B.contents B.layers volume.old) event outcome (plain_of B.contents B.layers volume.new)) }
     ensures exact { IfOk result (λ outcome. IsExact B.contents B.layers event outcome volume.old volume.new) }
     ensures due { is_ok result ≡ is_due_of B.contents B.layers volume.old event }

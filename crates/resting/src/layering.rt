@@ -1,5 +1,5 @@
 // The layers of a volume's devices, which know of time.
-ghost use Rattle.std.specs.Prelude.{◌≡◌};
+ghost use Rattle.std.specs.Prelude.{◌≡◌, None};
 ghost use Rattle.layers.specs.Ticks.{layers_ticked};
 ghost use Rattle.settled.specs.Moments.{all_relayered};
 ghost use Rattle.resting.specs.Rested.{rested_of, settled_of, IsSettled};
@@ -13,6 +13,8 @@ use volume::Volume;
 
 /// Lets so many seconds pass for a volume of events.
 fn pass<B: Layered>(volume: &mut Volume<B>, seconds: u32)
+    requires alone { volume.old.merge ≡ None }
+    ensures alone { volume.new.merge ≡ None }
     ensures quiet { is_quiet_of volume.new ≡ is_quiet_of volume.old }
     ensures flying { flying_of B.contents B.layers volume.new ≡ flying_of B.contents B.layers volume.old }
     ensures moved { settled_of B.contents B.layers (rested_of volume.new) ≡ all_relayered (layers_ticked seconds) (settled_of B.contents B.layers (rested_of volume.old)) }

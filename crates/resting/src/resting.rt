@@ -34,6 +34,11 @@ impl<B: Block> Model for Resting<B> {
     ghost Value = { Rested B };
 
     ghost view = { λ v. rested_of v.volume };
+
+    ghost use Rattle.std.specs.Prelude.{◌≡◌, None};
+
+    // No call begins a merge yet.
+    ghost invariant = { λ v. v.volume.merge ≡ None };
 }
 
 impl<B: Block> Resting<B> {

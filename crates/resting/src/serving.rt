@@ -27,6 +27,8 @@ use volume::Volume;
 /// Does the events that are due, each time the one that is due first, until none is. Tells the last reply, and the one that
 /// was given before where there is none.
 fn settle<B: Block>(volume: &mut Volume<B>, mut reply: Reply) -> Reply
+    requires alone { volume.old.merge ≡ None }
+    ensures alone { volume.new.merge ≡ None }
     ensures run { IsRun B.contents B.layers (Some reply) (Some result) volume.old volume.new }
     ensures none { (replied : Option Reply) → due (moving_of B.contents B.layers replied volume.new) ≡ None }
     ensures quiet { is_quiet_of volume.new ≡ true }
@@ -48,9 +50,11 @@ fn settle<B: Block>(volume: &mut Volume<B>, mut reply: Reply) -> Reply
 /// Submits the request of a piece. One that its snapshot refuses is answered `Invalid`, and may have spoiled that snapshot;
 /// where memory is refused nothing changed.
 fn enter<B: Block>(volume: &mut Volume<B>, alloc: Global, request: Request) -> Result<(), Refusal>
+    requires alone { volume.old.merge ≡ None }
     requires quiet { is_quiet_of volume.old ≡ true }
     requires few { length volume.old.snaps ≤ 8 }
     requires can { CanServe B.size request.dev request.op request.range volume.old }
+    ensures alone { volume.new.merge ≡ None }
     ensures ok { OnOk result ((number : ℕ) × (submitted number request (moving_of B.contents B.layers (Some (Refused Invalid)) volume.old) ≡ moving_of B.contents B.layers (Some (Refused Invalid)) volume.new)) }
     ensures starved { IfErr result (λ refusal. (refusal ≡ NoMemory) × SameButRoom volume.old volume.new × (moving_of B.contents B.layers None volume.new ≡ moving_of B.contents B.layers None volume.old)) }
     ensures loud { is_loud_in_all B.layers volume.new ≡ is_loud_in_all B.layers volume.old }
@@ -99,6 +103,7 @@ pub(crate) fn look<B: Block>(volume: &Volume<B>)
 
 /// Whether a request's device is there.
 pub(crate) fn is_there<B: Block>(volume: &Volume<B>, dev: Dev) -> bool
+    requires alone { volume.now.merge ≡ None }
     ensures { result ≡ has_dev dev (rested_of volume.now) }
 {
     match dev {

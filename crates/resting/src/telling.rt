@@ -1,5 +1,5 @@
 // Messages to the layers of a volume's devices.
-ghost use Rattle.std.specs.Prelude.{◌≡◌, ◌<◌, length, slice_index_or, IfOk, IfErr};
+ghost use Rattle.std.specs.Prelude.{◌≡◌, ◌<◌, length, slice_index_or, IfOk, IfErr, None};
 ghost use Rattle.resting.specs.Rested.{Attached, rested_of, settled_of, IsSettled};
 ghost use Rattle.volume.specs.Leaving.{is_quiet_of};
 ghost use Rattle.resting.specs.Flying.{flying_of};
@@ -19,6 +19,8 @@ fn tell_origin<B: Layered>(
     depth: usize,
     message: &Message,
 ) -> Result<Answer, Refusal>
+    requires alone { volume.old.merge ≡ None }
+    ensures alone { volume.new.merge ≡ None }
     ensures quiet { is_quiet_of volume.new ≡ is_quiet_of volume.old }
     ensures flying { flying_of B.contents B.layers volume.new ≡ flying_of B.contents B.layers volume.old }
     ensures ok { IfOk result (λ answer. IsOriginTold B.contents B.layers depth message.now answer (rested_of volume.old) (rested_of volume.new)) }
@@ -41,7 +43,9 @@ fn tell_store<B: Layered>(
     depth: usize,
     message: &Message,
 ) -> Result<Answer, Refusal>
+    requires alone { volume.old.merge ≡ None }
     requires place { k < length volume.old.snaps }
+    ensures alone { volume.new.merge ≡ None }
     ensures quiet { is_quiet_of volume.new ≡ is_quiet_of volume.old }
     ensures flying { flying_of B.contents B.layers volume.new ≡ flying_of B.contents B.layers volume.old }
     ensures ok { IfOk result (λ answer. IsStoreTold B.contents B.layers k depth message.now answer (rested_of volume.old) (rested_of volume.new)) }

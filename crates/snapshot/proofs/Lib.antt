@@ -6,3 +6,4 @@ pub mod Openings
 pub mod Tries
 pub mod Rests
 pub mod Spared
+pub mod Stops

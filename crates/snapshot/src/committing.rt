@@ -8,6 +8,7 @@ ghost use Rattle.model.specs.Places.{area_place};
 ghost use Rattle.pending.specs.declared.copies.Mark.{Mark};
 ghost use Rattle.pending.specs.declared.copies.Stage.TheVariants.{Written};
 ghost use Rattle.store.specs.Operations.{IsOneOperation};
+ghost use Rattle.store.specs.Shown.{StopsSame, StopsBetween};
 ghost use Rattle.store.specs.Slots.{pairs_bytes, slot_start};
 ghost use Rattle.store.specs.Stored.{after_commit};
 ghost use Rattle.volume_laws.specs.Steps.{ZeroesArea, Commits, Unmarks, mark_of};
@@ -23,7 +24,7 @@ use plain::CopyId;
 
 impl<B: Block> Snapshot<B> {
     /// Zeroes the area after the current one, for copies whose pairs fill that. At `Io` nothing changed but the device's
-    /// counts and layers.
+    /// counts and layers. Whatever a stop within it leaves is loaded again with the same pairs, and shows the same array.
     pub fn zero_next(&mut self) -> Result<(), Io>
         requires live { self.old.live ≡ true }
         requires some { 0 < length self.old.copies }
@@ -40,6 +41,7 @@ impl<B: Block> Snapshot<B> {
         ensures fields { OnOk result (self.new ≡ record self.old { device = self.new.device; state = record self.old.state { zeroed = true } }) }
         ensures zeroes { OnOk result (ZeroesArea (self.old.state.current + 1) (books_of B.contents B.layers self.old) (books_of B.contents B.layers self.new)) }
         ensures kept { OnErr result (self.new ≡ record self.old { device = self.new.device }) }
+        ensures stops { IsTrue (is_loud (B.layers self.old.device)) → StopsSame self.old.state.chunk self.old.state.origin self.old.state.size self.old.pairs (B.contents self.old.device) (B.contents self.new.device) }
         ensures in_step { IsInStep B.contents B.layers B.size self.new }
     {
         match self.store.zero_next() {
@@ -50,7 +52,8 @@ impl<B: Block> Snapshot<B> {
 
     /// Commits the copies that started first, so many of them, all of them written: their pairs are written into the
     /// current area. Each bears a mark from then on, until it is published. The one that a merge started gives its buffer
-    /// back. At `Io` nothing changed but the device's counts and layers.
+    /// back. At `Io` nothing changed but the device's counts and layers. Whatever a stop within it leaves is loaded again,
+    /// with the pairs that were there and the first few of these, and shows the same array.
     pub fn write_area(&mut self, count: u32) -> Result<(), Io>
         requires live { self.old.live ≡ true }
         requires few { count ≤ length self.old.copies }
@@ -68,6 +71,7 @@ impl<B: Block> Snapshot<B> {
         ensures fields { OnOk result (self.new ≡ record self.old { device = self.new.device; state = after_commit self.old.state count; pairs = self.old.pairs ++ take count self.old.begun; begun = drop count self.old.begun; copies = drop count self.old.copies; marks = self.old.marks ++ map mark_of (take count self.old.copies); spare = spare_after count self.old }) }
         ensures commits { OnOk result (Commits count self.old.state.current (books_of B.contents B.layers self.old) (books_of B.contents B.layers self.new)) }
         ensures kept { OnErr result (self.new ≡ record self.old { device = self.new.device }) }
+        ensures stops { IsTrue (is_loud (B.layers self.old.device)) → StopsBetween self.old.state.chunk self.old.state.origin self.old.state.size self.old.pairs (take count self.old.begun) (B.contents self.old.device) (B.contents self.new.device) }
         ensures in_step { IsInStep B.contents B.layers B.size self.new }
     {
         match self.store.write_area(count) {

@@ -1,5 +1,5 @@
 // One copy is read from the origin disk, and written to its place.
-ghost use Rattle.std.specs.Prelude.{◌≡◌, ℕ, ◌+◌, ◌*◌, ◌<◌, ◌≤◌, length, slice_index_or, is_ok, OnOk, OnErr, true, vec_capacity};
+ghost use Rattle.std.specs.Prelude.{◌≡◌, ℕ, ◌+◌, ◌*◌, ◌<◌, ◌≤◌, length, slice_index_or, is_ok, OnOk, OnErr, IsTrue, true, vec_capacity};
 ghost use Rattle.sector.specs.Bytes.{sectors_at, with_sectors};
 ghost use Rattle.device.specs.declared.operation.Operation.TheVariants.{Reads, Writes};
 ghost use Rattle.device.specs.Layers.{is_loud};
@@ -8,6 +8,7 @@ ghost use Rattle.pending.specs.Copies.{count_of};
 ghost use Rattle.pending.specs.declared.copies.ChunkCopy.{ChunkCopy};
 ghost use Rattle.pending.specs.declared.copies.Stage.TheVariants.{Read};
 ghost use Rattle.store.specs.Operations.{IsOneOperation};
+ghost use Rattle.store.specs.Shown.{StopsSame};
 ghost use Rattle.snapshot.specs.InStep.{IsInStep};
 ghost use Rattle.snapshot.specs.Calls.{GoesTo, ReadsAt, StaysAt, WritesAt};
 
@@ -41,7 +42,7 @@ impl<B: Block> Snapshot<B> {
     }
 
     /// Writes a copy that was read, counted from 0, to its place. At `Io` nothing changed but the device's counts and
-    /// layers.
+    /// layers. Whatever a stop within it leaves is loaded again with the same pairs, and shows the same array.
     pub fn write_copy(&mut self, index: usize) -> Result<(), Io>
         requires live { self.old.live ≡ true }
         requires within { index < length self.old.copies }
@@ -55,6 +56,7 @@ impl<B: Block> Snapshot<B> {
 
         ensures wrote { OnOk result ((p : ChunkCopy) × (q : ChunkCopy) × WritesAt B.contents B.layers index p q self.old self.new) }
         ensures kept { OnErr result (self.new ≡ record self.old { device = self.new.device }) }
+        ensures stops { IsTrue (is_loud (B.layers self.old.device)) → StopsSame self.old.state.chunk self.old.state.origin self.old.state.size self.old.pairs (B.contents self.old.device) (B.contents self.new.device) }
         ensures in_step { IsInStep B.contents B.layers B.size self.new }
     {
         let copy = &self.copies[index];

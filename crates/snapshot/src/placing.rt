@@ -1,10 +1,11 @@
 // Requests at the place of a copy that is committed.
-ghost use Rattle.std.specs.Prelude.{◌≡◌, ℕ, ◌+◌, ◌*◌, ◌<◌, ◌≤◌, length, is_ok, OnOk, OnErr, Some};
+ghost use Rattle.std.specs.Prelude.{◌≡◌, ℕ, ◌+◌, ◌*◌, ◌<◌, ◌≤◌, length, is_ok, OnOk, OnErr, IsTrue, Some, true};
 ghost use Rattle.sector.specs.Bytes.{sectors_at};
 ghost use Rattle.device.specs.declared.operation.Operation.TheVariants.{Reads, Writes};
 ghost use Rattle.device.specs.Layers.{is_loud};
 ghost use Rattle.model.specs.Picture.{place_of as place_in};
 ghost use Rattle.store.specs.Operations.{IsOneOperation};
+ghost use Rattle.store.specs.Shown.{StopsSame, StopsGiving};
 ghost use Rattle.volume_laws.specs.Steps.{WritesPlace};
 ghost use Rattle.snapshot.specs.InStep.{IsInStep};
 ghost use Rattle.snapshot.specs.Kept.{books_of};
@@ -15,7 +16,8 @@ use sector::Chunk;
 
 impl<B: Block> Snapshot<B> {
     /// Writes so many sectors at the place of a committed copy, from one of its sectors on. At `Io` nothing changed but
-    /// the device's counts and layers.
+    /// the device's counts and layers. Whatever a stop within it leaves of a live snapshot's store is loaded again with the
+    /// same pairs, and each sector of its array is as it was or as it is written.
     pub fn write_at(&mut self, place: Chunk, first: u32, count: u32, bytes: &[u8]) -> Result<(), Io>
         requires placed { (c : ℕ) × (place_in self.old.pairs c ≡ Some place) }
         requires some { 0 < count }
@@ -28,6 +30,7 @@ impl<B: Block> Snapshot<B> {
         ensures same { OnErr result (B.contents self.new.device ≡ B.contents self.old.device) }
         ensures durable { B.durable self.new.device ≡ B.durable self.old.device }
         ensures size { B.size self.new.device ≡ B.size self.old.device }
+        ensures stops { self.old.live ≡ true → IsTrue (is_loud (B.layers self.old.device)) → (c : ℕ) → place_in self.old.pairs c ≡ Some place → StopsGiving self.old.state.chunk self.old.state.origin self.old.state.size self.old.pairs (record { array = Some self.old.number; first = self.old.state.chunk * c + first; count = count; bytes = bytes.now }) (B.contents self.old.device) (B.contents self.new.device) }
         ensures fields { self.new ≡ record self.old { device = self.new.device } }
         ensures in_step { IsInStep B.contents B.layers B.size self.new }
     {
@@ -38,7 +41,7 @@ impl<B: Block> Snapshot<B> {
     }
 
     /// Reads so many sectors at the place of a committed copy, from one of its sectors on. At `Io` the buffer is as it
-    /// was.
+    /// was. A stop within it leaves a live snapshot's store as it is, which is loaded again with the same pairs.
     pub fn read_at(
         &mut self,
         place: Chunk,
@@ -58,6 +61,7 @@ impl<B: Block> Snapshot<B> {
         ensures same { B.contents self.new.device ≡ B.contents self.old.device }
         ensures durable { B.durable self.new.device ≡ B.durable self.old.device }
         ensures size { B.size self.new.device ≡ B.size self.old.device }
+        ensures stops { self.old.live ≡ true → IsTrue (is_loud (B.layers self.old.device)) → StopsSame self.old.state.chunk self.old.state.origin self.old.state.size self.old.pairs (B.contents self.old.device) (B.contents self.new.device) }
         ensures fields { self.new ≡ record self.old { device = self.new.device } }
         ensures in_step { IsInStep B.contents B.layers B.size self.new }
     {

@@ -6,6 +6,7 @@ ghost use Rattle.device.specs.Layers.{is_loud};
 ghost use Rattle.model.specs.Places.{ChangesOnly};
 ghost use Rattle.cow_header.specs.HeaderText.{header_bytes};
 ghost use Rattle.store.specs.Operations.{IsOneOperation};
+ghost use Rattle.store.specs.Shown.{StopsInvalid};
 ghost use Rattle.volume_laws.specs.Steps.{SpoilsSnap, TriesMark};
 ghost use Rattle.snapshot.specs.InStep.{IsInStep};
 ghost use Rattle.snapshot.specs.Kept.{books_of};
@@ -34,7 +35,8 @@ impl<B: Block> Snapshot<B> {
     }
 
     /// Marks the header of a spoiled snapshot's store invalid. It is tried once: at `Io` the store is stale, and nothing
-    /// of it changed but the device's counts and layers.
+    /// of it changed but the device's counts and layers. Whatever a stop within it leaves is refused as invalid, or loaded
+    /// again with the same pairs, and shows the same array.
     pub fn write_invalid(&mut self) -> Result<(), Io>
         requires untried { self.old.untried ≡ true }
 
@@ -48,6 +50,7 @@ impl<B: Block> Snapshot<B> {
 
         ensures fields { self.new ≡ record self.old { device = self.new.device; untried = false; stale = not (is_ok result); state = record self.old.state { valid = not (is_ok result) } } }
         ensures tries { TriesMark (books_of B.contents B.layers self.old) (books_of B.contents B.layers self.new) }
+        ensures stops { IsTrue (is_loud (B.layers self.old.device)) → StopsInvalid self.old.state.chunk self.old.state.origin self.old.state.size self.old.pairs (B.contents self.old.device) (B.contents self.new.device) }
         ensures in_step { IsInStep B.contents B.layers B.size self.new }
     {
         self.untried = false;

@@ -56,17 +56,37 @@ torn_pairs size chunk old new torn ps qs pos is lo ln x y =
     let e : n ≡ length ps + m = omega arith in
     (m, omega (arith, length-append ps qs), listed ∙ ap (λ k. take k (ps ++ qs)) e ∙ take-append-add ps qs m)
 
+-- Bytes that are loaded with a few pairs more show the same array: each of these has its copy, with the origin's bytes.
+pub shown_more : (size chunk n m : ℕ) (origin old new torn : List ℕ) (ps qs : List Pair) → 0 < chunk → IsTorn size old new torn → length old ≡ 512 * size → ChangesOnly chunk n old new → m ≤ length qs → pairs_of chunk old ≡ ps → pairs_of chunk torn ≡ ps ++ take m qs →
+    ((c : ℕ) → place_of (ps ++ take m qs) c ≢ Some n) → ((k : ℕ) (d : Pair) → k < length qs → place_of (ps ++ take k qs) (get_or qs k d).old ≡ None) → ((k : ℕ) (d : Pair) → k < length qs → IsCopied chunk origin old (get_or qs k d)) →
+    picture chunk origin torn ≡ picture chunk origin old
+shown_more size chunk n m origin old new torn ps qs pos is lo only le was more unnamed none same =
+    let len : length (take m qs) ≡ m = length-take-le m qs le in
+    picture-commit chunk n origin old torn ps (take m qs) pos (torn_only size chunk n old new torn is lo only) was more unnamed
+    (λ k d lt. let h : k < length qs = omega arith in
+    ap (λ z. place_of (ps ++ z) (get_or (take m qs) k d).old) (take-take k m qs (omega arith)) ∙ ap (λ (p : Pair). place_of (ps ++ take k qs) p.old) (get_or-take m qs k d (omega arith)) ∙ none k d h)
+    (λ k d lt. rw (get_or-take m qs k d (omega arith)) (same k d (omega arith)))
+
+-- With a few pairs fewer they do so too: each of those that are gone was copied back.
+pub shown_less : (size chunk n m : ℕ) (origin old new torn : List ℕ) (ps qs : List Pair) → 0 < chunk → IsTorn size old new torn → length old ≡ 512 * size → ChangesOnly chunk n old new → m ≤ length qs → pairs_of chunk old ≡ ps ++ qs → pairs_of chunk torn ≡ ps ++ take m qs →
+    ((c : ℕ) → place_of (ps ++ take m qs) c ≢ Some n) → ((k : ℕ) (d : Pair) → k < length qs → place_of (ps ++ take k qs) (get_or qs k d).old ≡ None) → ((k : ℕ) (d : Pair) → k < length qs → IsCopied chunk origin old (get_or qs k d)) →
+    picture chunk origin torn ≡ picture chunk origin old
+shown_less size chunk n m origin old new torn ps qs pos is lo only le was less unnamed none same =
+    let len : length (drop m qs) + m ≡ length qs = omega (arith, length-drop m qs) in
+    picture-merged chunk n origin old torn (ps ++ take m qs) (drop m qs) pos (torn_only size chunk n old new torn is lo only)
+    (was ∙ ap (λ z. ps ++ z) (sym (take-append-drop m qs)) ∙ sym (append_assoc ps (take m qs) (drop m qs))) less unnamed
+    (λ k d lt. let h : m + k < length qs = omega arith in
+    ap (λ z. place_of z (get_or (drop m qs) k d).old) (append_assoc ps (take m qs) (take k (drop m qs)) ∙ ap (λ z. ps ++ z) (sym (take-add m k qs)))
+    ∙ ap (λ (p : Pair). place_of (ps ++ take (m + k) qs) p.old) (get_or-drop m qs k d) ∙ none (m + k) d h)
+    (λ k d lt. rw (get_or-drop m qs k d) (same (m + k) d (omega arith)))
+
 -- A torn commit leaves the array: each pair that may be there has its copy, with the origin's bytes.
 pub torn_commit : (size chunk n : ℕ) (origin old new torn : List ℕ) (ps qs : List Pair) → 0 < chunk → IsTorn size old new torn → length old ≡ 512 * size → length new ≡ 512 * size → ChangesOnly chunk n old new → IsBetween (slot chunk old) (length ps) (ps ++ qs) → IsBetween (slot chunk new) (length ps) (ps ++ qs) → pairs_of chunk old ≡ ps →
     ((m : ℕ) (c : ℕ) → place_of (ps ++ take m qs) c ≢ Some n) → ((k : ℕ) (d : Pair) → k < length qs → place_of (ps ++ take k qs) (get_or qs k d).old ≡ None) → ((k : ℕ) (d : Pair) → k < length qs → IsCopied chunk origin old (get_or qs k d)) →
     picture chunk origin torn ≡ picture chunk origin old
 torn_commit size chunk n origin old new torn ps qs pos is lo ln only x y was unnamed none same =
     let (m, le, more) = torn_pairs size chunk old new torn ps qs pos is lo ln x y in
-    let len : length (take m qs) ≡ m = length-take-le m qs le in
-    picture-commit chunk n origin old torn ps (take m qs) pos (torn_only size chunk n old new torn is lo only) was more (unnamed m)
-    (λ k d lt. let h : k < length qs = omega arith in
-    ap (λ z. place_of (ps ++ z) (get_or (take m qs) k d).old) (take-take k m qs (omega arith)) ∙ ap (λ (p : Pair). place_of (ps ++ take k qs) p.old) (get_or-take m qs k d (omega arith)) ∙ none k d h)
-    (λ k d lt. rw (get_or-take m qs k d (omega arith)) (same k d (omega arith)))
+    shown_more size chunk n m origin old new torn ps qs pos is lo only le was more (unnamed m) none same
 
 -- A merge's commit, torn, leaves the array: each pair that may be gone was copied back.
 pub torn_cleared : (size chunk n : ℕ) (origin old new torn : List ℕ) (ps qs : List Pair) → 0 < chunk → IsTorn size old new torn → length old ≡ 512 * size → length new ≡ 512 * size → ChangesOnly chunk n old new → IsBetween (slot chunk old) (length ps) (ps ++ qs) → IsBetween (slot chunk new) (length ps) (ps ++ qs) → pairs_of chunk old ≡ ps ++ qs →
@@ -74,13 +94,7 @@ pub torn_cleared : (size chunk n : ℕ) (origin old new torn : List ℕ) (ps qs 
     picture chunk origin torn ≡ picture chunk origin old
 torn_cleared size chunk n origin old new torn ps qs pos is lo ln only x y was unnamed none same =
     let (m, le, less) = torn_pairs size chunk old new torn ps qs pos is lo ln x y in
-    let len : length (drop m qs) + m ≡ length qs = omega (arith, length-drop m qs) in
-    picture-merged chunk n origin old torn (ps ++ take m qs) (drop m qs) pos (torn_only size chunk n old new torn is lo only)
-    (was ∙ ap (λ z. ps ++ z) (sym (take-append-drop m qs)) ∙ sym (append_assoc ps (take m qs) (drop m qs))) less (unnamed m)
-    (λ k d lt. let h : m + k < length qs = omega arith in
-    ap (λ z. place_of z (get_or (drop m qs) k d).old) (append_assoc ps (take m qs) (take k (drop m qs)) ∙ ap (λ z. ps ++ z) (sym (take-add m k qs)))
-    ∙ ap (λ (p : Pair). place_of (ps ++ take (m + k) qs) p.old) (get_or-drop m qs k d) ∙ none (m + k) d h)
-    (λ k d lt. rw (get_or-drop m qs k d) (same (m + k) d (omega arith)))
+    shown_less size chunk n m origin old new torn ps qs pos is lo only le was less (unnamed m) none same
 
 -- Where the list is the same before and after, it is so within.
 pub torn_same : (size chunk : ℕ) (old new torn : List ℕ) (ps : List Pair) → 0 < chunk → IsTorn size old new torn → length old ≡ 512 * size → length new ≡ 512 * size → pairs_of chunk old ≡ ps → pairs_of chunk new ≡ ps → pairs_of chunk torn ≡ ps

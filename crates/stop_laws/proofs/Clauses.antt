@@ -5,7 +5,7 @@ use Rattle.sector.specs.Bytes.{sector_at}
 use Rattle.model.specs.Pairs.{pairs_of}
 use Rattle.model.specs.Picture.{picture}
 use Rattle.stop_laws.specs.Stop.{MayLeave, HoldsNow, Within}
-use Rattle.stop_laws.specs.Again.{LoadsAgain, IsRefusedAgain, IsOpen}
+use Rattle.stop_laws.specs.Again.{LoadsAgain, IsRefusedAgain}
 use Rattle.stop_laws.specs.Clauses.{Given, Gives, OpensNone}
 use Rattle.stop_laws.proofs.Areas.{torn_header}
 use Rattle.stop_laws.proofs.Sectors.{torn_picture}
@@ -13,6 +13,15 @@ use Rattle.stop_laws.proofs.Sectors.{torn_picture}
 -- what is there may be left
 left_now : (size : ℕ) (b : List ℕ) → length b ≡ 512 * size → MayLeave (HoldsNow b) size b
 left_now size b whole = record { whole = whole; each = λ s lt. refl }
+
+-- No value is open but one that was, and one that the call gives, where each sector of the array is so.
+pub opens_none : {B : Type 0} (contents : B → List ℕ) (size : B → ℕ) (given : Option Given) (array : Option ℕ) (chunk : ℕ) (origin store : B) (o c : List ℕ) → length (contents origin) ≡ 512 * size origin → length (contents store) ≡ 512 * size store →
+    ((s : ℕ) → s < size origin → (sector_at (picture chunk o c) s ≡ sector_at (picture chunk (contents origin) (contents store)) s) ⊎ Gives given array s (sector_at (picture chunk o c) s)) →
+    OpensNone (λ d. HoldsNow (contents d)) size given array chunk origin store o c
+opens_none contents size given array chunk origin store o c lo ls each = λ s lt. elim (each s lt) [
+  | inl e ↦ inl (record { origin = contents origin; store = contents store; origin_left = left_now (size origin) (contents origin) lo; store_left = left_now (size store) (contents store) ls; is = e })
+  | inr g ↦ inr g
+]
 
 -- A call over one snapshot that leaves its list of pairs, after which each sector of its array is as it was, or as the call
 -- gives it: so it is within the call.
@@ -26,14 +35,12 @@ stops_same contents size given array chunk origin origin' store store' pos some 
       | inr bad ↦ inr bad
       | inl (loads, is) ↦ inl (
         loads,
-        λ s lt. elim (torn_picture (size origin) (size store) chunk (contents origin) (contents origin') o (contents store) (contents store') c (pairs_of chunk (contents store)) pos left_o left_c lo lo' ls ls' refl pairs is s) [
-          | inl e ↦ inl (opened s e)
+        opens_none contents size given array chunk origin store o c lo ls (λ s lt. elim (torn_picture (size origin) (size store) chunk (contents origin) (contents origin') o (contents store) (contents store') c (pairs_of chunk (contents store)) pos left_o left_c lo lo' ls ls' refl pairs is s) [
+          | inl e ↦ inl e
           | inr e ↦ elim (step s lt) [
-            | inl f ↦ inl (opened s (e ∙ f))
+            | inl f ↦ inl (e ∙ f)
             | inr g ↦ inr (rw e g)
           ]
-        ],
+        ]),
       )
-    ] where
-      opened : (s : ℕ) → sector_at (picture chunk o c) s ≡ sector_at (picture chunk (contents origin) (contents store)) s → IsOpen chunk (HoldsNow (contents origin)) (HoldsNow (contents store)) (size origin) (size store) s (sector_at (picture chunk o c) s)
-      opened s e = record { origin = contents origin; store = contents store; origin_left = left_now (size origin) (contents origin) lo; store_left = left_now (size store) (contents store) ls; is = e }
+    ]

@@ -1,5 +1,5 @@
 -- Bytes whose sectors are old or new, each by itself.
-use Rattle.std.proofs.Common.{◌≡◌, ◌⊎◌, inl, inr, ℕ, ◌+◌, ◌*◌, ◌/◌, ◌-◌, ◌<◌, ◌≤◌, List, length, get_or, arith, ap, ◌∙◌, sym, length-take, length-drop, min}
+use Rattle.std.proofs.Common.{◌≡◌, ◌⊎◌, inl, inr, ℕ, ◌+◌, ◌*◌, ◌/◌, ◌-◌, ◌<◌, ◌≤◌, List, length, get_or, arith, refl, ap, ◌∙◌, sym, length-take, length-drop, min}
 use Rattle.std.proofs.lemmas.Bool.{cases_lt}
 use Rattle.std.proofs.lemmas.List.{get_or_past, ext_get_or}
 use Rattle.sector.specs.Bytes.{sector_at}
@@ -32,6 +32,10 @@ torn_byte size old new torn is lo ln i same = elim (torn_sector size old new tor
   | inl f ↦ f i (omega arith) (omega arith)
   | inr f ↦ f i (omega arith) (omega arith) ∙ same
 ]
+
+-- where nothing is written, nothing changes
+pub torn_still : (size : ℕ) (old torn : List ℕ) → IsTorn size old old torn → length old ≡ 512 * size → torn ≡ old
+torn_still size old torn is lo = ext_get_or 0 torn old (is.whole ∙ sym lo) (λ i lt. torn_byte size old old torn is lo lo i refl)
 
 -- a write to one chunk, torn, is a write to that chunk
 pub torn_only : (size chunk n : ℕ) (old new torn : List ℕ) → IsTorn size old new torn → length old ≡ 512 * size → ChangesOnly chunk n old new → ChangesOnly chunk n old torn

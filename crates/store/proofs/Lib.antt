@@ -13,5 +13,7 @@ pub mod Messages
 pub mod Opened
 pub mod Parts
 pub mod Pending
+pub mod Shown
+pub mod StopClauses
 pub mod Stops
 pub mod Writes

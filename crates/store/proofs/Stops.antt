@@ -1,5 +1,5 @@
 -- A stop within an operation of a store, from what the store's type keeps before and after it.
-use Rattle.std.proofs.Common.{◌≡◌, ◌≢◌, ◌⊎◌, inl, inr, ℕ, ◌+◌, ◌*◌, ◌-◌, ◌/◌, ◌<◌, ◌≤◌, List, [], ◌++◌, length, take, drop, get_or, arith, refl, ap, ◌∙◌, sym, subst, Ok, Err, length-append, length-drop, append-nil, true, false, replicate}
+use Rattle.std.proofs.Common.{◌≡◌, ◌≢◌, ◌⊎◌, inl, inr, ℕ, ◌+◌, ◌*◌, ◌-◌, ◌/◌, ◌<◌, ◌≤◌, List, [], ◌++◌, length, take, drop, arith, refl, ap, ◌∙◌, sym, subst, Ok, Err, length-append, length-drop, append-nil, true, false, replicate}
 use Rattle.std.proofs.lemmas.Bool.{cases_lt}
 use Rattle.std.proofs.lemmas.List.{take_all, take-append-drop}
 use Rattle.sector.specs.Bytes.{sector_at, with_sectors}
@@ -15,7 +15,7 @@ use Rattle.cow_header.specs.declared.found.Found.TheVariants.{Header}
 use Rattle.exception_arena.specs.Pending.{pairs}
 use Rattle.exception_arena.specs.declared.begun.Begun.{Begun}
 use Rattle.stop_laws.specs.Stop.{IsTorn}
-use Rattle.stop_laws.specs.Again.{LoadsAgain, IsRefusedAgain}
+use Rattle.stop_laws.specs.Again.{LoadsAgain}
 use Rattle.stop_laws.proofs.Between.{IsBetween}
 use Rattle.stop_laws.proofs.Areas.{between_all, between_first, torn_pairs}
 use Rattle.stop_laws.proofs.Loads.{torn_commit_loads, torn_mark}

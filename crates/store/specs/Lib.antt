@@ -7,6 +7,7 @@ pub mod Opened
 pub mod Opening
 pub mod Operations
 pub mod Reading
+pub mod Shown
 pub mod Slots
 pub mod Stopping
 pub mod Stored

@@ -1,7 +1,7 @@
 // Messages to layers below a volume, and what reads and copies meet then.
 use crate::calling::{FIRST_COPY, disk_with, do_all, read, replies, volume_over, write};
 use device::Block;
-use layers::{Answer, Dust, Message, Stack};
+use layers::{Answer, Dust, Layered, Message, Stack};
 use plain::{Dev, Event, Failure, Outcome, Reply};
 use sector::{Range, Refusal, SECTOR_BYTES};
 use std::alloc::Global;
@@ -26,8 +26,13 @@ fn spoil_block(rt: &impl Abort, volume: &mut Volume<Stack>, dev: Dev, block: u64
     }
 }
 
-// Whether a device shows one sector of this byte.
-fn shows(volume: &Volume<Stack>, dev: Dev, sector: u64, byte: u8) -> Result<bool, Refusal> {
+/// Whether a device shows one sector of this byte.
+pub fn shows<B: Layered>(
+    volume: &Volume<B>,
+    dev: Dev,
+    sector: u64,
+    byte: u8,
+) -> Result<bool, Refusal> {
     let range = Range::new(sector, 1, volume.origin().sectors())?;
     let mut out = [0; SECTOR_BYTES];
     volume.peek(dev, range, &mut out)?;

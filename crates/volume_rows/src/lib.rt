@@ -25,6 +25,8 @@ mod following;
 #[cfg(test)]
 mod generator;
 #[cfg(test)]
+mod merging;
+#[cfg(test)]
 mod plain_machine;
 #[cfg(test)]
 mod raw_store;

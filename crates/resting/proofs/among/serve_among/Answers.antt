@@ -1,5 +1,5 @@
 -- The request was served, or refused.
-use Rattle.std.proofs.Common.{inl, inr, None, subst, List, arith}
+use Rattle.std.proofs.Common.{inl, inr, None, ◌∙◌, subst, List, arith}
 use Rattle.plain.specs.declared.request.Replied.{Replied}
 use Rattle.resting.specs.Rested.{rested_of}
 use Rattle.resting.specs.Draining.{IsAnsweredAmong}
@@ -55,6 +55,7 @@ returns-in-Invalid-clause-kept g c =
 
 pub returns-in_default-refusal : goal.returns-in_default-refusal
 returns-in_default-refusal g c = record {
+  alone = c.in-Err.ensures.untouched.merge ∙ c.requires.alone;
   served = tt;
   refused = inr (turned_plain g.B.Block.contents g.B.Block.layers g.B.Block.size c.args.request c.in-Err.refusal c.args.volume.now c.submit.new.self c.args.ended.now.items c.reserve.new.self.items
       c.in_default-refusal.not-Invalid c.in-Err.ensures.refused c.reserve.ensures.items);

@@ -2,13 +2,18 @@
 use Rattle.std.proofs.Common.{◌+◌, sym, ◌∙◌}
 use Rattle.resting.proofs.Seen.{loud_same}
 use Rattle.resting.proofs.Quiet.{settled_quiet}
-use Rattle.resting.proofs.Takes.{taken_quiet, taken_settles, taken_as, attached_seen, refused_seen}
+use Rattle.resting.proofs.Takes.{taken_alone, taken_quiet, taken_settles, taken_as, attached_seen, refused_seen}
 use Rattle.resting.proofs.changing.take.Goals as goal
 
 pub returns-in-Ok-clause-quiet : goal.returns-in-Ok-clause-quiet
 returns-in-Ok-clause-quiet g c =
     taken_quiet g.B.Block.contents g.B.Block.layers g.B.Block.size c.in-Ok.number c.args.chunk c.args.store c.args.volume.now c.attach.new.self
     c.in-Ok.ensures.gained c.in-Ok.ensures.admitted
+
+pub returns-in-Ok-clause-alone : goal.returns-in-Ok-clause-alone
+returns-in-Ok-clause-alone g c =
+    taken_alone g.B.Block.contents g.B.Block.layers g.B.Block.size c.in-Ok.number c.args.chunk c.args.store c.args.volume.now c.attach.new.self
+    c.in-Ok.ensures.gained c.requires.alone
 
 pub returns-in-Ok-clause-settled : goal.returns-in-Ok-clause-settled
 returns-in-Ok-clause-settled g c =
@@ -28,4 +33,4 @@ returns-in-Ok-clause-exact g c = λ settled given.
 pub returns-in-Err-clause-back : goal.returns-in-Err-clause-back
 returns-in-Err-clause-back g c = λ other settled given.
     refused_seen g.B.Block.contents g.B.Block.layers (c.args.volume.now.attached + 1) c.args.chunk c.in-Err.refused.0 c.args.store c.in-Err.refused.1 c.args.volume.now
-    (c.in-Err.ensures.back other (settled_quiet g.B.Block.contents g.B.Block.layers g.B.Block.size c.args.volume.now settled) (sym (loud_same g.B.Block.contents g.B.Block.layers c.args.volume.now) ∙ settled.loud) given)
+    (c.in-Err.ensures.back other c.requires.alone (settled_quiet g.B.Block.contents g.B.Block.layers g.B.Block.size c.args.volume.now settled) (sym (loud_same g.B.Block.contents g.B.Block.layers c.args.volume.now) ∙ settled.loud) given)

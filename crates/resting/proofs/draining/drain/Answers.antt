@@ -4,6 +4,7 @@ use Rattle.std.proofs.lemmas.List.{append-nil}
 use Rattle.plain.specs.declared.event.Outcome.TheVariants.{Done, Fault, Reply as Answered}
 use Rattle.plain.specs.declared.request.Replied.{Replied}
 use Rattle.plain.specs.Replies.{reply_in}
+use Rattle.resting.proofs.Alone.{counts_alone, kept_alone}
 use Rattle.resting.proofs.Quiet.{quiet_is}
 use Rattle.resting.proofs.Seen.{devices_kept}
 use Rattle.resting.proofs.Drains.{done_first, drained_more, counts_more}
@@ -14,7 +15,8 @@ loop-event-preserved-in-Ok-Reply g c = record {
   so = drained_more g.B.Block.contents g.B.Block.layers g.B.Block.size c.args.volume.now c.loop-event.volume c.step.new.self c.in-Some.event (Answered c.in-Ok-Reply.number c.in-Ok-Reply.reply) c.args.ended.now.items c.loop-event.ended.items c.push_reserved.new.self.items c.loop-event.invariant.so
       (done_first g.B.Block.contents g.B.Block.layers g.B.Block.size c.in-Some.event _ (Answered c.in-Ok-Reply.number c.in-Ok-Reply.reply) c.loop-event.volume c.step.new.self c.in-Some.ensures.event c.in-Ok-Reply.field-0-is c.in-Ok-Reply.ensures.exact c.in-Ok-Reply.ensures.legal)
       (c.push_reserved.ensures.items ∙ ap (λ (rs : List Replied). rs ++ reply_in (Answered c.in-Ok-Reply.number c.in-Ok-Reply.reply)) c.reserve.ensures.items);
-  counts = counts_more g.B.Block.contents g.B.Block.layers g.B.Block.size c.args.volume.now c.loop-event.volume c.step.new.self c.loop-event.invariant.counts c.in-Ok-Reply.ensures.kept c.in-Ok-Reply.ensures.loud c.in-Ok-Reply.ensures.counts;
+  counts = counts_more g.B.Block.contents g.B.Block.layers g.B.Block.size c.args.volume.now c.loop-event.volume c.step.new.self c.loop-event.invariant.counts c.in-Ok-Reply.ensures.kept c.in-Ok-Reply.ensures.loud
+      (counts_alone g.B.Block.contents g.B.Block.layers c.loop-event.volume (kept_alone g.B.Block.size c.args.volume.now c.loop-event.volume c.loop-event.invariant.counts.kept c.requires.alone) c.in-Some.event c.step.new.self (sym c.in-Ok-Reply.ensures.due) c.in-Ok-Reply.ensures.counts);
 }
 
 pub loop-event-preserved-in-Ok-Done : goal.loop-event-preserved-in-Ok-Done
@@ -22,7 +24,8 @@ loop-event-preserved-in-Ok-Done g c = record {
   so = drained_more g.B.Block.contents g.B.Block.layers g.B.Block.size c.args.volume.now c.loop-event.volume c.step.new.self c.in-Some.event Done c.args.ended.now.items c.loop-event.ended.items c.reserve.new.self.items c.loop-event.invariant.so
       (done_first g.B.Block.contents g.B.Block.layers g.B.Block.size c.in-Some.event _ Done c.loop-event.volume c.step.new.self c.in-Some.ensures.event c.in-Ok-Done.field-0-is c.in-Ok-Done.ensures.exact c.in-Ok-Done.ensures.legal)
       (c.reserve.ensures.items ∙ sym (append-nil c.loop-event.ended.items));
-  counts = counts_more g.B.Block.contents g.B.Block.layers g.B.Block.size c.args.volume.now c.loop-event.volume c.step.new.self c.loop-event.invariant.counts c.in-Ok-Done.ensures.kept c.in-Ok-Done.ensures.loud c.in-Ok-Done.ensures.counts;
+  counts = counts_more g.B.Block.contents g.B.Block.layers g.B.Block.size c.args.volume.now c.loop-event.volume c.step.new.self c.loop-event.invariant.counts c.in-Ok-Done.ensures.kept c.in-Ok-Done.ensures.loud
+      (counts_alone g.B.Block.contents g.B.Block.layers c.loop-event.volume (kept_alone g.B.Block.size c.args.volume.now c.loop-event.volume c.loop-event.invariant.counts.kept c.requires.alone) c.in-Some.event c.step.new.self (sym c.in-Ok-Done.ensures.due) c.in-Ok-Done.ensures.counts);
 }
 
 pub loop-event-preserved : goal.loop-event-preserved
@@ -30,11 +33,20 @@ loop-event-preserved g c = record {
   so = drained_more g.B.Block.contents g.B.Block.layers g.B.Block.size c.args.volume.now c.loop-event.volume c.step.new.self c.in-Some.event Fault c.args.ended.now.items c.loop-event.ended.items c.reserve.new.self.items c.loop-event.invariant.so
       (done_first g.B.Block.contents g.B.Block.layers g.B.Block.size c.in-Some.event _ Fault c.loop-event.volume c.step.new.self c.in-Some.ensures.event c.in-Ok-Fault.field-0-is c.in-Ok-Fault.ensures.exact c.in-Ok-Fault.ensures.legal)
       (c.reserve.ensures.items ∙ sym (append-nil c.loop-event.ended.items));
-  counts = counts_more g.B.Block.contents g.B.Block.layers g.B.Block.size c.args.volume.now c.loop-event.volume c.step.new.self c.loop-event.invariant.counts c.in-Ok-Fault.ensures.kept c.in-Ok-Fault.ensures.loud c.in-Ok-Fault.ensures.counts;
+  counts = counts_more g.B.Block.contents g.B.Block.layers g.B.Block.size c.args.volume.now c.loop-event.volume c.step.new.self c.loop-event.invariant.counts c.in-Ok-Fault.ensures.kept c.in-Ok-Fault.ensures.loud
+      (counts_alone g.B.Block.contents g.B.Block.layers c.loop-event.volume (kept_alone g.B.Block.size c.args.volume.now c.loop-event.volume c.loop-event.invariant.counts.kept c.requires.alone) c.in-Some.event c.step.new.self (sym c.in-Ok-Fault.ensures.due) c.in-Ok-Fault.ensures.counts);
 }
 
 pub returns-clause-quiet : goal.returns-clause-quiet
-returns-clause-quiet g c = quiet_is g.B.Block.contents g.B.Block.layers g.B.Block.size c.loop-event.volume c.in_default.ensures.quiet
+returns-clause-quiet g c =
+    let alone = kept_alone g.B.Block.size c.args.volume.now c.loop-event.volume c.loop-event.invariant.counts.kept c.requires.alone in
+    quiet_is g.B.Block.contents g.B.Block.layers g.B.Block.size c.loop-event.volume alone c.in_default.ensures.quiet.0
+
+pub returns-clause-alone : goal.returns-clause-alone
+returns-clause-alone g c = kept_alone g.B.Block.size c.args.volume.now c.loop-event.volume c.loop-event.invariant.counts.kept c.requires.alone
+
+pub returns-in_default-reserve-clause-alone : goal.returns-in_default-reserve-clause-alone
+returns-in_default-reserve-clause-alone g c = kept_alone g.B.Block.size c.args.volume.now c.loop-event.volume c.loop-event.invariant.counts.kept c.requires.alone
 
 pub returns-clause-kept : goal.returns-clause-kept
 returns-clause-kept g c = devices_kept g.B.Block.size g.B.Block.layers c.args.volume.now c.loop-event.volume c.loop-event.invariant.counts.kept c.loop-event.invariant.counts.loud

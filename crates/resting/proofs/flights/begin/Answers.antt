@@ -1,5 +1,5 @@
 -- A request keeps the devices; one that is refused changes nothing, or spoils its snapshot.
-use Rattle.std.proofs.Common.{None}
+use Rattle.std.proofs.Common.{◌∙◌, None}
 use Rattle.resting.proofs.Seen.{devices_kept}
 use Rattle.resting.proofs.Started.{copies_by}
 use Rattle.resting.proofs.Between.{starved_settled}
@@ -22,3 +22,9 @@ pub returns-in-Err-clause-kept : goal.returns-in-Err-clause-kept
 returns-in-Err-clause-kept g c =
     devices_kept g.B.Block.size g.B.Block.layers c.args.volume.now c.submit.new.self c.in-Err.ensures.kept
     (refused_loud g.B.Block.contents g.B.Block.layers g.B.Block.size c.args.request c.in-Err.refusal c.args.volume.now c.submit.new.self c.in-Err.ensures.refused)
+
+pub returns-in-Ok-clause-alone : goal.returns-in-Ok-clause-alone
+returns-in-Ok-clause-alone g c = c.in-Ok.ensures.untouched.merge ∙ c.requires.alone
+
+pub returns-in-Err-clause-alone : goal.returns-in-Err-clause-alone
+returns-in-Err-clause-alone g c = c.in-Err.ensures.untouched.merge ∙ c.requires.alone

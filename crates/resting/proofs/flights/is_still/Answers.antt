@@ -10,5 +10,5 @@ returns-clause-still g c = λ settled. c.is_quiet.ensures.value ∙ settled_quie
 pub returns-clause-rest : goal.returns-clause-rest
 returns-clause-rest g c = λ yes loud. record {
   loud = loud;
-  rest = c.is_quiet.ensures.rest yes (sym (loud_same g.B.Block.contents g.B.Block.layers c.args.volume.now) ∙ loud) None;
+  rest = c.is_quiet.ensures.rest yes (sym (loud_same g.B.Block.contents g.B.Block.layers c.args.volume.now) ∙ loud) c.requires.alone None;
 }

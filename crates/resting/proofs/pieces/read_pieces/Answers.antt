@@ -7,6 +7,7 @@ use Rattle.plain.specs.declared.request.Reply.TheVariants.{Data}
 use Rattle.chunk.proofs.Runs.{StandsAt, first_piece, stands_first, stands_next, stands_last}
 use Rattle.volume.specs.Volumed.{piece_of}
 use Rattle.resting.specs.Rested.{rested_of, settled_of, IsSettled}
+use Rattle.resting.proofs.Alone.{piece_alone}
 use Rattle.resting.proofs.Going.{chunks_by, goes_none, goes_can, goes_more, goes_within, piece_least}
 use Rattle.resting.proofs.WriteRuns.{answer}
 use Rattle.resting.proofs.ReadRuns.{ReadsTo, reads_none}
@@ -35,7 +36,7 @@ loop-piece-init g c = record {
   finite = tt;
   place = record {
     from = 0;
-    stands = subst (λ n. StandsAt n c.args.range.first (c.args.range.first + c.args.range.count) 0 c.into_iter-piece-iterator.result) c.piece.ensures.piece
+    stands = subst (λ n. StandsAt n c.args.range.first (c.args.range.first + c.args.range.count) 0 c.into_iter-piece-iterator.result) (piece_alone c.args.volume.now c.piece.result c.requires.between.alone c.piece.ensures.piece)
         (stands_first c.piece.result (span_of c.args.range) _ _ c.pieces-piece-items.ensures.cut c.into_iter-piece-iterator.ensures.into_iter_gives);
     so = goes_none g.B.Block.contents g.B.Block.layers g.B.Block.size c.args.volume.now c.requires.between;
     few = (let none = c.in-Ok.ensures.len in omega (arith, none));
@@ -44,7 +45,7 @@ loop-piece-init g c = record {
   did = subst (λ bs. ReadsTo c.args.dev (IsSettled g.B.Block.contents g.B.Block.layers g.B.Block.size (rested_of c.args.volume.now)) (pieces_of (piece_of c.args.volume.now.snaps) (span_of c.args.range)) c.into_iter-piece-iterator.result bs
       (settled_of g.B.Block.contents g.B.Block.layers (rested_of c.args.volume.now)) (settled_of g.B.Block.contents g.B.Block.layers (rested_of c.args.volume.now))) (sym c.in-Ok.ensures.items)
       (reads_none c.args.dev _ (pieces_of (piece_of c.args.volume.now.snaps) (span_of c.args.range)) c.into_iter-piece-iterator.result (settled_of g.B.Block.contents g.B.Block.layers (rested_of c.args.volume.now))
-      (c.into_iter-piece-iterator.ensures.into_iter_gives ∙ c.pieces-piece-items.ensures.pieces ∙ ap (λ n. pieces_of n (span_of c.args.range)) c.piece.ensures.piece));
+      (c.into_iter-piece-iterator.ensures.into_iter_gives ∙ c.pieces-piece-items.ensures.pieces ∙ ap (λ n. pieces_of n (span_of c.args.range)) (piece_alone c.args.volume.now c.piece.result c.requires.between.alone c.piece.ensures.piece)));
 }
 
 pub read_piece-requires-clause-between : goal.read_piece-requires-clause-between
@@ -53,7 +54,7 @@ read_piece-requires-clause-between g c = c.loop-piece.invariant.place.so.between
 pub read_piece-requires-clause-can : goal.read_piece-requires-clause-can
 read_piece-requires-clause-can g c =
     let is = first_piece _ _ _ _ _ _ _ c.loop-piece.invariant.place.stands c.in-Some.ensures.steps in
-    let chunk = chunks_by c.args.volume.now c.piece.result c.piece.ensures.piece c.piece.ensures.same c.piece.ensures.allowed in
+    let chunk = chunks_by c.args.volume.now c.piece.result (piece_alone c.args.volume.now c.piece.result c.requires.between.alone c.piece.ensures.piece) c.piece.ensures.same c.piece.ensures.allowed in
     goes_can g.B.Block.contents g.B.Block.layers g.B.Block.size c.args.dev Read c.args.range c.in-Some.piece c.loop-piece.invariant.place.from
     c.args.volume.now c.loop-piece.volume c.requires.can c.loop-piece.invariant.place.so chunk.1 chunk.0 is tt
 
@@ -85,7 +86,7 @@ loop-piece-preserved g c =
 
 pub returns-in-Err-clause-refused : goal.returns-in-Err-clause-refused
 returns-in-Err-clause-refused g c =
-    let chunk = chunks_by c.args.volume.now c.piece.result c.piece.ensures.piece c.piece.ensures.same c.piece.ensures.allowed in
+    let chunk = chunks_by c.args.volume.now c.piece.result (piece_alone c.args.volume.now c.piece.result c.requires.between.alone c.piece.ensures.piece) c.piece.ensures.same c.piece.ensures.allowed in
     got_refused g.B.Block.contents g.B.Block.layers g.B.Block.size c.args.dev c.args.range (piece_of c.args.volume.now.snaps) c.loop-piece.out.items c.loop-piece.out.items c.loop-piece.piece-iterator c.next.new.self c.in-Some.piece
     c.args.volume.now c.loop-piece.volume c.read_piece.new.volume c.loop-piece.invariant.did c.in-Some.ensures.steps c.loop-piece.invariant.place.so.settled c.in-Err.refusal
     c.requires.can.there (piece_least g.B.Block.contents g.B.Block.layers c.args.volume.now chunk.1 chunk.0) c.in-Err.ensures.refused
@@ -120,7 +121,7 @@ returns-clause-between g c = c.loop-piece.invariant.place.so.between
 
 pub returns-clause-done : goal.returns-clause-done
 returns-clause-done g c =
-    let chunk = chunks_by c.args.volume.now c.piece.result c.piece.ensures.piece c.piece.ensures.same c.piece.ensures.allowed in
+    let chunk = chunks_by c.args.volume.now c.piece.result (piece_alone c.args.volume.now c.piece.result c.requires.between.alone c.piece.ensures.piece) c.piece.ensures.same c.piece.ensures.allowed in
     λ loud. got_all g.B.Block.contents g.B.Block.layers g.B.Block.size c.args.dev c.args.range (piece_of c.args.volume.now.snaps) c.loop-piece.out.items c.loop-piece.out.items c.loop-piece.piece-iterator c.loop-piece.piece-iterator c.args.range
     c.args.volume.now c.loop-piece.volume c.loop-piece.volume c.loop-piece.invariant.did c.in-None.ensures.steps.0 (piece_least g.B.Block.contents g.B.Block.layers c.args.volume.now chunk.1 chunk.0) loud
     ∙ ap (λ bs. answer (settled_of g.B.Block.contents g.B.Block.layers (rested_of c.loop-piece.volume)) (Data bs)) (sym c.from_vec.ensures)
@@ -143,13 +144,13 @@ returns-clause-copies g c =
 
 pub returns-clause-shows : goal.returns-clause-shows
 returns-clause-shows g c =
-    let chunk = chunks_by c.args.volume.now c.piece.result c.piece.ensures.piece c.piece.ensures.same c.piece.ensures.allowed in
+    let chunk = chunks_by c.args.volume.now c.piece.result (piece_alone c.args.volume.now c.piece.result c.requires.between.alone c.piece.ensures.piece) c.piece.ensures.same c.piece.ensures.allowed in
     plain_read g.B.Block.contents g.B.Block.layers g.B.Block.size c.args.dev c.args.range (piece_of c.args.volume.now.snaps) c.args.volume.now c.loop-piece.volume (is_chunk-some (piece_of c.args.volume.now.snaps) chunk.1) c.requires.can.some c.requires.can.inside
     chunk.0 (piece_least g.B.Block.contents g.B.Block.layers c.args.volume.now chunk.1 chunk.0) c.from_vec.result (returns-clause-done g c)
 
 pub returns-in-Err-clause-loses : goal.returns-in-Err-clause-loses
 returns-in-Err-clause-loses g c =
-    let chunk = chunks_by c.args.volume.now c.piece.result c.piece.ensures.piece c.piece.ensures.same c.piece.ensures.allowed in
+    let chunk = chunks_by c.args.volume.now c.piece.result (piece_alone c.args.volume.now c.piece.result c.requires.between.alone c.piece.ensures.piece) c.piece.ensures.same c.piece.ensures.allowed in
     plain_read_refused g.B.Block.contents g.B.Block.layers g.B.Block.size c.args.dev c.args.range (piece_of c.args.volume.now.snaps) c.args.volume.now c.read_piece.new.volume (is_chunk-some (piece_of c.args.volume.now.snaps) chunk.1) c.requires.can.some c.requires.can.inside
     chunk.0 (piece_least g.B.Block.contents g.B.Block.layers c.args.volume.now chunk.1 chunk.0) c.in-Err.refusal (returns-in-Err-clause-refused g c)
 

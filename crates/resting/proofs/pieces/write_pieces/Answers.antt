@@ -6,6 +6,7 @@ use Rattle.plain.specs.declared.request.Op.TheVariants.{Write}
 use Rattle.chunk.proofs.Runs.{StandsAt, first_piece, stands_first, stands_next, stands_last}
 use Rattle.volume.specs.Volumed.{piece_of}
 use Rattle.resting.specs.Rested.{rested_of, settled_of}
+use Rattle.resting.proofs.Alone.{piece_alone}
 use Rattle.resting.proofs.Going.{chunks_by, goes_none, goes_can, goes_more, goes_within, piece_least}
 use Rattle.resting.proofs.WriteRuns.{writes_none}
 use Rattle.resting.proofs.Writing.{part_is, part_fits, wrote_more, wrote_refused, wrote_all}
@@ -21,11 +22,11 @@ pub loop-piece-init : goal.loop-piece-init
 loop-piece-init g c = record {
   can = tt;
   finite = tt;
-  stands = subst (λ n. StandsAt n c.args.range.first (c.args.range.first + c.args.range.count) 0 c.into_iter-piece-iterator.result) c.piece.ensures.piece
+  stands = subst (λ n. StandsAt n c.args.range.first (c.args.range.first + c.args.range.count) 0 c.into_iter-piece-iterator.result) (piece_alone c.args.volume.now c.piece.result c.requires.between.alone c.piece.ensures.piece)
       (stands_first c.piece.result (span_of c.args.range) _ _ c.pieces-piece-items.ensures.cut c.into_iter-piece-iterator.ensures.into_iter_gives);
   so = goes_none g.B.Block.contents g.B.Block.layers g.B.Block.size c.args.volume.now c.requires.between;
   did = writes_none c.args.dev _ (pieces_of (piece_of c.args.volume.now.snaps) (span_of c.args.range)) c.into_iter-piece-iterator.result c.args.bytes.now (settled_of g.B.Block.contents g.B.Block.layers (rested_of c.args.volume.now))
-      (c.into_iter-piece-iterator.ensures.into_iter_gives ∙ c.pieces-piece-items.ensures.pieces ∙ ap (λ n. pieces_of n (span_of c.args.range)) c.piece.ensures.piece);
+      (c.into_iter-piece-iterator.ensures.into_iter_gives ∙ c.pieces-piece-items.ensures.pieces ∙ ap (λ n. pieces_of n (span_of c.args.range)) (piece_alone c.args.volume.now c.piece.result c.requires.between.alone c.piece.ensures.piece));
 }
 
 pub overflow_add-to : goal.overflow_add-to
@@ -49,14 +50,14 @@ pub write_piece-requires-clause-can : goal.write_piece-requires-clause-can
 write_piece-requires-clause-can g c =
     let is = first_piece _ _ _ _ _ _ _ c.loop-piece.invariant.stands c.in-Some.ensures.steps in
     let bytes = is.bytes in
-    let chunk = chunks_by c.args.volume.now c.piece.result c.piece.ensures.piece c.piece.ensures.same c.piece.ensures.allowed in
+    let chunk = chunks_by c.args.volume.now c.piece.result (piece_alone c.args.volume.now c.piece.result c.requires.between.alone c.piece.ensures.piece) c.piece.ensures.same c.piece.ensures.allowed in
     goes_can g.B.Block.contents g.B.Block.layers g.B.Block.size c.args.dev (Write (take (c.loop-piece.from + c.in-Some.piece.count * 512 - c.loop-piece.from) (drop c.loop-piece.from c.args.bytes.now))) c.args.range c.in-Some.piece c.loop-piece.from
     c.args.volume.now c.loop-piece.volume c.requires.can c.loop-piece.invariant.so chunk.1 chunk.0 is
     (part_fits c.loop-piece.from c.in-Some.piece.count c.args.range.count c.args.bytes.now c.requires.room (omega arith))
 
 pub returns-in-Err-clause-refused : goal.returns-in-Err-clause-refused
 returns-in-Err-clause-refused g c =
-    let chunk = chunks_by c.args.volume.now c.piece.result c.piece.ensures.piece c.piece.ensures.same c.piece.ensures.allowed in
+    let chunk = chunks_by c.args.volume.now c.piece.result (piece_alone c.args.volume.now c.piece.result c.requires.between.alone c.piece.ensures.piece) c.piece.ensures.same c.piece.ensures.allowed in
     wrote_refused g.B.Block.contents g.B.Block.layers g.B.Block.size c.args.dev c.args.range (piece_of c.args.volume.now.snaps) c.args.bytes.now c.loop-piece.from c.loop-piece.piece-iterator c.next.new.self c.in-Some.piece
     c.args.volume.now c.loop-piece.volume c.write_piece.new.volume c.loop-piece.invariant.did c.in-Some.ensures.steps c.loop-piece.invariant.so.settled
     (take (c.loop-piece.from + c.in-Some.piece.count * 512 - c.loop-piece.from) (drop c.loop-piece.from c.args.bytes.now)) c.in-Err.refusal (part_is c.loop-piece.from c.in-Some.piece.count c.args.bytes.now)
@@ -106,7 +107,7 @@ returns-clause-between g c = c.loop-piece.invariant.so.between
 
 pub returns-clause-done : goal.returns-clause-done
 returns-clause-done g c =
-    let chunk = chunks_by c.args.volume.now c.piece.result c.piece.ensures.piece c.piece.ensures.same c.piece.ensures.allowed in
+    let chunk = chunks_by c.args.volume.now c.piece.result (piece_alone c.args.volume.now c.piece.result c.requires.between.alone c.piece.ensures.piece) c.piece.ensures.same c.piece.ensures.allowed in
     wrote_all g.B.Block.contents g.B.Block.layers g.B.Block.size c.args.dev c.args.range (piece_of c.args.volume.now.snaps) c.args.bytes.now c.loop-piece.from c.loop-piece.piece-iterator c.loop-piece.piece-iterator c.args.range
     c.args.volume.now c.loop-piece.volume c.loop-piece.volume c.loop-piece.invariant.did c.in-None.ensures.steps.0 (piece_least g.B.Block.contents g.B.Block.layers c.args.volume.now chunk.1 chunk.0)
 
@@ -128,12 +129,12 @@ returns-clause-copies g c =
 
 pub returns-clause-shows : goal.returns-clause-shows
 returns-clause-shows g c =
-    let chunk = chunks_by c.args.volume.now c.piece.result c.piece.ensures.piece c.piece.ensures.same c.piece.ensures.allowed in
+    let chunk = chunks_by c.args.volume.now c.piece.result (piece_alone c.args.volume.now c.piece.result c.requires.between.alone c.piece.ensures.piece) c.piece.ensures.same c.piece.ensures.allowed in
     plain_write g.B.Block.contents g.B.Block.layers g.B.Block.size c.args.dev c.args.range (piece_of c.args.volume.now.snaps) c.args.bytes.now c.args.volume.now c.loop-piece.volume (is_chunk-some (piece_of c.args.volume.now.snaps) chunk.1) c.requires.can.some c.requires.can.inside
     c.requires.room chunk.0 (piece_least g.B.Block.contents g.B.Block.layers c.args.volume.now chunk.1 chunk.0) (returns-clause-done g c)
 
 pub returns-in-Err-clause-loses : goal.returns-in-Err-clause-loses
 returns-in-Err-clause-loses g c =
-    let chunk = chunks_by c.args.volume.now c.piece.result c.piece.ensures.piece c.piece.ensures.same c.piece.ensures.allowed in
+    let chunk = chunks_by c.args.volume.now c.piece.result (piece_alone c.args.volume.now c.piece.result c.requires.between.alone c.piece.ensures.piece) c.piece.ensures.same c.piece.ensures.allowed in
     plain_write_lost g.B.Block.contents g.B.Block.layers g.B.Block.size c.args.dev c.args.range (piece_of c.args.volume.now.snaps) c.args.bytes.now c.args.volume.now c.write_piece.new.volume (is_chunk-some (piece_of c.args.volume.now.snaps) chunk.1) c.requires.can.some c.requires.can.inside
     c.requires.room chunk.0 (piece_least g.B.Block.contents g.B.Block.layers c.args.volume.now chunk.1 chunk.0) c.in-Err.refusal (returns-in-Err-clause-refused g c)

@@ -1,5 +1,5 @@
 -- Accepted, answered at once, or starved.
-use Rattle.std.proofs.Common.{Some, None, arith}
+use Rattle.std.proofs.Common.{◌∙◌, Some, None, arith}
 use Rattle.plain.specs.declared.request.Reply.TheVariants.{Refused}
 use Rattle.plain.specs.declared.request.Failure.TheVariants.{Invalid}
 use Rattle.resting.proofs.Started.{copies_by, copies_same}
@@ -38,7 +38,7 @@ returns-in-Invalid-clause-copies g c =
 
 pub returns-in_default-clause-starved : goal.returns-in_default-clause-starved
 returns-in_default-clause-starved g c =
-    let only = starved_only g.B.Block.contents g.B.Block.layers g.B.Block.size c.args.request c.in-Err.refusal c.args.volume.now c.submit.new.self c.in-Err.ensures.refused c.requires.can c.requires.quiet c.requires.few c.in_default.not-Invalid in
+    let only = starved_only g.B.Block.contents g.B.Block.layers g.B.Block.size c.args.request c.in-Err.refusal c.args.volume.now c.submit.new.self c.in-Err.ensures.refused c.requires.can c.requires.alone c.requires.quiet c.requires.few c.in_default.not-Invalid in
     (only.0, only.1, c.in-Err.ensures.starved c.in_default.not-Invalid None)
 
 pub returns-in_default-clause-loud : goal.returns-in_default-clause-loud
@@ -52,3 +52,12 @@ returns-in_default-clause-requests g c = refused_requests g.B.Block.contents g.B
 
 pub returns-in_default-clause-copies : goal.returns-in_default-clause-copies
 returns-in_default-clause-copies g c = copies_same g.B.Block.contents g.B.Block.layers c.args.volume.now c.submit.new.self (c.in-Err.ensures.starved c.in_default.not-Invalid None)
+
+pub returns-in-Ok-clause-alone : goal.returns-in-Ok-clause-alone
+returns-in-Ok-clause-alone g c = c.in-Ok.ensures.untouched.merge ∙ c.requires.alone
+
+pub returns-in-Invalid-clause-alone : goal.returns-in-Invalid-clause-alone
+returns-in-Invalid-clause-alone g c = c.in-Err.ensures.untouched.merge ∙ c.requires.alone
+
+pub returns-in_default-clause-alone : goal.returns-in_default-clause-alone
+returns-in_default-clause-alone g c = c.in-Err.ensures.untouched.merge ∙ c.requires.alone

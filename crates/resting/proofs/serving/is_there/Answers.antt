@@ -1,11 +1,14 @@
 -- A snapshot that is found is there.
 use Rattle.std.proofs.Common.{sym, ◌∙◌, ap}
 use Rattle.resting.specs.Rested.{rested_of, has_dev}
+use Rattle.resting.proofs.Alone.{holds_alone}
 use Rattle.resting.proofs.Seen.{dev_found, dev_missing}
 use Rattle.resting.proofs.serving.is_there.Goals as goal
 
 pub returns-in-Ok : goal.returns-in-Ok
-returns-in-Ok g c = sym (ap (λ d. has_dev d (rested_of c.args.volume.now)) c.in-Snap.is ∙ dev_found c.in-Snap.number c.in-Ok.ensures.ok.0 c.args.volume.now c.in-Ok.ensures.ok.2)
+returns-in-Ok g c =
+    let ok = holds_alone _ c.in-Snap.number c.args.volume.now c.requires.alone c.in-Ok.ensures.ok in
+    sym (ap (λ d. has_dev d (rested_of c.args.volume.now)) c.in-Snap.is ∙ dev_found c.in-Snap.number ok.0 c.args.volume.now ok.2)
 
 pub returns-in-Err : goal.returns-in-Err
-returns-in-Err g c = sym (ap (λ d. has_dev d (rested_of c.args.volume.now)) c.in-Snap.is ∙ dev_missing c.in-Snap.number c.args.volume.now c.in-Err.ensures.err.1)
+returns-in-Err g c = sym (ap (λ d. has_dev d (rested_of c.args.volume.now)) c.in-Snap.is ∙ dev_missing c.in-Snap.number c.args.volume.now c.in-Err.ensures.err.1.snaps)

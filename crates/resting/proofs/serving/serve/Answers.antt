@@ -27,7 +27,7 @@ returns-in-Err-clause-kept g c = devices_kept g.B.Block.size g.B.Block.layers c.
 
 pub returns-clause-between : goal.returns-clause-between
 returns-clause-between g c =
-    between_after g.B.Block.contents g.B.Block.layers g.B.Block.size c.args.volume.now c.settle.new.volume c.requires.between c.settle.ensures.quiet
+    between_after g.B.Block.contents g.B.Block.layers g.B.Block.size c.args.volume.now c.settle.new.volume c.requires.between c.settle.ensures.alone c.settle.ensures.quiet
     (devices_kept g.B.Block.size g.B.Block.layers c.args.volume.now c.settle.new.volume
     (keeps_more g.B.Block.size c.args.volume.now c.enter.new.volume c.settle.new.volume c.in-Ok.ensures.kept c.settle.ensures.kept) (c.settle.ensures.run.loud ∙ c.in-Ok.ensures.loud))
 

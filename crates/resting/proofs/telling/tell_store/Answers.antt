@@ -2,7 +2,8 @@
 use Rattle.plain.specs.declared.request.Dev.TheVariants.{Snap}
 use Rattle.volume.specs.Layering.{Measures}
 use Rattle.volume.proofs.Told.{told_alike, untold_alike}
-use Rattle.resting.proofs.Alike.{quiet_alike, alike_kept, alike_settles, alike_requests, alike_copies}
+use Rattle.resting.proofs.Alone.{moving_alone}
+use Rattle.resting.proofs.Alike.{quiet_alike, alike_alone, alike_kept, alike_settles, alike_requests, alike_copies}
 use Rattle.resting.proofs.Tells.{store_told, store_untold}
 use Rattle.std.proofs.Common.{ap}
 use Rattle.std.specs.Prelude.{None}
@@ -73,7 +74,17 @@ returns-in-Err-clause-copies g c =
     alike_copies g.B.Block.contents g.B.Block.layers g.B.Block.size c.args.volume.now c.message.new.self (untold_alike m g.B.Block.layers (Snap c.number-number.result) c.args.depth c.args.message.now c.args.volume.now c.message.new.self c.in-Err.refusal c.in-Err.ensures.err)
 
 pub returns-in-Ok-clause-flying : goal.returns-in-Ok-clause-flying
-returns-in-Ok-clause-flying g c = dev_stays (Snap c.number-number.result) (layers_told c.args.depth c.args.message.now) (moving_of g.B.Block.contents g.B.Block.layers None c.args.volume.now) (moving_of g.B.Block.contents g.B.Block.layers None c.message.new.self) (c.in-Ok.ensures.moving None)
+returns-in-Ok-clause-flying g c = dev_stays (Snap c.number-number.result) (layers_told c.args.depth c.args.message.now) (moving_of g.B.Block.contents g.B.Block.layers None c.args.volume.now) (moving_of g.B.Block.contents g.B.Block.layers None c.message.new.self) (moving_alone g.B.Block.contents g.B.Block.layers c.args.volume.now c.requires.alone None) (c.in-Ok.ensures.moving None)
 
 pub returns-in-Err-clause-flying : goal.returns-in-Err-clause-flying
 returns-in-Err-clause-flying g c = ap without_devices (c.in-Err.ensures.still None)
+
+pub returns-in-Ok-clause-alone : goal.returns-in-Ok-clause-alone
+returns-in-Ok-clause-alone g c =
+    let m : Measures g.row.B.Denot = record { contents = g.B.Block.contents; durable = g.B.Block.durable; size = g.B.Block.size; faults = g.B.Block.fault_count; done = g.B.Block.done_count } in
+    alike_alone g.B.Block.contents g.B.Block.layers g.B.Block.size c.args.volume.now c.message.new.self (told_alike m g.B.Block.layers (Snap c.number-number.result) c.args.depth c.args.message.now c.args.volume.now c.message.new.self c.in-Ok.answer c.in-Ok.ensures.ok) c.requires.alone
+
+pub returns-in-Err-clause-alone : goal.returns-in-Err-clause-alone
+returns-in-Err-clause-alone g c =
+    let m : Measures g.row.B.Denot = record { contents = g.B.Block.contents; durable = g.B.Block.durable; size = g.B.Block.size; faults = g.B.Block.fault_count; done = g.B.Block.done_count } in
+    alike_alone g.B.Block.contents g.B.Block.layers g.B.Block.size c.args.volume.now c.message.new.self (untold_alike m g.B.Block.layers (Snap c.number-number.result) c.args.depth c.args.message.now c.args.volume.now c.message.new.self c.in-Err.refusal c.in-Err.ensures.err) c.requires.alone

@@ -1,4 +1,4 @@
-use Rattle.std.proofs.Common.{◌≡◌, ◌+◌, take, length}
+use Rattle.std.proofs.Common.{◌≡◌, take, length}
 use Rattle.store.specs.Held.{committed, pending, reserved}
 use Rattle.store.proofs.loading.hold_pairs.Given as goal
 

@@ -1,4 +1,4 @@
-use Rattle.std.proofs.Common.{◌≡◌, ◌∙◌, ◌++◌, ◌∷◌, [], sym, ap, refl}
+use Rattle.std.proofs.Common.{◌≡◌, ◌∙◌, ◌++◌, ◌∷◌, [], ap, refl}
 use Rattle.std.specs.Prelude.{◌&&◌}
 use Rattle.device.specs.Layers.{is_loud}
 use Rattle.named.specs.Stacks.{device_of}
@@ -35,4 +35,4 @@ pub returns-in-Err-attach-clause-busy : goal.returns-in-Err-attach-clause-busy
 returns-in-Err-attach-clause-busy c =
     rw (← c.self.view_is) (λ busy.
     busy_back c.args.chunk _ _ _ c.into_parts-names.result.0.items c.into_parts-names.result.1 c.into_parts-names.result.2 c.in-Err-attach.store c.args.stack c.of_parts.result c.self.inside.volume.events c.in-Err-attach.refusal
-    busy c.in-Err-attach.ensures.refused c.in-Err-attach.ensures.unread c.into_parts-names.ensures c.of_parts.ensures)
+    c.in-Err-attach.ensures.alone busy c.in-Err-attach.ensures.refused c.in-Err-attach.ensures.unread c.into_parts-names.ensures c.of_parts.ensures)

@@ -14,6 +14,7 @@ use Rattle.snapshot.proofs.Stores.{listed_now, pairs_dropped}
 use Rattle.snapshot.proofs.Events.{commit_fields, commits_at, marked_count}
 use Rattle.snapshot.proofs.Spared.{copies_slots, marks_slots, spared_like}
 use Rattle.snapshot.proofs.Steps.{step_like}
+use Rattle.snapshot.proofs.Stops.{commit_stops, valid_live}
 use Rattle.snapshot.proofs.snapshot.Snapshot.write_area.Goals as goal
 
 pub invariant_of-self : goal.invariant_of-self
@@ -89,3 +90,17 @@ returns-in-Err-clause-in_step g c =
     let s = c.self.inside.store in
     let t = c.write_area.new.self in
     step_like g.B.Block.contents g.B.Block.layers g.B.Block.size _ s.state t.area.bytes.items _ _ _ c.self.invariant.0 (like_same s.state t.state c.in-Err.ensures.kept.0) t.size t.given t.stored
+
+pub returns-in-Ok-clause-stops : goal.returns-in-Ok-clause-stops
+returns-in-Ok-clause-stops g c =
+    let s = c.self.inside.store in
+    let valid = valid_live c.self.inside.live c.self.inside.untried c.self.inside.stale s.state.valid c.self.invariant.0.valid (ap (λ v. v.live) c.self.view_is ∙ c.requires.live) in
+    rw (← c.self.view_is) (λ loud. commit_stops (committed s.exceptions) (pairs_pending s.exceptions) s.state s.area.bytes.items (g.B.Block.contents s.device) (g.B.Block.contents c.write_area.new.self.device) s.places.next s.front s.given c.self.invariant.0.ready (g.met.B.Block.whole s.device ∙ ap (λ n. 512 * n) (sym s.size)) (s.stored loud)
+    c.args.count (pending s.exceptions) refl c.write_area.ensures.only (c.write_area.ensures.stops valid loud))
+
+pub returns-in-Err-clause-stops : goal.returns-in-Err-clause-stops
+returns-in-Err-clause-stops g c =
+    let s = c.self.inside.store in
+    let valid = valid_live c.self.inside.live c.self.inside.untried c.self.inside.stale s.state.valid c.self.invariant.0.valid (ap (λ v. v.live) c.self.view_is ∙ c.requires.live) in
+    rw (← c.self.view_is) (λ loud. commit_stops (committed s.exceptions) (pairs_pending s.exceptions) s.state s.area.bytes.items (g.B.Block.contents s.device) (g.B.Block.contents c.write_area.new.self.device) s.places.next s.front s.given c.self.invariant.0.ready (g.met.B.Block.whole s.device ∙ ap (λ n. 512 * n) (sym s.size)) (s.stored loud)
+    c.args.count (pending s.exceptions) refl c.write_area.ensures.only (c.write_area.ensures.stops valid loud))

@@ -1,4 +1,4 @@
-use Rattle.std.proofs.Common.{◌≡◌, ◌≢◌, ◌∙◌, ◌*◌, length, ap, sym, subst, refl, rules, IsTrue}
+use Rattle.std.proofs.Common.{◌≡◌, ◌∙◌, ◌*◌, length, ap, sym, subst, refl, rules, IsTrue}
 use Rattle.device.specs.Layers.{is_loud}
 use Rattle.model.specs.Pairs.{pairs_of}
 use Rattle.store.specs.Headed.{head_of, marked_as}
@@ -6,7 +6,7 @@ use Rattle.store.specs.Held.{committed, pairs_pending}
 use Rattle.store.specs.Loading.{is_begun}
 use Rattle.store.specs.Stopping.{MayPrepare}
 use Rattle.store.specs.declared.state.Left.{Left}
-use Rattle.store.specs.declared.state.Left.TheVariants.{FirstArea, HeaderChunk, Tail, Nothing}
+use Rattle.store.specs.declared.state.Left.TheVariants.{FirstArea, HeaderChunk, Tail}
 use Rattle.store.proofs.Heads.{area_past}
 use Rattle.store.proofs.Stops.{first_stops, header_stops, tail_stops, unwritten_stops}
 use Rattle.store.proofs.store.Store.prepare.Goals as goal

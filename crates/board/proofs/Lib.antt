@@ -1,0 +1,2 @@
+mod Widths
+mod Moves

@@ -1,0 +1,3 @@
+pub mod Balance
+pub mod Passes
+pub mod Working
