@@ -1,3 +1,4 @@
+-- To be believed: `run`'s output, a volume's steps or its attach are said in these words.
 -- Which events of a merge may be due. A merge that failed has no group, and none of them is. What requests in flight and
 -- other snapshots have to say is their volume's to test.
 use Rattle.std.specs.Prelude.{◌==◌, ◌&&◌, not, ◌-◌, nat_lt, Bool, true, false, length, Option, Some, None, if◌then◌else◌}

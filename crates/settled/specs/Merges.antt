@@ -1,3 +1,4 @@
+-- To be believed: `run`'s output, a volume's steps or its attach are said in these words.
 -- A snapshot is merged back into its origin, in big steps, on devices that may fail: the origin reads as the snapshot from the
 -- beginning on, and the snapshot's chunks are copied to the origin disk from the last pair backwards. The order of the pairs
 -- and the groups are those of the kernel's dm-snap.c and dm-snap-persistent.c; that the first operation that fails stops the

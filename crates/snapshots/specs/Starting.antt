@@ -1,3 +1,4 @@
+-- To be believed: `run`'s output, a volume's steps or its attach are said in these words.
 -- Which copies a write needs at a sector of the origin, each snapshot of its own chunk there, and what starting them does to
 -- the snapshots of a volume, one after another. That a write never
 -- starts a copy that is under way is this project's own rule; that a full store makes its snapshot invalid is the kernel's,

@@ -1,3 +1,4 @@
+-- To be believed: `run`'s output, a volume's steps or its attach are said in these words.
 -- The pairs that a merge takes next: the last pair of the current area and those before it in that area while the old chunk
 -- and the new one both fall by one. The rule is the kernel's, of dm-snap-persistent.c.
 use Rattle.std.specs.Prelude.{◌≡◌, ◌⊎◌, ℕ, zero, suc, ◌+◌, ◌-◌, ◌<◌, ◌≤◌, List, [], ◌∷◌, length, drop, slice_index_or}

@@ -1,3 +1,4 @@
+-- To be believed: `run`'s output, a volume's steps or its attach are said in these words.
 -- What made an event fail, and how many operations it did: which device's counts rose, and which snapshot was spoiled. The
 -- rules are this project's own, after the kernel's admin-guide page on snapshots: a store that fails makes its own
 -- snapshot invalid, and nothing else.

@@ -1,3 +1,4 @@
+-- To be believed: `run`'s output, a volume's steps or its attach are said in these words.
 -- What an event does to the requests in flight, whatever the devices do. This project's own.
 use Rattle.std.specs.Prelude.{◌≡◌, ℕ, ◌*◌, List, length, Some}
 use Rattle.sector.specs.declared.range.Range.{Range}

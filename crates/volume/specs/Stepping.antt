@@ -1,3 +1,4 @@
+-- To be believed: `run`'s output, a volume's steps or its attach are said in these words.
 -- What an event that was due does to a volume.
 use Rattle.std.specs.Prelude.{◌≡◌, ℕ, ◌+◌, ◌<◌, ◌≤◌, Bool, true, false, List, Option, Some, None, map}
 use Rattle.device.specs.Layers.{Layer}

@@ -90,15 +90,13 @@ abbrev pub merge_shape : {B : Type 0} → Option (Merging B) → Option (MergeSh
 merge_shape None = None
 merge_shape (Some m) = Some (record { number = m.number; chunk = m.state.chunk; store = m.device })
 
--- its devices, each snapshot's state, the requests in flight, and what is left to do
+-- its devices, each snapshot's state, and the requests in flight
 abbrev pub shape_of : {B : Type 0} → (B → List ℕ) → (B → List Layer) → Volumed B → Shape B
 shape_of contents layers v = record {
   origin = v.origin;
   snaps = map snap_shape v.snaps;
   merge = merge_shape v.merge;
   requests = map in_flight v.flights;
-  due = next_of contents layers v;
-  left = left_in_all contents layers v;
 }
 
 -- the plain machine that its devices' own bytes stand for

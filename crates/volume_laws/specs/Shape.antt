@@ -1,9 +1,8 @@
 -- To be believed: `run`'s output, a volume's steps or its attach are said in these words.
--- What callers see of a volume: its devices, each snapshot's state, the requests in flight, and what is left to do.
+-- What callers see of a volume: its devices, each snapshot's state, and the requests in flight.
 use Rattle.std.specs.Prelude.{ℕ, Bool, List, Option, Some, None, map, if◌then◌else◌}
 use Rattle.model.specs.Picture.{picture}
 use Rattle.plain.specs.Plain.{Plain, Entry, Live, Invalid, InFlight}
-use Rattle.plain.specs.declared.event.Event.{Event}
 
 -- a snapshot: its number, whether it is live, the sectors of its chunks, and its store's device
 pub record SnapShape (B : Type 0) : Type 0 where
@@ -23,9 +22,6 @@ pub record Shape (B : Type 0) : Type 0 where
   pub snaps : List (SnapShape B)
   pub merge : Option (MergeShape B)
   pub requests : List InFlight
-  -- the event that is due first, and a whole number that every event lowers
-  pub due : Option Event
-  pub left : ℕ
 
 abbrev pub shown_origin : {B : Type 0} → (B → List ℕ) → B → Option (MergeShape B) → List ℕ
 shown_origin contents origin None = contents origin
