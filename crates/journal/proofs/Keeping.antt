@@ -1,7 +1,7 @@
 -- The events and the requests keep what is true of an audit.
 use Rattle.std.proofs.Common.{◌≡◌, ◌≢◌, ◌⊎◌, inl, inr, ℕ, zero, suc, ◌+◌, ◌*◌, ◌<◌, ◌≤◌, Bool, true, false, List, [], ◌∷◌, ◌++◌, length, get_or, set, map, take, drop, Option, Some, None, refl, sym, ◌∙◌, ap, subst, arith, length-append}
-use Rattle.std.specs.List.{All, remove}
-use Rattle.std.specs.Prelude.{replicate}
+use Rattle.std.specs.List.{All, list_all, remove}
+use Rattle.std.specs.Prelude.{◌&&◌, replicate}
 use Rattle.std.proofs.lemmas.Bool.{cases_eq}
 use Rattle.std.proofs.lemmas.List.{get_or-set_same, get_or-set_other, length-set, length-map, map-append}
 use Rattle.std.proofs.lemmas.List.Edits.{length-remove}
@@ -23,6 +23,11 @@ use Rattle.sector.specs.declared.range.Range.{Range}
 use Rattle.sector.specs.declared.refusal.Refusal.{Refusal}
 use Rattle.pending.specs.Kinds.{room_of, room_at}
 use Rattle.volume.specs.Flying.{Fits, IsFlown, IsTakenOut}
+use Rattle.device.specs.Layers.{Layer, is_loud}
+use Rattle.volume_laws.specs.Shape.{shown_entry}
+use Rattle.snapshot.specs.Kept.{Kept}
+use Rattle.merge.specs.Merging.{Merging}
+use Rattle.volume.specs.Volumed.{Volumed, plain_of, snap_shape, is_loud_in_all, is_loud_with}
 use Rattle.journal.specs.declared.entry.Answered.{Answered as AnsweredEntry}
 use Rattle.journal.specs.declared.entry.Entry.{Entry}
 use Rattle.journal.specs.declared.entry.Entry.TheVariants.{Answered, Spoiled}
@@ -190,22 +195,30 @@ counted_one counts es a s within was = elim (cases_eq a.seat s) [
 abbrev pub answer_of : Held → ℕ → Reply → AnsweredEntry
 answer_of x seat reply = record { seat = seat; request = x.for_entry; reply = reply }
 
-module _ (loud loud' told : Bool) (p q : Plain) (v : Books) (room' : ℕ) (h : IsAudit loud told p v) (same : loud' ≡ loud) (count : length q.saved ≡ length p.saved)
-    (room : room' ≡ v.room) (n k : ℕ) (x : Held) (first : IsFirst n v.held k x) (seat : ℕ) (mine : x.seat ≡ seat) where
-  left : length (remove v.held k) + 1 ≡ length v.held
+module _ (loud told : Bool) (p : Plain) (v : Books) (h : IsAudit loud told p v) (n k : ℕ) (x : Held) (first : IsFirst n v.held k x) where
+  pub left : length (remove v.held k) + 1 ≡ length v.held
   left = length-remove v.held k first.within
-
-  low : seat < 9
-  low = let fit = held_at v.held n k x h.counted.fits first in omega (arith, fit.seat, mine)
-
-  pub within : seat < length v.counts
-  within = omega (arith, low, h.counted.seats)
-
-  pub count_low : get_or v.counts seat 0 < 18_446_744_073_709_551_615
-  count_low = omega (arith, h.counted.counts seat low, entries_by_few seat v.entries, h.counted.entries)
 
   pub entry_room : length v.entries < v.room
   entry_room = omega (arith, h.counted.entries, h.counted.room, left)
+
+  module _ (seat : ℕ) (mine : x.seat ≡ seat) where
+    pub low : seat < 9
+    low = let fit = held_at v.held n k x h.counted.fits first in omega (arith, fit.seat, mine)
+
+    pub within : seat < length v.counts
+    within = omega (arith, low, h.counted.seats)
+
+    pub count_low : get_or v.counts seat 0 < 18_446_744_073_709_551_615
+    count_low = omega (arith, h.counted.counts seat low, entries_by_few seat v.entries, h.counted.entries)
+
+module _ (loud loud' told : Bool) (p q : Plain) (v : Books) (room' : ℕ) (h : IsAudit loud told p v) (same : loud' ≡ loud) (count : length q.saved ≡ length p.saved)
+    (room : room' ≡ v.room) (n k : ℕ) (x : Held) (first : IsFirst n v.held k x) (seat : ℕ) (mine : x.seat ≡ seat) where
+  inside : seat < length v.counts
+  inside = within loud told p v h n k x first seat mine
+
+  less : length (remove v.held k) + 1 ≡ length v.held
+  less = left loud told p v h n k x first
 
   module _ (reply : Reply) where
     abbrev issued_books : Books
@@ -215,10 +228,10 @@ module _ (loud loud' told : Bool) (p q : Plain) (v : Books) (room' : ℕ) (h : I
     issued_counted t = record {
       fits = left_fits v.held k h.counted.fits;
       held = sym (without_first n v.held k x first) ∙ ap (without n) h.counted.held ∙ sym t.gone;
-      counts = λ s lt. counted_one v.counts v.entries (answer_of x seat reply) s within (h.counted.counts s lt);
+      counts = λ s lt. counted_one v.counts v.entries (answer_of x seat reply) s inside (h.counted.counts s lt);
       seats = length-set v.counts seat (get_or v.counts seat 0 + 1) ∙ h.counted.seats;
       lives = h.counted.lives ∙ sym count;
-      entries = omega (arith, length-append v.entries (Answered (answer_of x seat reply) ∷ []), left, h.counted.entries);
+      entries = omega (arith, length-append v.entries (Answered (answer_of x seat reply) ∷ []), less, h.counted.entries);
       room = omega (arith, h.counted.room, room);
     }
 
@@ -312,3 +325,16 @@ new_keeps loud told p base counts room bare quiet on begins enough nought = reco
 pub quiet_keeps : (loud loud' told : Bool) (p q : Plain) (v : Books) → IsAudit loud told p v → loud' ≡ loud → q ≡ p → IsAudit loud' told q v
 quiet_keeps loud loud' told p q v h same plain =
     subst (λ (x : Plain). IsAudit loud' told x v) (sym plain) (record { counted = h.counted; loud_is = λ on. same ∙ h.loud_is on; replays = h.replays })
+
+-- a volume with no snapshot and no merge
+pub bare_saved : {B : Type 0} (contents : B → List ℕ) (layers : B → List Layer) (w : Volumed B) → w.snaps ≡ [] → (plain_of contents layers w).saved ≡ []
+bare_saved contents layers w bare = ap (λ (ss : List (Kept _)). map (shown_entry contents (contents w.origin)) (map snap_shape ss)) bare
+
+pub loud_alone : {B : Type 0} (layers : B → List Layer) (w : Volumed B) (told : Bool) → w.snaps ≡ [] → w.merge ≡ None → told ≡ is_loud (layers w.origin) → told ≡ is_loud_in_all layers w
+loud_alone layers w told bare alone is =
+    is ∙ sym (and_on (is_loud (layers w.origin))) ∙ ap (λ (ss : List (Kept _)). is_loud (layers w.origin) && list_all (λ (s : Kept _). is_loud (layers s.device)) ss) (sym bare)
+    ∙ ap (λ (m : Option (Merging _)). is_loud_with layers m (is_loud (layers w.origin) && list_all (λ (s : Kept _). is_loud (layers s.device)) w.snaps)) (sym alone)
+  where
+    and_on : (b : Bool) → (b && true) ≡ b
+    and_on true = refl
+    and_on false = refl

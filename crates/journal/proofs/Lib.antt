@@ -1,3 +1,4 @@
 pub mod Lost
 pub mod Replaying
 pub mod Keeping
+pub mod Receipts
