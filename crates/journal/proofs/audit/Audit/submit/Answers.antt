@@ -4,6 +4,7 @@ use Rattle.pending.specs.Kinds.{room_of}
 use Rattle.volume.specs.Volumed.{plain_of}
 use Rattle.journal.specs.Books.{AuditShape}
 use Rattle.journal.specs.Noted.{live_count}
+use Rattle.journal.specs.Seats.{seated}
 use Rattle.volume.proofs.Declines.{refused_declined, refused_loud}
 use Rattle.journal.proofs.Keeping.{submitted_keeps, spoilt_keeps, declined_spoils}
 use Rattle.journal.proofs.Receipts.{saved_count, saved_same, snaps_same, noted_all, only_spoils, held_more, refused_requests}
@@ -38,3 +39,15 @@ invariant_of-self-in-Err-submit g c =
     (saved_same g.B.Block.contents g.B.Block.layers c.self.inside.volume c.submit.new.self c.in-Err.ensures.kept.numbers)
     (λ loud. declined_spoils c.args.request c.in-Err.refusal _ _ (refused_declined g.B.Block.contents g.B.Block.layers g.B.Block.size c.self.inside.volume c.submit.new.self c.args.request c.in-Err.refusal refused loud))
     (noted_all g.B.Block.contents g.B.Block.layers c.submit.new.self _ _ _ _ c.note_spoils-in-Err.ensures.noted) c.note_spoils-in-Err.ensures.capacity)
+
+pub returns-in-Err-clause-starved : goal.returns-in-Err-clause-starved
+returns-in-Err-clause-starved g c = λ other replied. rw (← c.self.view_is) (c.in-Err.ensures.starved other replied)
+
+pub returns-in-Err-clause-loud : goal.returns-in-Err-clause-loud
+returns-in-Err-clause-loud g c =
+    rw (← c.self.view_is) (refused_loud g.B.Block.contents g.B.Block.layers g.B.Block.size c.self.inside.volume c.submit.new.self c.args.request c.in-Err.refusal c.in-Err.ensures.refused)
+
+pub returns-in-Err-clause-spoils : goal.returns-in-Err-clause-spoils
+returns-in-Err-clause-spoils g c =
+    (only_spoils _ _ _ _ _ _ _ _ c.note_spoils-in-Err.ensures.noted (ap (λ (a : AuditShape _). a.entries) c.self.view_is) refl,
+      ap (map seated) c.reserve.ensures.items ∙ ap (λ (a : AuditShape _). a.held) c.self.view_is)
