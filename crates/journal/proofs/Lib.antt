@@ -2,3 +2,4 @@ pub mod Lost
 pub mod Replaying
 pub mod Keeping
 pub mod Receipts
+pub mod Changes

@@ -222,3 +222,13 @@ seated_none n [] none = refl
 seated_none n (h ∷ hs) none =
     ap (λ b. if b then Some (seated h) else seated_under n (map seated hs)) (ne_eqb h.number n (none 0 h (omega arith)))
     ∙ seated_none n hs (λ j d lt. none (suc j) d (omega (arith, lt)))
+
+-- an entry of no request is of no seat
+pub entries_by_silent : (seat : ℕ) (es : List Entry) (e : Entry) → entries_by seat (e ∷ []) ≡ [] → entries_by seat (es ++ e ∷ []) ≡ entries_by seat es
+entries_by_silent seat [] e silent = silent
+entries_by_silent seat (Answered a ∷ es) e silent = ap (λ x. if a.seat == seat then a ∷ x else x) (entries_by_silent seat es e silent)
+entries_by_silent seat (Spoiled n ∷ es) e silent = entries_by_silent seat es e silent
+entries_by_silent seat (Attached n array ∷ es) e silent = entries_by_silent seat es e silent
+entries_by_silent seat (Detached n ∷ es) e silent = entries_by_silent seat es e silent
+entries_by_silent seat (Begun n ∷ es) e silent = entries_by_silent seat es e silent
+entries_by_silent seat (Finished ∷ es) e silent = entries_by_silent seat es e silent

@@ -59,3 +59,11 @@ pub record IsHeld {B : Type 0} (seat number : ℕ) (request : Request) (old new 
 abbrev pub IsBarred : {B : Type 0} → ℕ → Refusal → AuditShape B → AuditShape B → Type 0
 IsBarred more refusal old new =
     (((is_full_by more old ≡ true) × (refusal ≡ JournalFull)) ⊎ ((is_full_by more old ≡ false) × (refusal ≡ NoMemory))) × (new ≡ old)
+
+-- nothing but the volume changes
+pub record KeepsJournal {B : Type 0} (old new : AuditShape B) : Type 0 where
+  pub becomes : new ≡ record old { volume = new.volume }
+
+-- why a call is refused that takes no memory: the journal is full, which comes first, or the volume refuses
+abbrev pub IsUnchanged : Bool → Option Refusal → Refusal → Type 0
+IsUnchanged full others refusal = ((full ≡ true) × (refusal ≡ JournalFull)) ⊎ ((full ≡ false) × (others ≡ Some refusal))

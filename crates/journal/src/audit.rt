@@ -24,7 +24,7 @@ pub const SEATS: usize = 9;
 #[derive(Drop)]
 pub struct Audit<B: Layered> {
     pub(crate) volume: Volume<B>,
-    base: Base,
+    pub(crate) base: Base,
     pub(crate) entries: Vec<Entry>,
     pub(crate) held: Vec<Held>,
     /// Which snapshots were live when it looked last, in order of attaching.

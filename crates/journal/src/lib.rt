@@ -10,6 +10,7 @@
 mod applying;
 mod audit;
 mod bases;
+mod changing;
 mod entry;
 mod holding;
 mod noting;
