@@ -58,9 +58,11 @@ none_finished : (s : ℕ) (es : List Entry) → entries_by s (es ++ Finished ∷
 none_finished s es = entries_by_silent s es Finished refl
 
 finished_does : (p q : Plain) (lives : List Bool) → IsFinished p q → (after (saves_of p) Finished ≡ saves_of q) × IsLawful (saves_of p) Finished × (lives ≡ map is_live p.saved → lives ≡ map is_live q.saved)
-finished_does p q lives f =
-    ((λ i. record { origin = sym (ap (λ (x : Plain). x.origin) f.becomes) i; begun = sym (ap (λ (x : Plain). x.begun) f.becomes) i; saved = sym (ap (λ (x : Plain). x.saved) f.becomes) i }),
-      (f.number, f.merged), λ was. was ∙ ap (map is_live) (sym (ap (λ (x : Plain). x.saved) f.becomes)))
+finished_does p q lives f = (
+  (λ i. record { origin = sym (ap (λ (x : Plain). x.origin) f.becomes) i; begun = sym (ap (λ (x : Plain). x.begun) f.becomes) i; saved = sym (ap (λ (x : Plain). x.saved) f.becomes) i }),
+  (f.number, f.merged),
+  λ was. was ∙ ap (map is_live) (sym (ap (λ (x : Plain). x.saved) f.becomes)),
+)
 
 pub finished_keeps : {B : Type 0} (contents : B → List ℕ) (layers : B → List Layer) (w w' : Volumed B) (store : StoreDev B) (loud loud' more told : Bool) (v : Books) (room' : ℕ)
     → IsAudit loud told (plain_of contents layers w) v → loud ≡ (loud' && more) → IsTakenOut w w' store → (loud ≡ true → IsFinished (plain_of contents layers w) (plain_of contents layers w'))

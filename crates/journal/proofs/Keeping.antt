@@ -123,7 +123,7 @@ noted_replays p q v which lives' es' room' h origin begun saved s =
     let noted : map (spoiled_entry s.which) p.saved ≡ q.saved = all_noted which p.saved q.saved v.lives lives' v.entries es' h.lives saved s in
     let last : record (saves_of p) { saved = map (spoiled_entry s.which) p.saved } ≡ saves_of q = (λ i. record { origin = sym origin i; begun = sym begun i; saved = noted i }) in record {
       replay_is = ap (replay v.base) s.entries_are ∙ replay_then v.base v.entries (map Spoiled s.which) ∙ replay_spoils (replay v.base v.entries) s.which
-        ∙ ap (λ (x : Saves). record x { saved = map (spoiled_entry s.which) x.saved }) h.replay_is ∙ last;
+          ∙ ap (λ (x : Saves). record x { saved = map (spoiled_entry s.which) x.saved }) h.replay_is ∙ last;
       lawful = subst (AllLawful v.base) (sym s.entries_are) (lawful_then v.base v.entries (map Spoiled s.which) h.lawful (lawful_spoils (replay v.base v.entries) s.which));
       lives = lives_now which p.saved q.saved v.lives lives' v.entries es' h.lives saved s;
     }
@@ -136,7 +136,7 @@ spoilt_keeps loud loud' told p q v lives' es' room' h same requests count spoils
   counted = noted_counted p q v lives' es' room' h.counted noted requests count room;
   loud_is = λ on. same ∙ h.loud_is on;
   replays = λ on. let s = spoils (h.loud_is on) in
-    noted_replays p q v s.0 lives' es' room' (h.replays on) (ap (λ (x : Plain). x.origin) s.1) (ap (λ (x : Plain). x.begun) s.1) (ap (λ (x : Plain). x.saved) s.1) noted;
+      noted_replays p q v s.0 lives' es' room' (h.replays on) (ap (λ (x : Plain). x.origin) s.1) (ap (λ (x : Plain). x.begun) s.1) (ap (λ (x : Plain). x.saved) s.1) noted;
 }
 
 -- the request that was answered is the one that is held
@@ -174,9 +174,10 @@ pub fits_held : (p : Plain) (v : Books) (n k : ℕ) (x : Held) (reply : Reply) (
     → FitsReply (length x.entry_room) reply × FitsReply (length x.receipt_room) reply
 fits_held p v n k x reply new h first t =
     let fit = held_at v.held n k x h.fits first in
-    let asked : t.request ≡ x.for_entry = same_asked p v n k x t.request h first t.asked in
-    (room_fits t.request.op t.request.range reply (length x.entry_room) t.fits (fit.entry_room ∙ ap room_of (sym asked)),
-      room_fits t.request.op t.request.range reply (length x.receipt_room) t.fits (fit.receipt_room ∙ ap room_of (sym asked)))
+    let asked : t.request ≡ x.for_entry = same_asked p v n k x t.request h first t.asked in (
+      room_fits t.request.op t.request.range reply (length x.entry_room) t.fits (fit.entry_room ∙ ap room_of (sym asked)),
+      room_fits t.request.op t.request.range reply (length x.receipt_room) t.fits (fit.receipt_room ∙ ap room_of (sym asked)),
+    )
 
 left_fits : (hs : List Held) (k : ℕ) → All HeldFits hs → All HeldFits (remove hs k)
 left_fits hs k all = All-append HeldFits (take k hs) (drop (suc k) hs) (All-take HeldFits k hs all) (All-drop HeldFits (suc k) hs all)
@@ -185,11 +186,11 @@ left_fits hs k all = All-append HeldFits (take k hs) (drop (suc k) hs) (All-take
 counted_one : (counts : List ℕ) (es : List Entry) (a : AnsweredEntry) (s : ℕ) → a.seat < length counts → get_or counts s 0 ≡ length (entries_by s es)
     → get_or (set counts a.seat (get_or counts a.seat 0 + 1)) s 0 ≡ length (entries_by s (es ++ Answered a ∷ []))
 counted_one counts es a s within was = elim (cases_eq a.seat s) [
-    inl same ↦
-        let new : get_or (set counts a.seat (get_or counts a.seat 0 + 1)) s 0 ≡ get_or counts s 0 + 1 = subst (λ (j : ℕ). get_or (set counts a.seat (get_or counts a.seat 0 + 1)) j 0 ≡ get_or counts j 0 + 1) same (get_or-set_same counts a.seat (get_or counts a.seat 0 + 1) 0 within) in
-        omega (arith, new, was, ap length (entries_by_mine s es a same), length-append (entries_by s es) (a ∷ []))
+  | inl same ↦
+      let new : get_or (set counts a.seat (get_or counts a.seat 0 + 1)) s 0 ≡ get_or counts s 0 + 1 = subst (λ (j : ℕ). get_or (set counts a.seat (get_or counts a.seat 0 + 1)) j 0 ≡ get_or counts j 0 + 1) same (get_or-set_same counts a.seat (get_or counts a.seat 0 + 1) 0 within) in
+      omega (arith, new, was, ap length (entries_by_mine s es a same), length-append (entries_by s es) (a ∷ []))
   | inr apart ↦ get_or-set_other counts a.seat s (get_or counts a.seat 0 + 1) 0 (λ e. apart (sym e)) ∙ was ∙ ap (λ (xs : List AnsweredEntry). length xs) (sym (entries_by_other s es a apart))
-  ]
+]
 
 -- the entry of a request that was answered
 abbrev pub answer_of : Held → ℕ → Reply → AnsweredEntry
@@ -277,11 +278,11 @@ submitted_keeps loud loud' told p q v x number request lives' es' room' h same c
       };
       loud_is = λ on. same ∙ h.loud_is on;
       replays = λ on. let s = submitted (h.loud_is on) in
-        let r = noted_replays p q v s.0 lives' es' room' (h.replays on) (ap (λ (y : Plain). y.origin) s.1.becomes) (ap (λ (y : Plain). y.begun) s.1.becomes) (ap (λ (y : Plain). y.saved) s.1.becomes) noted in record {
-          replay_is = r.replay_is;
-          lawful = r.lawful;
-          lives = r.lives;
-        };
+          let r = noted_replays p q v s.0 lives' es' room' (h.replays on) (ap (λ (y : Plain). y.origin) s.1.becomes) (ap (λ (y : Plain). y.begun) s.1.becomes) (ap (λ (y : Plain). y.saved) s.1.becomes) noted in record {
+            replay_is = r.replay_is;
+            lawful = r.lawful;
+            lives = r.lives;
+          };
     }
 
 -- a request that was refused

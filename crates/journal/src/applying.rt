@@ -21,11 +21,7 @@ use plain::{Event, NotDue, Outcome, ReqId};
 impl<B: Layered> Audit<B> {
     /// Does one event for a seat, where it is due, and notes what came of it. A request is issued by the seat that submitted
     /// it; for another it is not due. A reply has a receipt for its entry.
-    pub fn apply(
-        &mut self,
-        seat: u8,
-        event: Event,
-    ) -> Result<(Outcome, Option<Receipt>), NotDue>
+    pub fn apply(&mut self, seat: u8, event: Event) -> Result<(Outcome, Option<Receipt>), NotDue>
         ensures noted { IfOk result (λ r. IsNoted seat r.0 r.1 self.old self.new) }
         ensures base { KeepsBase self.old self.new }
         ensures due { is_ok result ≡ (may_do seat event self.old.held && is_due_of B.contents B.layers self.old.volume event) }
@@ -82,11 +78,7 @@ impl<B: Layered> Audit<B> {
     }
 
     /// Issues a request, where this seat submitted it.
-    fn issue(
-        &mut self,
-        seat: u8,
-        number: ReqId,
-    ) -> Result<(Outcome, Option<Receipt>), NotDue>
+    fn issue(&mut self, seat: u8, number: ReqId) -> Result<(Outcome, Option<Receipt>), NotDue>
         ensures noted { IfOk result (λ r. IsNoted seat r.0 r.1 self.old self.new) }
         ensures base { KeepsBase self.old self.new }
         ensures due { is_ok result ≡ (may_do seat (Issue number) self.old.held && is_due_of B.contents B.layers self.old.volume (Issue number)) }

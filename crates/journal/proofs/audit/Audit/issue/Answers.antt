@@ -56,8 +56,8 @@ invariant_of-self g c =
     let same = c.remove-held.ensures.value ∙ get_or_default c.self.inside.held.items c.in-Some.place x c.index.result.now first.within ∙ sym c.index.ensures in
     let theirs : c.index.result.now.seat ≡ c.args.seat = search rules in
     let kept = issued_keeps _ _ c.self.inside.loud (plain_of g.B.Block.contents g.B.Block.layers c.self.inside.volume) (plain_of g.B.Block.contents g.B.Block.layers c.step.new.self) _ _ c.self.invariant c.in-Ok-Reply.ensures.loud
-      (saved_same g.B.Block.contents g.B.Block.layers c.self.inside.volume c.step.new.self c.in-Ok-Reply.ensures.kept.numbers) c.push_reserved.ensures.capacity c.args.number c.in-Some.place x first c.args.seat (ap (λ (y : Held). y.seat) same ∙ theirs)
-      c.in-Ok-Reply.reply c.in-Ok-Reply.which (rw c.in-Ok-Reply.field-0-is at c.in-Ok-Reply.ensures.flown) (λ loud. rw c.in-Ok-Reply.field-0-is at (c.in-Ok-Reply.ensures.legal loud)) in
+    (saved_same g.B.Block.contents g.B.Block.layers c.self.inside.volume c.step.new.self c.in-Ok-Reply.ensures.kept.numbers) c.push_reserved.ensures.capacity c.args.number c.in-Some.place x first c.args.seat (ap (λ (y : Held). y.seat) same ∙ theirs)
+    c.in-Ok-Reply.reply c.in-Ok-Reply.which (rw c.in-Ok-Reply.field-0-is at c.in-Ok-Reply.ensures.flown) (λ loud. rw c.in-Ok-Reply.field-0-is at (c.in-Ok-Reply.ensures.legal loud)) in
     rw (c.push_reserved.ensures.items, c.remove-held.ensures.items, c.count_one-count.ensures.counts, c.copy_into-for_entry.ensures) kept
 
 pub returns-in-Ok-Reply-clause-noted : goal.returns-in-Ok-Reply-clause-noted

@@ -48,6 +48,7 @@ returns-in-Err-clause-loud g c =
     rw (← c.self.view_is) (refused_loud g.B.Block.contents g.B.Block.layers g.B.Block.size c.self.inside.volume c.submit.new.self c.args.request c.in-Err.refusal c.in-Err.ensures.refused)
 
 pub returns-in-Err-clause-spoils : goal.returns-in-Err-clause-spoils
-returns-in-Err-clause-spoils g c =
-    (only_spoils _ _ _ _ _ _ _ _ c.note_spoils-in-Err.ensures.noted (ap (λ (a : AuditShape _). a.entries) c.self.view_is) refl,
-      ap (map seated) c.reserve.ensures.items ∙ ap (λ (a : AuditShape _). a.held) c.self.view_is)
+returns-in-Err-clause-spoils g c = (
+  only_spoils _ _ _ _ _ _ _ _ c.note_spoils-in-Err.ensures.noted (ap (λ (a : AuditShape _). a.entries) c.self.view_is) refl,
+  ap (map seated) c.reserve.ensures.items ∙ ap (λ (a : AuditShape _). a.held) c.self.view_is,
+)
