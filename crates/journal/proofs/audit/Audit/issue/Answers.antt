@@ -1,0 +1,89 @@
+use Rattle.std.proofs.Common.{rules, ◌≡◌, ◌≢◌, ◌<◌, ◌+◌, ◌++◌, ◌∷◌, [], sym, ap, ◌∙◌, arith, true, false, refl, length, map}
+use Rattle.journal.specs.Seats.{seated}
+use Rattle.journal.specs.declared.entry.Entry.TheVariants.{Answered}
+use Rattle.std.proofs.lemmas.List.{get_or_default}
+use Rattle.volume.specs.Volumed.{plain_of}
+use Rattle.journal.specs.Books.{AuditShape}
+use Rattle.journal.specs.Entries.{entries_by}
+use Rattle.journal.specs.declared.entry.Held.{Held}
+use Rattle.journal.proofs.Keeping.{first_of, held_at, fits_held, taken_here, number_same, count_low, issued_keeps, answer_of}
+use Rattle.journal.proofs.Receipts.{saved_same, mine_none, mine_other, mine_own, not_both, by_second, receipt_has}
+use Rattle.journal.proofs.audit.Audit.issue.Goals as goal
+
+pub returns-in_default-clause-due : goal.returns-in_default-clause-due
+returns-in_default-clause-due g c =
+    not_both _ _ (mine_none c.args.seat c.args.number c.self.inside.held.items _ (ap (λ (a : AuditShape _). a.held) c.self.view_is) (rw c.as_slice.ensures.value at c.in_default.ensures.none))
+
+pub returns-in_default-clause-first : goal.returns-in_default-clause-first
+returns-in_default-clause-first g c = λ next mine.
+    sym (mine_none c.args.seat c.args.number c.self.inside.held.items _ (ap (λ (a : AuditShape _). a.held) c.self.view_is) (rw c.as_slice.ensures.value at c.in_default.ensures.none)) ∙ mine
+
+pub returns-then-index-seat-clause-due : goal.returns-then-index-seat-clause-due
+returns-then-index-seat-clause-due g c =
+    let first = first_of c.args.number c.self.inside.held.items c.in-Some.place c.index.result.now c.index.ensures (rw c.as_slice.ensures.value at c.in-Some.ensures.some) in
+    let apart : c.index.result.now.seat ≢ c.args.seat = search rules in
+    not_both _ _ (mine_other c.args.seat c.args.number c.self.inside.held.items _ c.in-Some.place c.index.result.now (ap (λ (a : AuditShape _). a.held) c.self.view_is) first apart)
+
+pub returns-then-index-seat-clause-first : goal.returns-then-index-seat-clause-first
+returns-then-index-seat-clause-first g c = λ next mine.
+    let first = first_of c.args.number c.self.inside.held.items c.in-Some.place c.index.result.now c.index.ensures (rw c.as_slice.ensures.value at c.in-Some.ensures.some) in
+    let apart : c.index.result.now.seat ≢ c.args.seat = search rules in
+    sym (mine_other c.args.seat c.args.number c.self.inside.held.items _ c.in-Some.place c.index.result.now (ap (λ (a : AuditShape _). a.held) c.self.view_is) first apart) ∙ mine
+
+pub copy_into-for_entry-requires : goal.copy_into-for_entry-requires
+copy_into-for_entry-requires g c =
+    let first = first_of c.args.number c.self.inside.held.items c.in-Some.place c.remove-held.result c.remove-held.ensures.value (rw c.as_slice.ensures.value at c.in-Some.ensures.some) in
+    let flown = rw c.in-Ok-Reply.field-0-is at c.in-Ok-Reply.ensures.flown in
+    (fits_held _ _ c.args.number c.in-Some.place c.remove-held.result c.in-Ok-Reply.reply _ c.self.invariant.counted first (taken_here c.args.number c.in-Ok-Reply.which c.in-Ok-Reply.reply _ _ flown)).0
+
+pub copy_into-for_receipt-requires : goal.copy_into-for_receipt-requires
+copy_into-for_receipt-requires g c =
+    let first = first_of c.args.number c.self.inside.held.items c.in-Some.place c.remove-held.result c.remove-held.ensures.value (rw c.as_slice.ensures.value at c.in-Some.ensures.some) in
+    let flown = rw c.in-Ok-Reply.field-0-is at c.in-Ok-Reply.ensures.flown in
+    (fits_held _ _ c.args.number c.in-Some.place c.remove-held.result c.in-Ok-Reply.reply _ c.self.invariant.counted first (taken_here c.args.number c.in-Ok-Reply.which c.in-Ok-Reply.reply _ _ flown)).1
+
+pub count_one-count-requires-clause-few : goal.count_one-count-requires-clause-few
+count_one-count-requires-clause-few g c =
+    let first = first_of c.args.number c.self.inside.held.items c.in-Some.place c.remove-held.result c.remove-held.ensures.value (rw c.as_slice.ensures.value at c.in-Some.ensures.some) in
+    let same = c.remove-held.ensures.value ∙ get_or_default c.self.inside.held.items c.in-Some.place c.remove-held.result c.index.result.now first.within ∙ sym c.index.ensures in
+    let theirs : c.index.result.now.seat ≡ c.args.seat = search rules in
+    count_low _ _ (plain_of g.B.Block.contents g.B.Block.layers c.self.inside.volume) _ c.self.invariant c.args.number c.in-Some.place c.remove-held.result first c.args.seat (ap (λ (y : Held). y.seat) same ∙ theirs)
+
+pub invariant_of-self : goal.invariant_of-self
+invariant_of-self g c =
+    let x = c.remove-held.result in
+    let first = first_of c.args.number c.self.inside.held.items c.in-Some.place x c.remove-held.ensures.value (rw c.as_slice.ensures.value at c.in-Some.ensures.some) in
+    let same = c.remove-held.ensures.value ∙ get_or_default c.self.inside.held.items c.in-Some.place x c.index.result.now first.within ∙ sym c.index.ensures in
+    let theirs : c.index.result.now.seat ≡ c.args.seat = search rules in
+    let kept = issued_keeps _ _ c.self.inside.loud (plain_of g.B.Block.contents g.B.Block.layers c.self.inside.volume) (plain_of g.B.Block.contents g.B.Block.layers c.step.new.self) _ _ c.self.invariant c.in-Ok-Reply.ensures.loud
+    (saved_same g.B.Block.contents g.B.Block.layers c.self.inside.volume c.step.new.self c.in-Ok-Reply.ensures.kept.numbers) c.push_reserved.ensures.capacity c.args.number c.in-Some.place x first c.args.seat (ap (λ (y : Held). y.seat) same ∙ theirs)
+    c.in-Ok-Reply.reply c.in-Ok-Reply.which (rw c.in-Ok-Reply.field-0-is at c.in-Ok-Reply.ensures.flown) (λ loud. rw c.in-Ok-Reply.field-0-is at (c.in-Ok-Reply.ensures.legal loud)) in
+    rw (c.push_reserved.ensures.items, c.remove-held.ensures.items, c.count_one-count.ensures.counts, c.copy_into-for_entry.ensures) kept
+
+pub returns-in-Ok-Reply-clause-noted : goal.returns-in-Ok-Reply-clause-noted
+returns-in-Ok-Reply-clause-noted g c =
+    let x = c.remove-held.result in
+    let first = first_of c.args.number c.self.inside.held.items c.in-Some.place x c.remove-held.ensures.value (rw c.as_slice.ensures.value at c.in-Some.ensures.some) in
+    let same = c.remove-held.ensures.value ∙ get_or_default c.self.inside.held.items c.in-Some.place x c.index.result.now first.within ∙ sym c.index.ensures in
+    let theirs : c.index.result.now.seat ≡ c.args.seat = search rules in
+    let fit = held_at c.self.inside.held.items c.args.number c.in-Some.place x c.self.invariant.counted.fits first in
+    let mine = ap (λ (y : Held). y.seat) same ∙ theirs in
+    let entries = ap (λ (a : AuditShape _). a.entries) c.self.view_is in
+    let counted = c.count_one-count.ensures.result ∙ ap (λ k. k + 1) (c.self.invariant.counted.counts c.args.seat (omega (arith, fit.seat, mine)) ∙ ap (λ es. length (entries_by c.args.seat es)) entries) in
+    rw c.copy_into-for_receipt.ensures
+    (receipt_has _ _ c.self.inside.held.items c.args.number c.in-Ok-Reply.which c.in-Some.place c.args.seat c.count_one-count.result x c.in-Ok-Reply.reply
+    (number_same c.args.number c.in-Ok-Reply.which c.in-Ok-Reply.reply _ _ (rw c.in-Ok-Reply.field-0-is at c.in-Ok-Reply.ensures.flown)) first mine fit.same
+    (ap (λ (a : AuditShape _). a.held) c.self.view_is) (ap (map seated) c.remove-held.ensures.items) counted
+    (rw (c.push_reserved.ensures.items, c.copy_into-for_entry.ensures) (ap (λ es. es ++ Answered (answer_of x c.args.seat c.in-Ok-Reply.reply) ∷ []) entries)))
+
+pub returns-in-Ok-Reply-clause-due : goal.returns-in-Ok-Reply-clause-due
+returns-in-Ok-Reply-clause-due g c =
+    let x = c.remove-held.result in
+    let first = first_of c.args.number c.self.inside.held.items c.in-Some.place x c.remove-held.ensures.value (rw c.as_slice.ensures.value at c.in-Some.ensures.some) in
+    let same = c.remove-held.ensures.value ∙ get_or_default c.self.inside.held.items c.in-Some.place x c.index.result.now first.within ∙ sym c.index.ensures in
+    let theirs : c.index.result.now.seat ≡ c.args.seat = search rules in
+    by_second _ _ _ (mine_own c.args.seat c.args.number c.self.inside.held.items _ c.in-Some.place x (ap (λ (a : AuditShape _). a.held) c.self.view_is) first (ap (λ (y : Held). y.seat) same ∙ theirs))
+    (rw (← c.self.view_is) c.in-Ok-Reply.ensures.due)
+
+pub returns-in-Ok-Reply-clause-legal : goal.returns-in-Ok-Reply-clause-legal
+returns-in-Ok-Reply-clause-legal g c = rw (← c.self.view_is) (λ loud. rw c.in-Ok-Reply.field-0-is at (c.in-Ok-Reply.ensures.legal loud))

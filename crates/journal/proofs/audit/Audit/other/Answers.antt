@@ -1,0 +1,21 @@
+use Rattle.std.proofs.Common.{◌≡◌, ◌∙◌, ap, sym, true, refl}
+use Rattle.volume.specs.Volumed.{plain_of}
+use Rattle.journal.specs.Books.{AuditShape}
+use Rattle.journal.proofs.Keeping.{spoilt_keeps, spoils_of, flown_other}
+use Rattle.journal.proofs.Receipts.{saved_count, saved_same, snaps_same, noted_all, only_spoils, silent_noted}
+use Rattle.journal.proofs.audit.Audit.other.Goals as goal
+
+pub note_spoils-requires-clause-lives : goal.note_spoils-requires-clause-lives
+note_spoils-requires-clause-lives g c =
+    c.self.invariant.counted.lives ∙ saved_count g.B.Block.contents g.B.Block.layers c.self.inside.volume ∙ sym (snaps_same c.self.inside.volume c.step.new.self c.in-Ok.ensures.kept.numbers)
+
+pub invariant_of-self : goal.invariant_of-self
+invariant_of-self g c =
+    spoilt_keeps _ _ _ (plain_of g.B.Block.contents g.B.Block.layers c.self.inside.volume) (plain_of g.B.Block.contents g.B.Block.layers c.step.new.self) _ _ _ _ c.self.invariant c.in-Ok.ensures.loud
+    (flown_other c.args.event c.in-Ok.outcome _ _ c.requires c.in-Ok.ensures.flown) (saved_same g.B.Block.contents g.B.Block.layers c.self.inside.volume c.step.new.self c.in-Ok.ensures.kept.numbers)
+    (λ loud. spoils_of _ c.args.event c.in-Ok.outcome _ c.requires (c.in-Ok.ensures.legal loud)) (noted_all g.B.Block.contents g.B.Block.layers c.step.new.self _ _ _ _ c.note_spoils.ensures.noted) c.note_spoils.ensures.capacity
+
+pub returns-in-Ok-clause-noted : goal.returns-in-Ok-clause-noted
+returns-in-Ok-clause-noted g c =
+    silent_noted _ _ 0 c.args.event c.in-Ok.outcome _ _ c.requires c.in-Ok.ensures.flown
+    (record { held = ap (λ (a : AuditShape _). a.held) c.self.view_is; spoils = only_spoils _ _ _ _ _ _ _ _ c.note_spoils.ensures.noted (ap (λ (a : AuditShape _). a.entries) c.self.view_is) refl })

@@ -1,0 +1,54 @@
+use Rattle.std.proofs.Common.{rules, ◌≡◌, ◌+◌, ◌≤◌, length, refl, sym, ap, ◌∙◌, arith, map}
+use Rattle.std.proofs.lemmas.Bool.{ltb-false}
+use Rattle.pending.specs.Kinds.{room_of}
+use Rattle.volume.specs.Volumed.{plain_of}
+use Rattle.journal.specs.Books.{AuditShape}
+use Rattle.journal.specs.Noted.{live_count}
+use Rattle.journal.specs.Seats.{seated}
+use Rattle.volume.proofs.Declines.{refused_declined, refused_loud}
+use Rattle.journal.proofs.Keeping.{submitted_keeps, spoilt_keeps, declined_spoils}
+use Rattle.journal.proofs.Receipts.{saved_count, saved_same, snaps_same, noted_all, only_spoils, held_more, refused_requests}
+use Rattle.journal.proofs.audit.Audit.submit.Goals as goal
+
+pub note_spoils-requires-clause-lives : goal.note_spoils-requires-clause-lives
+note_spoils-requires-clause-lives g c =
+    c.self.invariant.counted.lives ∙ saved_count g.B.Block.contents g.B.Block.layers c.self.inside.volume ∙ sym (snaps_same c.self.inside.volume c.submit.new.self c.in-Ok-submit.ensures.kept.numbers)
+
+pub note_spoils-requires-in-Err-clause-lives : goal.note_spoils-requires-in-Err-clause-lives
+note_spoils-requires-in-Err-clause-lives g c =
+    c.self.invariant.counted.lives ∙ saved_count g.B.Block.contents g.B.Block.layers c.self.inside.volume ∙ sym (snaps_same c.self.inside.volume c.submit.new.self c.in-Err.ensures.kept.numbers)
+
+pub invariant_of-self-in-Ok-submit : goal.invariant_of-self-in-Ok-submit
+invariant_of-self-in-Ok-submit g c =
+    let ok = c.in-Ok-submit.ensures.ok in
+    let held = c.in-Ok-hold.ensures in
+    rw (c.push_reserved.ensures.items, c.reserve.ensures.items)
+    (submitted_keeps _ _ c.self.inside.loud (plain_of g.B.Block.contents g.B.Block.layers c.self.inside.volume) (plain_of g.B.Block.contents g.B.Block.layers c.submit.new.self) _ _ c.in-Ok-submit.number c.args.request _ _ _ c.self.invariant
+    ok.loud (saved_same g.B.Block.contents g.B.Block.layers c.self.inside.volume c.submit.new.self c.in-Ok-submit.ensures.kept.numbers) ok.flown (λ loud. (_, ok.legal loud))
+    (noted_all g.B.Block.contents g.B.Block.layers c.submit.new.self _ _ _ _ c.note_spoils.ensures.noted) c.note_spoils.ensures.capacity
+    (record { same = held.2 ∙ sym held.1; entry_room = held.3 ∙ ap room_of (sym held.1); receipt_room = held.4 ∙ ap room_of (sym held.1); seat = omega (arith, held.0, c.requires.seat) }) refl held.1
+    (omega (arith, ltb-false 65_536 _ (sym c.is_full.ensures ∙ c.if-is_full.false), c.len.ensures, c.len-2.ensures, ap live_count c.as_slice.ensures.value)))
+
+pub invariant_of-self-in-Err-submit : goal.invariant_of-self-in-Err-submit
+invariant_of-self-in-Err-submit g c =
+    let refused = c.in-Err.ensures.refused in
+    rw c.reserve.ensures.items
+    (spoilt_keeps _ _ c.self.inside.loud (plain_of g.B.Block.contents g.B.Block.layers c.self.inside.volume) (plain_of g.B.Block.contents g.B.Block.layers c.submit.new.self) _ _ _ _ c.self.invariant
+    (refused_loud g.B.Block.contents g.B.Block.layers g.B.Block.size c.self.inside.volume c.submit.new.self c.args.request c.in-Err.refusal refused)
+    (refused_requests g.B.Block.contents g.B.Block.layers g.B.Block.size c.args.request c.in-Err.refusal c.self.inside.volume c.submit.new.self refused)
+    (saved_same g.B.Block.contents g.B.Block.layers c.self.inside.volume c.submit.new.self c.in-Err.ensures.kept.numbers)
+    (λ loud. declined_spoils c.args.request c.in-Err.refusal _ _ (refused_declined g.B.Block.contents g.B.Block.layers g.B.Block.size c.self.inside.volume c.submit.new.self c.args.request c.in-Err.refusal refused loud))
+    (noted_all g.B.Block.contents g.B.Block.layers c.submit.new.self _ _ _ _ c.note_spoils-in-Err.ensures.noted) c.note_spoils-in-Err.ensures.capacity)
+
+pub returns-in-Err-clause-starved : goal.returns-in-Err-clause-starved
+returns-in-Err-clause-starved g c = λ other replied. rw (← c.self.view_is) (c.in-Err.ensures.starved other replied)
+
+pub returns-in-Err-clause-loud : goal.returns-in-Err-clause-loud
+returns-in-Err-clause-loud g c =
+    rw (← c.self.view_is) (refused_loud g.B.Block.contents g.B.Block.layers g.B.Block.size c.self.inside.volume c.submit.new.self c.args.request c.in-Err.refusal c.in-Err.ensures.refused)
+
+pub returns-in-Err-clause-spoils : goal.returns-in-Err-clause-spoils
+returns-in-Err-clause-spoils g c = (
+  only_spoils _ _ _ _ _ _ _ _ c.note_spoils-in-Err.ensures.noted (ap (λ (a : AuditShape _). a.entries) c.self.view_is) refl,
+  ap (map seated) c.reserve.ensures.items ∙ ap (λ (a : AuditShape _). a.held) c.self.view_is,
+)

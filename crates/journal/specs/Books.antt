@@ -1,0 +1,74 @@
+-- What is true of every audit. This project's own.
+use Rattle.std.specs.Prelude.{◌≡◌, ℕ, ◌+◌, ◌<◌, ◌≤◌, Bool, true, List, Option, Some, None, length, map, slice_index_or, vec_capacity}
+use Rattle.std.specs.List.{All}
+use Rattle.pending.specs.Kinds.{room_of}
+use Rattle.plain.specs.Plain.{Plain, InFlight, Entry as Shown, Saved as State, Live, Invalid}
+use Rattle.volume.specs.Volumed.{Volumed}
+use Rattle.journal.specs.declared.entry.Base.{Base}
+use Rattle.journal.specs.declared.entry.Saved.{Saved}
+use Rattle.journal.specs.declared.entry.Held.{Held}
+use Rattle.journal.specs.declared.entry.Entry.{Entry}
+use Rattle.journal.specs.Replay.{Saves, saves_of, replay, AllLawful}
+use Rattle.journal.specs.Entries.{entries_by}
+use Rattle.journal.specs.Noted.{is_live, live_count}
+use Rattle.journal.specs.Seats.{Seated}
+
+abbrev pub state_in : Option (List ℕ) → State
+state_in (Some array) = Live array
+state_in None = Invalid
+
+abbrev pub shown_in : Saved → Shown
+shown_in s = record { number = s.number; saved = state_in s.array }
+
+abbrev pub saves_in : Base → Saves
+saves_in b = record { origin = b.origin; begun = b.begun; saved = map shown_in b.saved.items }
+
+-- What callers see of an audit. lives: which snapshots were live when it looked last, in order of attaching. loud: whether no
+-- device that its volume had dropped writes.
+pub record AuditShape (B : Type 0) : Type 0 where
+  pub volume : Volumed B
+  pub base : Saves
+  pub entries : List Entry
+  pub held : List Seated
+  pub lives : List Bool
+  pub loud : Bool
+
+pub record Books : Type 0 where
+  pub base : Saves
+  pub entries : List Entry
+  pub held : List Held
+  pub lives : List Bool
+  pub counts : List ℕ
+  pub room : ℕ
+
+abbrev pub in_flight : Held → InFlight
+in_flight h = record { number = h.number; request = h.for_entry }
+
+-- the copies and the room of a request in flight fit it
+pub record HeldFits (h : Held) : Type 0 where
+  pub same : h.for_receipt ≡ h.for_entry
+  pub entry_room : length h.entry_room ≡ room_of h.for_entry
+  pub receipt_room : length h.receipt_room ≡ room_of h.for_entry
+  pub seat : h.seat < 9
+
+-- whatever the devices do: the requests in flight, each seat's count, and the room
+pub record Counted (p : Plain) (v : Books) : Type 0 where
+  pub fits : All HeldFits v.held
+  pub held : map in_flight v.held ≡ p.requests
+  pub counts : (s : ℕ) → s < 9 → slice_index_or v.counts s 0 ≡ length (entries_by s v.entries)
+  pub seats : length v.counts ≡ 9
+  pub lives : length v.lives ≡ length p.saved
+  pub entries : length v.entries + length v.held + live_count v.lives ≤ 65_536
+  pub room : 65_536 ≤ v.room
+
+-- the entries, replayed, give the plain machine's arrays and states
+pub record Replays (p : Plain) (v : Books) : Type 0 where
+  pub replay_is : replay v.base v.entries ≡ saves_of p
+  pub lawful : AllLawful v.base v.entries
+  pub lives : v.lives ≡ map is_live p.saved
+
+-- loud: whether no device drops writes now; told: whether none did
+pub record IsAudit (loud told : Bool) (p : Plain) (v : Books) : Type 0 where
+  pub counted : Counted p v
+  pub loud_is : told ≡ true → loud ≡ true
+  pub replays : told ≡ true → Replays p v

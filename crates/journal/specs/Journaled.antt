@@ -1,0 +1,69 @@
+-- What a call notes in the journal. This project's own.
+use Rattle.std.specs.Prelude.{◌≡◌, ◌⊎◌, nat_lt, ℕ, ◌+◌, Bool, true, false, List, [], ◌∷◌, ◌++◌, length, map, Option, Some, None}
+use Rattle.plain.specs.declared.event.Outcome.{Outcome}
+use Rattle.plain.specs.declared.event.Outcome.TheVariants.{Done, Fault, Reply as Replied}
+use Rattle.plain.specs.declared.request.Reply.{Reply}
+use Rattle.plain.specs.declared.request.Request.{Request}
+use Rattle.sector.specs.declared.refusal.Refusal.{Refusal}
+use Rattle.sector.specs.declared.refusal.Refusal.TheVariants.{JournalFull, NoMemory}
+use Rattle.journal.specs.declared.entry.Entry.{Entry}
+use Rattle.journal.specs.declared.entry.Entry.TheVariants.{Answered, Spoiled}
+use Rattle.journal.specs.declared.entry.Receipt.{Receipt}
+use Rattle.journal.specs.Books.{AuditShape}
+use Rattle.journal.specs.Entries.{answered_of, entries_by}
+use Rattle.journal.specs.Noted.{live_count}
+use Rattle.journal.specs.Seats.{seated_under, without_seated}
+
+-- whether so many entries more may be too many: each request in flight may come to one, and each live snapshot
+abbrev pub is_full_by : {B : Type 0} → ℕ → AuditShape B → Bool
+is_full_by more a = nat_lt 65_536 (length a.entries + length a.held + live_count a.lives + more)
+
+-- nothing changes what the journal began with
+pub record KeepsBase {B : Type 0} (old new : AuditShape B) : Type 0 where
+  pub base : new.base ≡ old.base
+  pub loud : new.loud ≡ old.loud
+
+-- entries of spoiled snapshots alone are new
+pub record OnlySpoils {B : Type 0} (old new : AuditShape B) : Type 0 where
+  pub which : List ℕ
+  pub entries : new.entries ≡ old.entries ++ map Spoiled which
+
+-- A reply to a seat's request under a number has one entry more, for which there is this receipt, and the request is in
+-- flight no more.
+pub record HasReceipt {B : Type 0} (seat number : ℕ) (reply : Reply) (r : Receipt) (old new : AuditShape B) : Type 0 where
+  pub by : r.seat ≡ seat
+  pub answer : r.reply ≡ reply
+  pub asked : seated_under number old.held ≡ Some (record { number = number; seat = seat; request = r.request })
+  pub gone : new.held ≡ without_seated number old.held
+  pub count : r.count ≡ length (entries_by seat old.entries) + 1
+  pub added : new.entries ≡ old.entries ++ Answered (answered_of r) ∷ []
+
+-- an event that gave no reply
+pub record IsSilent {B : Type 0} (old new : AuditShape B) : Type 0 where
+  pub held : new.held ≡ old.held
+  pub spoils : OnlySpoils old new
+
+-- what is noted of an event: a reply has a receipt, and nothing else has
+abbrev pub IsNoted : {B : Type 0} → ℕ → Outcome → Option Receipt → AuditShape B → AuditShape B → Type 0
+IsNoted seat (Replied number reply) (Some receipt) old new = HasReceipt seat number reply receipt old new
+IsNoted seat (Replied number reply) None old new = ⊥
+IsNoted seat outcome None old new = IsSilent old new
+IsNoted seat outcome (Some receipt) old new = ⊥
+
+-- a request is in flight for a seat
+pub record IsHeld {B : Type 0} (seat number : ℕ) (request : Request) (old new : AuditShape B) : Type 0 where
+  pub held : new.held ≡ old.held ++ record { number = number; seat = seat; request = request } ∷ []
+  pub spoils : OnlySpoils old new
+
+-- A call that was refused before the volume was asked: the journal is full, which comes first, or memory was refused.
+abbrev pub IsBarred : {B : Type 0} → ℕ → Refusal → AuditShape B → AuditShape B → Type 0
+IsBarred more refusal old new =
+    (((is_full_by more old ≡ true) × (refusal ≡ JournalFull)) ⊎ ((is_full_by more old ≡ false) × (refusal ≡ NoMemory))) × (new ≡ old)
+
+-- nothing but the volume changes
+pub record KeepsJournal {B : Type 0} (old new : AuditShape B) : Type 0 where
+  pub becomes : new ≡ record old { volume = new.volume }
+
+-- why a call is refused that takes no memory: the journal is full, which comes first, or the volume refuses
+abbrev pub IsUnchanged : Bool → Option Refusal → Refusal → Type 0
+IsUnchanged full others refusal = ((full ≡ true) × (refusal ≡ JournalFull)) ⊎ ((full ≡ false) × (others ≡ Some refusal))

@@ -1,0 +1,6 @@
+pub mod Replay
+pub mod Seats
+pub mod Entries
+pub mod Noted
+pub mod Books
+pub mod Journaled

@@ -1,0 +1,34 @@
+-- Who submitted the requests in flight. This project's own.
+use Rattle.std.specs.Prelude.{◌==◌, ℕ, Bool, true, false, List, [], ◌∷◌, Option, Some, None, if◌then◌else◌}
+use Rattle.plain.specs.declared.event.Event.{Event}
+use Rattle.plain.specs.declared.event.Event.TheVariants.{Issue}
+use Rattle.plain.specs.declared.request.Request.{Request}
+use Rattle.journal.specs.declared.entry.Held.{Held}
+
+-- a request in flight under its number, with the seat that submitted it
+pub record Seated : Type 0 where
+  pub number : ℕ
+  pub seat : ℕ
+  pub request : Request
+
+abbrev pub seated : Held → Seated
+seated h = record { number = h.number; seat = h.seat; request = h.for_entry }
+
+-- the first with a number
+abbrev pub seated_under : ℕ → List Seated → Option Seated
+seated_under number [] = None
+seated_under number (s ∷ ss) = if s.number == number then Some s else seated_under number ss
+
+-- the others
+abbrev pub without_seated : ℕ → List Seated → List Seated
+without_seated number [] = []
+without_seated number (s ∷ ss) = if s.number == number then ss else s ∷ without_seated number ss
+
+abbrev pub is_of : ℕ → Option Seated → Bool
+is_of seat None = false
+is_of seat (Some s) = s.seat == seat
+
+-- whether a seat may do an event: it issues its own requests alone
+abbrev pub may_do : ℕ → Event → List Seated → Bool
+may_do seat (Issue number) held = is_of seat (seated_under number held)
+may_do seat event held = true

@@ -1,0 +1,131 @@
+// What changes a volume between requests, and what it comes to in the journal.
+ghost use Rattle.std.specs.Prelude.{◌≡◌, ◌&&◌, ◌++◌, ◌∷◌, [], IfErr, IfOk, None, OnErr, OnOk, Option, Some, false, true};
+ghost use Rattle.device.specs.Layers.{is_loud};
+ghost use Rattle.layers.specs.Ticks.{layers_ticked};
+ghost use Rattle.plain.specs.Legal.{IsFinished};
+ghost use Rattle.plain.specs.declared.request.Reply.{Reply};
+ghost use Rattle.sector.specs.declared.refusal.Refusal.TheVariants.{NotMerging};
+ghost use Rattle.event_machine.specs.Merging.{finished, resumed};
+ghost use Rattle.volume.specs.Beginning.{IsResumed};
+ghost use Rattle.volume.specs.Finishing.{IsTakenOut, finish_refusal};
+ghost use Rattle.volume.specs.Layering.{IsTicked, moving_relayered};
+ghost use Rattle.volume.specs.Leaving.{close_refusal};
+ghost use Rattle.volume.specs.Moved.{moving_of};
+ghost use Rattle.volume.specs.Telling.{IsNotTold, IsTold, dev_relayered, layers_told};
+ghost use Rattle.volume.specs.Volumed.{books_of, is_loud_in_all, plain_of};
+ghost use Rattle.journal.specs.declared.entry.Entry.TheVariants.{Finished};
+ghost use Rattle.journal.specs.Journaled.{IsUnchanged, KeepsJournal, is_full_by};
+
+use crate::Audit;
+use crate::entry::Entry;
+use crate::holding::is_full;
+use layers::{Answer, Layered, Message};
+use plain::Dev;
+use sector::Refusal;
+use snapshot::StoreDev;
+
+impl<B: Layered> Audit<B> {
+    /// Lets so many seconds pass for the layers of every device.
+    pub fn tick(&mut self, seconds: u32)
+        ensures same { KeepsJournal self.old self.new }
+        ensures ticked { IsTicked (record { contents = B.contents; durable = B.durable; size = B.size; faults = B.fault_count; done = B.done_count }) B.layers seconds self.old.volume self.new.volume }
+        ensures moving { (replied : Option Reply) → moving_of B.contents B.layers replied self.new.volume ≡ moving_relayered (layers_ticked seconds) (moving_of B.contents B.layers replied self.old.volume) }
+        ensures books { books_of B.contents B.layers B.size self.new.volume ≡ books_of B.contents B.layers B.size self.old.volume }
+        ensures plain { plain_of B.contents B.layers self.new.volume ≡ plain_of B.contents B.layers self.old.volume }
+        ensures loud { is_loud_in_all B.layers self.new.volume ≡ is_loud_in_all B.layers self.old.volume }
+    {
+        self.volume.tick(seconds)
+    }
+
+    /// Tells a layer of one of the devices a message.
+    pub fn message(&mut self, dev: Dev, depth: usize, message: &Message) -> Result<Answer, Refusal>
+        ensures same { KeepsJournal self.old self.new }
+        ensures ok { IfOk result (λ answer. IsTold (record { contents = B.contents; durable = B.durable; size = B.size; faults = B.fault_count; done = B.done_count }) B.layers dev depth message.now answer self.old.volume self.new.volume) }
+        ensures err { IfErr result (λ refusal. IsNotTold (record { contents = B.contents; durable = B.durable; size = B.size; faults = B.fault_count; done = B.done_count }) B.layers dev depth message.now refusal self.old.volume self.new.volume) }
+        ensures moving { OnOk result ((replied : Option Reply) → moving_of B.contents B.layers replied self.new.volume ≡ dev_relayered dev (layers_told depth message.now) (moving_of B.contents B.layers replied self.old.volume)) }
+        ensures still { OnErr result ((replied : Option Reply) → moving_of B.contents B.layers replied self.new.volume ≡ moving_of B.contents B.layers replied self.old.volume) }
+        ensures books { books_of B.contents B.layers B.size self.new.volume ≡ books_of B.contents B.layers B.size self.old.volume }
+        ensures plain { plain_of B.contents B.layers self.new.volume ≡ plain_of B.contents B.layers self.old.volume }
+        ensures loud { is_loud_in_all B.layers self.new.volume ≡ is_loud_in_all B.layers self.old.volume }
+    {
+        self.volume.message(dev, depth, message)
+    }
+
+    /// Lets a merge that failed go on. `NotMerging` where none is begun.
+    pub fn resume_merge(&mut self) -> Result<(), Refusal>
+        ensures same { KeepsJournal self.old self.new }
+        ensures resumed { OnOk result (IsResumed self.old.volume self.new.volume) }
+        ensures exact { OnOk result ((replied : Option Reply) → resumed (moving_of B.contents B.layers replied self.old.volume) ≡ moving_of B.contents B.layers replied self.new.volume) }
+        ensures plain { plain_of B.contents B.layers self.new.volume ≡ plain_of B.contents B.layers self.old.volume }
+        ensures loud { is_loud_in_all B.layers self.new.volume ≡ is_loud_in_all B.layers self.old.volume }
+        ensures err { IfErr result (λ refusal. (refusal ≡ NotMerging) × (self.old.volume.merge ≡ None) × (self.new ≡ self.old)) }
+    {
+        self.volume.resume_merge()
+    }
+
+    /// Takes a merge out that came to its end, and gives the device of its store back. `JournalFull` comes first; then the
+    /// volume's own refusals.
+    pub fn finish_merge(&mut self) -> Result<StoreDev<B>, Refusal>
+        ensures noted { IfOk result (λ _. self.new ≡ record self.old { volume = self.new.volume; entries = self.old.entries ++ Finished ∷ [] }) }
+        ensures room { IfOk result (λ _. is_full_by 1 self.old ≡ false) }
+        ensures ok { IfOk result (λ store. finish_refusal self.old.volume ≡ None) }
+        ensures taken { IfOk result (λ store. IsTakenOut self.old.volume self.new.volume store) }
+        ensures legal { IfOk result (λ store. is_loud_in_all B.layers self.old.volume ≡ true → IsFinished (plain_of B.contents B.layers self.old.volume) (plain_of B.contents B.layers self.new.volume)) }
+        ensures disk { IfOk result (λ store. is_loud_in_all B.layers self.old.volume ≡ true → (plain_of B.contents B.layers self.old.volume).origin ≡ B.contents self.new.volume.origin) }
+        ensures exact { IfOk result (λ store. (replied : Option Reply) → finished (moving_of B.contents B.layers replied self.old.volume) ≡ moving_of B.contents B.layers replied self.new.volume) }
+        ensures loud { IfOk result (λ store. is_loud_in_all B.layers self.old.volume ≡ (is_loud_in_all B.layers self.new.volume && is_loud (B.layers store.device))) }
+        ensures err { IfErr result (λ refusal. IsUnchanged (is_full_by 1 self.old) (finish_refusal self.old.volume) refusal × (self.new ≡ self.old)) }
+    {
+        if is_full(
+            self.entries.len(),
+            self.held.len(),
+            self.lives.as_slice(),
+            1,
+        ) {
+            return Err(Refusal::JournalFull);
+        }
+        match self.volume.finish_merge() {
+            Ok(store) => {
+                self.entries.push_reserved(Entry::Finished);
+                Ok(store)
+            }
+            Err(refusal) => Err(refusal),
+        }
+    }
+}
+
+impl<B: Layered + Drop> Audit<B> {
+    /// Gives the origin disk back, and drops the journal. `Busy` where a snapshot is attached or a merge is begun, `NotQuiet`
+    /// where a request is in flight.
+    pub fn close(self) -> Result<B, (Refusal, Audit<B>)>
+        ensures ok { IfOk result (λ origin. (origin ≡ self.volume.origin) × (close_refusal self.volume ≡ None)) }
+        ensures err { IfErr result (λ e. (close_refusal self.volume ≡ Some e.0) × (e.1 ≡ self)) }
+    {
+        let Audit {
+            volume,
+            base,
+            entries,
+            held,
+            lives,
+            counts,
+            loud,
+            alloc,
+        } = self;
+        match volume.close() {
+            Ok(origin) => Ok(origin),
+            Err((refusal, volume)) => Err((
+                refusal,
+                Audit {
+                    volume,
+                    base,
+                    entries,
+                    held,
+                    lives,
+                    counts,
+                    loud,
+                    alloc,
+                },
+            )),
+        }
+    }
+}

@@ -1,0 +1,71 @@
+// What a journal holds, what it is asked about, and what stands beside it for each request in flight.
+use plain::{Reply, ReqId, Request, SnapId};
+use sector::Buf;
+
+/// A request that was answered, with the seat that submitted it.
+#[derive(Debug, Drop)]
+pub struct Answered {
+    pub seat: u8,
+    pub request: Request,
+    pub reply: Reply,
+}
+
+/// One thing that callers see happen.
+#[derive(Debug, Drop)]
+pub enum Entry {
+    Answered(Answered),
+    /// A snapshot was spoiled.
+    Spoiled(SnapId),
+    /// A snapshot was taken, with this array.
+    Attached(SnapId, Buf),
+    /// A snapshot was taken away.
+    Detached(SnapId),
+    /// A snapshot began to be merged: the origin is its array from here on.
+    Begun(SnapId),
+    /// The merge was taken out.
+    Finished,
+}
+
+/// For a seat's request entry with this count, from 1.
+#[derive(Debug, Drop)]
+pub struct Receipt {
+    pub seat: u8,
+    pub count: u64,
+    pub request: Request,
+    pub reply: Reply,
+}
+
+/// What a journal says of a receipt.
+#[derive(Clone, Copy, Debug, PartialEq, Eq)]
+pub enum Verdict {
+    Agrees,
+    Differs,
+}
+
+/// A snapshot of the base: its array, or none where it was spoiled.
+#[derive(Debug, Drop)]
+pub struct Saved {
+    pub number: SnapId,
+    pub array: Option<Buf>,
+}
+
+/// The arrays and states that the entries are replayed on.
+#[derive(Debug, Drop)]
+pub struct Base {
+    pub origin: Buf,
+    /// The snapshot that is being merged.
+    pub begun: Option<SnapId>,
+    /// The others, in order of attaching.
+    pub saved: Vec<Saved>,
+}
+
+/// A request in flight: who submitted it, and copies and room for its entry and its receipt.
+#[derive(Debug, Drop)]
+pub struct Held {
+    pub number: ReqId,
+    pub seat: u8,
+    pub for_entry: Request,
+    pub for_receipt: Request,
+    pub entry_room: Buf,
+    pub receipt_room: Buf,
+}

@@ -1,0 +1,71 @@
+// What stands beside each request in flight, and whether the journal has room.
+ghost use Rattle.std.specs.Prelude.{◌≡◌, ◌≢◌, ◌+◌, ◌<◌, ◌≤◌, nat_lt, IfNone, IfOk, IfSome, ℕ, length, slice_index_or, slice_set};
+ghost use Rattle.pending.specs.Kinds.{room_of};
+ghost use Rattle.journal.specs.Noted.{live_count};
+ghost use Rattle.journal.specs.declared.entry.Held.{Held};
+
+use crate::audit::MAX_ENTRIES;
+use crate::entry::Held;
+use crate::verdict::copy;
+use plain::{Op, ReqId, Request};
+use sector::{Buf, SECTOR_BYTES};
+use std::alloc::{AllocError, Global};
+
+/// How many of the snapshots are live.
+fn count_live(lives: &[bool]) -> usize
+    ensures { result ≡ live_count lives.now }
+{
+    let mut count = 0;
+    for live in lives {
+        if *live {
+            count += 1;
+        }
+    }
+    count
+}
+
+/// Whether so many entries more would be too many.
+pub(crate) fn is_full(entries: usize, held: usize, lives: &[bool], more: usize) -> bool
+    requires room { entries + held + live_count lives.now ≤ 65_536 }
+    requires more { more < 3 }
+    ensures { result ≡ nat_lt 65_536 (entries + held + live_count lives.now + more) }
+{
+    entries + held + count_live(lives) + more > MAX_ENTRIES
+}
+
+/// What stands beside a request, under no number yet.
+pub(crate) fn hold(alloc: Global, seat: u8, request: &Request) -> Result<Held, AllocError>
+    ensures { IfOk result (λ h. (h.seat ≡ seat) × (h.for_entry ≡ request.now) × (h.for_receipt ≡ request.now) × (length h.entry_room ≡ room_of request.now) × (length h.receipt_room ≡ room_of request.now)) }
+{
+    let room = match &request.op {
+        Op::Read => request.range.count as usize * SECTOR_BYTES,
+        Op::Write(_) => 0,
+    };
+    Ok(Held {
+        number: 0,
+        seat,
+        for_entry: copy(request, alloc)?,
+        for_receipt: copy(request, alloc)?,
+        entry_room: Buf::zeroed(alloc, room)?,
+        receipt_room: Buf::zeroed(alloc, room)?,
+    })
+}
+
+/// The place of the first request with this number.
+pub(crate) fn place_of(held: &[Held], number: ReqId) -> Option<usize>
+    ensures some { IfSome result (λ k. (k < length held.now) × ((d : Held) → (slice_index_or held.now k d).number ≡ number) × ((j : ℕ) (d : Held) → j < k → (slice_index_or held.now j d).number ≢ number)) }
+    ensures none { IfNone result ((j : ℕ) (d : Held) → j < length held.now → (slice_index_or held.now j d).number ≢ number) }
+{
+    held.iter().position(|h| h.number == number)
+}
+
+/// One more for a seat.
+pub(crate) fn count_one(counts: &mut Vec<u64>, seat: u8) -> u64
+    requires within { seat < length counts.old.items }
+    requires few { slice_index_or counts.old.items seat 0 < 18_446_744_073_709_551_615 }
+    ensures result { result ≡ slice_index_or counts.old.items seat 0 + 1 }
+    ensures counts { counts.new.items ≡ slice_set counts.old.items seat (slice_index_or counts.old.items seat 0 + 1) }
+{
+    counts[seat as usize] += 1;
+    counts[seat as usize]
+}

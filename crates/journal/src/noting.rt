@@ -1,0 +1,47 @@
+// Snapshots that a call spoiled are noted, each as one entry.
+ghost use Rattle.std.specs.Prelude.{◌≡◌, ◌+◌, ◌≤◌, length, ◌<◌, ◌&&◌, not, false, slice_index_or, vec_capacity, vec_len};
+ghost use Rattle.plain.specs.Plain.{Entry as Shown};
+ghost use Rattle.volume.specs.Volumed.{plain_of};
+ghost use Rattle.journal.specs.Noted.{Noted, is_live, live_count};
+
+use crate::entry::Entry;
+use device::Block;
+use plain::SnapId;
+use volume::Volume;
+
+/// Whether the snapshot at a place was live and is spoiled now.
+fn is_lost<B: Block>(volume: &Volume<B>, lives: &[bool], k: usize) -> bool
+    requires snaps { k < length volume.now.snaps }
+    requires lives { k < length lives.now }
+    ensures { (d : Shown) → result ≡ (slice_index_or lives.now k false && not (is_live (slice_index_or (plain_of B.contents B.layers volume.now).saved k d))) }
+{
+    let snap = volume.snap(k);
+    lives[k] && !snap.is_live()
+}
+
+/// Its number.
+fn number_at<B: Block>(volume: &Volume<B>, k: usize) -> SnapId
+    requires { k < length volume.now.snaps }
+    ensures { (d : Shown) → (slice_index_or (plain_of B.contents B.layers volume.now).saved k d).number ≡ result }
+{
+    volume.snap(k).number()
+}
+
+/// Notes each snapshot that was live and is spoiled now.
+pub(crate) fn note_spoils<B: Block>(
+    volume: &Volume<B>,
+    lives: &mut Vec<bool>,
+    entries: &mut Vec<Entry>,
+)
+    requires lives { length lives.old.items ≡ length volume.now.snaps }
+    requires room { vec_len entries.old + live_count lives.old.items ≤ vec_capacity entries.old }
+    ensures noted { Noted (length volume.now.snaps) (plain_of B.contents B.layers volume.now).saved lives.old.items lives.new.items entries.old.items entries.new.items }
+    ensures capacity { vec_capacity entries.new ≡ vec_capacity entries.old }
+{
+    for k in 0..lives.len() {
+        if is_lost(volume, lives.as_slice(), k) {
+            lives[k] = false;
+            entries.push_reserved(Entry::Spoiled(number_at(volume, k)));
+        }
+    }
+}

@@ -1,0 +1,70 @@
+// Requests of seats.
+ghost use Rattle.std.specs.Prelude.{◌≡◌, ◌≢◌, ◌⊎◌, ◌*◌, ◌<◌, ℕ, IfErr, IfOk, List, None, OnErr, Option, Some, false, length};
+ghost use Rattle.plain.specs.declared.request.Failure.TheVariants.{Invalid as IsInvalid};
+ghost use Rattle.plain.specs.declared.request.Op.TheVariants.{Write};
+ghost use Rattle.plain.specs.declared.request.Reply.{Reply};
+ghost use Rattle.plain.specs.declared.request.Reply.TheVariants.{Refused};
+ghost use Rattle.sector.specs.declared.refusal.Refusal.TheVariants.{Invalid};
+ghost use Rattle.event_machine.specs.Submitting.{submitted};
+ghost use Rattle.volume.specs.Moved.{moving_of};
+ghost use Rattle.volume.specs.Stepping.{KeepsAll, KeepsDevices};
+ghost use Rattle.volume.specs.Submitting.{IsAcceptedAs, IsRefusedAs, submit_refusal};
+ghost use Rattle.volume.specs.Volumed.{is_loud_in_all};
+ghost use Rattle.journal.specs.Journaled.{IsBarred, IsHeld, KeepsBase, OnlySpoils, is_full_by};
+
+use crate::Audit;
+use crate::holding::{hold, is_full};
+use crate::noting::note_spoils;
+use layers::Layered;
+use plain::{ReqId, Request};
+use sector::Refusal;
+
+impl<B: Layered> Audit<B> {
+    /// Submits a request for a seat, from 0 to 8, with all memory that its entry and its receipt need. `JournalFull` comes
+    /// first, where the entries, the requests in flight and the live snapshots are 65,536; then `NoMemory`; then the volume's
+    /// own refusals.
+    pub fn submit(&mut self, seat: u8, request: Request) -> Result<ReqId, Refusal>
+        requires seat { seat < 9 }
+        requires bytes { (bytes : List ℕ) → request.op ≡ Write bytes → length bytes ≡ 512 * request.range.count }
+        ensures held { IfOk result (λ number. IsHeld seat number request self.old self.new) }
+        ensures base { KeepsBase self.old self.new }
+        ensures room { IfOk result (λ _. is_full_by 1 self.old ≡ false) }
+        ensures ok { IfOk result (λ number. IsAcceptedAs B.contents B.layers request number self.old.volume self.new.volume) }
+        ensures kept { KeepsAll B.size self.old.volume self.new.volume }
+        ensures untouched { KeepsDevices self.old.volume self.new.volume }
+        ensures admitted { IfOk result (λ _. submit_refusal B.size request self.old.volume ≡ None) }
+        ensures exact { IfOk result (λ number. (replied : Option Reply) → submitted number request (moving_of B.contents B.layers replied self.old.volume) ≡ moving_of B.contents B.layers replied self.new.volume) }
+        ensures refused { IfErr result (λ refusal. IsBarred 1 refusal self.old self.new ⊎ ((is_full_by 1 self.old ≡ false) × IsRefusedAs B.contents B.layers B.size request refusal self.old.volume self.new.volume)) }
+        ensures declined { IfErr result (λ refusal. refusal ≡ Invalid → (number : ℕ) (replied : Option Reply) → submitted number request (moving_of B.contents B.layers replied self.old.volume) ≡ moving_of B.contents B.layers (Some (Refused IsInvalid)) self.new.volume) }
+        ensures starved { IfErr result (λ refusal. refusal ≢ Invalid → (replied : Option Reply) → moving_of B.contents B.layers replied self.new.volume ≡ moving_of B.contents B.layers replied self.old.volume) }
+        ensures loud { is_loud_in_all B.layers self.new.volume ≡ is_loud_in_all B.layers self.old.volume }
+        ensures spoils { OnErr result (OnlySpoils self.old self.new × (self.new.held ≡ self.old.held)) }
+    {
+        if is_full(
+            self.entries.len(),
+            self.held.len(),
+            self.lives.as_slice(),
+            1,
+        ) {
+            return Err(Refusal::JournalFull);
+        }
+        let Ok(()) = self.held.reserve(1) else {
+            return Err(Refusal::NoMemory);
+        };
+        let Ok(mut held) = hold(self.alloc, seat, &request) else {
+            return Err(Refusal::NoMemory);
+        };
+        match self.volume.submit(self.alloc, request) {
+            Ok(number) => {
+                held.number = number;
+                self.held.push_reserved(held);
+                note_spoils(&self.volume, &mut self.lives, &mut self.entries);
+                Ok(number)
+            }
+            Err(refusal) => {
+                note_spoils(&self.volume, &mut self.lives, &mut self.entries);
+                Err(refusal)
+            }
+        }
+    }
+}
