@@ -86,3 +86,5 @@ pub mod Beginnings
 pub mod Finished
 pub mod MovedWrites
 pub mod MergeWritten
+pub mod StopStill
+pub mod StopMoves
