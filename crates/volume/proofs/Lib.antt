@@ -88,3 +88,4 @@ pub mod MovedWrites
 pub mod MergeWritten
 pub mod StopStill
 pub mod StopMoves
+pub mod StopGiven
