@@ -89,3 +89,5 @@ pub mod MergeWritten
 pub mod StopStill
 pub mod StopMoves
 pub mod StopGiven
+pub mod StopIssues
+pub mod StopShown

@@ -66,7 +66,7 @@ first_passes test (y ∷ xs) x e = by (first_passes test xs x) (test y) refl
     by later false f = later (sym (cond-false _ _ _ f) ∙ e)
 
 -- the first that passes a test becomes another
-first_places : {X : Type 0} (R : X → X → Type 0) → ((x : X) → R x x) → (test : X → Bool) (x x' : X) (xs : List X) → first_that test xs ≡ Some x → R x x' → Places R xs (with_first test x' xs)
+pub first_places : {X : Type 0} (R : X → X → Type 0) → ((x : X) → R x x) → (test : X → Bool) (x x' : X) (xs : List X) → first_that test xs ≡ Some x → R x x' → Places R xs (with_first test x' xs)
 first_places R each test x x' [] e r = tt
 first_places R each test x x' (y ∷ xs) e r = by (λ here. first_places R each test x x' xs here r) (test y) refl
   where

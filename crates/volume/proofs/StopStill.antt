@@ -21,7 +21,7 @@ use Rattle.merge.specs.InStep.{IsInStep as IsMergingInStep}
 use Rattle.volume.specs.Volumed.{Volumed, books_of, is_loud_in_all, is_loud_with}
 use Rattle.volume.specs.Whole.{IsWhole, GoesOn}
 use Rattle.volume.specs.Asking.{IsMergeInStep}
-use Rattle.volume.specs.Stopping.{stopping_of, StopsOrigin, StopsVolume}
+use Rattle.volume.specs.Stopping.{stopping_of, StopsOrigin, StopsVolume, of_all}
 use Rattle.volume.proofs.Shown.{loud_books, loud_others, and_right}
 
 pub ready_live : (a b c : Bool) → a ≡ true → (a || (b || c)) ≡ true
@@ -129,13 +129,13 @@ module _ {B : Type 0} (contents : B → List ℕ) (layers : B → List Layer) (s
     origin_still given w step disk same = still_origin given w.origin disk v.merge w.merge h.merge (loud_merge v.merge (is_loud (layers v.origin) && list_all (λ s. is_loud (layers s.device)) v.snaps) loud) step same
 
     -- every device has the bytes that it had
-    pub volume_still : (given : Option Given) (w : Volumed B) → All (IsInStep contents layers size) v.snaps → IsMergeInStep contents layers size v.merge → contents w.origin ≡ contents v.origin
-        → ((k : ℕ) (s t : Kept B) → k < length v.snaps → s ≡ get_or v.snaps k s → t ≡ get_or w.snaps k t → contents t.device ≡ contents s.device) → SameMerging v.merge w.merge → StopsVolume contents size given v w
-    volume_still given w steps step disk each same = record {
-      snaps = λ k s t within is are. still_snap given v.origin w.origin disk s t (of_origin k s within is) (subst (IsInStep contents layers size) (sym is) (steps k s within)) (loud_snap k s within is) (each k s t within is are);
+    pub volume_still : (told : Bool → Bool) (given : Option Given) (w : Volumed B) → All (IsInStep contents layers size) v.snaps → IsMergeInStep contents layers size v.merge → contents w.origin ≡ contents v.origin
+        → ((k : ℕ) (s t : Kept B) → k < length v.snaps → s ≡ get_or v.snaps k s → t ≡ get_or w.snaps k t → contents t.device ≡ contents s.device) → SameMerging v.merge w.merge → StopsVolume contents size told given v w
+    volume_still told given w steps step disk each same = record {
+      snaps = λ k s t within is are said. still_snap given v.origin w.origin disk s t (of_origin k s within is) (subst (IsInStep contents layers size) (sym is) (steps k s within)) (loud_snap k s within is) (each k s t within is are);
       origin = origin_still given w step disk same;
     }
 
   -- at a moment between two calls
-  pub still_now : (v : Volumed B) → IsWhole contents layers size v → All (IsInStep contents layers size) v.snaps → IsMergeInStep contents layers size v.merge → is_loud_in_all layers v ≡ true → StopsVolume contents size None v v
-  still_now v h steps step loud = volume_still v h loud None v steps step refl (λ k s t within is are. ap (λ x. contents x.device) (are ∙ get_or_default v.snaps k t s within ∙ sym is)) (same_merging v.merge)
+  pub still_now : (v : Volumed B) → IsWhole contents layers size v → All (IsInStep contents layers size) v.snaps → IsMergeInStep contents layers size v.merge → is_loud_in_all layers v ≡ true → StopsVolume contents size of_all None v v
+  still_now v h steps step loud = volume_still v h loud of_all None v steps step refl (λ k s t within is are. ap (λ x. contents x.device) (are ∙ get_or_default v.snaps k t s within ∙ sym is)) (same_merging v.merge)

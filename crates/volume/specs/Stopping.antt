@@ -1,10 +1,10 @@
 -- What the devices of a volume may be left with where the machine stops before, after or within a call, while no device
 -- drops writes. Each sector is left as it was or as the call writes it, each by itself. This project's own; the bytes are
 -- those of dm-snap-persistent.c.
-use Rattle.std.specs.Prelude.{◌≡◌, ℕ, ◌<◌, false, List, Option, Some, None, length, slice_index_or}
+use Rattle.std.specs.Prelude.{◌≡◌, not, ℕ, ◌<◌, Bool, true, false, List, Option, Some, None, length, slice_index_or}
 use Rattle.sector.specs.declared.range.Range.{Range}
 use Rattle.plain.specs.declared.event.Event.{Event}
-use Rattle.plain.specs.declared.event.Event.TheVariants.{Issue}
+use Rattle.plain.specs.declared.event.Event.TheVariants.{Issue, WriteArea, WriteInvalid, MergeWrite, MergeCommit}
 use Rattle.plain.specs.declared.request.Dev.{Dev}
 use Rattle.plain.specs.declared.request.Dev.TheVariants.{Origin, Snap}
 use Rattle.plain.specs.declared.request.Op.{Op}
@@ -47,7 +47,25 @@ StopsOrigin contents size given origin origin' (Some m) (Some m') = StopsMerge (
 
 -- Every snapshot's store is loaded again with its array, and the origin with its own, whatever of the call is done: each sector of
 -- an array is as it was, or as a write gives it. A spoiled snapshot's store is refused, and while its mark is untried it may be.
-pub record StopsVolume {B : Type 0} (contents : B → List ℕ) (size : B → ℕ) (given : Option Given) (old new : Volumed B) : Type 0 where
-  pub snaps : (k : ℕ) (s t : Kept B) → k < length old.snaps → s ≡ slice_index_or old.snaps k s → t ≡ slice_index_or new.snaps k t →
+-- told: whether it is said of a snapshot, by whether its mark is untried.
+pub record StopsVolume {B : Type 0} (contents : B → List ℕ) (size : B → ℕ) (told : Bool → Bool) (given : Option Given) (old new : Volumed B) : Type 0 where
+  pub snaps : (k : ℕ) (s t : Kept B) → k < length old.snaps → s ≡ slice_index_or old.snaps k s → t ≡ slice_index_or new.snaps k t → told s.untried ≡ true →
       StopsSnap (λ d. HoldsNow (contents d)) size given old.origin new.origin (stopping_of s) (stopping_of t)
   pub origin : StopsOrigin contents size given old.origin new.origin old.merge new.merge
+
+-- of all snapshots
+abbrev pub of_all : Bool → Bool
+of_all untried = true
+
+-- an Issue: but for those whose mark is untried
+abbrev pub told_by : Event → Bool → Bool
+told_by (Issue number) untried = not untried
+told_by event untried = true
+
+-- the events whose stops are spoken of
+abbrev pub is_told : Event → Bool
+is_told (WriteArea number) = false
+is_told (WriteInvalid number) = false
+is_told MergeWrite = false
+is_told MergeCommit = false
+is_told event = true

@@ -3,7 +3,7 @@ ghost use Rattle.std.specs.Prelude.{◌≡◌, None, true};
 ghost use Rattle.std.specs.List.{All};
 ghost use Rattle.snapshot.specs.InStep.{IsInStep};
 ghost use Rattle.volume.specs.Asking.{IsMergeInStep};
-ghost use Rattle.volume.specs.Stopping.{StopsVolume};
+ghost use Rattle.volume.specs.Stopping.{StopsVolume, of_all};
 ghost use Rattle.volume.specs.Volumed.{is_loud_in_all};
 
 use crate::Volume;
@@ -30,7 +30,7 @@ impl<B: Block> Volume<B> {
     pub fn look_at_stores(&self)
         ensures in_step { All (IsInStep B.contents B.layers B.size) self.now.snaps }
         ensures merge { IsMergeInStep B.contents B.layers B.size self.now.merge }
-        ensures stops { is_loud_in_all B.layers self.now ≡ true → StopsVolume B.contents B.size None self.now self.now }
+        ensures stops { is_loud_in_all B.layers self.now ≡ true → StopsVolume B.contents B.size of_all None self.now self.now }
     {
         look_at_each(self.snaps.as_slice());
         match &self.merge {
