@@ -91,3 +91,4 @@ pub mod StopMoves
 pub mod StopGiven
 pub mod StopIssues
 pub mod StopShown
+pub mod StopSteps

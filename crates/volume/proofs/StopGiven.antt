@@ -20,7 +20,7 @@ use Rattle.snapshot.specs.InStep.{IsInStep}
 use Rattle.merge.specs.Merging.{Merging}
 use Rattle.merge.specs.InStep.{IsInStep as IsMergingInStep}
 use Rattle.volume.specs.Stopping.{stopping_of}
-use Rattle.volume.proofs.StopStill.{ready_live, loads_snap, loads_merge}
+use Rattle.volume.proofs.StopStill.{ready_live, loads_snap, loads_merge, refuses_snap}
 
 -- a store with an area has sectors
 area_some : (chunk n size : ℕ) → 0 < chunk → chunk * (n + 1) ≤ size → 0 < size
@@ -60,6 +60,20 @@ module _ {B : Type 0} (contents : B → List ℕ) (layers : B → List Layer) (s
         λ _. now,
         λ waits. absurd (false≢true (sym tried ∙ waits)),
         λ dead. absurd (false≢true (sym dead ∙ live)),
+      )
+
+  -- a spoiled snapshot whose mark was tried
+  pub dead_given : (s t : Kept B) → s.live ≡ false → s.untried ≡ false → t.live ≡ s.live → t.untried ≡ s.untried → t.stale ≡ s.stale → 0 < s.state.chunk
+      → IsInStep contents layers size s → IsInStep contents layers size t → is_loud (layers s.device) ≡ true → is_loud (layers t.device) ≡ true
+      → StopsSnap (λ d. HoldsNow (contents d)) size given o o' (stopping_of s) (stopping_of t)
+  dead_given s t dead tried lives tries stays pos h h' loud loud' = λ b c left_b left_c.
+      let some : 0 < size s.device = subst (λ n. 0 < n) h.sized (area_some s.state.chunk (area_place s.state.chunk (length s.pairs / (32 * s.state.chunk))) s.state.size pos h.formed.room) in (
+        λ live. absurd (false≢true (sym dead ∙ live)),
+        λ waits. absurd (false≢true (sym tried ∙ waits)),
+        λ _ _ sound. elim (left_c.each 0 some) [
+          | inl e ↦ ap found_in e ∙ refuses_snap contents layers size whole s h loud dead tried sound
+          | inr e ↦ ap found_in e ∙ refuses_snap contents layers size whole t h' loud' (lives ∙ dead) (tries ∙ tried) (stays ∙ sound)
+        ],
       )
 
   -- a merge that keeps its pairs

@@ -17,8 +17,15 @@ use Rattle.event_machine.specs.MergeStepping.{stepped_all}
 use Rattle.event_machine.specs.Due.{is_issuable}
 use Rattle.volume.proofs.StopMoves.{Places, places_same, first_places}
 
-abbrev pub SamePairs : Held → Held → Type 0
-SamePairs h h' = h'.pairs ≡ h.pairs
+-- its pairs and its flags are as they were
+pub record SamePairs (h h' : Held) : Type 0 where
+  pub pairs : h'.pairs ≡ h.pairs
+  pub live : h'.snap.live ≡ h.snap.live
+  pub untried : h'.untried ≡ h.untried
+  pub stale : h'.snap.stale ≡ h.snap.stale
+
+pairs_same : (h : Held) → SamePairs h h
+pairs_same h = record { pairs = refl; live = refl; untried = refl; stale = refl }
 
 abbrev pub SameMergePairs : Option MergeHeld → Option MergeHeld → Type 0
 SameMergePairs None after = Unit {0}
@@ -35,7 +42,7 @@ pub record KeepsPairs (v w : Moving) : Type 0 where
 
 keeps : (v w : Moving) → w.snaps ≡ v.snaps → w.merge ≡ v.merge → KeepsPairs v w
 keeps v w snaps merge = record {
-  snaps = subst (λ zs. Places SamePairs v.snaps zs) (sym snaps) (places_same SamePairs (λ h. refl) v.snaps);
+  snaps = subst (λ zs. Places SamePairs v.snaps zs) (sym snaps) (places_same SamePairs pairs_same v.snaps);
   merge = subst (λ (z : Option MergeHeld). SameMergePairs v.merge z) (sym merge) (same_pairs v.merge);
 }
 
@@ -47,20 +54,20 @@ disk_keeps : (op : Op) (first count : ℕ) (mine : Going → Bool) (v : Moving) 
 disk_keeps ReadOp first count mine v = keeps v (on_disk ReadOp first count mine v) refl refl
 disk_keeps (WriteOp bytes) first count mine v = keeps v (on_disk (WriteOp bytes) first count mine v) refl refl
 
-put_keeps : (test : Held → Bool) (h h' : Held) (v w : Moving) → first_that test v.snaps ≡ Some h → h'.pairs ≡ h.pairs → w.snaps ≡ with_first test h' v.snaps → w.merge ≡ v.merge → KeepsPairs v w
+put_keeps : (test : Held → Bool) (h h' : Held) (v w : Moving) → first_that test v.snaps ≡ Some h → SamePairs h h' → w.snaps ≡ with_first test h' v.snaps → w.merge ≡ v.merge → KeepsPairs v w
 put_keeps test h h' v w is same snaps merge = record {
-  snaps = subst (λ zs. Places SamePairs v.snaps zs) (sym snaps) (first_places SamePairs (λ k. refl) test h h' v.snaps is same);
+  snaps = subst (λ zs. Places SamePairs v.snaps zs) (sym snaps) (first_places SamePairs pairs_same test h h' v.snaps is same);
   merge = subst (λ (z : Option MergeHeld). SameMergePairs v.merge z) (sym merge) (same_pairs v.merge);
 }
 
 store_keeps : (op : Op) (first count : ℕ) (mine : Going → Bool) (test : Held → Bool) (h : Held) (v : Moving) → first_that test v.snaps ≡ Some h → KeepsPairs v (on_store op first count mine test h v)
-store_keeps ReadOp first count mine test h v is = put_keeps test h (with_store h (met h.snap.store (Reads first count))) v (on_store ReadOp first count mine test h v) is refl refl refl
+store_keeps ReadOp first count mine test h v is = put_keeps test h (with_store h (met h.snap.store (Reads first count))) v (on_store ReadOp first count mine test h v) is (record { pairs = refl; live = refl; untried = refl; stale = refl }) refl refl
 store_keeps (WriteOp bytes) first count mine test h v is =
-    put_keeps test h (with_store h (written_by h.snap.store (Writes first count) (with_sectors h.snap.store.bytes first bytes))) v (on_store (WriteOp bytes) first count mine test h v) is refl refl refl
+    put_keeps test h (with_store h (written_by h.snap.store (Writes first count) (with_sectors h.snap.store.bytes first bytes))) v (on_store (WriteOp bytes) first count mine test h v) is (record { pairs = refl; live = refl; untried = refl; stale = refl }) refl refl
 
 merging_keeps : (op : Op) (first count : ℕ) (mine : Going → Bool) (m : MergeHeld) (v : Moving) → v.merge ≡ Some m → KeepsPairs v (on_merging op first count mine m v)
-merging_keeps ReadOp first count mine m v is = record { snaps = places_same SamePairs (λ h. refl) v.snaps; merge = subst (λ (z : Option MergeHeld). SameMergePairs z (on_merging ReadOp first count mine m v).merge) (sym is) refl }
-merging_keeps (WriteOp bytes) first count mine m v is = record { snaps = places_same SamePairs (λ h. refl) v.snaps; merge = subst (λ (z : Option MergeHeld). SameMergePairs z (on_merging (WriteOp bytes) first count mine m v).merge) (sym is) refl }
+merging_keeps ReadOp first count mine m v is = record { snaps = places_same SamePairs pairs_same v.snaps; merge = subst (λ (z : Option MergeHeld). SameMergePairs z (on_merging ReadOp first count mine m v).merge) (sym is) refl }
+merging_keeps (WriteOp bytes) first count mine m v is = record { snaps = places_same SamePairs pairs_same v.snaps; merge = subst (λ (z : Option MergeHeld). SameMergePairs z (on_merging (WriteOp bytes) first count mine m v).merge) (sym is) refl }
 
 place_keeps : (dev : Dev) (op : Op) (place first count : ℕ) (mine : Going → Bool) (v : Moving) → KeepsPairs v (on_place dev op place first count mine v)
 place_keeps ToOrigin op place first count mine v = some_keeps v.merge (λ m. on_merging op (m.merge.chunk * place + first % m.merge.chunk) count mine m v) v (λ m is. merging_keeps op (m.merge.chunk * place + first % m.merge.chunk) count mine m v is)

@@ -1,0 +1,231 @@
+-- What a stop leaves within an event that writes no pair and no mark.
+use Rattle.std.proofs.Common.{◌≡◌, ◌≢◌, ◌⊎◌, inl, inr, ℕ, zero, suc, ◌+◌, ◌-◌, ◌*◌, ◌<◌, ◌≤◌, Bool, true, false, List, [], ◌∷◌, ◌++◌, Option, None, Some, length, get_or, map, refl, sym, ◌∙◌, ap, subst, arith}
+use Rattle.std.specs.Prelude.{◌&&◌, ◌==◌, not}
+use Rattle.std.specs.List.{All, list_all}
+use Rattle.std.proofs.Math.ListN.{get_or-append}
+use Rattle.std.proofs.Math.Seq.{get_or-append_seam}
+use Rattle.std.proofs.lemmas.Bool.{false≢true, cond-true, cond-false}
+use Rattle.std.proofs.lemmas.List.{length-map, get_or-map}
+use Rattle.sector.specs.Bytes.{sector_at, with_sectors}
+use Rattle.sector.proofs.Sectors.{kept_or_written}
+use Rattle.sector.specs.declared.range.Range.{Range}
+use Rattle.device.specs.Layers.{Layer, is_loud}
+use Rattle.model.specs.Picture.{picture}
+use Rattle.model.proofs.Pictures.{length-picture}
+use Rattle.plain.specs.Plain.{Plain, InFlight, Entry, asked_under}
+use Rattle.plain.specs.Legal.{IsLegalStep, Spoils, IsAnswered}
+use Rattle.plain.specs.Serves.{Serves, SameArrays}
+use Rattle.plain.specs.declared.event.Event.{Event}
+use Rattle.plain.specs.declared.event.Event.TheVariants.{Issue, CopyRead, CopyWrite, ZeroNext, WriteArea, Publish, WriteInvalid, MergeGroup, MergeAreaRead, MergeRead, MergeWrite, MergeFlush, MergeCommit, MergeRelease}
+use Rattle.plain.specs.declared.event.Outcome.{Outcome}
+use Rattle.plain.specs.declared.event.Outcome.TheVariants.{Done, Fault, Reply as Replied}
+use Rattle.plain.specs.declared.request.Dev.{Dev}
+use Rattle.plain.specs.declared.request.Dev.TheVariants.{Origin, Snap}
+use Rattle.plain.specs.declared.request.Op.{Op}
+use Rattle.plain.specs.declared.request.Op.TheVariants.{Read, Write}
+use Rattle.plain.specs.declared.request.Request.{Request}
+use Rattle.plain.specs.declared.request.Reply.{Reply}
+use Rattle.plain.specs.declared.request.Reply.TheVariants.{Data, Written, Refused}
+use Rattle.plain.specs.declared.request.Failure.TheVariants.{Invalid, Io}
+use Rattle.pending.specs.Kinds.{in_flight}
+use Rattle.pending.specs.declared.flights.Flight.{Flight}
+use Rattle.stop_laws.specs.Stop.{HoldsNow}
+use Rattle.stop_laws.specs.Clauses.{Given, Gives, StopsSnap}
+use Rattle.volume_laws.specs.Held.{LiveHolds, SnapHolds, RequestHolds}
+use Rattle.volume_laws.specs.Shape.{shown_origin, shown_entry}
+use Rattle.volume_laws.specs.Whole.{OriginHolds}
+use Rattle.volume_laws.proofs.WholeOne.{snap_holds}
+use Rattle.event_machine.specs.Seen.{replied_by}
+use Rattle.event_machine.specs.MergeSeen.{held_in}
+use Rattle.event_machine.specs.MergeStepping.{stepped_all}
+use Rattle.snapshot.specs.Kept.{Kept, books_of as snap_books}
+use Rattle.snapshot.specs.InStep.{IsInStep}
+use Rattle.snapshots.specs.Numbers.{number_of_snap}
+use Rattle.merge.specs.Merging.{Merging}
+use Rattle.merge_beside.specs.Rooms.{merge_books}
+use Rattle.volume.specs.Volumed.{Volumed, books_of, plain_of, is_loud_in_all, is_loud_with, snap_shape, merge_shape}
+use Rattle.volume.specs.Whole.{IsWhole, IsCounted, GoesOn}
+use Rattle.volume.specs.Causes.{counts_with}
+use Rattle.volume.specs.Exact.{IsExact}
+use Rattle.volume.specs.Moved.{moving_of, held_of, merge_seen}
+use Rattle.volume.specs.Asking.{IsMergeInStep}
+use Rattle.volume.specs.Stepping.{KeepsAll, merged_of}
+use Rattle.volume.specs.Stopping.{stopping_of, array_of, given_as, given_in, given_by, told_by, is_told, StopsOrigin, StopsVolume}
+use Rattle.volume.proofs.Shown.{and_right}
+use Rattle.volume.proofs.Counting.{head_counted}
+use Rattle.volume.proofs.StopStill.{SameMerging, still_snap, origin_still, loud_snap, of_origin}
+use Rattle.volume.proofs.StopGiven.{IsGiven, live_given, dead_given, merge_given}
+use Rattle.volume.proofs.StopMoves.{Places, seen_place, Moves, WritesOwn, SameStore, Steps, is_still, steps_by}
+use Rattle.volume.proofs.StopIssues.{SamePairs, SameMergePairs, KeepsPairs, pairs_kept}
+use Rattle.volume.proofs.StopShown.{same_shown, kept_shown, changed_shown}
+
+no_issue : (event : Event) (number : ℕ) → is_still event ≡ true → event ≢ Issue number
+no_issue event number e is = false≢true (sym (ap is_still is) ∙ e)
+
+-- such an event spoils, or is silent, and writes no request's bytes
+spoils_of : (event : Event) (outcome : Outcome) (p q : Plain) → is_still event ≡ true → IsLegalStep p event outcome q → (which : List ℕ) × Spoils which p q
+spoils_of (CopyRead n) Done p q e l = l
+spoils_of (CopyRead n) Fault p q e l = l
+spoils_of (CopyRead n) (Replied number reply) p q e l = absurd (no_issue (CopyRead n) number e l.0)
+spoils_of (CopyWrite n) Done p q e l = l
+spoils_of (CopyWrite n) Fault p q e l = l
+spoils_of (CopyWrite n) (Replied number reply) p q e l = absurd (no_issue (CopyWrite n) number e l.0)
+spoils_of (ZeroNext n) Done p q e l = l
+spoils_of (ZeroNext n) Fault p q e l = l
+spoils_of (ZeroNext n) (Replied number reply) p q e l = absurd (no_issue (ZeroNext n) number e l.0)
+spoils_of (Publish n) Done p q e l = l
+spoils_of (Publish n) Fault p q e l = l
+spoils_of (Publish n) (Replied number reply) p q e l = absurd (no_issue (Publish n) number e l.0)
+spoils_of MergeGroup Done p q e l = l
+spoils_of MergeGroup Fault p q e l = l
+spoils_of MergeGroup (Replied number reply) p q e l = absurd (no_issue MergeGroup number e l.0)
+spoils_of MergeAreaRead Done p q e l = l
+spoils_of MergeAreaRead Fault p q e l = l
+spoils_of MergeAreaRead (Replied number reply) p q e l = absurd (no_issue MergeAreaRead number e l.0)
+spoils_of MergeRead Done p q e l = l
+spoils_of MergeRead Fault p q e l = l
+spoils_of MergeRead (Replied number reply) p q e l = absurd (no_issue MergeRead number e l.0)
+spoils_of MergeFlush Done p q e l = l
+spoils_of MergeFlush Fault p q e l = l
+spoils_of MergeFlush (Replied number reply) p q e l = absurd (no_issue MergeFlush number e l.0)
+spoils_of MergeRelease Done p q e l = l
+spoils_of MergeRelease Fault p q e l = l
+spoils_of MergeRelease (Replied number reply) p q e l = absurd (no_issue MergeRelease number e l.0)
+spoils_of (Issue n) outcome p q e l = absurd (false≢true e)
+spoils_of (WriteArea n) outcome p q e l = absurd (false≢true e)
+spoils_of (WriteInvalid n) outcome p q e l = absurd (false≢true e)
+spoils_of MergeWrite outcome p q e l = absurd (false≢true e)
+spoils_of MergeCommit outcome p q e l = absurd (false≢true e)
+
+given_none : (event : Event) (rs : List InFlight) → is_still event ≡ true → given_by event rs ≡ None
+given_none (CopyRead n) rs e = refl
+given_none (CopyWrite n) rs e = refl
+given_none (ZeroNext n) rs e = refl
+given_none (Publish n) rs e = refl
+given_none MergeGroup rs e = refl
+given_none MergeAreaRead rs e = refl
+given_none MergeRead rs e = refl
+given_none MergeFlush rs e = refl
+given_none MergeRelease rs e = refl
+given_none (Issue n) rs e = absurd (false≢true e)
+given_none (WriteArea n) rs e = absurd (false≢true e)
+given_none (WriteInvalid n) rs e = absurd (false≢true e)
+given_none MergeWrite rs e = absurd (false≢true e)
+given_none MergeCommit rs e = absurd (false≢true e)
+
+-- a count of a store, and of the merging one
+tail_counted : {B : Type 0} (count : B → ℕ) (m : Option (Merging B)) (n : ℕ) (ns : List ℕ) (k : ℕ) → k < length ns → get_or (counts_with count m (n ∷ ns)) (suc k) 0 ≡ get_or ns k 0
+tail_counted count None n ns k lt = refl
+tail_counted count (Some m) n ns k lt = get_or-append ns (count m.device ∷ []) 0 k lt
+
+last_counted : {B : Type 0} (count : B → ℕ) (m : Merging B) (ns : List ℕ) → get_or (counts_with count (Some m) ns) (length ns) 0 ≡ count m.device
+last_counted count m ns = get_or-append_seam ns (count m.device) [] 0
+
+-- a live snapshot's flag, where its copies are not none
+live_some : {B : Type 0} (s : Kept B) → IsCounted s → s.copies ≢ [] → s.live ≡ true
+live_some s h some = by s.live refl
+  where
+    by : (b : Bool) → s.live ≡ b → s.live ≡ true
+    by true e = e
+    by false e = absurd (some (h.idle e))
+
+not_false : (b : Bool) → not b ≡ true → b ≡ false
+not_false true e = sym e
+not_false false e = refl
+
+-- what a request in flight fits
+asked_fits : (sectors number : ℕ) (rs : List Flight) (q : Request) → All (RequestHolds sectors) rs → asked_under number (map in_flight rs) ≡ Some q
+    → (q.range.first + q.range.count ≤ sectors) × ((bytes : List ℕ) → q.op ≡ Write bytes → length bytes ≡ 512 * q.range.count)
+asked_fits sectors number [] q all e = absurd (cc)
+asked_fits sectors number (r ∷ rs) q all e = by (λ f. asked_fits sectors number rs q (λ i d lt. all (suc i) d (omega (arith, lt))) f) (r.number == number) refl
+  where
+    by : (asked_under number (map in_flight rs) ≡ Some q → (q.range.first + q.range.count ≤ sectors) × ((bytes : List ℕ) → q.op ≡ Write bytes → length bytes ≡ 512 * q.range.count)) → (b : Bool) → (r.number == number) ≡ b
+        → (q.range.first + q.range.count ≤ sectors) × ((bytes : List ℕ) → q.op ≡ Write bytes → length bytes ≡ 512 * q.range.count)
+    by later true t =
+        let one : RequestHolds sectors r = all 0 r (omega arith) in
+        let same : Some r.request ≡ Some q = sym (cond-true _ _ _ t) ∙ e in
+        let is : r.request ≡ q = cc in
+        subst (λ (z : Request). (z.range.first + z.range.count ≤ sectors) × ((bytes : List ℕ) → z.op ≡ Write bytes → length bytes ≡ 512 * z.range.count)) is (one.inside, one.bytes)
+    by later false f = later (sym (cond-false _ _ _ f) ∙ e)
+
+module _ {B : Type 0} (contents : B → List ℕ) (layers : B → List Layer) (size : B → ℕ) (whole : (d : B) → length (contents d) ≡ 512 * size d) (v w : Volumed B) (h : IsWhole contents layers size v) (h' : IsWhole contents layers size w) (loud : is_loud_in_all layers v ≡ true) (loud' : is_loud_in_all layers w ≡ true)
+    (steps : All (IsInStep contents layers size) v.snaps) (steps' : All (IsInStep contents layers size) w.snaps) (step : IsMergeInStep contents layers size v.merge) (step' : IsMergeInStep contents layers size w.merge) (kept : KeepsAll size v w) where
+  abbrev store_size : Kept B → ℕ
+  store_size x = size x.device
+
+  sectors : size w.origin ≡ size v.origin
+  sectors = sym (head_counted size w.merge (size w.origin) (map store_size w.snaps)) ∙ ap (λ xs. get_or xs 0 0) kept.sizes ∙ head_counted size v.merge (size v.origin) (map store_size v.snaps)
+
+  -- the devices' numbers
+  same_len : length w.snaps ≡ length v.snaps
+  same_len = omega (arith, ap length kept.numbers, length-map w.snaps number_of_snap, length-map v.snaps number_of_snap)
+
+  module _ (k : ℕ) (s t : Kept B) (lt : k < length v.snaps) (is : s ≡ get_or v.snaps k s) (are : t ≡ get_or w.snaps k t) where
+    lt' : k < length w.snaps
+    lt' = omega (arith, lt, same_len)
+
+    sized : size t.device ≡ size s.device
+    sized =
+        ap store_size are ∙ sym (get_or-map store_size w.snaps k t 0 lt') ∙ sym (tail_counted size w.merge (size w.origin) (map store_size w.snaps) k (omega (arith, lt', length-map w.snaps store_size)))
+        ∙ ap (λ xs. get_or xs (suc k) 0) kept.sizes
+        ∙ tail_counted size v.merge (size v.origin) (map store_size v.snaps) k (omega (arith, lt, length-map v.snaps store_size)) ∙ get_or-map store_size v.snaps k s 0 lt ∙ ap store_size (sym is)
+
+    chunked : t.state.chunk ≡ s.state.chunk
+    chunked = ap (λ x. x.state.chunk) are ∙ sym (get_or-map (λ x. x.state.chunk) w.snaps k t 0 lt') ∙ ap (λ xs. get_or xs k 0) kept.chunks ∙ get_or-map (λ x. x.state.chunk) v.snaps k s 0 lt ∙ ap (λ x. x.state.chunk) (sym is)
+
+    some : 0 < s.state.chunk
+    some = subst (λ (x : Kept B). 0 < x.state.chunk) (sym is) (h.snaps k s lt).some
+
+    counted : IsCounted s
+    counted = subst IsCounted (sym is) (h.counted k s lt)
+
+    now : IsInStep contents layers size s
+    now = subst (IsInStep contents layers size) (sym is) (steps k s lt)
+
+    then' : IsInStep contents layers size t
+    then' = subst (IsInStep contents layers size) (sym are) (steps' k t lt')
+
+    -- a live one
+    alive : s.live ≡ true → LiveHolds (contents v.origin) v.flights (snap_books contents layers s)
+    alive live = (snap_holds (books_of contents layers size v) k (snap_books contents layers s) h.holds (omega (arith, lt, length-map v.snaps (snap_books contents layers))) (ap (snap_books contents layers) is ∙ sym (get_or-map (snap_books contents layers) v.snaps k s (snap_books contents layers s) lt))).alive live
+
+    -- its array, sector by sector
+    abbrev ShownGiven : Option Given → Type 0
+    ShownGiven given =
+        (n : ℕ) → n < size v.origin → (sector_at (picture t.state.chunk (contents w.origin) (contents t.device)) n ≡ sector_at (picture s.state.chunk (contents v.origin) (contents s.device)) n)
+        ⊎ Gives given (Some s.number) n (sector_at (picture t.state.chunk (contents w.origin) (contents t.device)) n)
+
+    live_stop : (given : Option Given) → s.live ≡ true → t.live ≡ true → t.pairs ≡ s.pairs → ShownGiven given → StopsSnap (λ d. HoldsNow (contents d)) size given v.origin w.origin (stopping_of s) (stopping_of t)
+    live_stop given live lives pairs shown =
+        live_given contents layers size whole given v.origin w.origin sectors s t live (alive live).tried lives some chunked pairs sized (of_origin contents layers size whole v h loud k s lt is) (of_origin contents layers size whole w h' loud' k t lt' are)
+        now then' (loud_snap contents layers size whole v h loud k s lt is) (loud_snap contents layers size whole w h' loud' k t lt' are)
+        (subst (λ c. (n : ℕ) → n < size v.origin → (sector_at (picture c (contents w.origin) (contents t.device)) n ≡ sector_at (picture s.state.chunk (contents v.origin) (contents s.device)) n) ⊎ Gives given (Some s.number) n (sector_at (picture c (contents w.origin) (contents t.device)) n)) chunked shown)
+
+    dead_stop : (given : Option Given) → s.live ≡ false → s.untried ≡ false → t.live ≡ s.live → t.untried ≡ s.untried → t.stale ≡ s.stale → StopsSnap (λ d. HoldsNow (contents d)) size given v.origin w.origin (stopping_of s) (stopping_of t)
+    dead_stop given dead tried lives tries stays =
+        dead_given contents layers size whole given v.origin w.origin sectors s t dead tried lives tries stays some now then' (loud_snap contents layers size whole v h loud k s lt is) (loud_snap contents layers size whole w h' loud' k t lt' are)
+
+    -- neither it nor the origin disk is written
+    still_stop : (given : Option Given) → contents w.origin ≡ contents v.origin → contents t.device ≡ contents s.device → StopsSnap (λ d. HoldsNow (contents d)) size given v.origin w.origin (stopping_of s) (stopping_of t)
+    still_stop given disk here = still_snap contents layers size whole given v.origin w.origin disk s t (of_origin contents layers size whole v h loud k s lt is) now (loud_snap contents layers size whole v h loud k s lt is) here
+
+  -- an event that writes no pair, no mark and no request's bytes
+  same_stores : (m m' : Option (Merging B)) → SameStore (held_in (merge_seen contents layers m)) (held_in (merge_seen contents layers m')) → SameMerging contents layers size whole m m'
+  same_stores None m' e = tt
+  same_stores (Some m) None e = e
+  same_stores (Some m) (Some m') e = e
+
+  pub still_event : (event : Event) (outcome : Outcome) → is_still event ≡ true → IsExact contents layers event outcome v w → IsLegalStep (plain_of contents layers v) event outcome (plain_of contents layers w)
+      → StopsVolume contents size (told_by event) (given_by event (map in_flight v.flights)) v w
+  still_event event outcome is exact legal =
+      let moved : Steps (moving_of contents layers None v) (moving_of contents layers (replied_by outcome None) w) = subst (Steps (moving_of contents layers None v)) (exact.step loud None) (steps_by event (moving_of contents layers None v) is) in
+      let spoils = spoils_of event outcome (plain_of contents layers v) (plain_of contents layers w) is legal in
+      record {
+        snaps = λ k s t lt at are said. elim (subst (λ x. Moves (held_of contents layers x) (held_of contents layers t)) (sym at) (subst (λ x. Moves (held_of contents layers (get_or v.snaps k s)) (held_of contents layers x)) (sym are) (seen_place Moves (held_of contents layers) v.snaps w.snaps k s t lt moved.snaps))) [
+          | inl same ↦ still_stop k s t lt at are (given_by event (map in_flight v.flights)) moved.origin same
+          | inr own ↦ (let live = live_some s (counted k s t lt at are) (λ none. own.some (ap (map _) none)) in
+              let shown = same_shown contents (contents v.origin) (contents w.origin) v.snaps w.snaps k s t lt (lt' k s t lt at are) at are spoils.0 (ap (λ p. p.saved) spoils.1) (own.live ∙ live) in
+              live_stop k s t lt at are (given_by event (map in_flight v.flights)) live (own.live ∙ live) own.pairs (λ n below. inl (ap (λ z. sector_at z n) shown.1)))
+        ];
+        origin = origin_still contents layers size whole v h loud (given_by event (map in_flight v.flights)) w step moved.origin (same_stores v.merge w.merge moved.merge);
+      }
