@@ -14,7 +14,7 @@ use Rattle.model.specs.Picture.{picture}
 use Rattle.model.proofs.Pictures.{length-picture}
 use Rattle.plain.specs.Plain.{Plain, InFlight, Entry, asked_under}
 use Rattle.plain.specs.Legal.{IsLegalStep, Spoils, IsAnswered}
-use Rattle.plain.specs.Serves.{Serves, SameArrays}
+use Rattle.plain.specs.Serves.{Serves, Shows, Assigns, SameArrays}
 use Rattle.plain.specs.declared.event.Event.{Event}
 use Rattle.plain.specs.declared.event.Event.TheVariants.{Issue, CopyRead, CopyWrite, ZeroNext, WriteArea, Publish, WriteInvalid, MergeGroup, MergeAreaRead, MergeRead, MergeWrite, MergeFlush, MergeCommit, MergeRelease}
 use Rattle.plain.specs.declared.event.Outcome.{Outcome}
@@ -96,22 +96,6 @@ spoils_of (WriteArea n) outcome p q e l = absurd (false≢true e)
 spoils_of (WriteInvalid n) outcome p q e l = absurd (false≢true e)
 spoils_of MergeWrite outcome p q e l = absurd (false≢true e)
 spoils_of MergeCommit outcome p q e l = absurd (false≢true e)
-
-given_none : (event : Event) (rs : List InFlight) → is_still event ≡ true → given_by event rs ≡ None
-given_none (CopyRead n) rs e = refl
-given_none (CopyWrite n) rs e = refl
-given_none (ZeroNext n) rs e = refl
-given_none (Publish n) rs e = refl
-given_none MergeGroup rs e = refl
-given_none MergeAreaRead rs e = refl
-given_none MergeRead rs e = refl
-given_none MergeFlush rs e = refl
-given_none MergeRelease rs e = refl
-given_none (Issue n) rs e = absurd (false≢true e)
-given_none (WriteArea n) rs e = absurd (false≢true e)
-given_none (WriteInvalid n) rs e = absurd (false≢true e)
-given_none MergeWrite rs e = absurd (false≢true e)
-given_none MergeCommit rs e = absurd (false≢true e)
 
 -- a count of a store, and of the merging one
 tail_counted : {B : Type 0} (count : B → ℕ) (m : Option (Merging B)) (n : ℕ) (ns : List ℕ) (k : ℕ) → k < length ns → get_or (counts_with count m (n ∷ ns)) (suc k) 0 ≡ get_or ns k 0
@@ -229,3 +213,151 @@ module _ {B : Type 0} (contents : B → List ℕ) (layers : B → List Layer) (s
         ];
         origin = origin_still contents layers size whole v h loud (given_by event (map in_flight v.flights)) w step moved.origin (same_stores v.merge w.merge moved.merge);
       }
+
+  -- the arrays, sector by sector, as an Issue leaves them
+  abbrev before : List ℕ
+  before = shown_origin contents v.origin (merge_shape v.merge)
+
+  abbrev after : List ℕ
+  after = shown_origin contents w.origin (merge_shape w.merge)
+
+  abbrev ShownSnaps : Option Given → Type 0
+  ShownSnaps given = (k : ℕ) (s t : Kept B) (lt : k < length v.snaps) (is : s ≡ get_or v.snaps k s) (are : t ≡ get_or w.snaps k t) → s.live ≡ true → (t.live ≡ true) × ShownGiven k s t lt is are given
+
+  abbrev ShownOrigin : Option Given → Type 0
+  ShownOrigin given = (n : ℕ) → n < size v.origin → (sector_at after n ≡ sector_at before n) ⊎ Gives given None n (sector_at after n)
+
+  before_long : length before ≡ 512 * size v.origin
+  before_long = by v.merge ∙ whole v.origin
+    where
+      by : (m : Option (Merging B)) → length (shown_origin contents v.origin (merge_shape m)) ≡ length (contents v.origin)
+      by None = refl
+      by (Some m) = length-picture m.state.chunk (contents v.origin) (contents m.device)
+
+  same_law : (given : Option Given) → SameArrays (plain_of contents layers v) (plain_of contents layers w) → ShownSnaps given × ShownOrigin given
+  same_law given same = (
+    λ k s t lt at are live.
+        let x = kept_shown contents (contents v.origin) (contents w.origin) v.snaps w.snaps k s t lt (lt' k s t lt at are) at are same.saved live in
+        (x.0, λ n below. inl (ap (λ z. sector_at z n) x.1)),
+    λ n below. inl (ap (λ z. sector_at z n) same.origin),
+  )
+
+  -- a list with a write in it
+  one_written : (array : Option ℕ) (range : Range) (bytes a b : List ℕ) (n : ℕ) → a ≡ with_sectors b range.first bytes → length b ≡ 512 * size v.origin → range.first + range.count ≤ size v.origin → length bytes ≡ 512 * range.count
+      → (sector_at a n ≡ sector_at b n) ⊎ Gives (Some (record { array = array; first = range.first; count = range.count; bytes = bytes })) array n (sector_at a n)
+  one_written array range bytes a b n is long inside len = elim (kept_or_written a b range.first range.count bytes n (sector_at a n) is (omega arith) len refl) [
+    | inl e ↦ inl e
+    | inr x ↦ inr (refl, x.0, x.1, x.2)
+  ]
+
+  written_law : (dev : Dev) (range : Range) (bytes array : List ℕ) → range.first + range.count ≤ size v.origin → length bytes ≡ 512 * range.count → Shows (plain_of contents layers v) dev array → Assigns dev (plain_of contents layers v) (plain_of contents layers w) (with_sectors array range.first bytes)
+      → ShownSnaps (given_as dev range (Write bytes)) × ShownOrigin (given_as dev range (Write bytes))
+  written_law Origin range bytes array inside len shows assigns = (
+    λ k s t lt at are live.
+        let x = kept_shown contents (contents v.origin) (contents w.origin) v.snaps w.snaps k s t lt (lt' k s t lt at are) at are assigns.saved live in
+        (x.0, λ n below. inl (ap (λ z. sector_at z n) x.1)),
+    λ n below. one_written None range bytes after before n (assigns.origin ∙ ap (λ z. with_sectors z range.first bytes) shows) before_long inside len,
+  )
+  written_law (Snap number) range bytes array inside len shows assigns = (
+    λ k s t lt at are live.
+        let x = changed_shown contents (contents v.origin) (contents w.origin) v.snaps w.snaps k s t lt (lt' k s t lt at are) at are number array (with_sectors array range.first bytes) shows assigns.saved live in
+        (x.0, λ n below. elim x.1 [
+          | inl same ↦ inl (ap (λ z. sector_at z n) same)
+          | inr y ↦ (let long : length array ≡ 512 * size v.origin = ap length (sym y.1) ∙ length-picture s.state.chunk (contents v.origin) (contents s.device) ∙ whole v.origin in
+              elim (one_written (Some number) range bytes (picture t.state.chunk (contents w.origin) (contents t.device)) array n y.2 long inside len) [
+                | inl e ↦ inl (e ∙ ap (λ z. sector_at z n) (sym y.1))
+                | inr g ↦ inr (ap Some (sym y.0), g.1, g.2, g.3)
+              ])
+        ]),
+    λ n below. inl (ap (λ z. sector_at z n) assigns.origin),
+  )
+
+  serve_law : (dev : Dev) (op : Op) (range : Range) (reply : Reply) → range.first + range.count ≤ size v.origin → ((bytes : List ℕ) → op ≡ Write bytes → length bytes ≡ 512 * range.count) → Serves (plain_of contents layers v) dev op range reply (plain_of contents layers w)
+      → ShownSnaps (given_as dev range op) × ShownOrigin (given_as dev range op)
+  serve_law dev Read range (Data bytes) inside len served = same_law None served.0
+  serve_law dev (Write bytes) range Written inside len served = written_law dev range bytes served.0 inside (len bytes refl) served.1 served.2
+  serve_law dev Read range (Refused Io) inside len served = same_law None served.0
+  serve_law dev (Write bytes) range (Refused Io) inside len served = same_law (given_as dev range (Write bytes)) served.0
+  serve_law dev Read range (Refused Invalid) inside len served = same_law None served.0
+  serve_law dev (Write bytes) range (Refused Invalid) inside len served = same_law (given_as dev range (Write bytes)) served.0
+  serve_law dev Read range Written inside len served = absurd served
+  serve_law dev (Write bytes) range (Data read) inside len served = absurd served
+
+  loud_store : (m : Option (Merging B)) (others : Bool) → is_loud_with layers m others ≡ true → is_loud_with layers m true ≡ true
+  loud_store None others e = refl
+  loud_store (Some m) others e = and_right others (is_loud (layers m.device)) e
+
+  abbrev merged_chunk : Option (ℕ × ℕ) → ℕ
+  merged_chunk None = 0
+  merged_chunk (Some p) = p.1
+
+  -- the origin's array, where a merge keeps its pairs
+  given_origin : (given : Option Given) (books : Bool) (m m' : Option (Merging B)) → GoesOn contents layers size m v → GoesOn contents layers size m' w → IsMergeInStep contents layers size m → IsMergeInStep contents layers size m'
+      → OriginHolds (contents v.origin) v.flights (merge_books contents layers books m) → merged_of m' ≡ merged_of m
+      → counts_with size m' (size w.origin ∷ map store_size w.snaps) ≡ counts_with size m (size v.origin ∷ map store_size v.snaps) → is_loud_with layers m true ≡ true → is_loud_with layers m' true ≡ true
+      → SameMergePairs (held_in (merge_seen contents layers m)) (held_in (merge_seen contents layers m'))
+      → ((n : ℕ) → n < size v.origin → (sector_at (shown_origin contents w.origin (merge_shape m')) n ≡ sector_at (shown_origin contents v.origin (merge_shape m)) n) ⊎ Gives given None n (sector_at (shown_origin contents w.origin (merge_shape m')) n))
+      → StopsOrigin contents size given v.origin w.origin m m'
+  given_origin given books None None goes goes' at at' holds merged counts drops drops' pairs shown = λ b left n below. elim (left.each n below) [
+    | inl e ↦ inl e
+    | inr e ↦ elim (shown n below) [
+      | inl same ↦ inl (e ∙ same)
+      | inr g ↦ inr (subst (λ (z : List ℕ). Gives given None n z) (sym e) g)
+    ]
+  ]
+  given_origin given books None (Some m') goes goes' at at' holds merged counts drops drops' pairs shown = absurd (cc)
+  given_origin given books (Some m) None goes goes' at at' holds merged counts drops drops' pairs shown = pairs
+  given_origin given books (Some m) (Some m') goes goes' at at' holds merged counts drops drops' pairs shown =
+      let chunk : m'.state.chunk ≡ m.state.chunk = ap merged_chunk merged in
+      let xs : List ℕ = size v.origin ∷ map store_size v.snaps in
+      let ys : List ℕ = size w.origin ∷ map store_size w.snaps in
+      let long : length ys ≡ length xs = omega (arith, same_len, length-map v.snaps store_size, length-map w.snaps store_size) in
+      let sized : size m'.device ≡ size m.device =
+      sym (last_counted size m' ys) ∙ ap (λ zs. get_or zs (length ys) 0) counts ∙ ap (λ i. get_or (counts_with size (Some m) xs) i 0) long ∙ last_counted size m xs in
+      merge_given contents layers size whole given v.origin w.origin sectors m m' holds.text.some chunk pairs sized goes.origin goes'.origin at at' drops drops'
+      (subst (λ c. (n : ℕ) → n < size v.origin → (sector_at (picture c (contents w.origin) (contents m'.device)) n ≡ sector_at (picture m.state.chunk (contents v.origin) (contents m.device)) n) ⊎ Gives given None n (sector_at (picture c (contents w.origin) (contents m'.device)) n)) chunk shown)
+
+  pub issue_event : (number : ℕ) (outcome : Outcome) → IsExact contents layers (Issue number) outcome v w → IsLegalStep (plain_of contents layers v) (Issue number) outcome (plain_of contents layers w)
+      → StopsVolume contents size (told_by (Issue number)) (given_by (Issue number) (map in_flight v.flights)) v w
+  issue_event number Done exact legal = absurd legal
+  issue_event number Fault exact legal = absurd legal
+  issue_event number (Replied m reply) exact legal =
+      let mine : Issue number ≡ Issue m = legal.0 in
+      let same : number ≡ m = cc in
+      let q = legal.1.request in
+      let asked : asked_under m (map in_flight v.flights) ≡ Some q = legal.1.asked in
+      let fits = asked_fits (size v.origin) m v.flights q h.holds.requests asked in
+      let is : given_by (Issue number) (map in_flight v.flights) ≡ given_as q.dev q.range q.op = ap (λ n. given_in (asked_under n (map in_flight v.flights))) same ∙ ap given_in asked in
+      let law = subst (λ (g : Option Given). ShownSnaps g × ShownOrigin g) (sym is) (serve_law q.dev q.op q.range reply fits.0 fits.1 legal.1.served) in
+      let keeps : KeepsPairs (moving_of contents layers None v) (moving_of contents layers (replied_by (Replied m reply) None) w) = subst (KeepsPairs (moving_of contents layers None v)) (exact.step loud None) (pairs_kept number (moving_of contents layers None v)) in
+      record {
+        snaps = λ k s t lt at are said.
+            let one : SamePairs (held_of contents layers s) (held_of contents layers t) =
+            subst (λ x. SamePairs (held_of contents layers x) (held_of contents layers t)) (sym at) (subst (λ x. SamePairs (held_of contents layers (get_or v.snaps k s)) (held_of contents layers x)) (sym are) (seen_place SamePairs (held_of contents layers) v.snaps w.snaps k s t lt keeps.snaps)) in
+            elim (either s.live) [
+              | inl live ↦ live_stop k s t lt at are (given_by (Issue number) (map in_flight v.flights)) live (law.0 k s t lt at are live).0 one.pairs (law.0 k s t lt at are live).1
+              | inr dead ↦ dead_stop k s t lt at are (given_by (Issue number) (map in_flight v.flights)) dead (not_false s.untried said) one.live one.untried one.stale
+            ];
+        origin = given_origin (given_by (Issue number) (map in_flight v.flights)) (is_loud (layers v.origin)) v.merge w.merge h.merge h'.merge step step' h.holds.merge kept.merged kept.sizes (loud_store v.merge _ loud) (loud_store w.merge _ loud') keeps.merge law.1;
+      }
+    where
+      either : (b : Bool) → (b ≡ true) ⊎ (b ≡ false)
+      either true = inl refl
+      either false = inr refl
+
+  pub told_event : (event : Event) (outcome : Outcome) → is_told event ≡ true → IsExact contents layers event outcome v w → IsLegalStep (plain_of contents layers v) event outcome (plain_of contents layers w)
+      → StopsVolume contents size (told_by event) (given_by event (map in_flight v.flights)) v w
+  told_event (Issue n) outcome e exact legal = issue_event n outcome exact legal
+  told_event (CopyRead n) outcome e exact legal = still_event (CopyRead n) outcome refl exact legal
+  told_event (CopyWrite n) outcome e exact legal = still_event (CopyWrite n) outcome refl exact legal
+  told_event (ZeroNext n) outcome e exact legal = still_event (ZeroNext n) outcome refl exact legal
+  told_event (Publish n) outcome e exact legal = still_event (Publish n) outcome refl exact legal
+  told_event MergeGroup outcome e exact legal = still_event MergeGroup outcome refl exact legal
+  told_event MergeAreaRead outcome e exact legal = still_event MergeAreaRead outcome refl exact legal
+  told_event MergeRead outcome e exact legal = still_event MergeRead outcome refl exact legal
+  told_event MergeFlush outcome e exact legal = still_event MergeFlush outcome refl exact legal
+  told_event MergeRelease outcome e exact legal = still_event MergeRelease outcome refl exact legal
+  told_event (WriteArea n) outcome e exact legal = absurd (false≢true e)
+  told_event (WriteInvalid n) outcome e exact legal = absurd (false≢true e)
+  told_event MergeWrite outcome e exact legal = absurd (false≢true e)
+  told_event MergeCommit outcome e exact legal = absurd (false≢true e)

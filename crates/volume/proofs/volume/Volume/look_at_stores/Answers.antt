@@ -1,6 +1,6 @@
 -- The stores are in step, and so a stop leaves them as they are.
 use Rattle.std.proofs.Common.{◌≡◌, ℕ, true, refl, sym, ap, subst, get_or}
-use Rattle.volume.proofs.StopSteps.{still_event}
+use Rattle.volume.proofs.StopSteps.{told_event}
 use Rattle.volume.proofs.StopShown.{same_shown}
 use Rattle.volume.proofs.StopIssues.{pairs_kept}
 use Rattle.volume.proofs.StopGiven.{live_given}
