@@ -10,6 +10,7 @@ ghost use Rattle.volume.specs.Stepping.{IsStepped, KeepsAll, failed_by, has_fail
 ghost use Rattle.volume.specs.Stopping.{StopsVolume, given_by, is_told, told_by};
 ghost use Rattle.volume.specs.Stored.{RemovesPairs, is_finished_on};
 ghost use Rattle.volume.specs.Exact.{IsExact};
+ghost use Rattle.volume.specs.Whole.{IsWhole};
 
 use crate::Volume;
 use device::Block;
@@ -75,10 +76,18 @@ impl<B: Block> Volume<B> {
             Ok(outcome) => {
                 self.look_at_merge();
                 self.look_at_stores();
+                self.look_inside();
                 Ok(outcome)
             }
             Err(NotDue) => Err(NotDue),
         }
+    }
+
+    /// A look at all of it, which does nothing: what its type keeps.
+    fn look_inside(&self)
+        ensures whole { IsWhole B.contents B.layers B.size self.now }
+    {
+        let _ = &self.flights;
     }
 
     /// A look at its merge, which does nothing: where no device drops writes, it is finished where its store's bytes have no
