@@ -92,3 +92,4 @@ pub mod StopGiven
 pub mod StopIssues
 pub mod StopShown
 pub mod StopSteps
+pub mod StopOwn

@@ -1,7 +1,7 @@
 -- What the devices of a volume may be left with where the machine stops before, after or within a call, while no device
 -- drops writes. Each sector is left as it was or as the call writes it, each by itself. This project's own; the bytes are
 -- those of dm-snap-persistent.c.
-use Rattle.std.specs.Prelude.{◌≡◌, not, ℕ, ◌<◌, Bool, true, false, List, Option, Some, None, length, slice_index_or}
+use Rattle.std.specs.Prelude.{◌≡◌, ◌⊎◌, not, ℕ, ◌-◌, ◌<◌, Bool, true, false, List, Option, Some, None, length, take, slice_index_or}
 use Rattle.sector.specs.declared.range.Range.{Range}
 use Rattle.plain.specs.declared.event.Event.{Event}
 use Rattle.plain.specs.declared.event.Event.TheVariants.{Issue, WriteArea, WriteInvalid, MergeWrite, MergeCommit}
@@ -13,7 +13,9 @@ use Rattle.plain.specs.declared.request.Request.{Request}
 use Rattle.plain.specs.Plain.{InFlight, asked_under}
 use Rattle.stop_laws.specs.Stop.{HoldsNow}
 use Rattle.stop_laws.specs.Clauses.{Held, Given, StopsSnap, StopsMerge, StopsDisk}
-use Rattle.snapshot.specs.Kept.{Kept}
+use Rattle.store.specs.Shown.{StopsBetween, StopsInvalid}
+use Rattle.snapshot.specs.Kept.{Kept, batch_of}
+use Rattle.merge.specs.Lists.{copied_count, copied_of}
 use Rattle.merge.specs.Merging.{Merging}
 use Rattle.volume.specs.Volumed.{Volumed}
 
@@ -64,8 +66,39 @@ told_by event untried = true
 
 -- the events whose stops are spoken of
 abbrev pub is_told : Event → Bool
-is_told (WriteArea number) = false
-is_told (WriteInvalid number) = false
 is_told MergeWrite = false
-is_told MergeCommit = false
 is_told event = true
+
+-- What the events that write pairs or a mark say of themselves. A snapshot's first copies are committed; its store is marked.
+pub record CommitsWithin {B : Type 0} (contents : B → List ℕ) (s t : Kept B) : Type 0 where
+  pub some : 0 < length s.copies
+  pub stops : StopsBetween s.state.chunk s.state.origin s.state.size s.pairs (take (batch_of s.state s.copies) s.begun) (contents s.device) (contents t.device)
+
+pub record MarksWithin {B : Type 0} (contents : B → List ℕ) (s t : Kept B) : Type 0 where
+  pub untried : s.untried ≡ true
+  pub stops : StopsInvalid s.state.chunk s.state.origin s.state.size s.pairs (contents s.device) (contents t.device)
+
+-- one snapshot's store is written so, or none
+pub record WritesOne {B : Type 0} (contents : B → List ℕ) (how : Kept B → Kept B → Type 0) (old new : Volumed B) : Type 0 where
+  pub origin : new.origin ≡ old.origin
+  pub merge : new.merge ≡ old.merge
+  pub each : (k : ℕ) (s t : Kept B) → k < length old.snaps → s ≡ slice_index_or old.snaps k s → t ≡ slice_index_or new.snaps k t → (contents t.device ≡ contents s.device) ⊎ how s t
+
+-- the merging store's area is written without the copied pairs, or is not
+abbrev pub MergeWithin : {B : Type 0} → (B → List ℕ) → Option (Merging B) → Option (Merging B) → Type 0
+MergeWithin contents None after = Unit {0}
+MergeWithin contents (Some m) None = ⊥
+MergeWithin contents (Some m) (Some m') =
+    (contents m'.device ≡ contents m.device)
+    ⊎ StopsBetween m.state.chunk m.state.origin m.state.size (take (length m.pairs - copied_count m.group) m.pairs) (copied_of m.group) (contents m.device) (contents m'.device)
+
+pub record CommitsMerge {B : Type 0} (contents : B → List ℕ) (old new : Volumed B) : Type 0 where
+  pub origin : new.origin ≡ old.origin
+  pub snaps : new.snaps ≡ old.snaps
+  pub merge : MergeWithin contents old.merge new.merge
+
+abbrev pub StopsOwn : {B : Type 0} → (B → List ℕ) → Event → Volumed B → Volumed B → Type 0
+StopsOwn contents (WriteArea number) old new = WritesOne contents (CommitsWithin contents) old new
+StopsOwn contents (WriteInvalid number) old new = WritesOne contents (MarksWithin contents) old new
+StopsOwn contents MergeCommit old new = CommitsMerge contents old new
+StopsOwn contents event old new = Unit {0}

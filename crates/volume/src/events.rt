@@ -7,7 +7,7 @@ ghost use Rattle.volume.specs.Volumed.{is_due_of, is_loud_in_all, left_in_all, n
 ghost use Rattle.volume.specs.Causes.{HasCause, IsOneAtMost};
 ghost use Rattle.volume.specs.Flying.{IsFlown};
 ghost use Rattle.volume.specs.Stepping.{IsStepped, KeepsAll, failed_by, has_failed, starts_by};
-ghost use Rattle.volume.specs.Stopping.{StopsVolume, given_by, is_told, told_by};
+ghost use Rattle.volume.specs.Stopping.{StopsOwn, StopsVolume, given_by, is_told, told_by};
 ghost use Rattle.volume.specs.Stored.{RemovesPairs, is_finished_on};
 ghost use Rattle.volume.specs.Exact.{IsExact};
 ghost use Rattle.volume.specs.Whole.{IsWhole};
@@ -23,6 +23,7 @@ impl<B: Block> Volume<B> {
         ensures exact { IfOk result (λ outcome. IsExact B.contents B.layers event outcome self.old self.new) }
         ensures due { is_ok result ≡ is_due_of B.contents B.layers self.old event }
         ensures removes { IfOk result (λ outcome. RemovesPairs B.contents B.layers event outcome self.old self.new) }
+        ensures stops { IfOk result (λ outcome. is_loud_in_all B.layers self.old ≡ true → StopsOwn B.contents event self.old self.new) }
         ensures same { OnErr result (self.new ≡ self.old) }
     {
         match event {
@@ -48,7 +49,7 @@ impl<B: Block> Volume<B> {
     /// device failed, or snapshots whose stores are full. Whatever the devices do, a request leaves only where it is
     /// answered, and a read that is not refused is answered with as many bytes as were asked for; and a merge stops just
     /// where one of its own operations fails. A commit of a merge takes pairs away, and it is finished where its store's
-    /// bytes have none. Where no device drops writes, a stop at any moment of an event that commits nothing and marks no store
+    /// bytes have none. Where no device drops writes, a stop at any moment of an event, but for a merge's write,
     /// leaves what is loaded again with the same arrays, but for what the event's own write gives. Where an event is not
     /// due, nothing changes at all.
     pub fn step(&mut self, event: Event) -> Result<Outcome, NotDue>
