@@ -1,16 +1,17 @@
 -- What a stop leaves within an event that writes no pair and no mark.
-use Rattle.std.proofs.Common.{◌≡◌, ◌≢◌, ◌⊎◌, inl, inr, ℕ, zero, suc, ◌+◌, ◌-◌, ◌*◌, ◌<◌, ◌≤◌, Bool, true, false, List, [], ◌∷◌, ◌++◌, Option, None, Some, length, get_or, map, refl, sym, ◌∙◌, ap, subst, arith}
+use Rattle.std.proofs.Common.{◌≡◌, ◌≢◌, ◌⊎◌, inl, inr, ℕ, zero, suc, ◌+◌, ◌-◌, ◌*◌, ◌<◌, ◌≤◌, Bool, true, false, List, [], ◌∷◌, ◌++◌, Option, None, Some, length, take, get_or, map, refl, sym, ◌∙◌, ap, subst, arith}
 use Rattle.std.specs.Prelude.{◌&&◌, ◌==◌, not}
 use Rattle.std.specs.List.{All, list_all}
 use Rattle.std.proofs.Math.ListN.{get_or-append}
 use Rattle.std.proofs.Math.Seq.{get_or-append_seam}
 use Rattle.std.proofs.lemmas.Bool.{false≢true, cond-true, cond-false}
-use Rattle.std.proofs.lemmas.List.{length-map, get_or-map}
+use Rattle.std.proofs.lemmas.List.{length-map, length-append, get_or-map, get_or_default, take-map}
+use Rattle.std.proofs.lemmas.List.Elements.{All-map, All-take}
 use Rattle.sector.specs.Bytes.{sector_at, with_sectors}
 use Rattle.sector.proofs.Sectors.{kept_or_written}
 use Rattle.sector.specs.declared.range.Range.{Range}
 use Rattle.device.specs.Layers.{Layer, is_loud}
-use Rattle.model.specs.Picture.{picture}
+use Rattle.model.specs.Picture.{picture, IsCopied}
 use Rattle.model.proofs.Pictures.{length-picture}
 use Rattle.plain.specs.Plain.{Plain, InFlight, Entry, asked_under}
 use Rattle.plain.specs.Legal.{IsLegalStep, Spoils, IsAnswered}
@@ -27,20 +28,25 @@ use Rattle.plain.specs.declared.request.Request.{Request}
 use Rattle.plain.specs.declared.request.Reply.{Reply}
 use Rattle.plain.specs.declared.request.Reply.TheVariants.{Data, Written, Refused}
 use Rattle.plain.specs.declared.request.Failure.TheVariants.{Invalid, Io}
+use Rattle.pending.specs.Copies.{pair_of}
+use Rattle.pending.proofs.Batches.{batch_ready}
 use Rattle.pending.specs.Kinds.{in_flight}
 use Rattle.pending.specs.declared.flights.Flight.{Flight}
 use Rattle.stop_laws.specs.Stop.{HoldsNow}
 use Rattle.stop_laws.specs.Clauses.{Given, Gives, StopsSnap}
-use Rattle.volume_laws.specs.Held.{LiveHolds, SnapHolds, RequestHolds}
+use Rattle.volume_laws.specs.Held.{LiveHolds, SnapHolds, CopyHolds, RequestHolds}
 use Rattle.volume_laws.specs.Shape.{shown_origin, shown_entry}
 use Rattle.volume_laws.specs.Whole.{OriginHolds}
 use Rattle.volume_laws.proofs.WholeOne.{snap_holds}
 use Rattle.event_machine.specs.Seen.{replied_by}
 use Rattle.event_machine.specs.MergeSeen.{held_in}
 use Rattle.event_machine.specs.MergeStepping.{stepped_all}
-use Rattle.snapshot.specs.Kept.{Kept, books_of as snap_books}
+use Rattle.store.specs.Shown.{StopsBetween, StopsInvalid}
+use Rattle.store.proofs.StopClauses.{between_stops, invalid_stops, merge_commit_stops}
+use Rattle.snapshot.specs.Kept.{Kept, books_of as snap_books, batch_of}
 use Rattle.snapshot.specs.InStep.{IsInStep}
 use Rattle.snapshots.specs.Numbers.{number_of_snap}
+use Rattle.merge.specs.Lists.{copied_count, copied_of, released_of}
 use Rattle.merge.specs.Merging.{Merging}
 use Rattle.merge_beside.specs.Rooms.{merge_books}
 use Rattle.volume.specs.Volumed.{Volumed, books_of, plain_of, is_loud_in_all, is_loud_with, snap_shape, merge_shape}
@@ -50,10 +56,10 @@ use Rattle.volume.specs.Exact.{IsExact}
 use Rattle.volume.specs.Moved.{moving_of, held_of, merge_seen}
 use Rattle.volume.specs.Asking.{IsMergeInStep}
 use Rattle.volume.specs.Stepping.{KeepsAll, merged_of}
-use Rattle.volume.specs.Stopping.{stopping_of, array_of, given_as, given_in, given_by, told_by, is_told, StopsOrigin, StopsVolume}
-use Rattle.volume.proofs.Shown.{and_right}
+use Rattle.volume.specs.Stopping.{stopping_of, array_of, given_as, given_in, given_by, told_by, is_told, CommitsWithin, MarksWithin, MergeWithin, WritesOne, CommitsMerge, StopsOwn, StopsOrigin, StopsVolume}
+use Rattle.volume.proofs.Shown.{and_right, loud_books}
 use Rattle.volume.proofs.Counting.{head_counted}
-use Rattle.volume.proofs.StopStill.{SameMerging, still_snap, origin_still, loud_snap, of_origin}
+use Rattle.volume.proofs.StopStill.{SameMerging, same_merging, still_disk, still_merge, still_snap, origin_still, loud_snap, of_origin}
 use Rattle.volume.proofs.StopGiven.{IsGiven, live_given, dead_given, merge_given}
 use Rattle.volume.proofs.StopMoves.{Places, seen_place, Moves, WritesOwn, SameStore, Steps, is_still, steps_by}
 use Rattle.volume.proofs.StopIssues.{SamePairs, SameMergePairs, KeepsPairs, pairs_kept}
@@ -112,6 +118,20 @@ live_some s h some = by s.live refl
     by : (b : Bool) → s.live ≡ b → s.live ≡ true
     by true e = e
     by false e = absurd (some (h.idle e))
+
+nothing_in : {X : Type 0} (xs : List X) → xs ≡ [] → 0 < length xs → ⊥
+nothing_in xs none some = omega (arith, some, ap length none)
+
+waits_dead : (live untried : Bool) → (live ≡ true → untried ≡ false) → untried ≡ true → live ≡ false
+waits_dead true untried tried waits = absurd (false≢true (sym (tried refl) ∙ waits))
+waits_dead false untried tried waits = refl
+
+both : (a b : Bool) → a ≡ true → b ≡ true → (a && b) ≡ true
+both true b e f = f
+both false b e f = e
+
+all_left : {X : Type 0} (P : X → Type 0) (xs ys : List X) → All P (xs ++ ys) → All P xs
+all_left P xs ys all = λ k d lt. subst P (get_or-append xs ys d k lt) (all k d (omega (arith, lt, length-append xs ys)))
 
 not_false : (b : Bool) → not b ≡ true → b ≡ false
 not_false true e = sym e
@@ -345,19 +365,72 @@ module _ {B : Type 0} (contents : B → List ℕ) (layers : B → List Layer) (s
       either true = inl refl
       either false = inr refl
 
-  pub told_event : (event : Event) (outcome : Outcome) → is_told event ≡ true → IsExact contents layers event outcome v w → IsLegalStep (plain_of contents layers v) event outcome (plain_of contents layers w)
+  -- neither the origin disk nor the merging store is written, and what is left of each snapshot's store is known
+  own_store : (told : Bool → Bool) → w.origin ≡ v.origin → w.merge ≡ v.merge
+      → ((k : ℕ) (s t : Kept B) (lt : k < length v.snaps) (at : s ≡ get_or v.snaps k s) (are : t ≡ get_or w.snaps k t) → StopsSnap (λ d. HoldsNow (contents d)) size None v.origin w.origin (stopping_of s) (stopping_of t)) → StopsVolume contents size told None v w
+  own_store told disk merge each = record {
+    snaps = λ k s t lt at are said. each k s t lt at are;
+    origin = origin_still contents layers size whole v h loud None w step (ap contents disk) (subst (λ (x : Option (Merging B)). SameMerging contents layers size whole v.merge x) (sym merge) (same_merging contents layers size whole v.merge));
+  }
+
+  area_event : (told : Bool → Bool) → WritesOne contents (CommitsWithin contents) v w → StopsVolume contents size told None v w
+  area_event told o = own_store told o.origin o.merge (λ k s t lt at are. elim (o.each k s t lt at are) [
+    | inl same ↦ still_stop k s t lt at are None (ap contents o.origin) same
+    | inr within ↦ (let live = live_some s (counted k s t lt at are) (λ none. nothing_in s.copies none within.some) in
+        let holds = alive k s t lt at are live in
+        let n = batch_of s.state s.copies in
+        let loud_one = loud_snap contents layers size whole v h loud k s lt at in
+        let copied : All (IsCopied s.state.chunk (contents v.origin) (contents s.device)) (take n s.begun) =
+        subst (All (IsCopied s.state.chunk (contents v.origin) (contents s.device))) (sym (ap (take n) holds.agree ∙ take-map pair_of n s.copies))
+        (All-map (IsCopied s.state.chunk (contents v.origin) (contents s.device)) pair_of (take n s.copies)
+        (λ j d less. (All-take (CopyHolds (is_loud (layers s.device)) s.state.chunk s.state.origin (contents v.origin) (contents s.device)) n s.copies holds.copies j d less).written loud_one (batch_ready (32 * s.state.chunk - s.state.filled) s.copies j d less))) in
+        between_stops contents size None v.origin (whole v.origin) (take n s.begun) w.origin (stopping_of s) (stopping_of t) (ap contents o.origin) (whole s.device) live holds.tried copied
+        (subst (λ x. StopsBetween s.state.chunk x (size s.device) s.pairs (take n s.begun) (contents s.device) (contents t.device)) (of_origin contents layers size whole v h loud k s lt at)
+        (subst (λ x. StopsBetween s.state.chunk s.state.origin x s.pairs (take n s.begun) (contents s.device) (contents t.device)) (now k s t lt at are).sized within.stops)))
+  ])
+
+  mark_event : (told : Bool → Bool) → WritesOne contents (MarksWithin contents) v w → StopsVolume contents size told None v w
+  mark_event told o = own_store told o.origin o.merge (λ k s t lt at are. elim (o.each k s t lt at are) [
+    | inl same ↦ still_stop k s t lt at are None (ap contents o.origin) same
+    | inr within ↦ (let dead : s.live ≡ false = waits_dead s.live s.untried (λ live. (alive k s t lt at are live).tried) within.untried in
+        invalid_stops contents size None v.origin (whole v.origin) w.origin (stopping_of s) (stopping_of t) (ap contents o.origin) (whole s.device) dead within.untried
+        (subst (λ x. StopsInvalid s.state.chunk x (size s.device) s.pairs (contents s.device) (contents t.device)) (of_origin contents layers size whole v h loud k s lt at)
+        (subst (λ x. StopsInvalid s.state.chunk s.state.origin x s.pairs (contents s.device) (contents t.device)) (now k s t lt at are).sized within.stops)))
+  ])
+
+  -- the merging store's area is written
+  commit_origin : (disk : contents w.origin ≡ contents v.origin) (others : Bool) (m m' : Option (Merging B)) → GoesOn contents layers size m v → IsMergeInStep contents layers size m → is_loud (layers v.origin) ≡ true → is_loud_with layers m true ≡ true
+      → OriginHolds (contents v.origin) v.flights (merge_books contents layers (is_loud (layers v.origin)) m) → MergeWithin contents m m' → StopsOrigin contents size None v.origin w.origin m m'
+  commit_origin disk others None m' goes at drops drops' holds within = still_disk contents layers size whole None v.origin w.origin disk
+  commit_origin disk others (Some m) None goes at drops drops' holds within = within
+  commit_origin disk others (Some m) (Some m') goes at drops drops' holds (inl same) = still_merge contents layers size whole None v.origin w.origin disk m m' goes.origin at drops' same
+  commit_origin disk others (Some m) (Some m') goes at drops drops' holds (inr within) =
+      let kept_pairs = take (length m.pairs - copied_count m.group) m.pairs in
+      let done = holds.back (both (is_loud (layers v.origin)) (is_loud (layers m.device)) drops drops') in
+      let copied : All (IsCopied m.state.chunk (contents v.origin) (contents m.device)) (copied_of m.group) = all_left (IsCopied m.state.chunk (contents v.origin) (contents m.device)) (copied_of m.group) (released_of m.group) done in
+      merge_commit_stops contents size None v.origin (whole v.origin) m.state.chunk kept_pairs (copied_of m.group) w.origin m.device m'.device disk (whole m.device) copied
+      (subst (λ x. StopsBetween m.state.chunk x (size m.device) kept_pairs (copied_of m.group) (contents m.device) (contents m'.device)) goes.origin
+      (subst (λ x. StopsBetween m.state.chunk m.state.origin x kept_pairs (copied_of m.group) (contents m.device) (contents m'.device)) at.sized within))
+
+  commit_event : (told : Bool → Bool) → CommitsMerge contents v w → StopsVolume contents size told None v w
+  commit_event told o = record {
+    snaps = λ k s t lt at are said. still_stop k s t lt at are None (ap contents o.origin) (ap (λ x. contents x.device) (are ∙ ap (λ xs. get_or xs k t) o.snaps ∙ get_or_default v.snaps k t s lt ∙ sym at));
+    origin = commit_origin (ap contents o.origin) true v.merge w.merge h.merge step (loud_books contents layers size v loud).origin (loud_store v.merge _ loud) h.holds.merge o.merge;
+  }
+
+  pub told_event : (event : Event) (outcome : Outcome) → is_told event ≡ true → IsExact contents layers event outcome v w → IsLegalStep (plain_of contents layers v) event outcome (plain_of contents layers w) → StopsOwn contents event v w
       → StopsVolume contents size (told_by event) (given_by event (map in_flight v.flights)) v w
-  told_event (Issue n) outcome e exact legal = issue_event n outcome exact legal
-  told_event (CopyRead n) outcome e exact legal = still_event (CopyRead n) outcome refl exact legal
-  told_event (CopyWrite n) outcome e exact legal = still_event (CopyWrite n) outcome refl exact legal
-  told_event (ZeroNext n) outcome e exact legal = still_event (ZeroNext n) outcome refl exact legal
-  told_event (Publish n) outcome e exact legal = still_event (Publish n) outcome refl exact legal
-  told_event MergeGroup outcome e exact legal = still_event MergeGroup outcome refl exact legal
-  told_event MergeAreaRead outcome e exact legal = still_event MergeAreaRead outcome refl exact legal
-  told_event MergeRead outcome e exact legal = still_event MergeRead outcome refl exact legal
-  told_event MergeFlush outcome e exact legal = still_event MergeFlush outcome refl exact legal
-  told_event MergeRelease outcome e exact legal = still_event MergeRelease outcome refl exact legal
-  told_event (WriteArea n) outcome e exact legal = absurd (false≢true e)
-  told_event (WriteInvalid n) outcome e exact legal = absurd (false≢true e)
-  told_event MergeWrite outcome e exact legal = absurd (false≢true e)
-  told_event MergeCommit outcome e exact legal = absurd (false≢true e)
+  told_event (Issue n) outcome e exact legal own = issue_event n outcome exact legal
+  told_event (CopyRead n) outcome e exact legal own = still_event (CopyRead n) outcome refl exact legal
+  told_event (CopyWrite n) outcome e exact legal own = still_event (CopyWrite n) outcome refl exact legal
+  told_event (ZeroNext n) outcome e exact legal own = still_event (ZeroNext n) outcome refl exact legal
+  told_event (Publish n) outcome e exact legal own = still_event (Publish n) outcome refl exact legal
+  told_event MergeGroup outcome e exact legal own = still_event MergeGroup outcome refl exact legal
+  told_event MergeAreaRead outcome e exact legal own = still_event MergeAreaRead outcome refl exact legal
+  told_event MergeRead outcome e exact legal own = still_event MergeRead outcome refl exact legal
+  told_event MergeFlush outcome e exact legal own = still_event MergeFlush outcome refl exact legal
+  told_event MergeRelease outcome e exact legal own = still_event MergeRelease outcome refl exact legal
+  told_event (WriteArea n) outcome e exact legal own = area_event (told_by (WriteArea n)) own
+  told_event (WriteInvalid n) outcome e exact legal own = mark_event (told_by (WriteInvalid n)) own
+  told_event MergeWrite outcome e exact legal own = absurd (false≢true e)
+  told_event MergeCommit outcome e exact legal own = commit_event (told_by MergeCommit) own
