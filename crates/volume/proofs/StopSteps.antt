@@ -280,15 +280,17 @@ module _ {B : Type 0} (contents : B → List ℕ) (layers : B → List Layer) (s
   )
   written_law (Snap number) range bytes array inside len shows assigns = (
     λ k s t lt at are live.
-        let x = changed_shown contents (contents v.origin) (contents w.origin) v.snaps w.snaps k s t lt (lt' k s t lt at are) at are number array (with_sectors array range.first bytes) shows assigns.saved live in
-        (x.0, λ n below. elim x.1 [
-          | inl same ↦ inl (ap (λ z. sector_at z n) same)
-          | inr y ↦ (let long : length array ≡ 512 * size v.origin = ap length (sym y.1) ∙ length-picture s.state.chunk (contents v.origin) (contents s.device) ∙ whole v.origin in
-              elim (one_written (Some number) range bytes (picture t.state.chunk (contents w.origin) (contents t.device)) array n y.2 long inside len) [
-                | inl e ↦ inl (e ∙ ap (λ z. sector_at z n) (sym y.1))
-                | inr g ↦ inr (ap Some (sym y.0), g.1, g.2, g.3)
-              ])
-        ]),
+        let x = changed_shown contents (contents v.origin) (contents w.origin) v.snaps w.snaps k s t lt (lt' k s t lt at are) at are number array (with_sectors array range.first bytes) shows assigns.saved live in (
+          x.0,
+          λ n below. elim x.1 [
+            | inl same ↦ inl (ap (λ z. sector_at z n) same)
+            | inr y ↦ (let long : length array ≡ 512 * size v.origin = ap length (sym y.1) ∙ length-picture s.state.chunk (contents v.origin) (contents s.device) ∙ whole v.origin in
+                elim (one_written (Some number) range bytes (picture t.state.chunk (contents w.origin) (contents t.device)) array n y.2 long inside len) [
+                  | inl e ↦ inl (e ∙ ap (λ z. sector_at z n) (sym y.1))
+                  | inr g ↦ inr (ap Some (sym y.0), g.1, g.2, g.3)
+                ])
+          ],
+        ),
     λ n below. inl (ap (λ z. sector_at z n) assigns.origin),
   )
 

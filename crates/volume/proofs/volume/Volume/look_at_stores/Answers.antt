@@ -1,10 +1,5 @@
 -- The stores are in step, and so a stop leaves them as they are.
 use Rattle.std.proofs.Common.{◌≡◌, ℕ, true, refl, sym, ap, subst, get_or}
-use Rattle.volume.proofs.StopSteps.{told_event}
-use Rattle.volume.proofs.StopShown.{same_shown}
-use Rattle.volume.proofs.StopIssues.{pairs_kept}
-use Rattle.volume.proofs.StopGiven.{live_given}
-use Rattle.volume.proofs.StopMoves.{steps_by}
 use Rattle.std.specs.List.{All}
 use Rattle.snapshot.specs.Kept.{Kept}
 use Rattle.snapshot.specs.InStep.{IsInStep}
