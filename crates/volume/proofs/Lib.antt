@@ -93,3 +93,4 @@ pub mod StopIssues
 pub mod StopShown
 pub mod StopSteps
 pub mod StopOwn
+pub mod StopWrites

@@ -105,7 +105,7 @@ same_store : (m : Option MergeHeld) → SameStore m m
 same_store None = tt
 same_store (Some m) = refl
 
-merge_store : (o : Option MergeHeld) (m m' : MergeHeld) → o ≡ Some m → m'.merge.store.bytes ≡ m.merge.store.bytes → SameStore o (Some m')
+pub merge_store : (o : Option MergeHeld) (m m' : MergeHeld) → o ≡ Some m → m'.merge.store.bytes ≡ m.merge.store.bytes → SameStore o (Some m')
 merge_store o m m' e same = subst (λ (x : Option MergeHeld). SameStore x (Some m')) (sym e) same
 
 -- neither the origin disk nor the merging store is written
@@ -136,7 +136,7 @@ front_some : (ps : List Copying) → is_front_written ps ≡ true → ps ≢ []
 front_some ps e none = false≢true (sym (ap is_front_written none) ∙ e)
 
 -- the merge of an event, in the list or beside it
-started_same : (first started : ℕ) (snaps : List Held) → Places SameBytes snaps (started_all first started snaps)
+pub started_same : (first started : ℕ) (snaps : List Held) → Places SameBytes snaps (started_all first started snaps)
 started_same first started [] = tt
 started_same first started (h ∷ snaps) = by (λ n. started_same first n snaps) (needs_none (first / h.snap.chunk) h) (is_filled h) refl refl
   where
