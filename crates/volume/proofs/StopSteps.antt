@@ -1,17 +1,17 @@
 -- What a stop leaves within an event that writes no pair and no mark.
 use Rattle.std.proofs.Common.{◌≡◌, ◌≢◌, ◌⊎◌, inl, inr, ℕ, zero, suc, ◌+◌, ◌-◌, ◌*◌, ◌<◌, ◌≤◌, Bool, true, false, List, [], ◌∷◌, ◌++◌, Option, None, Some, length, take, get_or, map, refl, sym, ◌∙◌, ap, subst, arith}
-use Rattle.std.specs.Prelude.{◌&&◌, ◌==◌, not}
-use Rattle.std.specs.List.{All, list_all}
+use Rattle.std.specs.Prelude.{◌&&◌, ◌||◌, ◌==◌, ◌/◌, not}
+use Rattle.std.specs.List.{All, list_all, list_any}
 use Rattle.std.proofs.Math.ListN.{get_or-append}
 use Rattle.std.proofs.Math.Seq.{get_or-append_seam}
 use Rattle.std.proofs.lemmas.Bool.{false≢true, cond-true, cond-false}
-use Rattle.std.proofs.lemmas.List.{length-map, length-append, get_or-map, get_or_default, take-map}
+use Rattle.std.proofs.lemmas.List.{length-map, length-append, length-take, get_or-map, get_or_default, take-map}
 use Rattle.std.proofs.lemmas.List.Elements.{All-map, All-take}
 use Rattle.sector.specs.Bytes.{sector_at, with_sectors}
-use Rattle.sector.proofs.Sectors.{kept_or_written}
+use Rattle.sector.proofs.Sectors.{kept_or_written, byte_outside}
 use Rattle.sector.specs.declared.range.Range.{Range}
 use Rattle.device.specs.Layers.{Layer, is_loud}
-use Rattle.model.specs.Picture.{picture, IsCopied}
+use Rattle.model.specs.Picture.{picture, place_of, IsCopied}
 use Rattle.model.proofs.Pictures.{length-picture}
 use Rattle.plain.specs.Plain.{Plain, InFlight, Entry, asked_under}
 use Rattle.plain.specs.Legal.{IsLegalStep, Spoils, IsAnswered}
@@ -28,41 +28,52 @@ use Rattle.plain.specs.declared.request.Request.{Request}
 use Rattle.plain.specs.declared.request.Reply.{Reply}
 use Rattle.plain.specs.declared.request.Reply.TheVariants.{Data, Written, Refused}
 use Rattle.plain.specs.declared.request.Failure.TheVariants.{Invalid, Io}
-use Rattle.pending.specs.Copies.{pair_of}
+use Rattle.pending.specs.Copies.{pair_of, count_of}
 use Rattle.pending.proofs.Batches.{batch_ready}
 use Rattle.pending.specs.Kinds.{in_flight}
 use Rattle.pending.specs.declared.flights.Flight.{Flight}
 use Rattle.stop_laws.specs.Stop.{HoldsNow}
+use Rattle.stop_laws.specs.Again.{LoadsAgain, IsRefusedAgain}
 use Rattle.stop_laws.specs.Clauses.{Given, Gives, StopsSnap}
+use Rattle.stop_laws.proofs.Clauses.{opens_none}
+use Rattle.stop_laws.proofs.Shown.{shown_under}
 use Rattle.volume_laws.specs.Held.{LiveHolds, SnapHolds, CopyHolds, RequestHolds}
 use Rattle.volume_laws.specs.Shape.{shown_origin, shown_entry}
 use Rattle.volume_laws.specs.Whole.{OriginHolds}
+use Rattle.volume_laws.specs.Published.{is_published}
+use Rattle.volume_laws.proofs.Clear.{published_true}
 use Rattle.volume_laws.proofs.WholeOne.{snap_holds}
+use Rattle.std.proofs.Math.Nat.{mul-div_cancel_left}
+use Rattle.sector.specs.declared.pair.Pair.{Pair}
 use Rattle.event_machine.specs.Seen.{replied_by}
-use Rattle.event_machine.specs.MergeSeen.{held_in}
+use Rattle.event_machine.specs.Held.{MergeHeld, is_untried}
+use Rattle.event_machine.specs.Again.{is_saved}
+use Rattle.event_machine.specs.MergeSeen.{held_in, merge_held_of, buffered}
 use Rattle.event_machine.specs.MergeStepping.{stepped_all}
 use Rattle.store.specs.Shown.{StopsBetween, StopsInvalid}
 use Rattle.store.proofs.StopClauses.{between_stops, invalid_stops, merge_commit_stops}
 use Rattle.snapshot.specs.Kept.{Kept, books_of as snap_books, batch_of}
 use Rattle.snapshot.specs.InStep.{IsInStep}
 use Rattle.snapshots.specs.Numbers.{number_of_snap}
-use Rattle.merge.specs.Lists.{copied_count, copied_of, released_of}
-use Rattle.merge.specs.Merging.{Merging}
+use Rattle.merge.specs.Lists.{copied_count, copied_of, reading_of, released_of}
+use Rattle.merge.specs.Merging.{Merging, due_of as merging_due}
 use Rattle.merge_beside.specs.Rooms.{merge_books}
-use Rattle.volume.specs.Volumed.{Volumed, books_of, plain_of, is_loud_in_all, is_loud_with, snap_shape, merge_shape}
+use Rattle.volume.specs.Volumed.{Volumed, books_of, plain_of, is_loud_in_all, is_loud_with, piece_with, snap_shape, merge_shape}
 use Rattle.volume.specs.Whole.{IsWhole, IsCounted, GoesOn}
 use Rattle.volume.specs.Causes.{counts_with}
 use Rattle.volume.specs.Exact.{IsExact}
 use Rattle.volume.specs.Moved.{moving_of, held_of, merge_seen}
 use Rattle.volume.specs.Asking.{IsMergeInStep}
 use Rattle.volume.specs.Stepping.{KeepsAll, merged_of}
-use Rattle.volume.specs.Stopping.{stopping_of, array_of, given_as, given_in, given_by, told_by, is_told, CommitsWithin, MarksWithin, MergeWithin, WritesOne, CommitsMerge, StopsOwn, StopsOrigin, StopsVolume}
-use Rattle.volume.proofs.Shown.{and_right, loud_books}
+use Rattle.volume.specs.Stopping.{stopping_of, array_of, given_as, given_in, given_by, told_by, CommitsWithin, MarksWithin, MergeWithin, WritesOne, CommitsMerge, StopsOwn, StopsOrigin, StopsVolume}
+use Rattle.volume.proofs.Shown.{and_left, and_right, loud_books}
 use Rattle.volume.proofs.Counting.{head_counted}
-use Rattle.volume.proofs.StopStill.{SameMerging, same_merging, still_disk, still_merge, still_snap, origin_still, loud_snap, of_origin}
+use Rattle.volume.proofs.StopStill.{as_it_is, loads_snap, refuses_snap, ready_live, SameMerging, same_merging, still_disk, still_merge, still_snap, origin_still, loud_snap, of_origin}
 use Rattle.volume.proofs.StopGiven.{IsGiven, live_given, dead_given, merge_given}
-use Rattle.volume.proofs.StopMoves.{Places, seen_place, Moves, WritesOwn, SameStore, Steps, is_still, steps_by}
+use Rattle.volume.proofs.StopMoves.{Places, SameBytes, seen_place, Moves, WritesOwn, SameStore, Steps, is_still, steps_by}
 use Rattle.volume.proofs.StopIssues.{SamePairs, SameMergePairs, KeepsPairs, pairs_kept}
+use Rattle.volume.proofs.MergeDue.{merged, full_inside}
+use Rattle.volume.proofs.StopWrites.{WriteSteps, write_steps, all_at, none_at, live_saved, reading_full}
 use Rattle.volume.proofs.StopShown.{same_shown, kept_shown, changed_shown}
 
 no_issue : (event : Event) (number : ℕ) → is_still event ≡ true → event ≢ Issue number
@@ -420,19 +431,107 @@ module _ {B : Type 0} (contents : B → List ℕ) (layers : B → List Layer) (s
     origin = commit_origin (ap contents o.origin) true v.merge w.merge h.merge step (loud_books contents layers size v loud).origin (loud_store v.merge _ loud) h.holds.merge o.merge;
   }
 
-  pub told_event : (event : Event) (outcome : Outcome) → is_told event ≡ true → IsExact contents layers event outcome v w → IsLegalStep (plain_of contents layers v) event outcome (plain_of contents layers w) → StopsOwn contents event v w
+  -- the origin disk is written in one chunk, of which a live snapshot has its copy
+  under_stop : (k : ℕ) (s t : Kept B) (lt : k < length v.snaps) (at : s ≡ get_or v.snaps k s) (are : t ≡ get_or w.snaps k t) (q : ℕ) → s.live ≡ true → contents t.device ≡ contents s.device
+      → ((i : ℕ) → (i < 512 * (s.state.chunk * q)) ⊎ (512 * (s.state.chunk * q + s.state.chunk) ≤ i) → get_or (contents w.origin) i 0 ≡ get_or (contents v.origin) i 0) → place_of s.pairs q ≢ None
+      → StopsSnap (λ d. HoldsNow (contents d)) size None v.origin w.origin (stopping_of s) (stopping_of t)
+  under_stop k s t lt at are q live same rest placed = λ b c left_b left_c.
+      let drops = loud_snap contents layers size whole v h loud k s lt at in
+      let ec : c ≡ contents s.device = as_it_is contents layers size whole s.device t.device c same left_c in
+      let shows : picture s.state.chunk b c ≡ picture s.state.chunk (contents v.origin) (contents s.device) =
+      ap (picture s.state.chunk b) ec
+      ∙ shown_under (size v.origin) s.state.chunk q s.state.chunk (contents v.origin) (contents w.origin) b (contents s.device) s.pairs (some k s t lt at are) left_b (whole v.origin) (whole w.origin ∙ ap (λ n. 512 * n) sectors) rest (omega arith) ((now k s t lt at are).pairs drops) placed in
+      let loads = loads_snap contents layers size whole v.origin s (of_origin contents layers size whole v h loud k s lt at) (now k s t lt at are) drops (ready_live s.live s.untried s.stale live) in (
+        λ _. (
+          subst (λ (z : List ℕ). LoadsAgain s.state.chunk (size v.origin) (size s.device) z) (sym ec) loads,
+          opens_none contents size None (Some s.number) s.state.chunk v.origin s.device b c (whole v.origin) (whole s.device) (λ n below. inl (ap (λ z. sector_at z n) shows)),
+        ),
+        λ waits. absurd (false≢true (sym (alive k s t lt at are live).tried ∙ waits)),
+        λ dead. absurd (false≢true (sym dead ∙ live)),
+      )
+
+  refused_stop : (k : ℕ) (s t : Kept B) (lt : k < length v.snaps) (at : s ≡ get_or v.snaps k s) (are : t ≡ get_or w.snaps k t) → s.live ≡ false → s.untried ≡ false → contents t.device ≡ contents s.device
+      → StopsSnap (λ d. HoldsNow (contents d)) size None v.origin w.origin (stopping_of s) (stopping_of t)
+  refused_stop k s t lt at are dead tried same = λ b c left_b left_c.
+      let ec : c ≡ contents s.device = as_it_is contents layers size whole s.device t.device c same left_c in (
+        λ live. absurd (false≢true (sym dead ∙ live)),
+        λ waits. absurd (false≢true (sym tried ∙ waits)),
+        λ _ _ sound. subst (λ (z : List ℕ). IsRefusedAgain z) (sym ec) (refuses_snap contents layers size whole s (now k s t lt at are) (loud_snap contents layers size whole v h loud k s lt at) dead tried sound),
+      )
+
+  -- the merge of a machine that has one
+  held_some : (o : Option (Merging B)) (x : MergeHeld) → held_in (merge_seen contents layers o) ≡ Some x → (m : Merging B) × (o ≡ Some m) × (merge_held_of (record { due = merging_due contents true m; layers = layers m.device; next = m.next }) ≡ x)
+  held_some None x e = absurd (cc)
+  held_some (Some m) x e = (m, refl, cc)
+
+  -- the bytes beside that chunk
+  rest_same : (m : Merging B) (q : Pair) (rest : List Pair) → v.merge ≡ Some m → reading_of m.group ≡ q ∷ rest → contents w.origin ≡ with_sectors (contents v.origin) (m.state.chunk * q.old) (buffered m.state.chunk m.state.origin (reading_of m.group) m.buffer)
+      → (i : ℕ) → (i < 512 * (m.state.chunk * q.old)) ⊎ (512 * (m.state.chunk * q.old + m.state.chunk) ≤ i) → get_or (contents w.origin) i 0 ≡ get_or (contents v.origin) i 0
+  rest_same m q rest was reading bytes i side =
+      let inside = (full_inside contents layers size v h m q was (reading_full m.group q rest reading)).old in
+      let origin = (merged contents layers size v h m was).origin in
+      let count : ℕ = count_of m.state.chunk m.state.origin q.old in
+      let text : List ℕ = take (512 * count) m.buffer in
+      let short = length-take (512 * count) m.buffer in
+      let is : contents w.origin ≡ with_sectors (contents v.origin) (m.state.chunk * q.old) text = bytes ∙ ap (λ r. with_sectors (contents v.origin) (m.state.chunk * q.old) (buffered m.state.chunk m.state.origin r m.buffer)) reading in
+      let all = whole v.origin in
+      ap (λ z. get_or z i 0) is
+      ∙ byte_outside (contents v.origin) (m.state.chunk * q.old) text i (omega arith) (elim side [
+        | inl below ↦ inl below
+        | inr past ↦ inr (omega arith)
+      ])
+
+  back_event : (told : Bool → Bool) → WriteSteps (moving_of contents layers None v) (moving_of contents layers None w) → shown_origin contents w.origin (merge_shape w.merge) ≡ shown_origin contents v.origin (merge_shape v.merge) → StopsVolume contents size told None v w
+  back_event told moved shown = record {
+    snaps = λ k s t lt at are said.
+        let same : contents t.device ≡ contents s.device =
+        subst (λ x. SameBytes (held_of contents layers x) (held_of contents layers t)) (sym at) (subst (λ x. SameBytes (held_of contents layers (get_or v.snaps k s)) (held_of contents layers x)) (sym are) (seen_place SameBytes (held_of contents layers) v.snaps w.snaps k s t lt moved.snaps)) in
+        elim moved.origin [
+          | inl disk ↦ still_stop k s t lt at are None disk same
+          | inr back ↦ (let found = held_some v.merge back.merge back.is in
+              let m = found.0 in
+              let first : ℕ = back.merge.merge.chunk * back.pair.old in
+              let chunk : m.state.chunk ≡ back.merge.merge.chunk = ap (λ x. x.merge.chunk) found.2 in
+              let mine : s.state.chunk ≡ m.state.chunk = ap (λ x. x.state.chunk) at ∙ (h.snaps k s lt).chunk_is ∙ ap (λ x. piece_with x v.snaps) found.1 in
+              let reading : reading_of m.group ≡ back.pair ∷ back.rest = ap (λ x. x.reading) found.2 ∙ back.reading in
+              let bytes : contents w.origin ≡ with_sectors (contents v.origin) (m.state.chunk * back.pair.old) (buffered m.state.chunk m.state.origin (reading_of m.group) m.buffer) =
+              back.bytes ∙ ap (λ x. with_sectors (contents v.origin) (x.merge.chunk * back.pair.old) x.buffer) (sym found.2) in
+              let rest = rest_same m back.pair back.rest found.1 reading bytes in
+              let saved : (not s.live || is_published s.pairs s.marks (first / s.state.chunk)) ≡ true =
+              subst (λ x. is_saved first (held_of contents layers x) ≡ true) (sym at) (all_at (is_saved first) (held_of contents layers) v.snaps k s lt (and_left (list_all (is_saved first) (map (held_of contents layers) v.snaps)) (not (list_any is_untried (map (held_of contents layers) v.snaps))) back.clear)) in
+              let tried : s.untried ≡ false = subst (λ x. is_untried (held_of contents layers x) ≡ false) (sym at) (none_at is_untried (held_of contents layers) v.snaps k s lt (not_false (list_any is_untried (map (held_of contents layers) v.snaps)) (and_right (list_all (is_saved first) (map (held_of contents layers) v.snaps)) (not (list_any is_untried (map (held_of contents layers) v.snaps))) back.clear))) in
+              elim (flag s.live) [
+                | inl live ↦ (let at_chunk : first / s.state.chunk ≡ back.pair.old = ap (λ n. n * back.pair.old / s.state.chunk) (sym (mine ∙ chunk)) ∙ mul-div_cancel_left back.pair.old (some k s t lt at are) in
+                    let placed : place_of s.pairs back.pair.old ≢ None = subst (λ n. place_of s.pairs n ≢ None) at_chunk (published_true s.pairs s.marks (first / s.state.chunk) (live_saved s.live (is_published s.pairs s.marks (first / s.state.chunk)) saved live)).placed in
+                    under_stop k s t lt at are back.pair.old live same (subst (λ n. (i : ℕ) → (i < 512 * (n * back.pair.old)) ⊎ (512 * (n * back.pair.old + n) ≤ i) → get_or (contents w.origin) i 0 ≡ get_or (contents v.origin) i 0) (sym mine) rest) placed)
+                | inr dead ↦ refused_stop k s t lt at are dead tried same
+              ])
+        ];
+    origin = given_origin None (is_loud (layers v.origin)) v.merge w.merge h.merge h'.merge step step' h.holds.merge kept.merged kept.sizes (loud_store v.merge _ loud) (loud_store w.merge _ loud') moved.pairs (λ n below. inl (ap (λ z. sector_at z n) shown));
+  }
+    where
+      flag : (b : Bool) → (b ≡ true) ⊎ (b ≡ false)
+      flag true = inl refl
+      flag false = inr refl
+
+  write_event : (outcome : Outcome) → IsExact contents layers MergeWrite outcome v w → IsLegalStep (plain_of contents layers v) MergeWrite outcome (plain_of contents layers w) → StopsVolume contents size (told_by MergeWrite) None v w
+  write_event Done exact legal = back_event (told_by MergeWrite) (subst (WriteSteps (moving_of contents layers None v)) (exact.step loud None) (write_steps (moving_of contents layers None v))) (ap (λ p. p.origin) legal.1)
+  write_event Fault exact legal = back_event (told_by MergeWrite) (subst (WriteSteps (moving_of contents layers None v)) (exact.step loud None) (write_steps (moving_of contents layers None v))) (ap (λ p. p.origin) legal.1)
+  write_event (Replied number reply) exact legal = absurd (let e : MergeWrite ≡ Issue number = legal.0 in cc)
+
+  pub told_event : (event : Event) (outcome : Outcome) → IsExact contents layers event outcome v w → IsLegalStep (plain_of contents layers v) event outcome (plain_of contents layers w) → StopsOwn contents event v w
       → StopsVolume contents size (told_by event) (given_by event (map in_flight v.flights)) v w
-  told_event (Issue n) outcome e exact legal own = issue_event n outcome exact legal
-  told_event (CopyRead n) outcome e exact legal own = still_event (CopyRead n) outcome refl exact legal
-  told_event (CopyWrite n) outcome e exact legal own = still_event (CopyWrite n) outcome refl exact legal
-  told_event (ZeroNext n) outcome e exact legal own = still_event (ZeroNext n) outcome refl exact legal
-  told_event (Publish n) outcome e exact legal own = still_event (Publish n) outcome refl exact legal
-  told_event MergeGroup outcome e exact legal own = still_event MergeGroup outcome refl exact legal
-  told_event MergeAreaRead outcome e exact legal own = still_event MergeAreaRead outcome refl exact legal
-  told_event MergeRead outcome e exact legal own = still_event MergeRead outcome refl exact legal
-  told_event MergeFlush outcome e exact legal own = still_event MergeFlush outcome refl exact legal
-  told_event MergeRelease outcome e exact legal own = still_event MergeRelease outcome refl exact legal
-  told_event (WriteArea n) outcome e exact legal own = area_event (told_by (WriteArea n)) own
-  told_event (WriteInvalid n) outcome e exact legal own = mark_event (told_by (WriteInvalid n)) own
-  told_event MergeWrite outcome e exact legal own = absurd (false≢true e)
-  told_event MergeCommit outcome e exact legal own = commit_event (told_by MergeCommit) own
+  told_event (Issue n) outcome exact legal own = issue_event n outcome exact legal
+  told_event (CopyRead n) outcome exact legal own = still_event (CopyRead n) outcome refl exact legal
+  told_event (CopyWrite n) outcome exact legal own = still_event (CopyWrite n) outcome refl exact legal
+  told_event (ZeroNext n) outcome exact legal own = still_event (ZeroNext n) outcome refl exact legal
+  told_event (Publish n) outcome exact legal own = still_event (Publish n) outcome refl exact legal
+  told_event MergeGroup outcome exact legal own = still_event MergeGroup outcome refl exact legal
+  told_event MergeAreaRead outcome exact legal own = still_event MergeAreaRead outcome refl exact legal
+  told_event MergeRead outcome exact legal own = still_event MergeRead outcome refl exact legal
+  told_event MergeFlush outcome exact legal own = still_event MergeFlush outcome refl exact legal
+  told_event MergeRelease outcome exact legal own = still_event MergeRelease outcome refl exact legal
+  told_event (WriteArea n) outcome exact legal own = area_event (told_by (WriteArea n)) own
+  told_event (WriteInvalid n) outcome exact legal own = mark_event (told_by (WriteInvalid n)) own
+  told_event MergeWrite outcome exact legal own = write_event outcome exact legal
+  told_event MergeCommit outcome exact legal own = commit_event (told_by MergeCommit) own

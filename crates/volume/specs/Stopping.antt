@@ -4,7 +4,7 @@
 use Rattle.std.specs.Prelude.{◌≡◌, ◌⊎◌, not, ℕ, ◌-◌, ◌<◌, Bool, true, false, List, Option, Some, None, length, take, slice_index_or}
 use Rattle.sector.specs.declared.range.Range.{Range}
 use Rattle.plain.specs.declared.event.Event.{Event}
-use Rattle.plain.specs.declared.event.Event.TheVariants.{Issue, WriteArea, WriteInvalid, MergeWrite, MergeCommit}
+use Rattle.plain.specs.declared.event.Event.TheVariants.{Issue, WriteArea, WriteInvalid, MergeCommit}
 use Rattle.plain.specs.declared.request.Dev.{Dev}
 use Rattle.plain.specs.declared.request.Dev.TheVariants.{Origin, Snap}
 use Rattle.plain.specs.declared.request.Op.{Op}
@@ -59,15 +59,11 @@ pub record StopsVolume {B : Type 0} (contents : B → List ℕ) (size : B → �
 abbrev pub of_all : Bool → Bool
 of_all untried = true
 
--- an Issue: but for those whose mark is untried
+-- Of those that an event says something of: an Issue of a spoiled snapshot only once its mark was tried, for nothing is kept of
+-- whether an origin write that was routed before the spoil has its chunk among that one's pairs.
 abbrev pub told_by : Event → Bool → Bool
 told_by (Issue number) untried = not untried
 told_by event untried = true
-
--- the events whose stops are spoken of
-abbrev pub is_told : Event → Bool
-is_told MergeWrite = false
-is_told event = true
 
 -- What the events that write pairs or a mark say of themselves. A snapshot's first copies are committed; its store is marked.
 pub record CommitsWithin {B : Type 0} (contents : B → List ℕ) (s t : Kept B) : Type 0 where

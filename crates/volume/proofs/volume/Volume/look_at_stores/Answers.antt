@@ -1,6 +1,5 @@
 -- The stores are in step, and so a stop leaves them as they are.
 use Rattle.std.proofs.Common.{◌≡◌, ℕ, true, refl, sym, ap, subst, get_or}
-use Rattle.volume.proofs.StopWrites.{write_steps}
 use Rattle.std.specs.List.{All}
 use Rattle.snapshot.specs.Kept.{Kept}
 use Rattle.snapshot.specs.InStep.{IsInStep}

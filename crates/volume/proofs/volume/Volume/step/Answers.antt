@@ -13,8 +13,8 @@ returns-in-Err-clause-first g c = λ e.
     c.in-Err.ensures.due ∙ ap (λ (x : Volumed _). is_due_of g.B.Block.contents g.B.Block.layers x c.args.event) (sym c.self.view_is) ∙ first_due g.B.Block.contents g.B.Block.layers v c.args.event c.self.invariant.waits.numbers first)
 
 pub returns-in-Ok-clause-stops : goal.returns-in-Ok-clause-stops
-returns-in-Ok-clause-stops g c = λ told loud.
+returns-in-Ok-clause-stops g c = λ loud.
     let whole : IsWhole g.B.Block.contents g.B.Block.layers g.B.Block.size c.args.self.now = subst (λ (x : Volumed g.row.B.Denot). IsWhole g.B.Block.contents g.B.Block.layers g.B.Block.size x) c.self.view_is c.self.invariant in
     let step = c.in-Ok.ensures.step in
     told_event g.B.Block.contents g.B.Block.layers g.B.Block.size g.met.B.Block.whole c.args.self.now c.step_by_kind.new.self whole c.look_inside.ensures.whole loud (step.loud ∙ loud)
-    c.look_at_stores.ensures.in_step c.look_at_stores-in-Ok.ensures.in_step c.look_at_stores.ensures.merge c.look_at_stores-in-Ok.ensures.merge step.kept c.args.event c.in-Ok.outcome told c.in-Ok.ensures.exact (step.legal loud) (c.in-Ok.ensures.stops loud)
+    c.look_at_stores.ensures.in_step c.look_at_stores-in-Ok.ensures.in_step c.look_at_stores.ensures.merge c.look_at_stores-in-Ok.ensures.merge step.kept c.args.event c.in-Ok.outcome c.in-Ok.ensures.exact (step.legal loud) (c.in-Ok.ensures.stops loud)
