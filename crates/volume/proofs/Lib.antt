@@ -86,3 +86,11 @@ pub mod Beginnings
 pub mod Finished
 pub mod MovedWrites
 pub mod MergeWritten
+pub mod StopStill
+pub mod StopMoves
+pub mod StopGiven
+pub mod StopIssues
+pub mod StopShown
+pub mod StopSteps
+pub mod StopOwn
+pub mod StopWrites

@@ -18,3 +18,4 @@ pub mod Peeking
 pub mod Layering
 pub mod Telling
 pub mod Running
+pub mod Stopping

@@ -5,7 +5,8 @@ ghost use Rattle.pending.specs.Routes.{refused_of};
 ghost use Rattle.volume_laws.specs.Due.{is_due};
 ghost use Rattle.volume_laws.specs.Steps.{SpoilsSnap};
 ghost use Rattle.snapshot.specs.Kept.{books_of};
-ghost use Rattle.volume.specs.Volumed.{dues_of};
+ghost use Rattle.volume.specs.Stopping.{CommitsWithin, MarksWithin, WritesOne};
+ghost use Rattle.volume.specs.Volumed.{dues_of, is_loud_in_all};
 ghost use Rattle.volume.specs.Stepping.{IsStepped};
 ghost use Rattle.volume.specs.Exact.{IsExact};
 
@@ -106,6 +107,7 @@ impl<B: Block> Volume<B> {
         ensures step { IfOk result (λ outcome. IsStepped B.contents B.layers B.size B.fault_count B.done_count (WriteArea number) outcome self.old self.new) }
         ensures exact { IfOk result (λ outcome. IsExact B.contents B.layers (WriteArea number) outcome self.old self.new) }
         ensures due { is_ok result ≡ is_due (dues_of B.contents B.layers self.old) self.old.flights (WriteArea number) }
+        ensures stops { IfOk result (λ outcome. is_loud_in_all B.layers self.old ≡ true → WritesOne B.contents (CommitsWithin B.contents) self.old self.new) }
         ensures same { OnErr result (self.new ≡ self.old) }
     {
         match committing_at(&self.snaps, number) {
@@ -150,6 +152,7 @@ impl<B: Block> Volume<B> {
         ensures step { IfOk result (λ outcome. IsStepped B.contents B.layers B.size B.fault_count B.done_count (WriteInvalid number) outcome self.old self.new) }
         ensures exact { IfOk result (λ outcome. IsExact B.contents B.layers (WriteInvalid number) outcome self.old self.new) }
         ensures due { is_ok result ≡ is_due (dues_of B.contents B.layers self.old) self.old.flights (WriteInvalid number) }
+        ensures stops { IfOk result (λ outcome. is_loud_in_all B.layers self.old ≡ true → WritesOne B.contents (MarksWithin B.contents) self.old self.new) }
         ensures same { OnErr result (self.new ≡ self.old) }
     {
         match trying_at(&self.snaps, number) {

@@ -7,8 +7,10 @@ ghost use Rattle.volume.specs.Volumed.{is_due_of, is_loud_in_all, left_in_all, n
 ghost use Rattle.volume.specs.Causes.{HasCause, IsOneAtMost};
 ghost use Rattle.volume.specs.Flying.{IsFlown};
 ghost use Rattle.volume.specs.Stepping.{IsStepped, KeepsAll, failed_by, has_failed, starts_by};
+ghost use Rattle.volume.specs.Stopping.{StopsOwn, StopsVolume, given_by, told_by};
 ghost use Rattle.volume.specs.Stored.{RemovesPairs, is_finished_on};
 ghost use Rattle.volume.specs.Exact.{IsExact};
+ghost use Rattle.volume.specs.Whole.{IsWhole};
 
 use crate::Volume;
 use device::Block;
@@ -21,6 +23,7 @@ impl<B: Block> Volume<B> {
         ensures exact { IfOk result (λ outcome. IsExact B.contents B.layers event outcome self.old self.new) }
         ensures due { is_ok result ≡ is_due_of B.contents B.layers self.old event }
         ensures removes { IfOk result (λ outcome. RemovesPairs B.contents B.layers event outcome self.old self.new) }
+        ensures stops { IfOk result (λ outcome. is_loud_in_all B.layers self.old ≡ true → StopsOwn B.contents event self.old self.new) }
         ensures same { OnErr result (self.new ≡ self.old) }
     {
         match event {
@@ -46,7 +49,9 @@ impl<B: Block> Volume<B> {
     /// device failed, or snapshots whose stores are full. Whatever the devices do, a request leaves only where it is
     /// answered, and a read that is not refused is answered with as many bytes as were asked for; and a merge stops just
     /// where one of its own operations fails. A commit of a merge takes pairs away, and it is finished where its store's
-    /// bytes have none. Where an event is not due, nothing changes at all.
+    /// bytes have none. Where no device drops writes, whatever a stop before, within or after the event leaves is loaded
+    /// again with the same arrays, but for what an Issue writes; of a spoiled snapshot's store an Issue says that only once
+    /// its mark was tried. Where an event is not due, nothing changes at all.
     pub fn step(&mut self, event: Event) -> Result<Outcome, NotDue>
         ensures legal { IfOk result (λ outcome. is_loud_in_all B.layers self.old ≡ true → IsLegalStep (plain_of B.contents B.layers self.old) event outcome (plain_of B.contents B.layers self.new)) }
         ensures exact { IfOk result (λ outcome. IsExact B.contents B.layers event outcome self.old self.new) }
@@ -62,17 +67,28 @@ impl<B: Block> Volume<B> {
         ensures counts { OnOk result ((self.new.requests ≡ self.old.requests) × (self.new.copies ≤ self.old.copies + starts_by event) × (self.old.copies ≤ self.new.copies)) }
         ensures removes { IfOk result (λ outcome. RemovesPairs B.contents B.layers event outcome self.old self.new) }
         ensures finished { OnOk result (is_loud_in_all B.layers self.new ≡ true → is_finished_in self.new.merge ≡ is_finished_on B.contents self.new.merge) }
+        ensures stops { IfOk result (λ outcome. is_loud_in_all B.layers self.old ≡ true → StopsVolume B.contents B.size (told_by event) (given_by event (map in_flight self.old.flights)) self.old self.new) }
         ensures same { OnErr result (self.new ≡ self.old) }
     {
-        // A look at a field: what the type keeps is known from here on.
+        // Looks: what the type keeps, and what the stores say, is known from here on.
         let _ = &self.flights;
+        self.look_at_stores();
         match self.step_by_kind(event) {
             Ok(outcome) => {
                 self.look_at_merge();
+                self.look_at_stores();
+                self.look_inside();
                 Ok(outcome)
             }
             Err(NotDue) => Err(NotDue),
         }
+    }
+
+    /// A look at all of it, which does nothing: what its type keeps.
+    fn look_inside(&self)
+        ensures whole { IsWhole B.contents B.layers B.size self.now }
+    {
+        let _ = &self.flights;
     }
 
     /// A look at its merge, which does nothing: where no device drops writes, it is finished where its store's bytes have no

@@ -1,8 +1,9 @@
 // The events of a merge that start no copies, each a call of its own.
-ghost use Rattle.std.specs.Prelude.{◌≡◌, IfOk, OnErr, is_ok};
+ghost use Rattle.std.specs.Prelude.{◌≡◌, IfOk, OnErr, is_ok, true};
 ghost use Rattle.plain.specs.declared.event.Event.TheVariants.{MergeAreaRead, MergeCommit, MergeFlush, MergeRead, MergeRelease};
-ghost use Rattle.volume.specs.Volumed.{is_due_of};
+ghost use Rattle.volume.specs.Volumed.{is_due_of, is_loud_in_all};
 ghost use Rattle.volume.specs.Stepping.{IsStepped};
+ghost use Rattle.volume.specs.Stopping.{CommitsMerge};
 ghost use Rattle.volume.specs.Stored.{RemovesPairs};
 ghost use Rattle.volume.specs.Exact.{IsExact};
 
@@ -100,6 +101,7 @@ impl<B: Block> Volume<B> {
         ensures exact { IfOk result (λ outcome. IsExact B.contents B.layers MergeCommit outcome self.old self.new) }
         ensures due { is_ok result ≡ is_due_of B.contents B.layers self.old MergeCommit }
         ensures removes { IfOk result (λ outcome. RemovesPairs B.contents B.layers MergeCommit outcome self.old self.new) }
+        ensures stops { IfOk result (λ outcome. is_loud_in_all B.layers self.old ≡ true → CommitsMerge B.contents self.old self.new) }
         ensures same { OnErr result (self.new ≡ self.old) }
     {
         match &mut self.merge {

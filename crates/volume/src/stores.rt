@@ -1,7 +1,10 @@
 // What the snapshots' stores say, at every moment.
+ghost use Rattle.std.specs.Prelude.{◌≡◌, None, true};
 ghost use Rattle.std.specs.List.{All};
 ghost use Rattle.snapshot.specs.InStep.{IsInStep};
 ghost use Rattle.volume.specs.Asking.{IsMergeInStep};
+ghost use Rattle.volume.specs.Stopping.{StopsVolume, of_all};
+ghost use Rattle.volume.specs.Volumed.{is_loud_in_all};
 
 use crate::Volume;
 use device::Block;
@@ -22,10 +25,12 @@ impl<B: Block> Volume<B> {
     /// the next pair, and the next place of a live one is the least that is free; and where its layers drop no writes, its
     /// bytes hold those pairs and its first sector is the header with its chunk size. So a live snapshot's store, and a
     /// spoiled one's whose mark was not yet written, can be loaded as it is; once the mark was written it is invalid. The
-    /// merging store is in step with its merge in the same way, until it is finished.
+    /// merging store is in step with its merge in the same way, until it is finished. Where no device drops writes, a stop at
+    /// that moment leaves what is loaded again with the same arrays.
     pub fn look_at_stores(&self)
         ensures in_step { All (IsInStep B.contents B.layers B.size) self.now.snaps }
         ensures merge { IsMergeInStep B.contents B.layers B.size self.now.merge }
+        ensures stops { is_loud_in_all B.layers self.now ≡ true → StopsVolume B.contents B.size of_all None self.now self.now }
     {
         look_at_each(self.snaps.as_slice());
         match &self.merge {

@@ -1,5 +1,5 @@
 -- The merging store's area is written without the slots of the group.
-use Rattle.std.proofs.Common.{◌≡◌, ap, sym, refl, ◌∙◌, true, false, map, subst, length, Some, ◌<◌}
+use Rattle.std.proofs.Common.{◌≡◌, inl, inr, ap, sym, refl, ◌∙◌, true, false, map, subst, length, Some, ◌<◌}
 use Rattle.std.specs.List.{All}
 use Rattle.std.proofs.lemmas.Bool.{false≢true}
 use Rattle.device.specs.Layers.{is_loud}
@@ -17,6 +17,7 @@ use Rattle.volume.proofs.MergeOperations.{loud_merging, commit_good, store_stops
 use Rattle.volume.proofs.MergeChanging.{disk_stays, merged_in}
 use Rattle.volume.proofs.MovedMerges.{commit_moved, commit_stopped}
 use Rattle.volume.proofs.StoredPairs.{committed}
+use Rattle.volume.proofs.StopOwn.{commits_merge}
 use Rattle.volume.proofs.volume.Volume.merge_commit.Goals as goal
 
 pub returns-then-not-can_commit-clause-due : goal.returns-then-not-can_commit-clause-due
@@ -155,3 +156,14 @@ pub returns-in-Err-clause-due : goal.returns-in-Err-clause-due
 returns-in-Err-clause-due g c =
     let v : Volumed g.row.B.Denot = record { origin = c.self.inside.origin; snaps = c.self.inside.snaps.items; merge = c.self.inside.merge; flights = c.self.inside.flights.items; requests = c.self.inside.requests; copies = c.self.inside.copies; attached = c.self.inside.attached } in
     rw (← c.self.view_is) (sym (commit_due g.B.Block.contents g.B.Block.layers v c.in-Some.merge c.in-Some.is ∙ sym (c.has_group.ensures.looks true).commit ∙ sym c.if-not-can_commit.ensures))
+
+pub returns-in-Ok-clause-stops : goal.returns-in-Ok-clause-stops
+returns-in-Ok-clause-stops g c =
+    let v : Volumed g.row.B.Denot = record { origin = c.self.inside.origin; snaps = c.self.inside.snaps.items; merge = c.self.inside.merge; flights = c.self.inside.flights.items; requests = c.self.inside.requests; copies = c.self.inside.copies; attached = c.self.inside.attached } in
+    rw (← c.self.view_is) (λ loud. commits_merge g.B.Block.contents v c.in-Some.merge c.commit.new.self v.flights c.in-Some.is (inr (c.in-Ok.ensures.stops (loud_merging g.B.Block.contents g.B.Block.layers g.B.Block.size v c.in-Some.merge c.in-Some.is loud))))
+
+pub returns-in-Err-clause-stops : goal.returns-in-Err-clause-stops
+returns-in-Err-clause-stops g c =
+    let v : Volumed g.row.B.Denot = record { origin = c.self.inside.origin; snaps = c.self.inside.snaps.items; merge = c.self.inside.merge; flights = c.self.inside.flights.items; requests = c.self.inside.requests; copies = c.self.inside.copies; attached = c.self.inside.attached } in
+    let device = ap (λ x. x.device) c.fail.ensures.fields in
+    rw (← c.self.view_is) (λ loud. commits_merge g.B.Block.contents v c.in-Some.merge c.fail.new.self c.route_again.new.flights.items c.in-Some.is (inl (ap g.B.Block.contents device ∙ c.in-Err.ensures.same)))

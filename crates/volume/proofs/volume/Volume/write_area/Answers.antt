@@ -1,13 +1,18 @@
 -- The first copies are committed, or their snapshot is spoiled.
-use Rattle.std.proofs.Common.{◌≡◌, ◌-◌, ◌*◌, ◌<◌, true, false, refl, sym, ◌∙◌, ap, length, arith, map, ◌∷◌, []}
+use Rattle.std.proofs.Common.{◌≡◌, ◌-◌, ◌*◌, ◌<◌, inl, inr, true, false, refl, sym, ◌∙◌, ap, subst, length, arith, map, take, ◌∷◌, []}
 use Rattle.device.specs.Layers.{is_loud}
 use Rattle.pending.specs.Routes.{refused_of}
 use Rattle.pending.proofs.Batches.{batch_few, batch_ready}
 use Rattle.snapshot.specs.Kept.{Kept}
 use Rattle.snapshots.specs.Finding.{is_committing}
 use Rattle.volume.proofs.DueEvents.{due_by, snap_found, snap_due}
+use Rattle.store.specs.Shown.{StopsBetween}
+use Rattle.volume.specs.Stopping.{CommitsWithin}
+use Rattle.volume.specs.Volumed.{Volumed}
 use Rattle.volume.proofs.Spoilt.{spoilt_device}
-use Rattle.volume.proofs.StoreEvents.{commit_good, commit_fault, front_live, committing_front, committing_next}
+use Rattle.volume.proofs.StopOwn.{writes_at}
+use Rattle.volume.proofs.StopStill.{loud_snap}
+use Rattle.volume.proofs.StoreEvents.{commit_good, commit_fault, first_some, front_live, committing_front, committing_next}
 use Rattle.volume.proofs.Exactly.{area_exact, area_fault_exact}
 use Rattle.volume.proofs.volume.Volume.write_area.Goals as goal
 
@@ -164,3 +169,28 @@ returns-in-Err-clause-due g c =
 pub returns-in-None-clause-due : goal.returns-in-None-clause-due
 returns-in-None-clause-due g c =
     rw (← c.self.view_is) (sym (due_by g.B.Block.contents g.B.Block.layers _ (is_committing c.args.number) c.self.inside.snaps.items c.deref.result.now false c.deref.ensures.value (λ s. refl) c.in-None.ensures.none))
+
+pub returns-in-Ok-clause-stops : goal.returns-in-Ok-clause-stops
+returns-in-Ok-clause-stops g c =
+    let v : Volumed g.row.B.Denot = record { origin = c.self.inside.origin; snaps = c.self.inside.snaps.items; merge = c.self.inside.merge; flights = c.self.inside.flights.items; requests = c.self.inside.requests; copies = c.self.inside.copies; attached = c.self.inside.attached } in
+    let s = c.index_mut-snap.result.now in
+    let k = c.in-Some.place in
+    let within : k < length v.snaps = omega (arith, c.in-Some.ensures.found.0, ap length c.deref.ensures.value) in
+    let is = c.index_mut-snap.ensures.value in
+    let found : is_committing c.args.number s ≡ true = snap_found (is_committing c.args.number) k v.snaps c.deref.result.now s c.deref.ensures.value is (c.in-Some.ensures.found.1 s) in
+    let t = c.write_area.new.self in
+    rw (← c.self.view_is) (λ loud. writes_at g.B.Block.contents (CommitsWithin g.B.Block.contents) v k s t v.flights within is (inr (record {
+      some = first_some s.copies (committing_front c.args.number s found);
+      stops = subst (λ n. StopsBetween s.state.chunk s.state.origin s.state.size s.pairs (take n s.begun) (g.B.Block.contents s.device) (g.B.Block.contents t.device)) c.batch-count.ensures (c.write_area.ensures.stops (loud_snap g.B.Block.contents g.B.Block.layers g.B.Block.size g.met.B.Block.whole v c.self.invariant loud k s within is));
+    })))
+
+pub returns-in-Err-clause-stops : goal.returns-in-Err-clause-stops
+returns-in-Err-clause-stops g c =
+    let v : Volumed g.row.B.Denot = record { origin = c.self.inside.origin; snaps = c.self.inside.snaps.items; merge = c.self.inside.merge; flights = c.self.inside.flights.items; requests = c.self.inside.requests; copies = c.self.inside.copies; attached = c.self.inside.attached } in
+    let s = c.index_mut-snap.result.now in
+    let k = c.in-Some.place in
+    let within : k < length v.snaps = omega (arith, c.in-Some.ensures.found.0, ap length c.deref.ensures.value) in
+    let is = c.index_mut-snap.ensures.value in
+    let found : is_committing c.args.number s ≡ true = snap_found (is_committing c.args.number) k v.snaps c.deref.result.now s c.deref.ensures.value is (c.in-Some.ensures.found.1 s) in
+    let t = spoilt_device s c.write_area.new.self c.spoil.new.snap c.write_area.new.self.device c.in-Err.ensures.kept c.spoil.ensures.fields in
+    rw (← c.self.view_is) (λ loud. writes_at g.B.Block.contents (CommitsWithin g.B.Block.contents) v k s c.spoil.new.snap c.spoil.new.flights.items within is (inl (ap g.B.Block.contents t.1 ∙ c.in-Err.ensures.same)))

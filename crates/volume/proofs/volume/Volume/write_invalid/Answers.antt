@@ -1,5 +1,5 @@
 -- A spoiled snapshot's mark is tried.
-use Rattle.std.proofs.Common.{◌≡◌, ◌<◌, true, false, refl, sym, ◌∙◌, ap, subst, length, arith, map, nat_eq, slice_set}
+use Rattle.std.proofs.Common.{◌≡◌, ◌<◌, inl, inr, true, false, refl, sym, ◌∙◌, ap, subst, length, arith, map, nat_eq, slice_set}
 use Rattle.std.proofs.lemmas.Bool.{and_parts}
 use Rattle.std.specs.List.{All}
 use Rattle.volume_laws.specs.Published.{is_clear}
@@ -10,6 +10,10 @@ use Rattle.volume.proofs.DueEvents.{due_by, snap_found, snap_due}
 use Rattle.volume.proofs.Chunks.{chunks_set}
 use Rattle.volume.proofs.Tried.{tried_done, tried_fault}
 use Rattle.volume.proofs.Exactly.{tried_exact, tried_fault_exact}
+use Rattle.volume.specs.Stopping.{MarksWithin}
+use Rattle.volume.specs.Volumed.{Volumed}
+use Rattle.volume.proofs.StopOwn.{writes_at}
+use Rattle.volume.proofs.StopStill.{loud_snap}
 use Rattle.volume.proofs.volume.Volume.write_invalid.Goals as goal
 use Rattle.merge_beside.specs.Rooms.{merge_books}
 
@@ -141,3 +145,27 @@ returns-in-Err-clause-due g c =
 pub returns-in-None-clause-due : goal.returns-in-None-clause-due
 returns-in-None-clause-due g c =
     rw (← c.self.view_is) (sym (due_by g.B.Block.contents g.B.Block.layers _ (is_trying c.args.number) c.self.inside.snaps.items c.deref.result.now false c.deref.ensures.value (λ s. refl) c.in-None.ensures.none))
+
+pub returns-in-Ok-clause-stops : goal.returns-in-Ok-clause-stops
+returns-in-Ok-clause-stops g c =
+    let v : Volumed g.row.B.Denot = record { origin = c.self.inside.origin; snaps = c.self.inside.snaps.items; merge = c.self.inside.merge; flights = c.self.inside.flights.items; requests = c.self.inside.requests; copies = c.self.inside.copies; attached = c.self.inside.attached } in
+    let s = c.index_mut-snap.result.now in
+    let k = c.in-Some.place in
+    let within : k < length v.snaps = omega (arith, c.in-Some.ensures.found.0, ap length c.deref.ensures.value) in
+    let is = c.index_mut-snap.ensures.value in
+    let found : is_trying c.args.number s ≡ true = snap_found (is_trying c.args.number) k v.snaps c.deref.result.now s c.deref.ensures.value is (c.in-Some.ensures.found.1 s) in
+    let t = c.write_invalid.new.self in
+    rw (← c.self.view_is) (λ loud. writes_at g.B.Block.contents (MarksWithin g.B.Block.contents) v k s t c.route_again.new.flights.items within is (inr (record {
+      untried = (and_parts (nat_eq s.number c.args.number) s.untried found).1;
+      stops = c.write_invalid.ensures.stops (loud_snap g.B.Block.contents g.B.Block.layers g.B.Block.size g.met.B.Block.whole v c.self.invariant loud k s within is);
+    })))
+
+pub returns-in-Err-clause-stops : goal.returns-in-Err-clause-stops
+returns-in-Err-clause-stops g c =
+    let v : Volumed g.row.B.Denot = record { origin = c.self.inside.origin; snaps = c.self.inside.snaps.items; merge = c.self.inside.merge; flights = c.self.inside.flights.items; requests = c.self.inside.requests; copies = c.self.inside.copies; attached = c.self.inside.attached } in
+    let s = c.index_mut-snap.result.now in
+    let k = c.in-Some.place in
+    let within : k < length v.snaps = omega (arith, c.in-Some.ensures.found.0, ap length c.deref.ensures.value) in
+    let is = c.index_mut-snap.ensures.value in
+    let found : is_trying c.args.number s ≡ true = snap_found (is_trying c.args.number) k v.snaps c.deref.result.now s c.deref.ensures.value is (c.in-Some.ensures.found.1 s) in
+    rw (← c.self.view_is) (λ loud. writes_at g.B.Block.contents (MarksWithin g.B.Block.contents) v k s c.write_invalid.new.self c.route_again-in-Err.new.flights.items within is (inl c.in-Err.ensures.same))
