@@ -1,5 +1,5 @@
 -- A stop within a call that leaves a store's pairs, by the array before and after it.
-use Rattle.std.proofs.Common.{◌≡◌, ◌≢◌, ◌⊎◌, inl, inr, ℕ, ◌+◌, ◌*◌, ◌/◌, ◌<◌, ◌≤◌, Bool, true, false, List, Option, None, Some, length, map, refl, sym, ◌∙◌, ap, subst, arith, Ok, Err}
+use Rattle.std.proofs.Common.{◌≡◌, ◌≢◌, ◌⊎◌, inl, inr, ℕ, ◌+◌, ◌*◌, ◌/◌, ◌<◌, ◌≤◌, true, false, List, Option, None, Some, length, sym, ◌∙◌, ap, subst, arith, Ok, Err}
 use Rattle.std.proofs.lemmas.Bool.{false≢true}
 use Rattle.sector.specs.Bytes.{sector_at}
 use Rattle.sector.specs.declared.refusal.Refusal.{Refusal}
@@ -12,7 +12,7 @@ use Rattle.cow_header.specs.HeaderText.{found_in}
 use Rattle.cow_header.specs.declared.found.Found.{Found}
 use Rattle.cow_header.specs.declared.found.Found.TheVariants.{Header}
 use Rattle.stop_laws.specs.Stop.{HoldsNow, IsTorn}
-use Rattle.stop_laws.specs.Again.{LoadsAgain, IsRefusedAgain}
+use Rattle.stop_laws.specs.Again.{LoadsAgain}
 use Rattle.stop_laws.specs.Clauses.{Given, Gives, OpensNone, StopsSnap, StopsMerge}
 use Rattle.stop_laws.proofs.Clauses.{stops_same}
 use Rattle.snapshot.specs.Kept.{Kept}

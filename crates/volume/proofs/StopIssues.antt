@@ -1,5 +1,5 @@
 -- An Issue of the machine leaves every list of pairs.
-use Rattle.std.proofs.Common.{◌≡◌, ℕ, ◌+◌, ◌*◌, ◌%◌, Bool, List, Option, Some, None, refl, sym, ap, subst, nat_eq}
+use Rattle.std.proofs.Common.{◌≡◌, ℕ, ◌+◌, ◌*◌, ◌%◌, Bool, Option, Some, None, refl, sym, subst}
 use Rattle.std.specs.Prelude.{◌==◌, ◌&&◌}
 use Rattle.sector.specs.Bytes.{with_sectors}
 use Rattle.device.specs.declared.operation.Operation.TheVariants.{Reads, Writes}
@@ -10,9 +10,9 @@ use Rattle.plain.specs.declared.request.Op.TheVariants.{Read as ReadOp, Write as
 use Rattle.plain.specs.declared.event.Event.TheVariants.{Issue}
 use Rattle.pending.specs.declared.flights.Route.{Route}
 use Rattle.pending.specs.declared.flights.Route.TheVariants.{Held as Waits, Origin, Store, Refused}
-use Rattle.settled.specs.Devices.{Device, met, written_by}
-use Rattle.event_machine.specs.Held.{Held, Going, MergeHeld, Moving, with_store, on_device}
-use Rattle.event_machine.specs.Stepping.{for_some, first_that, with_first, issue, on_disk, on_store, on_merging, on_place, stepped}
+use Rattle.settled.specs.Devices.{met, written_by}
+use Rattle.event_machine.specs.Held.{Held, Going, MergeHeld, Moving, with_store}
+use Rattle.event_machine.specs.Stepping.{for_some, first_that, with_first, issue, on_disk, on_store, on_merging, on_place}
 use Rattle.event_machine.specs.MergeStepping.{stepped_all}
 use Rattle.event_machine.specs.Due.{is_issuable}
 use Rattle.volume.proofs.StopMoves.{Places, places_same, first_places}

@@ -1,16 +1,11 @@
 -- What an event of the machine does to the bytes of its devices, snapshot by snapshot.
-use Rattle.std.proofs.Common.{◌≡◌, ◌≢◌, ◌⊎◌, inl, inr, ℕ, zero, suc, ◌+◌, ◌-◌, ◌*◌, ◌/◌, ◌<◌, Bool, true, false, List, [], ◌∷◌, length, get_or, map, Option, Some, None, refl, sym, ◌∙◌, ap, subst, arith, nat_eq}
-use Rattle.std.specs.Prelude.{◌==◌, ◌&&◌, ◌||◌, not, if◌then◌else◌}
+use Rattle.std.proofs.Common.{◌≡◌, ◌≢◌, ◌⊎◌, inl, inr, ℕ, zero, suc, ◌+◌, ◌-◌, ◌*◌, ◌/◌, ◌<◌, Bool, true, false, List, [], ◌∷◌, length, get_or, map, Option, Some, None, refl, sym, ◌∙◌, ap, subst, arith}
+use Rattle.std.specs.Prelude.{◌==◌, ◌&&◌, if◌then◌else◌}
 use Rattle.std.specs.List.{list_any}
 use Rattle.std.proofs.lemmas.Bool.{cond-true, cond-false, false≢true}
-use Rattle.std.proofs.lemmas.List.{length-map, get_or-map}
 use Rattle.sector.specs.declared.pair.Pair.{Pair}
 use Rattle.plain.specs.declared.event.Event.{Event}
 use Rattle.plain.specs.declared.event.Event.TheVariants.{Issue, CopyRead, CopyWrite, ZeroNext, WriteArea, Publish, WriteInvalid, MergeGroup, MergeAreaRead, MergeRead, MergeWrite, MergeFlush, MergeCommit, MergeRelease}
-use Rattle.plain.specs.declared.request.Dev.{Dev}
-use Rattle.plain.specs.declared.request.Dev.TheVariants.{Origin as ToOrigin, Snap as ToSnap}
-use Rattle.plain.specs.declared.request.Op.{Op}
-use Rattle.plain.specs.declared.request.Op.TheVariants.{Read as ReadOp, Write as WriteOp}
 use Rattle.pending.specs.declared.copies.Stage.{Stage}
 use Rattle.pending.specs.declared.copies.Stage.TheVariants.{Waiting, Read, Written}
 use Rattle.pending.specs.declared.copies.Mark.{Mark}
@@ -23,13 +18,11 @@ use Rattle.volume_laws.specs.MergeDue.{last_of}
 use Rattle.settled.specs.Saves.{zeroed}
 use Rattle.settled.specs.Saving.{lacks_area}
 use Rattle.settled.specs.Merges.{Merge, last_run}
-use Rattle.pending.specs.declared.flights.Route.{Route}
-use Rattle.pending.specs.declared.flights.Route.TheVariants.{Held as Waits, Origin, Store, Refused}
 use Rattle.settled.specs.Devices.{Device, sectors_of, answers, met, written_by}
-use Rattle.event_machine.specs.Held.{Copying, Held, Going, MergeHeld, Moving, with_store, spoiled, on_device, with_merge}
-use Rattle.event_machine.specs.Stepping.{for_some, first_that, with_first, without_first, put, spoil, store_write, read_copy, write_copy, zero_next, publish, is_copy, issue, on_copy, on_snap, stepped}
+use Rattle.event_machine.specs.Held.{Copying, Held, MergeHeld, Moving, with_store, spoiled, on_device, with_merge}
+use Rattle.event_machine.specs.Stepping.{for_some, first_that, with_first, without_first, put, spoil, store_write, read_copy, write_copy, zero_next, publish, is_copy, on_copy, on_snap}
 use Rattle.event_machine.specs.MergeStepping.{stepped_all, read_area, read_chunk, flush_origin, without_group, end_group, form_group, start_next, on_merge, stop, sectors_in, without_last}
-use Rattle.event_machine.specs.Submitting.{started_all, needs_none, is_filled, with_copy, start_copies}
+use Rattle.event_machine.specs.Submitting.{started_all, needs_none, is_filled}
 use Rattle.event_machine.specs.Due.{is_front_written, needs_area, can_zero, is_publishable}
 use Rattle.event_machine.specs.MergeDue.{in_area, can_group, can_read_area, can_read, can_flush, can_release}
 use Rattle.volume.proofs.Shown.{and_left, and_right}

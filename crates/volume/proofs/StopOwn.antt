@@ -1,12 +1,11 @@
 -- What an event that writes one store says of it.
-use Rattle.std.proofs.Common.{◌≡◌, ◌⊎◌, inl, inr, ℕ, ◌-◌, ◌<◌, true, List, Option, Some, length, take, get_or, set, refl, sym, ◌∙◌, ap, subst}
+use Rattle.std.proofs.Common.{◌≡◌, ◌⊎◌, inl, inr, ℕ, ◌-◌, ◌<◌, List, Option, Some, length, take, get_or, refl, sym, ◌∙◌, ap, subst}
 use Rattle.std.proofs.lemmas.Bool.{cases_eq}
 use Rattle.std.proofs.lemmas.List.{get_or_default, get_or-set_other}
 use Rattle.std.proofs.lemmas.Grind.{get_or-set_at}
-use Rattle.device.specs.Layers.{Layer, is_loud}
 use Rattle.pending.specs.declared.flights.Flight.{Flight}
 use Rattle.store.specs.Shown.{StopsBetween}
-use Rattle.snapshot.specs.Kept.{Kept, batch_of}
+use Rattle.snapshot.specs.Kept.{Kept}
 use Rattle.merge.specs.Lists.{copied_count, copied_of}
 use Rattle.merge.specs.Merging.{Merging}
 use Rattle.volume.specs.Volumed.{Volumed}

@@ -1,13 +1,10 @@
 -- What a step of the plain machine says of each snapshot's array and of the origin's, sector by sector.
-use Rattle.std.proofs.Common.{◌≡◌, ◌≢◌, ◌⊎◌, inl, inr, ℕ, zero, suc, ◌+◌, ◌-◌, ◌*◌, ◌<◌, ◌≤◌, Bool, true, false, List, [], ◌∷◌, Option, None, Some, length, get_or, map, refl, sym, ◌∙◌, ap, subst, arith, nat_eq}
+use Rattle.std.proofs.Common.{◌≡◌, ◌⊎◌, inl, inr, ℕ, zero, suc, ◌<◌, Bool, true, false, List, [], ◌∷◌, Some, length, get_or, map, refl, sym, ◌∙◌, ap, subst, arith}
 use Rattle.std.specs.Prelude.{◌==◌, if◌then◌else◌}
-use Rattle.std.specs.List.{All}
 use Rattle.std.proofs.lemmas.Bool.{cond-true, cond-false, eqb-true}
 use Rattle.std.proofs.lemmas.List.{length-map, get_or-map, get_or_default}
-use Rattle.sector.specs.Bytes.{sector_at, with_sectors}
-use Rattle.sector.proofs.Sectors.{kept_or_written}
 use Rattle.model.specs.Picture.{picture}
-use Rattle.plain.specs.Plain.{Plain, Entry, Saved, Live, Invalid, saved_under, with_saved, spoiled_entry, is_in}
+use Rattle.plain.specs.Plain.{Entry, Saved, Live, Invalid, saved_under, with_saved, spoiled_entry, is_in}
 use Rattle.volume_laws.specs.Shape.{shown_entry}
 use Rattle.snapshot.specs.Kept.{Kept}
 use Rattle.volume.specs.Volumed.{snap_shape}

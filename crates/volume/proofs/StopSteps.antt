@@ -1,5 +1,5 @@
 -- What a stop leaves within an event that writes no pair and no mark.
-use Rattle.std.proofs.Common.{◌≡◌, ◌≢◌, ◌⊎◌, inl, inr, ℕ, zero, suc, ◌+◌, ◌-◌, ◌*◌, ◌<◌, ◌≤◌, Bool, true, false, List, [], ◌∷◌, ◌++◌, Option, None, Some, length, take, get_or, map, refl, sym, ◌∙◌, ap, subst, arith}
+use Rattle.std.proofs.Common.{◌≡◌, ◌≢◌, ◌⊎◌, inl, inr, ℕ, suc, ◌+◌, ◌-◌, ◌*◌, ◌<◌, ◌≤◌, Bool, true, false, List, [], ◌∷◌, ◌++◌, Option, None, Some, length, take, get_or, map, refl, sym, ◌∙◌, ap, subst, arith}
 use Rattle.std.specs.Prelude.{◌&&◌, ◌||◌, ◌==◌, ◌/◌, not}
 use Rattle.std.specs.List.{All, list_all, list_any}
 use Rattle.std.proofs.Math.ListN.{get_or-append}
@@ -13,8 +13,8 @@ use Rattle.sector.specs.declared.range.Range.{Range}
 use Rattle.device.specs.Layers.{Layer, is_loud}
 use Rattle.model.specs.Picture.{picture, place_of, IsCopied}
 use Rattle.model.proofs.Pictures.{length-picture}
-use Rattle.plain.specs.Plain.{Plain, InFlight, Entry, asked_under}
-use Rattle.plain.specs.Legal.{IsLegalStep, Spoils, IsAnswered}
+use Rattle.plain.specs.Plain.{Plain, asked_under}
+use Rattle.plain.specs.Legal.{IsLegalStep, Spoils}
 use Rattle.plain.specs.Serves.{Serves, Shows, Assigns, SameArrays}
 use Rattle.plain.specs.declared.event.Event.{Event}
 use Rattle.plain.specs.declared.event.Event.TheVariants.{Issue, CopyRead, CopyWrite, ZeroNext, WriteArea, Publish, WriteInvalid, MergeGroup, MergeAreaRead, MergeRead, MergeWrite, MergeFlush, MergeCommit, MergeRelease}
@@ -37,8 +37,8 @@ use Rattle.stop_laws.specs.Again.{LoadsAgain, IsRefusedAgain}
 use Rattle.stop_laws.specs.Clauses.{Given, Gives, StopsSnap}
 use Rattle.stop_laws.proofs.Clauses.{opens_none}
 use Rattle.stop_laws.proofs.Shown.{shown_under}
-use Rattle.volume_laws.specs.Held.{LiveHolds, SnapHolds, CopyHolds, RequestHolds}
-use Rattle.volume_laws.specs.Shape.{shown_origin, shown_entry}
+use Rattle.volume_laws.specs.Held.{LiveHolds, CopyHolds, RequestHolds}
+use Rattle.volume_laws.specs.Shape.{shown_origin}
 use Rattle.volume_laws.specs.Whole.{OriginHolds}
 use Rattle.volume_laws.specs.Published.{is_published}
 use Rattle.volume_laws.proofs.Clear.{published_true}
@@ -49,7 +49,6 @@ use Rattle.event_machine.specs.Seen.{replied_by}
 use Rattle.event_machine.specs.Held.{MergeHeld, is_untried}
 use Rattle.event_machine.specs.Again.{is_saved}
 use Rattle.event_machine.specs.MergeSeen.{held_in, merge_held_of, buffered}
-use Rattle.event_machine.specs.MergeStepping.{stepped_all}
 use Rattle.store.specs.Shown.{StopsBetween, StopsInvalid}
 use Rattle.store.proofs.StopClauses.{between_stops, invalid_stops, merge_commit_stops}
 use Rattle.snapshot.specs.Kept.{Kept, books_of as snap_books, batch_of}
@@ -58,19 +57,19 @@ use Rattle.snapshots.specs.Numbers.{number_of_snap}
 use Rattle.merge.specs.Lists.{copied_count, copied_of, reading_of, released_of}
 use Rattle.merge.specs.Merging.{Merging, due_of as merging_due}
 use Rattle.merge_beside.specs.Rooms.{merge_books}
-use Rattle.volume.specs.Volumed.{Volumed, books_of, plain_of, is_loud_in_all, is_loud_with, piece_with, snap_shape, merge_shape}
+use Rattle.volume.specs.Volumed.{Volumed, books_of, plain_of, is_loud_in_all, is_loud_with, piece_with, merge_shape}
 use Rattle.volume.specs.Whole.{IsWhole, IsCounted, GoesOn}
 use Rattle.volume.specs.Causes.{counts_with}
 use Rattle.volume.specs.Exact.{IsExact}
 use Rattle.volume.specs.Moved.{moving_of, held_of, merge_seen}
 use Rattle.volume.specs.Asking.{IsMergeInStep}
 use Rattle.volume.specs.Stepping.{KeepsAll, merged_of}
-use Rattle.volume.specs.Stopping.{stopping_of, array_of, given_as, given_in, given_by, told_by, CommitsWithin, MarksWithin, MergeWithin, WritesOne, CommitsMerge, StopsOwn, StopsOrigin, StopsVolume}
+use Rattle.volume.specs.Stopping.{stopping_of, given_as, given_in, given_by, told_by, CommitsWithin, MarksWithin, MergeWithin, WritesOne, CommitsMerge, StopsOwn, StopsOrigin, StopsVolume}
 use Rattle.volume.proofs.Shown.{and_left, and_right, loud_books}
 use Rattle.volume.proofs.Counting.{head_counted}
 use Rattle.volume.proofs.StopStill.{as_it_is, loads_snap, refuses_snap, ready_live, SameMerging, same_merging, still_disk, still_merge, still_snap, origin_still, loud_snap, of_origin}
-use Rattle.volume.proofs.StopGiven.{IsGiven, live_given, dead_given, merge_given}
-use Rattle.volume.proofs.StopMoves.{Places, SameBytes, seen_place, Moves, WritesOwn, SameStore, Steps, is_still, steps_by}
+use Rattle.volume.proofs.StopGiven.{live_given, dead_given, merge_given}
+use Rattle.volume.proofs.StopMoves.{SameBytes, seen_place, Moves, SameStore, Steps, is_still, steps_by}
 use Rattle.volume.proofs.StopIssues.{SamePairs, SameMergePairs, KeepsPairs, pairs_kept}
 use Rattle.volume.proofs.MergeDue.{merged, full_inside}
 use Rattle.volume.proofs.StopWrites.{WriteSteps, write_steps, all_at, none_at, live_saved, reading_full}

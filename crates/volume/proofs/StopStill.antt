@@ -1,6 +1,6 @@
 -- A stop where nothing is written: each store is loaded again as it stands.
-use Rattle.std.proofs.Common.{◌≡◌, ◌⊎◌, inl, inr, ℕ, ◌*◌, ◌<◌, Bool, true, false, List, Option, None, Some, length, get_or, map, refl, sym, ◌∙◌, ap, subst, arith}
-use Rattle.std.specs.Prelude.{◌||◌, ◌&&◌, Ok}
+use Rattle.std.proofs.Common.{◌≡◌, inl, inr, ℕ, ◌*◌, ◌<◌, Bool, true, false, List, Option, None, Some, length, get_or, refl, sym, ◌∙◌, ap, subst, arith}
+use Rattle.std.specs.Prelude.{◌||◌, ◌&&◌}
 use Rattle.std.specs.List.{All, list_all}
 use Rattle.std.proofs.lemmas.Bool.{false≢true}
 use Rattle.std.proofs.lemmas.List.{length-map, get_or-map, get_or_default}
@@ -18,11 +18,11 @@ use Rattle.snapshot.specs.Kept.{Kept, books_of as snap_books}
 use Rattle.snapshot.specs.InStep.{IsInStep}
 use Rattle.merge.specs.Merging.{Merging}
 use Rattle.merge.specs.InStep.{IsInStep as IsMergingInStep}
-use Rattle.volume.specs.Volumed.{Volumed, books_of, is_loud_in_all, is_loud_with}
+use Rattle.volume.specs.Volumed.{Volumed, is_loud_in_all, is_loud_with}
 use Rattle.volume.specs.Whole.{IsWhole, GoesOn}
 use Rattle.volume.specs.Asking.{IsMergeInStep}
 use Rattle.volume.specs.Stopping.{stopping_of, StopsOrigin, StopsVolume, of_all}
-use Rattle.volume.proofs.Shown.{loud_books, loud_others, and_right}
+use Rattle.volume.proofs.Shown.{loud_books, and_right}
 
 pub ready_live : (a b c : Bool) → a ≡ true → (a || (b || c)) ≡ true
 ready_live true b c e = refl

@@ -1,7 +1,7 @@
 -- What the devices of a volume may be left with where the machine stops before, after or within a call, while no device
 -- drops writes. Each sector is left as it was or as the call writes it, each by itself. This project's own; the bytes are
 -- those of dm-snap-persistent.c.
-use Rattle.std.specs.Prelude.{◌≡◌, ◌⊎◌, not, ℕ, ◌-◌, ◌<◌, Bool, true, false, List, Option, Some, None, length, take, slice_index_or}
+use Rattle.std.specs.Prelude.{◌≡◌, ◌⊎◌, not, ℕ, ◌-◌, ◌<◌, Bool, true, List, Option, Some, None, length, take, slice_index_or}
 use Rattle.sector.specs.declared.range.Range.{Range}
 use Rattle.plain.specs.declared.event.Event.{Event}
 use Rattle.plain.specs.declared.event.Event.TheVariants.{Issue, WriteArea, WriteInvalid, MergeCommit}

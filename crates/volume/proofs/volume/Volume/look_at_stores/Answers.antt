@@ -1,7 +1,6 @@
 -- The stores are in step, and so a stop leaves them as they are.
-use Rattle.std.proofs.Common.{◌≡◌, ℕ, true, refl, sym, ap, subst, get_or}
+use Rattle.std.proofs.Common.{sym, subst}
 use Rattle.std.specs.List.{All}
-use Rattle.snapshot.specs.Kept.{Kept}
 use Rattle.snapshot.specs.InStep.{IsInStep}
 use Rattle.volume.specs.Asking.{IsMergeInStep}
 use Rattle.volume.specs.Volumed.{Volumed}
