@@ -9,6 +9,7 @@ mod fail_at;
 mod io;
 mod mem_disk;
 mod operation;
+mod written;
 
 pub use block::Block;
 pub use fail_at::FailAt;

@@ -4,6 +4,7 @@ ghost use Rattle.std.proofs.Common.{inl, inr};
 ghost use Rattle.sector.specs.declared.refusal.Refusal.TheVariants.{NoMemory};
 ghost use Rattle.sector.specs.Bytes.{sectors_at, with_sectors};
 
+use crate::written::Written;
 use crate::{Block, Io};
 use sector::{Range, Refusal, SECTOR_BYTES};
 use std::alloc::Global;
@@ -20,9 +21,12 @@ pub struct MemDisk {
     flushed: Vec<u8>,
     sectors: u64,
     done: u64,
+    written: Written,
     ghost small: { sectors ≤ 16_777_216 },
     ghost whole: { length present.items ≡ 512 * sectors },
     ghost whole_flushed: { length flushed.items ≡ 512 * sectors },
+    ghost inside: { written.to ≤ 512 * sectors },
+    ghost same_outside: { (i : ℕ) → (i < written.from) ⊎ (written.to ≤ i) → slice_index present.items i ≡ slice_index flushed.items i },
 }
 
 impl MemDisk {
@@ -51,6 +55,7 @@ impl MemDisk {
             flushed,
             sectors,
             done: 0,
+            written: Written::nothing(),
         })
     }
 
@@ -75,6 +80,7 @@ impl MemDisk {
     {
         write_sectors(&mut self.present, range.first as usize, bytes);
         write_sectors(&mut self.flushed, range.first as usize, bytes);
+        self.written = self.written.with(range.first as usize, bytes.len());
     }
 
     /// Loses what was not flushed: each sector goes back to its value at the last flush. It counts no operation.
@@ -84,7 +90,8 @@ impl MemDisk {
         ensures size { disk_size self.new ≡ disk_size self.old }
         ensures done { disk_done self.new ≡ disk_done self.old }
     {
-        self.present.copy_from_slice(&self.flushed);
+        self.written.copy(&self.flushed, &mut self.present);
+        self.written = Written::nothing();
     }
 }
 
@@ -136,12 +143,14 @@ impl Block for MemDisk {
 
     fn write(&mut self, range: Range, bytes: &[u8]) -> Result<(), Io> {
         write_sectors(&mut self.present, range.first as usize, bytes);
+        self.written = self.written.with(range.first as usize, bytes.len());
         self.done = self.done.wrapping_add(1);
         Ok(())
     }
 
     fn flush(&mut self) -> Result<(), Io> {
-        self.flushed.copy_from_slice(&self.present);
+        self.written.copy(&self.present, &mut self.flushed);
+        self.written = Written::nothing();
         self.done = self.done.wrapping_add(1);
         Ok(())
     }
@@ -176,6 +185,29 @@ mod tests {
             (4, 0, 3),
             "`raw` does not count"
         );
+        Ok(())
+    }
+
+    #[test]
+    fn a_flush_keeps_each_write_since_the_last(rt: HostRuntime) -> Result<(), Fail> {
+        let mut disk = MemDisk::new(rt.alloc(), 4)?;
+        disk.write(Range::new(3, 1, 4)?, &[1; 512])?;
+        disk.flush()?;
+        disk.write(Range::new(2, 1, 4)?, &[2; 512])?;
+        disk.write(Range::new(0, 1, 4)?, &[3; 512])?;
+        disk.flush()?;
+        disk.write(Range::new(0, 4, 4)?, &[9; 2048])?;
+        disk.lose();
+        let mut out = [9; 2048];
+        disk.raw(Range::new(0, 4, 4)?, &mut out);
+        for (sector, byte) in [(0, 3), (1, 0), (2, 2), (3, 1)] {
+            let at = sector * 512;
+            assert_eq!(rt;
+                &out[at..at + 512],
+                [byte; 512].as_slice(),
+                "sector {sector}"
+            );
+        }
         Ok(())
     }
 

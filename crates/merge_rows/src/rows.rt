@@ -47,24 +47,32 @@ fn hold_usage<B: Block>(rt: &impl Abort, merge: &Merge<B>, wanted: (u64, u64, u6
     assert_eq!(rt; (usage.allocated, usage.total, usage.metadata), wanted);
 }
 
-#[test]
-fn runs_are_copied_back_from_the_last_pair_on(rt: HostRuntime) -> Result<(), Fail> {
-    let pairs = [(3, 2), (4, 3), (5, 4), (8, 5), (9, 6), (10, 9)];
-    let disk = store_disk(rt.alloc(), 16, 1, &[(1, area_of(&rt, &pairs))])?;
-    let mut origin = counted(rt.alloc(), 16, 0)?;
-    let mut merge = merge_on(&rt, rt.alloc(), disk, 1, 16)?;
+/// Pairs of three runs, the last of which has one pair, and its chunk lies beyond the others.
+const THREE_RUNS: [(u8, u8); 6] = [(3, 2), (4, 3), (5, 4), (8, 5), (9, 6), (10, 9)];
+
+/// The last pair alone.
+fn merge_last_pair(
+    rt: &impl Abort,
+    merge: &mut Merge<MemDisk>,
+    origin: &mut MemDisk,
+) -> Result<(), Fail> {
+    do_all(rt, merge, origin, &ONE)?;
+    hold_origin(rt, origin, 16, &[(10, 0x89)])?;
     assert_eq!(rt;
-        (merge.number(), merge.chunk(), merge.sectors()),
-        (7, 1, 16)
+        sector_of(merge.device(), 1)?,
+        area_of(rt, &THREE_RUNS[..5])
     );
-    hold_usage(&rt, &merge, (10, 16, 2));
+    hold_usage(rt, merge, (7, 16, 2));
+    Ok(())
+}
 
-    do_all(&rt, &mut merge, &mut origin, &ONE)?;
-    hold_origin(&rt, &origin, 16, &[(10, 0x89)])?;
-    assert_eq!(rt; sector_of(merge.device(), 1)?, area_of(&rt, &pairs[..5]));
-    hold_usage(&rt, &merge, (7, 16, 2));
-
-    do_all(&rt, &mut merge, &mut origin, &[Event::Group])?;
+/// The two pairs before it, up to their commit: they are merged until their release.
+fn merge_two_pairs(
+    rt: &impl Abort,
+    merge: &mut Merge<MemDisk>,
+    origin: &mut MemDisk,
+) -> Result<(), Fail> {
+    do_all(rt, merge, origin, &[Event::Group])?;
     assert_eq!(rt;
         merge.next(),
         Some(Pair { old: 9, new: 6 }),
@@ -78,17 +86,25 @@ fn runs_are_copied_back_from_the_last_pair_on(rt: HostRuntime) -> Result<(), Fai
         Event::Flush,
         Event::Commit,
     ];
-    do_all(&rt, &mut merge, &mut origin, &both)?;
-    hold_origin(&rt, &origin, 16, &[(10, 0x89), (9, 0x86), (8, 0x85)])?;
-    assert_eq!(rt; sector_of(merge.device(), 1)?, area_of(&rt, &pairs[..3]));
-    assert!(rt;
-        merge.in_group(8) && merge.in_group(9) && !merge.in_group(10),
-        "until its release"
+    do_all(rt, merge, origin, &both)?;
+    hold_origin(rt, origin, 16, &[(10, 0x89), (9, 0x86), (8, 0x85)])?;
+    assert_eq!(rt;
+        sector_of(merge.device(), 1)?,
+        area_of(rt, &THREE_RUNS[..3])
     );
+    assert!(rt; merge.in_group(8) && merge.in_group(9) && !merge.in_group(10));
     assert!(rt; merge.has_place(5) && merge.has_place(6) && !merge.has_place(4));
     assert_eq!(rt; (merge.place_of(8), merge.place_of(5)), (None, Some(4)));
+    Ok(())
+}
 
-    let three = [
+/// Their release, and the three pairs that are left.
+fn merge_three_pairs(
+    rt: &impl Abort,
+    merge: &mut Merge<MemDisk>,
+    origin: &mut MemDisk,
+) -> Result<(), Fail> {
+    let two_of_three = [
         Event::Release,
         Event::Group,
         Event::Read,
@@ -96,7 +112,7 @@ fn runs_are_copied_back_from_the_last_pair_on(rt: HostRuntime) -> Result<(), Fai
         Event::Read,
         Event::Write,
     ];
-    do_all(&rt, &mut merge, &mut origin, &three)?;
+    do_all(rt, merge, origin, &two_of_three)?;
     assert_eq!(rt;
         (merge.next(), merge.is_finished()),
         (Some(Pair { old: 3, new: 2 }), false)
@@ -108,9 +124,25 @@ fn runs_are_copied_back_from_the_last_pair_on(rt: HostRuntime) -> Result<(), Fai
         Event::Commit,
         Event::Release,
     ];
-    do_all(&rt, &mut merge, &mut origin, &last)?;
+    do_all(rt, merge, origin, &last)?;
     assert!(rt; merge.is_finished());
-    hold_usage(&rt, &merge, (2, 16, 2));
+    hold_usage(rt, merge, (2, 16, 2));
+    Ok(())
+}
+
+#[test]
+fn runs_are_copied_back_from_the_last_pair_on(rt: HostRuntime) -> Result<(), Fail> {
+    let disk = store_disk(rt.alloc(), 16, 1, &[(1, area_of(&rt, &THREE_RUNS))])?;
+    let mut origin = counted(rt.alloc(), 16, 0)?;
+    let mut merge = merge_on(&rt, rt.alloc(), disk, 1, 16)?;
+    assert_eq!(rt;
+        (merge.number(), merge.chunk(), merge.sectors()),
+        (7, 1, 16)
+    );
+    hold_usage(&rt, &merge, (10, 16, 2));
+    merge_last_pair(&rt, &mut merge, &mut origin)?;
+    merge_two_pairs(&rt, &mut merge, &mut origin)?;
+    merge_three_pairs(&rt, &mut merge, &mut origin)?;
     let replaced = [
         (10, 0x89),
         (9, 0x86),

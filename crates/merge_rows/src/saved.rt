@@ -46,20 +46,28 @@ fn start_for_merge(rt: &impl Abort, snapshot: &mut Snapshot<MemDisk>, chunk: Chu
     snapshot.start_merging(chunk, chunk)
 }
 
-// Reads the first copy from the origin disk, writes it to its place, and commits it, in an area that it does not fill.
-fn save_first(
+// Reads the first copy from the origin disk.
+fn read_first(
     rt: &impl Abort,
     snapshot: &mut Snapshot<MemDisk>,
     origin: &mut MemDisk,
 ) -> Result<(), Io> {
     assert!(rt; 0 < snapshot.copies().len());
     assert_eq!(rt; origin.sectors(), snapshot.sectors());
-    snapshot.read_copy(origin, 0)?;
+    snapshot.read_copy(origin, 0)
+}
+
+// Writes the first copy to its place.
+fn write_first(rt: &impl Abort, snapshot: &mut Snapshot<MemDisk>) -> Result<(), Io> {
     assert!(rt; snapshot.is_live() && 0 < snapshot.copies().len());
     let Stage::Read = snapshot.copies()[0].stage else {
         return Err(Io);
     };
-    snapshot.write_copy(0)?;
+    snapshot.write_copy(0)
+}
+
+// Commits the first copy, in an area that it does not fill.
+fn commit_first(rt: &impl Abort, snapshot: &mut Snapshot<MemDisk>) -> Result<(), Io> {
     assert!(rt; snapshot.is_live() && 0 < snapshot.copies().len());
     assert!(rt; !snapshot.needs_next_area());
     let Stage::Written = snapshot.copies()[0].stage else {
@@ -102,7 +110,9 @@ fn a_snapshot_saves_for_a_merge_without_memory(rt: HostRuntime) -> Result<(), Fa
         assert!(rt; start_for_merge(&rt, &mut snapshot, chunk));
         assert_eq!(rt; snapshot.merging(), Some(chunk));
         assert!(rt; !snapshot.can_merge());
-        save_first(&rt, &mut snapshot, &mut origin)?;
+        read_first(&rt, &mut snapshot, &mut origin)?;
+        write_first(&rt, &mut snapshot)?;
+        commit_first(&rt, &mut snapshot)?;
         assert!(rt; !snapshot.can_merge());
         publish_first(&rt, &mut snapshot);
         assert_eq!(rt; snapshot.merging(), None);

@@ -43,7 +43,7 @@ all_passes f xs n x within is passed =
     ap (list_all f) (drop_more xs n x within) ∙ ap (λ b. b && list_all f (drop (n + 1) xs)) (ap f (sym is) ∙ passed)
 
 -- a merge as the machine's looks see it
-abbrev merge_seen_of : {B : Type 0} → (B → List ℕ) → (B → List Layer) → Merging B → MergeSeen
+abbrev pub merge_seen_of : {B : Type 0} → (B → List ℕ) → (B → List Layer) → Merging B → MergeSeen
 merge_seen_of contents layers m = record { due = merging_due contents true m; layers = layers m.device; next = m.next }
 
 module _ {B : Type 0} (contents : B → List ℕ) (layers : B → List Layer) where

@@ -94,3 +94,7 @@ pub mod StopShown
 pub mod StopSteps
 pub mod StopOwn
 pub mod StopWrites
+pub mod Calm
+pub mod Under
+pub mod Others
+pub mod OwnKinds

@@ -5,6 +5,7 @@ pub mod Flying
 pub mod Stepping
 pub mod Stored
 pub mod Moved
+pub mod EventKinds
 pub mod Exact
 pub mod Reaching
 pub mod Leaving

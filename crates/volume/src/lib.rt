@@ -21,6 +21,7 @@ mod calls;
 mod close;
 mod copies;
 mod detach;
+mod event_kinds;
 mod events;
 mod finishing;
 mod issue;
@@ -39,4 +40,5 @@ mod time;
 mod volume;
 
 pub use calls::{Call, Returned};
+pub use event_kinds::is_of_merge;
 pub use volume::{LARGEST_PIECE, MAX_SNAPSHOTS, Volume};

@@ -3,8 +3,13 @@ ghost use Rattle.std.specs.Prelude.{◌≡◌, ◌*◌, ◌<◌, ◌≤◌, IfEr
 ghost use Rattle.std.specs.List.{All, list_all};
 ghost use Rattle.sector.specs.declared.refusal.Refusal.TheVariants.{NoSuchDevice};
 ghost use Rattle.plain.specs.declared.request.Reply.{Reply};
-ghost use Rattle.event_machine.specs.MergeRest.{IsBetween};
+ghost use Rattle.chunk.specs.Sizes.{is_chunk};
+ghost use Rattle.event_machine.specs.Due.{due};
+ghost use Rattle.event_machine.specs.Held.{MergeHeld};
+ghost use Rattle.event_machine.specs.MergeRest.{IsBetween, in_big_steps};
 ghost use Rattle.event_machine.specs.Rest.{IsAtRest};
+ghost use Rattle.merge.specs.Merging.{Merging};
+ghost use Rattle.settled.specs.MergeShown.{IsMerging};
 ghost use Rattle.snapshot.specs.Kept.{Kept};
 ghost use Rattle.snapshots.specs.Finding.{place_of_snap};
 ghost use Rattle.volume.specs.Asking.{HasNone, HoldsOf, is_finished_in, merging_number, merging_usage};
@@ -47,12 +52,19 @@ fn are_done<B: Block>(snaps: &[Snapshot<B>]) -> bool
 }
 
 impl<B: Block> Volume<B> {
-    /// The number of the snapshot that is being merged, if one is.
+    /// The number of the snapshot that is being merged, if one is. It is none of the others, its chunks have an allowed
+    /// size, and it is of this origin.
     pub fn merging(&self) -> Option<SnapId>
-        ensures { result ≡ merging_number self.now.merge }
+        ensures value { result ≡ merging_number self.now.merge }
+        ensures apart { IfSome result (λ number. place_of_snap number self.now.snaps ≡ None) }
+        ensures fine { (m : Merging B) → self.now.merge ≡ Some m → (is_chunk m.state.chunk ≡ true) × (m.state.origin ≡ B.size self.now.origin) }
     {
         match &self.merge {
-            Some(merge) => Some(merge.number()),
+            Some(merge) => {
+                // A look: that its chunks have an allowed size is known from here on.
+                let _ = merge.chunk();
+                Some(merge.number())
+            }
             None => None,
         }
     }
@@ -108,12 +120,17 @@ impl<B: Block> Volume<B> {
 
     /// Whether no request is in flight, no group of a merge is formed, no copy is pending, and no invalid mark is untried. A
     /// quiet volume, no device of which drops writes, is one at rest between two whole commands, whatever was done to it; and
-    /// between two groups of its merge, if one is begun.
+    /// between two groups of its merge, if one is begun; and no event is due of it but those of a merge.
     pub fn is_quiet(&self) -> bool
         ensures value { result ≡ is_quiet_of self.now }
         ensures between { result ≡ true → is_loud_in_all B.layers self.now ≡ true → (replied : Option Reply) → IsBetween (B.size self.now.origin) (moving_of B.contents B.layers replied self.now) }
         ensures rest { result ≡ true → is_loud_in_all B.layers self.now ≡ true → self.now.merge ≡ None → (replied : Option Reply) → IsAtRest (B.size self.now.origin) (moving_of B.contents B.layers replied self.now) }
+        ensures calm { result ≡ true → (replied : Option Reply) → due (moving_of B.contents B.layers replied self.now) ≡ None }
+        ensures under { result ≡ true → is_loud_in_all B.layers self.now ≡ true → (replied : Option Reply) → (h : MergeHeld) → (moving_of B.contents B.layers replied self.now).merge ≡ Some h → IsMerging (B.size self.now.origin) (in_big_steps h (moving_of B.contents B.layers replied self.now)) }
+        ensures few { length self.now.snaps ≤ 8 }
     {
+        // A look: what the stores say is known from here on.
+        self.look_at_stores();
         if !self.flights.is_empty() {
             return false;
         }
@@ -121,6 +138,14 @@ impl<B: Block> Volume<B> {
             return false;
         }
         are_done(self.snaps.as_slice())
+    }
+
+    /// How many requests are in flight: 64 at most.
+    pub fn flying(&self) -> usize
+        ensures len { result ≡ length self.now.flights }
+        ensures few { result ≤ 64 }
+    {
+        self.flights.len()
     }
 
     /// The number of the request that was accepted last: so many were accepted so far.
@@ -139,12 +164,13 @@ impl<B: Block> Volume<B> {
         self.copies
     }
 
-    /// The snapshot at a place, counted from 0 in order of attaching.
+    /// The snapshot at a place, counted from 0 in order of attaching. It is not the one that is being merged.
     pub fn snap(&self, k: usize) -> &Snapshot<B>
         requires { k < length self.now.snaps }
         ensures value { (d : Kept B) → result.now ≡ slice_index_or self.now.snaps k d }
         ensures first { place_of_snap result.now.number self.now.snaps ≡ Some k }
         ensures counted { IsCounted result.now }
+        ensures other { is_merging result.now.number self.now.merge ≡ false }
         ensures sized { result.now.live ≡ true → result.now.state.size ≡ B.size result.now.device }
     {
         &self.snaps[k]

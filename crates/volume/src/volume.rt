@@ -1,5 +1,5 @@
 // A volume, and what callers ask of it.
-ghost use Rattle.std.specs.Prelude.{◌≡◌, ◌≤◌, [], None, IfErr, IfNone, IfOk, Option, length, true};
+ghost use Rattle.std.specs.Prelude.{◌≡◌, ◌≤◌, [], None, IfErr, IfNone, IfOk, IfSome, Option, false, length, true};
 ghost use Rattle.chunk.specs.Sizes.{is_chunk};
 ghost use Rattle.std.specs.List.{All};
 ghost use Rattle.plain.specs.declared.request.Reply.{Reply};
@@ -8,6 +8,8 @@ ghost use Rattle.volume.specs.Moved.{moving_of};
 ghost use Rattle.sector.specs.declared.refusal.Refusal.TheVariants.{NoMemory};
 ghost use Rattle.volume_laws.specs.Waits.{IsQuiet};
 ghost use Rattle.volume.specs.Asking.{IsMergeStill};
+ghost use Rattle.volume.specs.EventKinds.{is_of_merge};
+ghost use Rattle.volume.specs.Leaving.{has_group_in, is_quiet_of};
 ghost use Rattle.volume.specs.Volumed.{books_of, next_of, piece_with};
 
 use device::Block;
@@ -111,10 +113,12 @@ impl<B: Block> Volume<B> {
 
     /// The event that is due first: of the snapshots and requests, by kind and then by number, and then of the merge. None is
     /// due where the volume is quiet: no request is in flight, and no copy, publication or mark of a spoiled store is left to
-    /// do; and a merge that is begun has no group, and stopped at a fault or has no pair left.
+    /// do; and a merge that is begun has no group, and stopped at a fault or has no pair left. A merge without a group goes
+    /// on only where the volume is quiet.
     pub fn due(&self) -> Option<Event>
         ensures event { result ≡ next_of B.contents B.layers self.now }
         ensures machine { (replied : Option Reply) → due_all (moving_of B.contents B.layers replied self.now) ≡ result }
+        ensures calm { IfSome result (λ event. is_of_merge event ≡ true → has_group_in self.now.merge ≡ false → is_quiet_of self.now ≡ true) }
         ensures quiet { IfNone result (IsQuiet (books_of B.contents B.layers B.size self.now) × IsMergeStill self.now.merge) }
     {
         match first_due(&self.snaps, &self.flights) {

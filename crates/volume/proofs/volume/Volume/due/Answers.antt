@@ -1,7 +1,8 @@
 -- What is found first is due first, and where nothing is, the volume is quiet.
-use Rattle.std.proofs.Common.{◌≡◌, ◌<◌, true, None, Some, refl, sym, ap, map, ◌∙◌, subst}
+use Rattle.std.proofs.Common.{◌≡◌, ◌<◌, true, false, None, Some, refl, sym, ap, map, ◌∙◌, subst}
 use Rattle.std.specs.List.{All}
-use Rattle.std.specs.Prelude.{IfNone, Option}
+use Rattle.std.proofs.lemmas.Bool.{false≢true}
+use Rattle.std.specs.Prelude.{IfNone, IfSome, Option}
 use Rattle.plain.specs.declared.event.Event.{Event}
 use Rattle.volume_laws.specs.Due.{due_of}
 use Rattle.volume_laws.specs.MergeDue.{merge_due as due_of_merge}
@@ -9,6 +10,9 @@ use Rattle.snapshot.specs.Kept.{Kept, due_of_kept, books_of as snap_books}
 use Rattle.merge.specs.Merging.{due_of as merging_due}
 use Rattle.volume.specs.Volumed.{Volumed, dues_of, next_of}
 use Rattle.volume.proofs.MergeDue.{next_first, next_merge, next_none, due_all_is, full_begins, quiet_alone, quiet_merging}
+use Rattle.volume.specs.EventKinds.{is_of_merge}
+use Rattle.volume.specs.Leaving.{has_group_in, is_quiet_of}
+use Rattle.volume.proofs.OwnKinds.{due_own, quiet_unmerged}
 use Rattle.volume.proofs.volume.Volume.due.Goals as goal
 
 pub merge_due-requires-clause-some : goal.merge_due-requires-clause-some
@@ -106,3 +110,24 @@ returns-in-None-merge-clause-quiet g c =
     ∙ ap (due_of (map (due_of_kept g.B.Block.contents g.B.Block.layers) c.self.inside.snaps.items)) c.deref-2.ensures.value in
     rw (← c.self.view_is) (quiet_alone g.B.Block.contents g.B.Block.layers g.B.Block.size v c.self.invariant c.in-None-merge.is
     (next_none g.B.Block.contents g.B.Block.layers v c.in-None-merge.is (sym first ∙ c.in-None.is)))
+
+pub returns-in-Some-clause-calm : goal.returns-in-Some-clause-calm
+returns-in-Some-clause-calm g c = λ merges free.
+    let v : Volumed g.row.B.Denot = record { origin = c.self.inside.origin; snaps = c.self.inside.snaps.items; merge = c.self.inside.merge; flights = c.self.inside.flights.items; requests = c.self.inside.requests; copies = c.self.inside.copies; attached = c.self.inside.attached } in
+    let first : c.first_due.result ≡ due_of (dues_of g.B.Block.contents g.B.Block.layers v) v.flights =
+    c.first_due.ensures ∙ ap (λ xs. due_of (map (due_of_kept g.B.Block.contents g.B.Block.layers) xs) c.deref-2.result.now) c.deref.ensures.value
+    ∙ ap (due_of (map (due_of_kept g.B.Block.contents g.B.Block.layers) c.self.inside.snaps.items)) c.deref-2.ensures.value in
+    absurd (false≢true (sym (due_own (dues_of g.B.Block.contents g.B.Block.layers v) v.flights c.in-Some.event (sym first ∙ c.in-Some.is)) ∙ merges))
+
+pub returns-in-Some-merge-clause-calm : goal.returns-in-Some-merge-clause-calm
+returns-in-Some-merge-clause-calm g c =
+    let v : Volumed g.row.B.Denot = record { origin = c.self.inside.origin; snaps = c.self.inside.snaps.items; merge = c.self.inside.merge; flights = c.self.inside.flights.items; requests = c.self.inside.requests; copies = c.self.inside.copies; attached = c.self.inside.attached } in
+    let first : c.first_due.result ≡ due_of (dues_of g.B.Block.contents g.B.Block.layers v) v.flights =
+    c.first_due.ensures ∙ ap (λ xs. due_of (map (due_of_kept g.B.Block.contents g.B.Block.layers) xs) c.deref-2.result.now) c.deref.ensures.value
+    ∙ ap (due_of (map (due_of_kept g.B.Block.contents g.B.Block.layers) c.self.inside.snaps.items)) c.deref-2.ensures.value in
+    rw (← c.self.view_is) (some_by c.merge_due.result (λ event. is_of_merge event ≡ true → has_group_in v.merge ≡ false → is_quiet_of v ≡ true)
+    (λ event merges free. quiet_unmerged g.B.Block.contents g.B.Block.layers g.B.Block.size v c.self.invariant c.in-Some-merge.merge c.in-Some-merge.is (c.has_group.ensures.looks true) free (sym first ∙ c.in-None.is)))
+  where
+    some_by : (found : Option Event) (P : Event → Type 0) → ((e : Event) → P e) → IfSome found P
+    some_by None P h = tt
+    some_by (Some e) P h = h e
