@@ -8,7 +8,7 @@ use Rattle.words.specs.Given.{◌>>=◌}
 use Rattle.words.specs.Numbers.{numeral_of}
 use Rattle.words.specs.Names.{name_of}
 use Rattle.command.specs.declared.events.Event.{Event}
-use Rattle.command.specs.declared.events.Event.TheVariants.{Issue, CopyRead, CopyWrite, Publish, ZeroNext, WriteArea, WriteInvalid}
+use Rattle.command.specs.declared.events.Event.TheVariants.{Issue, CopyRead, CopyWrite, Publish, ZeroNext, WriteArea, WriteInvalid, MergeGroup, MergeAreaRead, MergeRead, MergeWrite, MergeFlush, MergeCommit, MergeRelease}
 
 -- an event by its word, and what it is about: the number of a request or of a copy, or the name of a snapshot
 unfoldable pub event_of : List ℕ → List ℕ → Result Event Refusal
@@ -22,7 +22,20 @@ event_of kind subject =
     if bytes_eq kind (codes "write-invalid") then (name_of subject >>= λ s. Ok (WriteInvalid s)) else
     Err BadTable
 
+-- an event of a merge by its word; a volume has one merge at most, so no further word tells which
+unfoldable pub merge_event_of : List ℕ → Result Event Refusal
+merge_event_of kind =
+    if bytes_eq kind (codes "merge-group") then Ok MergeGroup else
+    if bytes_eq kind (codes "merge-area-read") then Ok MergeAreaRead else
+    if bytes_eq kind (codes "merge-read") then Ok MergeRead else
+    if bytes_eq kind (codes "merge-write") then Ok MergeWrite else
+    if bytes_eq kind (codes "merge-flush") then Ok MergeFlush else
+    if bytes_eq kind (codes "merge-commit") then Ok MergeCommit else
+    if bytes_eq kind (codes "merge-release") then Ok MergeRelease else
+    Err BadTable
+
 -- the event that some words say; another is BadTable
 abbrev pub event_in : List (List ℕ) → Result Event Refusal
+event_in (kind ∷ []) = merge_event_of kind
 event_in (kind ∷ subject ∷ []) = event_of kind subject
 event_in words = Err BadTable

@@ -16,7 +16,7 @@ use Rattle.table.specs.Grammar.{line_in}
 use Rattle.command.specs.Messages.{message_in}
 use Rattle.command.specs.Events.{event_in}
 use Rattle.command.specs.declared.grammar.Command.{Command}
-use Rattle.command.specs.declared.grammar.Command.TheVariants.{Disk, Create, Remove, Load, Save, Message, Tick, Read, Write, StartRead, StartWrite, Step, Settle, Status, Table}
+use Rattle.command.specs.declared.grammar.Command.TheVariants.{Disk, Create, Remove, Load, Save, Message, Tick, Read, Write, StartRead, StartWrite, Step, Settle, Merge, Resume, Finish, Status, Table}
 
 -- a name and a first sector
 abbrev pub place_of : List ℕ → List ℕ → Result (List ℕ × ℕ) Refusal
@@ -137,6 +137,18 @@ step_of words = Err BadTable
 abbrev pub settle_of : List (List ℕ) → Result Command Refusal
 settle_of words = alone_of words >>= λ volume. Ok (Settle volume)
 
+-- `merge SNAP`
+abbrev pub merge_of : List (List ℕ) → Result Command Refusal
+merge_of words = alone_of words >>= λ name. Ok (Merge name)
+
+-- `resume VOL`
+abbrev pub resume_of : List (List ℕ) → Result Command Refusal
+resume_of words = alone_of words >>= λ volume. Ok (Resume volume)
+
+-- `finish VOL`
+abbrev pub finish_of : List (List ℕ) → Result Command Refusal
+finish_of words = alone_of words >>= λ volume. Ok (Finish volume)
+
 -- `status DEV`
 abbrev pub status_of : List (List ℕ) → Result Command Refusal
 status_of words = alone_of words >>= λ name. Ok (Status name)
@@ -161,6 +173,9 @@ command_of (verb ∷ words) =
     if bytes_eq verb (codes "start") then start_of words else
     if bytes_eq verb (codes "step") then step_of words else
     if bytes_eq verb (codes "settle") then settle_of words else
+    if bytes_eq verb (codes "merge") then merge_of words else
+    if bytes_eq verb (codes "resume") then resume_of words else
+    if bytes_eq verb (codes "finish") then finish_of words else
     if bytes_eq verb (codes "status") then status_of words else
     if bytes_eq verb (codes "table") then table_of words else
     Err BadTable

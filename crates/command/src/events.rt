@@ -1,12 +1,13 @@
 // Events of a volume, one by one.
 ghost use Rattle.std.specs.Prelude.{◌≡◌};
 ghost use Rattle.words.specs.Texts.{texts};
-ghost use Rattle.command.specs.Events.{event_of, event_in};
+ghost use Rattle.command.specs.Events.{event_of, merge_event_of, event_in};
 
 use sector::Refusal;
 use words::{Name, numeral};
 
-/// An event of a volume. A request and a copy are told by their numbers, a snapshot by its name.
+/// An event of a volume. A request and a copy are told by their numbers, a snapshot by its name; a volume has one merge at
+/// most.
 #[derive(Debug, Drop)]
 pub enum Event {
     /// `issue R`: the request's one read or write, and its reply.
@@ -23,6 +24,20 @@ pub enum Event {
     WriteArea(Name),
     /// `write-invalid SNAP`: marks the store of a spoiled snapshot.
     WriteInvalid(Name),
+    /// `merge-group`: takes the last run of pairs of the area for merging.
+    MergeGroup,
+    /// `merge-area-read`: reads the area before the one that is merged empty.
+    MergeAreaRead,
+    /// `merge-read`: reads a chunk of the group from the store.
+    MergeRead,
+    /// `merge-write`: writes it to the origin disk.
+    MergeWrite,
+    /// `merge-flush`: flushes the origin, all chunks of the group being copied.
+    MergeFlush,
+    /// `merge-commit`: writes the area with the group's slots cleared.
+    MergeCommit,
+    /// `merge-release`: ends the group.
+    MergeRelease,
 }
 
 // An event by its word, and what it is about.
@@ -49,11 +64,36 @@ fn event_of(kind: &[u8], subject: &[u8]) -> Result<Event, Refusal>
     }
 }
 
+// An event of a merge by its word.
+#[tactic(auto, unfolding(crate::specs::Events::merge_event_of))]
+fn merge_event_of(kind: &[u8]) -> Result<Event, Refusal>
+    ensures { result ≡ merge_event_of kind.now }
+{
+    if kind == b"merge-group".as_slice() {
+        Ok(Event::MergeGroup)
+    } else if kind == b"merge-area-read".as_slice() {
+        Ok(Event::MergeAreaRead)
+    } else if kind == b"merge-read".as_slice() {
+        Ok(Event::MergeRead)
+    } else if kind == b"merge-write".as_slice() {
+        Ok(Event::MergeWrite)
+    } else if kind == b"merge-flush".as_slice() {
+        Ok(Event::MergeFlush)
+    } else if kind == b"merge-commit".as_slice() {
+        Ok(Event::MergeCommit)
+    } else if kind == b"merge-release".as_slice() {
+        Ok(Event::MergeRelease)
+    } else {
+        Err(Refusal::BadTable)
+    }
+}
+
 /// The event that some words say. `BadTable` for words that are none.
 pub fn event_in(words: &[&[u8]]) -> Result<Event, Refusal>
     ensures { result ≡ event_in (texts words.now) }
 {
     match words {
+        [kind] => merge_event_of(kind),
         [kind, subject] => event_of(kind, subject),
         _ => Err(Refusal::BadTable),
     }

@@ -2,7 +2,7 @@
 ghost use Rattle.std.specs.Prelude.{◌≡◌, ◌≤◌, ◌∷◌, length};
 ghost use Rattle.words.specs.Given.{Gives};
 ghost use Rattle.words.specs.Texts.{texts};
-ghost use Rattle.command.specs.Grammar.{place_of, amount_of, span_of, patch_of, alone_of, disk_of, is_merge, made_line_of, create_of, remove_of, load_of, save_of, message_of, tick_of, read_of, write_of, start_read_of, start_write_of, start_of, step_of, settle_of, status_of, table_of, command_of};
+ghost use Rattle.command.specs.Grammar.{place_of, amount_of, span_of, patch_of, alone_of, disk_of, is_merge, made_line_of, create_of, remove_of, load_of, save_of, message_of, tick_of, read_of, write_of, start_read_of, start_write_of, start_of, step_of, settle_of, merge_of, resume_of, finish_of, status_of, table_of, command_of};
 
 use super::data_words::{payload, sectors};
 use super::events::{Event, event_in};
@@ -42,6 +42,12 @@ pub enum Command {
     Step { volume: Name, event: Event },
     /// `settle VOL`: the events that are due in the volume of an origin, until there is none.
     Settle { volume: Name },
+    /// `merge SNAP`: begins to merge a snapshot into its origin.
+    Merge { name: Name },
+    /// `resume VOL`: lets a failed merge of the volume of an origin go on.
+    Resume { volume: Name },
+    /// `finish VOL`: ends the merge of the volume of an origin that has come to its end.
+    Finish { volume: Name },
     /// `status DEV`: prints the status line.
     Status { name: Name },
     /// `table DEV`: prints the table line.
@@ -292,6 +298,27 @@ fn settle(words: &[&[u8]]) -> Result<Command, Refusal>
     Ok(Command::Settle { volume })
 }
 
+fn merge(words: &[&[u8]]) -> Result<Command, Refusal>
+    ensures { result ≡ merge_of (texts words.now) }
+{
+    let name = alone(words)?;
+    Ok(Command::Merge { name })
+}
+
+fn resume(words: &[&[u8]]) -> Result<Command, Refusal>
+    ensures { result ≡ resume_of (texts words.now) }
+{
+    let volume = alone(words)?;
+    Ok(Command::Resume { volume })
+}
+
+fn finish(words: &[&[u8]]) -> Result<Command, Refusal>
+    ensures { result ≡ finish_of (texts words.now) }
+{
+    let volume = alone(words)?;
+    Ok(Command::Finish { volume })
+}
+
 fn status(words: &[&[u8]]) -> Result<Command, Refusal>
     ensures { result ≡ status_of (texts words.now) }
 {
@@ -338,6 +365,12 @@ pub fn command_in(alloc: Global, words: &[&[u8]]) -> Result<Command, Refusal>
         step(words)
     } else if *verb == b"settle".as_slice() {
         settle(words)
+    } else if *verb == b"merge".as_slice() {
+        merge(words)
+    } else if *verb == b"resume".as_slice() {
+        resume(words)
+    } else if *verb == b"finish".as_slice() {
+        finish(words)
     } else if *verb == b"status".as_slice() {
         status(words)
     } else if *verb == b"table".as_slice() {

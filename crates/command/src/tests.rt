@@ -43,6 +43,14 @@ fn refuses_words_names_and_numbers_of_another_form(rt: HostRuntime) {
         "tick",
         "tick x",
         "tick 1 1",
+        "merge",
+        "merge a b",
+        "merge Snap",
+        "resume",
+        "resume vol 1",
+        "finish",
+        "finish vol snap",
+        "finish 1",
         "table",
         "table Vol",
         "table a b",
@@ -262,6 +270,9 @@ fn reads_each_command(rt: HostRuntime) -> Result<(), Fail> {
         ("start vol write 5 1048576*aa", "start write"),
         ("message du 0 disable", "message"),
         ("tick 4294967295", "tick"),
+        ("merge snap", "merge"),
+        ("resume vol", "resume"),
+        ("finish vol", "finish"),
         ("status snap", "status"),
         ("table snap", "table"),
     ];
@@ -287,6 +298,9 @@ fn kind_of(command: &Command) -> &'static str {
         Command::StartWrite { .. } => "start write",
         Command::Step { .. } => "step",
         Command::Settle { .. } => "settle",
+        Command::Merge { .. } => "merge",
+        Command::Resume { .. } => "resume",
+        Command::Finish { .. } => "finish",
         Command::Status { .. } => "status",
         Command::Table { .. } => "table",
     }
@@ -340,6 +354,13 @@ fn event_kind(event: &Event) -> &'static str {
         Event::ZeroNext(_) => "zero-next",
         Event::WriteArea(_) => "write-area",
         Event::WriteInvalid(_) => "write-invalid",
+        Event::MergeGroup => "merge-group",
+        Event::MergeAreaRead => "merge-area-read",
+        Event::MergeRead => "merge-read",
+        Event::MergeWrite => "merge-write",
+        Event::MergeFlush => "merge-flush",
+        Event::MergeCommit => "merge-commit",
+        Event::MergeRelease => "merge-release",
     }
 }
 
@@ -353,6 +374,13 @@ fn reads_each_event(rt: HostRuntime) -> Result<(), Fail> {
         ("step vol zero-next snap", "zero-next"),
         ("step vol write-area s2", "write-area"),
         ("step vol write-invalid snap", "write-invalid"),
+        ("step vol merge-group", "merge-group"),
+        ("step vol merge-area-read", "merge-area-read"),
+        ("step vol merge-read", "merge-read"),
+        ("step vol merge-write", "merge-write"),
+        ("step vol merge-flush", "merge-flush"),
+        ("step vol merge-commit", "merge-commit"),
+        (" step  vol merge-release ", "merge-release"),
     ];
     for (line, want) in events {
         let stepped = said(rt.alloc(), line.as_bytes(), LINE_LIMIT)?;
@@ -376,6 +404,10 @@ fn refuses_other_words_of_events(rt: HostRuntime) {
         "step vol write-area Snap",
         "step vol write-area snap snap",
         "step vol merge",
+        "step vol merge-group 1",
+        "step vol merge-read snap",
+        "step vol merge-Write",
+        "step Vol merge-group",
         "step Vol issue 1",
         "settle",
         "settle vol vol",

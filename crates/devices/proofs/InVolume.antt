@@ -1,6 +1,6 @@
 -- A command on the volume at a place.
 use Rattle.std.proofs.Common.{◌≡◌, ◌⊎◌, ℕ, ◌<◌, true, List, length, get_or, set, refl, sym, ap, ◌∙◌, arith, inl, inr}
-use Rattle.std.specs.Prelude.{Result, Ok, Err, IfErr, IfOk, OnErr, OnOk, is_ok, false}
+use Rattle.std.specs.Prelude.{◌&&◌, Bool, Result, Ok, Err, IfErr, IfOk, OnErr, OnOk, is_ok, false}
 use Rattle.std.proofs.lemmas.List.{get_or-set_same, length-set}
 use Rattle.sector.specs.declared.refusal.Refusal.{Refusal}
 use Rattle.words.specs.Given.{Gives}
@@ -93,11 +93,11 @@ pub stepped_did : (event : Step) (r : Result Outcome NotDue) (v : ℕ) (table : 
 stepped_did event (Err e) v table old new lt at did = tt
 stepped_did event (Ok outcome) v table old new lt at did = changed_in (IsStepped event outcome) v table old new lt at did
 
-pub not_due_in : (event : Step) (r : Result Outcome NotDue) (v : ℕ) (table : Table) (old : Volume) → v < length table.volumes → old ≡ get_or table.volumes v old → (old.quiet ≡ false → OnErr r (IsNotDue event old)) → is_quiet_in (volume_at v table) ≡ false → OnErr r (IsNotDueIn event (volume_at v table))
-not_due_in event (Ok outcome) v table old lt at did busy = tt
-not_due_in event (Err e) v table old lt at did busy =
+pub not_due_in : (apart : Bool) (event : Step) (r : Result Outcome NotDue) (v : ℕ) (table : Table) (old : Volume) → v < length table.volumes → old ≡ get_or table.volumes v old → ((apart && old.quiet) ≡ false → OnErr r (IsNotDue event old)) → (apart && is_quiet_in (volume_at v table)) ≡ false → OnErr r (IsNotDueIn event (volume_at v table))
+not_due_in apart event (Ok outcome) v table old lt at did busy = tt
+not_due_in apart event (Err e) v table old lt at did busy =
     let there = volume_here table v old lt at in
-    let now : old.quiet ≡ false = sym (ap is_quiet_in there) ∙ busy in rw there (did now)
+    let now : (apart && old.quiet) ≡ false = sym (ap (λ r. apart && is_quiet_in r) there) ∙ busy in rw there (did now)
 
 pub same_in : (r : Result Outcome NotDue) (v : ℕ) (table : Table) (old new : Volume) → old ≡ get_or table.volumes v old → OnErr r (new ≡ old) → OnErr r (put_volume v new table ≡ table)
 same_in (Ok outcome) v table old new at same = tt
@@ -115,10 +115,6 @@ step_sound (Err e) v table old new lt at idle same sound =
 -- a volume that is as it was leaves the table so
 pub idle_in : (v : ℕ) (table : Table) (old new : Volume) → old ≡ get_or table.volumes v old → new ≡ old → put_volume v new table ≡ table
 idle_in v table old new at same = ap (λ volumes. record { stacks = table.stacks; volumes = volumes }) (put_back table.volumes v old new at same)
-
--- and is whole where it was
-pub settled_whole : (old new : Volume) → new ≡ old → is_sound_volume old ≡ true → is_sound_volume new ≡ true
-settled_whole old new same whole = ap is_sound_volume same ∙ whole
 
 -- nothing is left to do in it
 pub rests_in : (v : ℕ) (table : Table) (old new : Volume) (r : Result (Unit {0}) Refusal) → v < length table.volumes → OnOk r (new.quiet ≡ true) → OnOk r (rests_at v (put_volume v new table) ≡ Ok tt)

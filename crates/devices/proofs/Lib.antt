@@ -4,3 +4,6 @@ pub mod Meeting
 pub mod Leaving
 pub mod Closing
 pub mod Ruled
+pub mod Begins
+pub mod Finishes
+pub mod Settles

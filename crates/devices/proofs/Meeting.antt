@@ -1,9 +1,9 @@
 -- A stack that was taken out of the table, and a volume that it is attached to or not.
 use Rattle.std.proofs.Common.{◌≡◌, ◌≢◌, ◌⊎◌, ℕ, ◌<◌, Bool, List, true, false, length, get_or, set, refl, sym, ap, ◌∙◌, subst, inl, inr}
-use Rattle.std.specs.Prelude.{Result, Ok, Err, Some, None, nat_le, if◌then◌else◌}
+use Rattle.std.specs.Prelude.{Result, Ok, Err, Some, None, nat_le}
 use Rattle.std.specs.List.{remove}
 use Rattle.sector.specs.declared.refusal.Refusal.{Refusal}
-use Rattle.sector.specs.declared.refusal.Refusal.TheVariants.{NoMemory, NotQuiet, Stale}
+use Rattle.sector.specs.declared.refusal.Refusal.TheVariants.{NoMemory}
 use Rattle.named.specs.State.{Stacked, Volume, Table}
 use Rattle.named.specs.Places.{place_of}
 use Rattle.named.specs.Disks.{device_count}
@@ -13,7 +13,7 @@ use Rattle.named.specs.Snapshots.{meet, snapshot_left, snapshot_met, snapshot_by
 use Rattle.named.proofs.AtPlace.{put_back, stack_here, volume_here}
 use Rattle.named.proofs.NamedFrames.{taken_by_named, put_named}
 use Rattle.named_volume.specs.Names.{IsNamedMore}
-use Rattle.devices.specs.Busy.{IsBusyRefused}
+use Rattle.devices.specs.Busy.{IsBusyRefused, busy_with}
 use Rattle.devices.specs.Devices.{named_at}
 
 by_those : (name : List ℕ) (chunk i v : ℕ) (table : Table) (stacked : Stacked) (old : Volume) → i < length table.stacks → stacked ≡ get_or table.stacks i stacked → v < length table.volumes → old ≡ get_or table.volumes v old → snapshot_by name chunk table (named_at v i table) ≡ snapshot_met i v (meet name chunk stacked old) table
@@ -62,7 +62,7 @@ busy_ok i v table new stacked old i_lt i_at v_lt v_at quiet =
 
 -- and the stack goes back to its place as it was
 pub busy_err : (i v : ℕ) (table : Table) (stacked back : Stacked) (old : Volume) (stacks : List Stacked) (volumes : List Volume) (e : Refusal) → i < length table.stacks → stacked ≡ get_or table.stacks i stacked → v < length table.volumes → old ≡ get_or table.volumes v old → stacks ≡ set table.stacks i back → volumes ≡ table.volumes
-    → (old.quiet ≡ false → ((e ≡ NoMemory) ⊎ (e ≡ (if stacked.stale then Stale else NotQuiet))) × (back ≡ stacked))
+    → (old.quiet ≡ false → ((e ≡ NoMemory) ⊎ (e ≡ busy_with stacked old)) × (back ≡ stacked))
     → IsBusyRefused (Err e) table (record { stacks = stacks; volumes = volumes }) (named_at v i table)
 busy_err i v table stacked back old stacks volumes e i_lt i_at v_lt v_at put same why =
     let below = stack_here table i stacked i_lt i_at in
@@ -80,7 +80,7 @@ busy_err i v table stacked back old stacks volumes e i_lt i_at v_lt v_at put sam
 pub attached_named : (table : Table) (name : List ℕ) (i v : ℕ) (stacked : Stacked) (old new : Volume) (stacks : List Stacked) → place_of name table ≡ None → nat_le 64 (device_count table) ≡ false → i < length table.stacks → stacked ≡ get_or table.stacks i stacked → v < length table.volumes → old ≡ get_or table.volumes v old → stacks ≡ remove table.stacks i → IsNamedMore name stacked old new → AreNamed table → AreNamed (record { stacks = stacks; volumes = set table.volumes v new })
 attached_named table name i v stacked old new stacks none room i_lt i_at v_lt v_at out more named =
     let P : List Stacked → Type 0 = λ ss. AreNamed (record { stacks = ss; volumes = set table.volumes v new }) in
-    subst P (sym out) (taken_by_named table name i v stacked old new none room i_lt i_at v_lt v_at more.origin more.under more.snaps named)
+    subst P (sym out) (taken_by_named table name i v stacked old new none room i_lt i_at v_lt v_at more.origin more.under more.snaps more.merging named)
 
 -- and where it goes back to its place
 pub put_back_named : (table : Table) (i : ℕ) (stacked back : Stacked) (stacks : List Stacked) (volumes : List Volume) → i < length table.stacks → stacked ≡ get_or table.stacks i stacked → stacks ≡ set table.stacks i back → volumes ≡ table.volumes → back.names ≡ stacked.names → AreNamed table → AreNamed (record { stacks = stacks; volumes = volumes })

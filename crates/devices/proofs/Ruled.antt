@@ -1,6 +1,6 @@
 -- Where a command's rule speaks: of its own volume, and so of each volume of a sound table.
 use Rattle.std.proofs.Common.{◌≡◌, ℕ, ◌<◌, true, List, length, get_or, refl, sym, ap, ◌∙◌}
-use Rattle.std.specs.Prelude.{◌&&◌, Result, Ok, Err}
+use Rattle.std.specs.Prelude.{Result, Ok, Err}
 use Rattle.sector.specs.declared.refusal.Refusal.{Refusal}
 use Rattle.device.specs.Layers.{is_loud}
 use Rattle.table.specs.declared.lines.Target.{Target}

@@ -1,5 +1,5 @@
 -- What commands do to the volume that they are asked of, whatever is in flight in it: that of its volume of events.
-use Rattle.std.specs.Prelude.{◌≡◌, ℕ, false, List, [], Option, Some, None, Result, Ok, Err, slice_index_or}
+use Rattle.std.specs.Prelude.{◌≡◌, ℕ, Bool, true, false, List, [], Option, Some, None, Result, Ok, Err, slice_index_or}
 use Rattle.sector.specs.declared.refusal.Refusal.{Refusal}
 use Rattle.command.specs.declared.events.Event.{Event}
 use Rattle.plain.specs.declared.event.Event.{Event as Step}
@@ -7,14 +7,14 @@ use Rattle.plain.specs.declared.event.Outcome.{Outcome}
 use Rattle.plain.specs.declared.request.Op.{Op}
 use Rattle.plain.specs.declared.request.Replied.{Replied}
 use Rattle.settled.specs.Snaps.{Snap}
-use Rattle.named.specs.declared.place.Role.TheVariants.{Origin, Under, Snapshot, Store}
+use Rattle.named.specs.declared.place.Role.TheVariants.{Origin, Under, Snapshot, Store, Merging, MergingStore}
 use Rattle.named.specs.declared.place.Place.{Place}
 use Rattle.named.specs.declared.place.Place.TheVariants.{Free, In}
 use Rattle.named.specs.State.{Volume, Table}
 use Rattle.named.specs.Places.{place_of, found, volume_at}
 use Rattle.named.specs.Events.{numbered, snapshot_named}
 use Rattle.named.specs.Sectors.{Asked, IsAtRole}
-use Rattle.named_volume.specs.Flights.{IsNotDue, IsReadServed, IsSettledBy, IsStarted, IsStepped, IsWriteServed}
+use Rattle.named_volume.specs.Flights.{IsNotDue, IsReadServed, IsStarted, IsStepped, IsWriteServed}
 
 -- the number of the snapshot at a place of a volume
 abbrev pub number_in : ℕ → Result Volume Refusal → ℕ
@@ -32,11 +32,29 @@ number_at table (Ok (In v Origin)) = 0
 number_at table (Ok (In v (Under depth))) = 0
 number_at table (Ok (In v (Snapshot k))) = number_in k (volume_at v table)
 number_at table (Ok (In v (Store k depth))) = 0
+number_at table (Ok (In v Merging)) = 0
+number_at table (Ok (In v (MergingStore depth))) = 0
 
 -- the number of the snapshot that an event is about, if it is about one
 abbrev pub number_about : Option (List ℕ) → Table → ℕ
 number_about None table = 0
 number_about (Some snapshot) table = number_at table (found (place_of snapshot table))
+
+-- whether the device at a place is a snapshot that is being merged
+abbrev pub is_merging_at : Result Place Refusal → Bool
+is_merging_at (Err refusal) = false
+is_merging_at (Ok (Free i depth)) = false
+is_merging_at (Ok (In v Origin)) = false
+is_merging_at (Ok (In v (Under depth))) = false
+is_merging_at (Ok (In v (Snapshot k))) = false
+is_merging_at (Ok (In v (Store k depth))) = false
+is_merging_at (Ok (In v Merging)) = true
+is_merging_at (Ok (In v (MergingStore depth))) = false
+
+-- whether an event is about such a snapshot: none of these is due
+abbrev pub is_about_merging : Option (List ℕ) → Table → Bool
+is_about_merging None table = false
+is_about_merging (Some snapshot) table = is_merging_at (found (place_of snapshot table))
 
 -- an event as its volume knows it
 abbrev pub event_of : Event → Table → Step
@@ -53,10 +71,6 @@ IsReadAmong result before after asks old new = old.quiet ≡ false → IsReadSer
 
 abbrev pub IsWrittenAmong : List ℕ → Result (Unit {0}) Refusal → List Replied → List Replied → Asked → Volume → Volume → Type 0
 IsWrittenAmong bytes result before after asks old new = old.quiet ≡ false → IsWriteServed bytes result before after old new asks
-
--- what is left to do in it is done
-abbrev pub IsSettledAmong : List Replied → List Replied → Volume → Volume → Type 0
-IsSettledAmong before after old new = old.quiet ≡ false → IsSettledBy before after old new
 
 abbrev pub IsStartedAs : Op → ℕ → Asked → Volume → Volume → Type 0
 IsStartedAs op number asks old new = IsStarted op number old new asks

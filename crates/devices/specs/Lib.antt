@@ -2,3 +2,4 @@ pub mod Devices
 pub mod Busy
 pub mod Ruled
 pub mod Flights
+pub mod Merging

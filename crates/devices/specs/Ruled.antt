@@ -1,6 +1,6 @@
 -- Of which volumes a command's rule speaks: of those alone that it is asked of. A layer that drops writes, or a request that
 -- is in flight, says nothing of any other volume.
-use Rattle.std.specs.Prelude.{◌&&◌, ℕ, Bool, true, List, Result, Ok, Err}
+use Rattle.std.specs.Prelude.{◌&&◌, ℕ, Bool, true, not, is_some, List, Result, Ok, Err}
 use Rattle.sector.specs.declared.refusal.Refusal.{Refusal}
 use Rattle.sector.specs.declared.refusal.Refusal.TheVariants.{BadTable}
 use Rattle.words.specs.Given.{◌>>=◌}
@@ -33,7 +33,12 @@ abbrev pub is_quiet_in : Result Volume Refusal → Bool
 is_quiet_in (Err refusal) = true
 is_quiet_in (Ok volume) = volume.quiet
 
--- nor does a device of it drop writes
+-- and no merge is begun in it
+abbrev pub is_alone_in : Result Volume Refusal → Bool
+is_alone_in (Err refusal) = true
+is_alone_in (Ok volume) = volume.quiet && not (is_some volume.merging)
+
+-- nothing is in flight, nor does a device of it drop writes
 abbrev pub is_sound_in : Result Volume Refusal → Bool
 is_sound_in (Err refusal) = true
 is_sound_in (Ok volume) = is_sound_volume volume

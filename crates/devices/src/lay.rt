@@ -21,8 +21,8 @@ fn taken(role: Role) -> Refusal
     ensures { result ≡ taken role }
 {
     match role {
-        Role::Origin | Role::Snapshot(_) => Refusal::BadTable,
-        Role::Under(_) | Role::Store(_, _) => Refusal::Busy,
+        Role::Origin | Role::Snapshot(_) | Role::Merging => Refusal::BadTable,
+        Role::Under(_) | Role::Store(_, _) | Role::MergingStore(_) => Refusal::Busy,
     }
 }
 

@@ -51,8 +51,8 @@ pub fn make_origin(
     }
 }
 
-/// An origin without snapshots goes, and nothing uses its stack any more. In this order: `Busy` where there is a snapshot,
-/// `NotQuiet` where something is left to do.
+/// An origin without snapshots goes, and nothing uses its stack any more. In this order: `Busy` where there is a snapshot or a
+/// merge is begun, `NotQuiet` where something is left to do.
 pub fn close(held: &mut Held, v: usize) -> Result<(), Refusal>
     requires { v < length held.old.volumes.items }
     ensures done { Changes result (table_of held.old) (table_of held.new) (closed v (table_of held.old)) }

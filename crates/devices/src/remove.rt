@@ -29,8 +29,9 @@ fn take_top(held: &mut Held, i: usize)
 }
 
 /// `remove NAME`: takes a device away that no other uses; what an origin or a snapshot stood on is left as it is. In this
-/// order: `NoSuchDevice` for a name that no device has, `Busy` where another device uses it, `NotQuiet` for an origin or a
-/// snapshot whose volume has something left to do, `NoMemory` where the allocator refuses room for what is left.
+/// order: `NoSuchDevice` for a name that no device has, `Busy` where another device uses it, `MergeInProgress` for a snapshot that
+/// is being merged, `NotQuiet` for an origin or a snapshot whose volume has something left to do, `NoMemory` where the
+/// allocator refuses room for what is left.
 #[tactic(auto, unfolding(named::specs::Removing::take_away))]
 pub fn remove_device(held: &mut Held, name: &Name) -> Result<(), Refusal>
     ensures done { Changes result (table_of held.old) (table_of held.new) (take_away name.now (table_of held.old)) }
@@ -44,6 +45,10 @@ pub fn remove_device(held: &mut Held, name: &Name) -> Result<(), Refusal>
         }
         Place::In(v, Role::Origin) => close(held, v),
         Place::In(v, Role::Snapshot(k)) => detach(held, v, k),
-        Place::Free(_, _) | Place::In(_, Role::Under(_) | Role::Store(_, _)) => Err(Refusal::Busy),
+        Place::In(_, Role::Merging) => Err(Refusal::MergeInProgress),
+        Place::Free(_, _)
+        | Place::In(_, Role::Under(_) | Role::Store(_, _) | Role::MergingStore(_)) => {
+            Err(Refusal::Busy)
+        }
     }
 }

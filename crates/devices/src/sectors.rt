@@ -48,8 +48,8 @@ fn read_at(
 
 /// `read DEV S N`: so many sectors of an origin or of a snapshot. In this order: `OutOfRange` for a number of sectors
 /// outside 1 to 2048, `NoSuchDevice` for a name that no device has, `BadTable` for a disk or a layer, `OutOfRange` where
-/// the sectors don't lie inside the origin, `TooMany` where the volume has taken too many, then what its devices answer.
-/// Devices are met also where they answer with an error; `NoMemory` may come before and after that. Requests that are in
+/// the sectors don't lie inside the origin, `MergingSnapshot` for a snapshot that is being merged, `TooMany` where the volume
+/// has taken too many, then what its devices answer. Devices are met also where they answer with an error; `NoMemory` may come before and after that. Requests that are in
 /// flight may end in it: their replies go to the end of `ended`.
 #[tactic(auto, unfolding(named::specs::Starting::read_asked, named::specs::Starting::asked_by, named::specs::Sectors::read, named::specs::Sectors::IsReadStarved, crate::specs::Devices::KeepsOthers))]
 pub fn read_device(
@@ -105,8 +105,8 @@ fn write_at(
 
 /// `write DEV S DATA`: writes sectors of an origin or of a snapshot. In this order: `BadTable` for bytes that are no whole
 /// sectors, `OutOfRange` where they are not 1 to 2048, `NoSuchDevice` for a name that no device has, `BadTable` for a disk
-/// or a layer, `OutOfRange` where the sectors don't lie inside the origin, `TooMany` where the volume has taken too many,
-/// then what its devices answer. `NoMemory` may come where some first pieces were written. Requests that are in flight may
+/// or a layer, `OutOfRange` where the sectors don't lie inside the origin, `MergingSnapshot` for a snapshot that is being
+/// merged, `TooMany` where the volume has taken too many, then what its devices answer. `NoMemory` may come where some first pieces were written. Requests that are in flight may
 /// end in it: their replies go to the end of `ended`.
 #[tactic(auto, unfolding(named::specs::Starting::write_asked, named::specs::Starting::asked_by, named::specs::Sectors::write, named::specs::Sectors::IsWriteStarved, crate::specs::Devices::KeepsOthers))]
 pub fn write_device(

@@ -1,24 +1,25 @@
 -- Messages and layers at a place of the table.
-use Rattle.std.proofs.Common.{◌≡◌, ℕ, ◌<◌, List, [], length, get_or, set, refl, sym, ap, ◌∙◌}
-use Rattle.std.specs.Prelude.{Result, Ok, Err, Some, slice_get}
+use Rattle.std.proofs.Common.{◌≡◌, ℕ, ◌<◌, List, length, get_or, set, refl, sym, ap, ◌∙◌, subst}
+use Rattle.std.specs.Prelude.{Result, Ok, Err, Option, Some, None, is_some, slice_get}
 use Rattle.std.proofs.lemmas.List.{length-set}
-use Rattle.words.specs.Given.{◌>>=◌}
 use Rattle.std.proofs.lemmas.Option.{slice_get_read}
 use Rattle.sector.specs.declared.refusal.Refusal.{Refusal}
+use Rattle.sector.specs.declared.refusal.Refusal.TheVariants.{BadTable, NoSuchDevice}
 use Rattle.device.specs.Layers.{Layer}
 use Rattle.layers.specs.declared.message.Message.{Message}
 use Rattle.layers.specs.declared.message.Answer.{Answer}
 use Rattle.settled.specs.Snaps.{Snap, Volume as Settled}
+use Rattle.settled.specs.Merges.{Merge, Merged}
 use Rattle.named.specs.declared.place.Role.{Role}
-use Rattle.named.specs.declared.place.Role.TheVariants.{Origin, Under, Snapshot, Store}
+use Rattle.named.specs.declared.place.Role.TheVariants.{Origin, Under, Snapshot, Store, Merging, MergingStore}
 use Rattle.named.specs.declared.place.Place.TheVariants.{Free, In}
 use Rattle.named.specs.State.{Stacked, Volume, Table}
-use Rattle.named.specs.Places.{stack_at, volume_at}
 use Rattle.named.specs.Changes.{Changes, Steps}
 use Rattle.named.specs.Layers.{layered, laid, top, put}
-use Rattle.named.specs.Messages.{told_in, told_free, told_snap, told_store, told_under, told_role, snap_at, told_mounted, told_at, put_volume}
+use Rattle.named.specs.Messages.{told_in, told_free, told_snap, told_store, told_under, told_beside, told_merge, told_merging, told_role, snap_at, told_mounted, told_at, put_volume}
 use Rattle.named.specs.Raw.{loaded_free, loaded_at}
 use Rattle.named.proofs.AtPlace.{stack_here, volume_here, changes_at, steps_at}
+use Rattle.named.proofs.Keeping.{came_by, same_ok, not_ok}
 
 pub laid_at : (name : List ℕ) (layer : Layer) (first count : ℕ) (below : List ℕ) (table : Table) (i : ℕ) (old new : Stacked) (r : Result (Unit {0}) Refusal) → top below table ≡ Ok i → i < length table.stacks → old ≡ get_or table.stacks i old → Changes r old new (layered name layer first count old) → Changes r table (put i new table) (laid name layer first count below table)
 unfolding laid
@@ -50,30 +51,44 @@ loaded_at_free i depth first count bytes table old new r lt at h =
     let there = stack_here table i old lt at in
     rw there (changes_at (λ (stacks : List Stacked). record { stacks = stacks; volumes = table.volumes }) table.stacks i old new r (loaded_free depth first count bytes old) at h)
 
--- a call of a rule that keeps the number of snapshots keeps it
-kept : {A : Type 0} (r : Result A Refusal) (old new : Settled) (rule : Result (A × Settled) Refusal) → ((done : A × Settled) → rule ≡ Ok done → length done.1.snaps ≡ length old.snaps) → Steps r old new rule → length old.snaps ≡ length new.snaps
-kept (Ok answer) old new rule keeps h = sym (keeps (answer, new) h)
-kept (Err e) old new rule keeps h = ap (λ (v : Settled). length v.snaps) (sym h.0)
+-- A merge is begun or not as before, and there are as many snapshots.
+pub record KeepsCounts (old new : Merged) : Type 0 where
+  pub snaps : length new.volume.snaps ≡ length old.volume.snaps
+  pub begun : is_some new.merge ≡ is_some old.merge
 
--- what follows an answer keeps it
-then_kept : {A B : Type 0} (first : Result B Refusal) (next : B → Result (A × Settled) Refusal) (done : A × Settled) (n : ℕ) → ((x : B) → next x ≡ Ok done → length done.1.snaps ≡ n) → (first >>= next) ≡ Ok done → length done.1.snaps ≡ n
-then_kept (Ok x) next done n keeps h = keeps x h
-then_kept (Err e) next done n keeps h = absurd (cc)
+beside_keeps : (old : Merged) (told : Result (Answer × Settled) Refusal) (done : Answer × Merged) → ((one : Answer × Settled) → told ≡ Ok one → length one.1.snaps ≡ length old.volume.snaps) → told_beside old.merge told ≡ Ok done → KeepsCounts old done.1
+beside_keeps old told done keeps h =
+    let a = came_by told _ done h in
+    subst (λ (d : Answer × Merged). KeepsCounts old d.1) (same_ok _ done a.2) (record { snaps = keeps a.0 a.1; begun = refl })
 
-snaps_of : {A : Type 0} → Result (A × Settled) Refusal → List Snap
-snaps_of (Ok done) = done.1.snaps
-snaps_of (Err e) = []
+under_keeps : (depth : ℕ) (message : Message) (old : Settled) (done : Answer × Settled) → told_under depth message old ≡ Ok done → length done.1.snaps ≡ length old.snaps
+unfolding told_under
+under_keeps depth message old done h =
+    let a = came_by (told_in old.origin depth message) _ done h in ap (λ (d : Answer × Settled). length d.1.snaps) (sym (same_ok _ done a.2))
 
-told_keeps : (role : Role) (message : Message) (old : Settled) (done : Answer × Settled) → told_role role message old ≡ Ok done → length done.1.snaps ≡ length old.snaps
-unfolding told_under told_store snaps_of
-told_keeps Origin message old done h = absurd (cc)
-told_keeps (Under depth) message old done h = then_kept (told_in old.origin depth message) _ done (length old.snaps) (λ x is. ap (λ (r : Result (Answer × Settled) Refusal). length (snaps_of r)) (sym is)) h
-told_keeps (Snapshot k) message old done h = absurd (cc)
-told_keeps (Store k depth) message old done h =
-    then_kept (snap_at k old) _ done (length old.snaps) (λ snap at.
-    then_kept (told_snap depth message snap) _ done (length old.snaps) (λ x is.
-    ap (λ (r : Result (Answer × Settled) Refusal). length (snaps_of r)) (sym is) ∙ length-set old.snaps k x.1) at) h
+store_keeps : (k depth : ℕ) (message : Message) (old : Settled) (done : Answer × Settled) → told_store k depth message old ≡ Ok done → length done.1.snaps ≡ length old.snaps
+unfolding told_store
+store_keeps k depth message old done h =
+    let a = came_by (snap_at k old) _ done h in
+    let b = came_by (told_snap depth message a.0) _ done a.2 in
+    ap (λ (d : Answer × Settled). length d.1.snaps) (sym (same_ok _ done b.2)) ∙ length-set old.snaps k b.0.1
 
--- a message keeps the number of snapshots
-pub told_count : (r : Result Answer Refusal) (role : Role) (message : Message) (old new : Settled) → Steps r old new (told_role role message old) → length old.snaps ≡ length new.snaps
-told_count r role message old new h = kept r old new (told_role role message old) (told_keeps role message old) h
+merging_keeps : (depth : ℕ) (message : Message) (merge : Option Merge) (state : Settled) (done : Answer × Merged) → told_merging depth message merge state ≡ Ok done → KeepsCounts (record { volume = state; merge = merge }) done.1
+unfolding told_merging
+merging_keeps depth message None state done h = absurd (not_ok NoSuchDevice done h)
+merging_keeps depth message (Some g) state done h =
+    let a = came_by (told_merge depth message g) _ done h in
+    subst (λ (d : Answer × Merged). KeepsCounts (record { volume = state; merge = Some g }) d.1) (same_ok _ done a.2) (record { snaps = refl; begun = refl })
+
+told_keeps : (role : Role) (message : Message) (old : Merged) (done : Answer × Merged) → told_role role message old ≡ Ok done → KeepsCounts old done.1
+told_keeps Origin message old done h = absurd (not_ok BadTable done h)
+told_keeps (Under depth) message old done h = beside_keeps old (told_under depth message old.volume) done (under_keeps depth message old.volume) h
+told_keeps (Snapshot k) message old done h = absurd (not_ok BadTable done h)
+told_keeps (Store k depth) message old done h = beside_keeps old (told_store k depth message old.volume) done (store_keeps k depth message old.volume) h
+told_keeps Merging message old done h = absurd (not_ok BadTable done h)
+told_keeps (MergingStore depth) message old done h = merging_keeps depth message old.merge old.volume done h
+
+-- a message keeps the number of snapshots, and the merge
+pub told_count : (r : Result Answer Refusal) (role : Role) (message : Message) (old new : Merged) → Steps r old new (told_role role message old) → KeepsCounts old new
+told_count (Ok answer) role message old new h = told_keeps role message old (answer, new) h
+told_count (Err e) role message old new h = subst (KeepsCounts old) (sym h.0) (record { snaps = refl; begun = refl })

@@ -1,4 +1,5 @@
 pub mod AtPlace
+pub mod Begun
 pub mod InTable
 pub mod Sums
 pub mod Unused
@@ -8,4 +9,5 @@ pub mod SoundFrames
 pub mod NamedRules
 pub mod LoudAttach
 pub mod SoundRules
+pub mod MergingRules
 pub mod Starving

@@ -1,6 +1,6 @@
 -- An attach leaves a store's layers as loud as they were.
 use Rattle.std.proofs.Common.{◌≡◌, ℕ, zero, suc, ◌+◌, ◌*◌, Bool, true, false, ◌&&◌, List, [], ◌∷◌, refl, ap, ◌∙◌}
-use Rattle.std.specs.Prelude.{not, nat_lt, length, Option, Some, None, Result, Ok, Err, if◌then◌else◌}
+use Rattle.std.specs.Prelude.{not, nat_lt, length, is_some, Option, Some, None, Result, Ok, Err, if◌then◌else◌}
 use Rattle.sector.specs.Bytes.{with_part, sector_at}
 use Rattle.sector.specs.declared.refusal.Refusal.{Refusal}
 use Rattle.device.specs.declared.operation.Operation.{Operation}
@@ -17,6 +17,8 @@ use Rattle.cow_header.specs.declared.found.Found.{Found}
 use Rattle.cow_header.specs.declared.found.Found.TheVariants.{Fresh, Header}
 use Rattle.settled.specs.Devices.{Device, sectors_of, answers, met, written_by}
 use Rattle.settled.specs.Snaps.{Snap, Volume as Settled}
+use Rattle.named.specs.State.{Stacked, Volume}
+use Rattle.named.specs.Snapshots.{store_of, kept_out, attached_to}
 use Rattle.settled.specs.Attaching.{Tried, read_on, write_on, done, read_areas, last_area, has_tail, is_wanted, make, clear, load, load_as, open_store, Store, Attached, refused_attach, taken_by, attached}
 
 loud_layer_after : (l : Layer) (op : Operation) (done : Bool) → is_loud_layer (layer_after l op done) ≡ is_loud_layer l
@@ -138,3 +140,10 @@ given_loud number chunk store v =
 -- an attach
 pub loud_back : (number chunk : ℕ) (store : Store) (v : Settled) → IsBackLoud (is_loud store.device.layers) (attached number chunk store v).back
 loud_back number chunk store v = (given_loud number chunk store v).back
+
+-- an attach to a volume that may have a merge begun
+pub loud_to : (chunk : ℕ) (stacked : Stacked) (volume : Volume) → IsBackLoud (is_loud stacked.device.layers) (attached_to chunk stacked volume).back
+unfolding attached_to
+loud_to chunk stacked volume =
+    (either_back (is_some volume.merging) (is_loud stacked.device.layers) _ _ (refused_loud (kept_out stacked) (store_of stacked) volume.state)
+    (given_loud (volume.given + 1) chunk (store_of stacked) volume.state)).back

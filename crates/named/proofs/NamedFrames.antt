@@ -1,18 +1,18 @@
 -- Changes of the table keep the names of devices apart, and their number within its limit.
 use Rattle.std.proofs.Common.{◌≡◌, ℕ, ◌+◌, ◌<◌, ◌≤◌, Bool, true, false, List, [], ◌∷◌, ◌++◌, length, get_or, drop, refl, sym, ap, ◌∙◌, arith}
-use Rattle.std.specs.Prelude.{None, nat_le, slice_set, if◌then◌else◌}
+use Rattle.std.specs.Prelude.{Option, Some, None, nat_le, slice_set, if◌then◌else◌}
 use Rattle.std.specs.List.{sum_by, remove}
 use Rattle.std.specs.Str.{bytes_eq}
 use Rattle.std.proofs.lemmas.List.Sums.{sum_by-cons, sum_by-remove, sum_by-set, sum_by_push}
 use Rattle.std.proofs.lemmas.Slice.Eq.{bytes_eq-Decides}
 use Rattle.settled.specs.Devices.{Device}
-use Rattle.named.specs.State.{Stacked, Names, Volume, Table}
+use Rattle.named.specs.State.{Stacked, Names, Volume, Table, names_in}
 use Rattle.named.specs.Places.{place_of}
-use Rattle.named.specs.Disks.{devices_of, devices_under, devices_in, device_count, with_stack, alone}
+use Rattle.named.specs.Disks.{devices_of, devices_under, devices_merging, devices_in, device_count, with_stack, alone}
 use Rattle.named.specs.Layers.{put}
 use Rattle.named.specs.Messages.{put_volume}
 use Rattle.named.specs.Origins.{moved_under}
-use Rattle.named.specs.Naming.{stack_sum, names_sum, volume_sum, table_sum, uses, AreNamed}
+use Rattle.named.specs.Naming.{stack_sum, names_sum, merging_sum, volume_sum, table_sum, uses, AreNamed}
 use Rattle.named.proofs.Sums.{remove_le, drop_le, ones, same_sum}
 use Rattle.named.proofs.Unused.{no_uses, is}
 
@@ -24,11 +24,16 @@ in_stack_counts stacked = sym (ones stacked.names)
 under_counts : (names : Names) → devices_under names ≡ names_sum (λ n. 1) names
 under_counts names = let store = ones names.store in omega (arith, store)
 
+merging_counts : (names : Option Names) → devices_merging names ≡ merging_sum (λ n. 1) names
+merging_counts None = refl
+merging_counts (Some names) = under_counts names
+
 in_volume_counts : (volume : Volume) → devices_in volume ≡ volume_sum (λ n. 1) volume
 in_volume_counts volume =
     let under = ones volume.under in
     let snaps = same_sum devices_under (names_sum (λ n. 1)) volume.snaps under_counts in
-    omega (arith, under, snaps)
+    let merging = merging_counts (names_in volume.merging) in
+    omega (arith, under, snaps, merging)
 
 counts : (table : Table) → device_count table ≡ table_sum (λ n. 1) table
 counts table =
@@ -129,12 +134,13 @@ sum_left_over f table v stacked old lt at =
 same_names : (f : List ℕ → ℕ) (old new : Stacked) → new.names ≡ old.names → stack_sum f new ≡ stack_sum f old
 same_names f old new names = ap (sum_by f) names
 
-same_volume_names : (f : List ℕ → ℕ) (old new : Volume) → new.origin ≡ old.origin → new.under ≡ old.under → new.snaps ≡ old.snaps → volume_sum f new ≡ volume_sum f old
-same_volume_names f old new origin under snaps =
+pub same_volume_names : (f : List ℕ → ℕ) (old new : Volume) → new.origin ≡ old.origin → new.under ≡ old.under → new.snaps ≡ old.snaps → names_in new.merging ≡ names_in old.merging → volume_sum f new ≡ volume_sum f old
+same_volume_names f old new origin under snaps merging =
     let a = ap f origin in
     let b = ap (sum_by f) under in
     let c = ap (sum_by (names_sum f)) snaps in
-    omega (arith, a, b, c)
+    let d = ap (merging_sum f) merging in
+    omega (arith, a, b, c, d)
 
 -- one name more in front
 cons_names : (f : List ℕ → ℕ) (name : List ℕ) (old new : Stacked) → new.names ≡ name ∷ old.names → stack_sum f new ≡ f name + stack_sum f old
@@ -148,11 +154,11 @@ put_named table i old new lt at names named =
     no_more_named table (put i new table) (λ f. let sum = sum_put f table i old new lt at in let same = same_names f old new names in omega (arith, sum, same)) named
 
 -- a volume of the same names
-pub put_volume_named : (table : Table) (v : ℕ) (old new : Volume) → v < length table.volumes → old ≡ get_or table.volumes v old → new.origin ≡ old.origin → new.under ≡ old.under → new.snaps ≡ old.snaps → AreNamed table → AreNamed (put_volume v new table)
-put_volume_named table v old new lt at origin under snaps named =
+pub put_volume_named : (table : Table) (v : ℕ) (old new : Volume) → v < length table.volumes → old ≡ get_or table.volumes v old → new.origin ≡ old.origin → new.under ≡ old.under → new.snaps ≡ old.snaps → names_in new.merging ≡ names_in old.merging → AreNamed table → AreNamed (put_volume v new table)
+put_volume_named table v old new lt at origin under snaps merging named =
     no_more_named table (put_volume v new table) (λ f.
     let sum = sum_put_volume f table v old new lt at in
-    let same = same_volume_names f old new origin under snaps in
+    let same = same_volume_names f old new origin under snaps merging in
     omega (arith, sum, same)) named
 
 -- a device that stands on no other is there
@@ -185,14 +191,15 @@ pub removed_named : (table : Table) (i : ℕ) → AreNamed table → AreNamed (r
 removed_named table i named = no_more_named table _ (λ f. let less = remove_le (stack_sum f) table.stacks i in omega (arith, less)) named
 
 -- an origin without snapshots stands on a stack
-pub moved_under_named : (table : Table) (name : List ℕ) (i : ℕ) (old : Stacked) (volume : Volume) → place_of name table ≡ None → nat_le 64 (device_count table) ≡ false → i < length table.stacks → old ≡ get_or table.stacks i old → volume.origin ≡ name → volume.under ≡ old.names → volume.snaps ≡ [] → AreNamed table → AreNamed (moved_under i volume table)
-moved_under_named table name i old volume none room lt at origin under snaps named =
+pub moved_under_named : (table : Table) (name : List ℕ) (i : ℕ) (old : Stacked) (volume : Volume) → place_of name table ≡ None → nat_le 64 (device_count table) ≡ false → i < length table.stacks → old ≡ get_or table.stacks i old → volume.origin ≡ name → volume.under ≡ old.names → volume.snaps ≡ [] → names_in volume.merging ≡ None → AreNamed table → AreNamed (moved_under i volume table)
+moved_under_named table name i old volume none room lt at origin under snaps merging named =
     one_more_named name table (moved_under i volume table) none room (λ f.
     let sum = sum_moved_under f table i old volume lt at in
     let a = ap f origin in
     let b : sum_by f volume.under ≡ stack_sum f old = ap (sum_by f) under in
     let c : sum_by (names_sum f) volume.snaps ≡ 0 = ap (sum_by (names_sum f)) snaps in
-    omega (arith, sum, a, b, c)) named
+    let d : merging_sum f (names_in volume.merging) ≡ 0 = ap (merging_sum f) merging in
+    omega (arith, sum, a, b, c, d)) named
 
 -- an origin goes, and its stack is left
 pub left_over_named : (table : Table) (v : ℕ) (old : Volume) (stacked : Stacked) → v < length table.volumes → old ≡ get_or table.volumes v old → stacked.names ≡ old.under → AreNamed table → AreNamed (left_over stacked v table)
@@ -203,25 +210,54 @@ left_over_named table v old stacked lt at names named =
     omega (arith, sum, same)) named
 
 -- a snapshot is there, with a stack as its store
-pub taken_by_named : (table : Table) (name : List ℕ) (i v : ℕ) (stacked : Stacked) (old new : Volume) → place_of name table ≡ None → nat_le 64 (device_count table) ≡ false → i < length table.stacks → stacked ≡ get_or table.stacks i stacked → v < length table.volumes → old ≡ get_or table.volumes v old → new.origin ≡ old.origin → new.under ≡ old.under → new.snaps ≡ old.snaps ++ (record { snapshot = name; store = stacked.names }) ∷ [] → AreNamed table → AreNamed (taken_by i v new table)
-taken_by_named table name i v stacked old new none room i_lt i_at v_lt v_at origin under snaps named =
+pub taken_by_named : (table : Table) (name : List ℕ) (i v : ℕ) (stacked : Stacked) (old new : Volume) → place_of name table ≡ None → nat_le 64 (device_count table) ≡ false → i < length table.stacks → stacked ≡ get_or table.stacks i stacked → v < length table.volumes → old ≡ get_or table.volumes v old → new.origin ≡ old.origin → new.under ≡ old.under → new.snaps ≡ old.snaps ++ (record { snapshot = name; store = stacked.names }) ∷ [] → names_in new.merging ≡ names_in old.merging → AreNamed table → AreNamed (taken_by i v new table)
+taken_by_named table name i v stacked old new none room i_lt i_at v_lt v_at origin under snaps merging named =
     one_more_named name table (taken_by i v new table) none room (λ f.
     let sum = sum_taken_by f table i v stacked old new i_lt i_at v_lt v_at in
     let a = ap f origin in
     let b = ap (sum_by f) under in
     let c = ap (sum_by (names_sum f)) snaps in
+    let d = ap (merging_sum f) merging in
     let more = sum_by_push (names_sum f) old.snaps (record { snapshot = name; store = stacked.names }) in
-    omega (arith, sum, a, b, c, more)) named
+    omega (arith, sum, a, b, c, d, more)) named
 
 -- a snapshot goes, and its store is left
-pub given_by_named : (table : Table) (v k : ℕ) (names : Names) (stacked : Stacked) (old new : Volume) → v < length table.volumes → old ≡ get_or table.volumes v old → k < length old.snaps → names ≡ get_or old.snaps k names → stacked.names ≡ names.store → new.origin ≡ old.origin → new.under ≡ old.under → new.snaps ≡ remove old.snaps k → AreNamed table → AreNamed (given_by stacked v new table)
-given_by_named table v k names stacked old new v_lt v_at k_lt k_at store origin under snaps named =
+pub given_by_named : (table : Table) (v k : ℕ) (names : Names) (stacked : Stacked) (old new : Volume) → v < length table.volumes → old ≡ get_or table.volumes v old → k < length old.snaps → names ≡ get_or old.snaps k names → stacked.names ≡ names.store → new.origin ≡ old.origin → new.under ≡ old.under → new.snaps ≡ remove old.snaps k → names_in new.merging ≡ names_in old.merging → AreNamed table → AreNamed (given_by stacked v new table)
+given_by_named table v k names stacked old new v_lt v_at k_lt k_at store origin under snaps merging named =
     no_more_named table (given_by stacked v new table) (λ f.
     let sum = sum_given_by f table v stacked old new v_lt v_at in
     let a = ap f origin in
     let b = ap (sum_by f) under in
     let c = ap (sum_by (names_sum f)) snaps in
+    let d = ap (merging_sum f) merging in
     let less = sum_by-remove (names_sum f) old.snaps k names k_lt in
     let was : names_sum f (get_or old.snaps k names) ≡ names_sum f names = ap (names_sum f) (sym k_at) in
     let same : stack_sum f stacked ≡ sum_by f names.store = ap (sum_by f) store in
-    omega (arith, sum, a, b, c, less, was, same)) named
+    omega (arith, sum, a, b, c, d, less, was, same)) named
+
+-- the merge of a snapshot begins
+pub begun_named : (table : Table) (v k : ℕ) (names : Names) (old new : Volume) → v < length table.volumes → old ≡ get_or table.volumes v old → k < length old.snaps → names ≡ get_or old.snaps k names → new.origin ≡ old.origin → new.under ≡ old.under → new.snaps ≡ remove old.snaps k → names_in old.merging ≡ None → names_in new.merging ≡ Some names → AreNamed table → AreNamed (put_volume v new table)
+begun_named table v k names old new v_lt v_at k_lt k_at origin under snaps before after named =
+    no_more_named table (put_volume v new table) (λ f.
+    let sum = sum_put_volume f table v old new v_lt v_at in
+    let a = ap f origin in
+    let b = ap (sum_by f) under in
+    let c = ap (sum_by (names_sum f)) snaps in
+    let d : merging_sum f (names_in old.merging) ≡ 0 = ap (merging_sum f) before in
+    let e : merging_sum f (names_in new.merging) ≡ names_sum f names = ap (merging_sum f) after in
+    let less = sum_by-remove (names_sum f) old.snaps k names k_lt in
+    let was : names_sum f (get_or old.snaps k names) ≡ names_sum f names = ap (names_sum f) (sym k_at) in
+    omega (arith, sum, a, b, c, d, e, less, was)) named
+
+-- a merge is finished, and its store is left
+pub finished_named : (table : Table) (v : ℕ) (names : Names) (stacked : Stacked) (old new : Volume) → v < length table.volumes → old ≡ get_or table.volumes v old → stacked.names ≡ names.store → new.origin ≡ old.origin → new.under ≡ old.under → new.snaps ≡ old.snaps → names_in old.merging ≡ Some names → names_in new.merging ≡ None → AreNamed table → AreNamed (given_by stacked v new table)
+finished_named table v names stacked old new lt at store origin under snaps before after named =
+    no_more_named table (given_by stacked v new table) (λ f.
+    let sum = sum_given_by f table v stacked old new lt at in
+    let a = ap f origin in
+    let b = ap (sum_by f) under in
+    let c = ap (sum_by (names_sum f)) snaps in
+    let d : merging_sum f (names_in old.merging) ≡ names_sum f names = ap (merging_sum f) before in
+    let e : merging_sum f (names_in new.merging) ≡ 0 = ap (merging_sum f) after in
+    let same : stack_sum f stacked ≡ sum_by f names.store = ap (sum_by f) store in
+    omega (arith, sum, a, b, c, d, e, same)) named

@@ -1,6 +1,6 @@
 -- Each command keeps the names of devices apart, and their number within its limit.
 use Rattle.std.proofs.Common.{◌≡◌, ℕ, ◌+◌, ◌<◌, Bool, true, false, List, [], ◌∷◌, ◌++◌, length, get_or, refl, sym, ap, arith, subst}
-use Rattle.std.specs.Prelude.{Option, Some, None, Result, Ok, Err, is_some, not, nat_le, nat_lt, if◌then◌else◌}
+use Rattle.std.specs.Prelude.{Option, Some, None, Result, Ok, Err, is_some, not, nat_le, nat_lt, ◌||◌, if◌then◌else◌}
 use Rattle.std.specs.List.{remove}
 use Rattle.sector.specs.declared.refusal.Refusal.{Refusal}
 use Rattle.sector.specs.declared.refusal.Refusal.TheVariants.{NoSuchDevice, OutOfRange, Busy, TooMany, BadTable}
@@ -14,11 +14,12 @@ use Rattle.table.specs.declared.lines.Target.TheVariants as targets
 use Rattle.command.specs.Words.{sectors_of}
 use Rattle.settled.specs.Devices.{Device, sectors_of as size_of}
 use Rattle.settled.specs.Attaching.{Store, given_back}
+use Rattle.settled.specs.Merges.{Merged}
 use Rattle.named.specs.declared.place.Role.{Role}
-use Rattle.named.specs.declared.place.Role.TheVariants.{Origin, Under, Snapshot, Store as InStore}
+use Rattle.named.specs.declared.place.Role.TheVariants.{Origin, Under, Snapshot, Store as InStore, Merging, MergingStore}
 use Rattle.named.specs.declared.place.Place.{Place}
 use Rattle.named.specs.declared.place.Place.TheVariants.{Free, In}
-use Rattle.named.specs.State.{Stacked, Names, Volume, Table}
+use Rattle.named.specs.State.{Stacked, Names, Volume, Table, names_in, merged_in, with_merged}
 use Rattle.named.specs.Places.{place_of, found, stack_at, volume_at}
 use Rattle.named.specs.Changes.{Did, kept, changed}
 use Rattle.named.specs.Disks.{device_count, with_stack, alone, blank, failing, is_size, make}
@@ -32,7 +33,8 @@ use Rattle.named.specs.Removing.{left_as, lowered_device, lowered_to, with_left,
 use Rattle.named.specs.Sectors.{Asked, asked_of, read_by, read_in, write_by, written_in, in_volume, at_role, read_some, read, write_some, write}
 use Rattle.named.specs.Naming.{stack_sum, volume_sum, AreNamed}
 use Rattle.named.proofs.Sums.{map_sum}
-use Rattle.named.proofs.NamedFrames.{no_more_named, put_named, put_volume_named, alone_named, covered_named, lowered_named, removed_named, moved_under_named, left_over_named, taken_by_named, given_by_named, left_over, given_by}
+use Rattle.named.proofs.Begun.{names_stay}
+use Rattle.named.proofs.NamedFrames.{no_more_named, same_volume_names, put_named, put_volume_named, alone_named, covered_named, lowered_named, removed_named, moved_under_named, left_over_named, taken_by_named, given_by_named, left_over, given_by}
 use Rattle.named.proofs.Keeping.{keeps_if, keeps_unless, keeps_then, answers_then, same_ok, not_ok, no_place, came_by, stack_there, volume_there, names_there}
 
 -- Making devices.
@@ -78,7 +80,7 @@ origin_made_named name sectors device table none room named =
     keeps_then AreNamed (stack_at i table) (λ old. same_size sectors (size_of old.device) >>= λ _. Ok (moved_under i (origin_on name old) table)) table named (λ old at.
     keeps_then AreNamed (same_size sectors (size_of old.device)) (λ _. Ok (moved_under i (origin_on name old) table)) table named (λ one same.
     let there = stack_there i table old at in
-    moved_under_named table name i old (origin_on name old) none room there.0 there.1 refl refl refl named)))
+    moved_under_named table name i old (origin_on name old) none room there.0 there.1 refl refl refl refl named)))
 
 -- what a line of a snapshot names is there
 pub record AreThere (table : Table) (n : Named) : Type 0 where
@@ -100,10 +102,10 @@ named_there sectors device store table n h =
     let v = volume_there a.0 table d.0 d.1 in
     subst (AreThere table) is (record { i_lt = i.0; i_at = i.1; v_lt = v.0; v_at = v.1 })
 
-met_named : (name : List ℕ) (i v : ℕ) (refused : Option Refusal) (old left : Stacked) (was new : Volume) (table : Table) → place_of name table ≡ None → nat_le 64 (device_count table) ≡ false → i < length table.stacks → old ≡ get_or table.stacks i old → v < length table.volumes → was ≡ get_or table.volumes v was → left.names ≡ old.names → new.origin ≡ was.origin → new.under ≡ was.under → new.snaps ≡ was.snaps ++ (record { snapshot = name; store = old.names }) ∷ [] → AreNamed table → AreNamed (snapshot_left i v refused left new table).left
-met_named name i v None old left was new table none room i_lt i_at v_lt v_at names origin under snaps named =
-    taken_by_named table name i v old was new none room i_lt i_at v_lt v_at origin under snaps named
-met_named name i v (Some refusal) old left was new table none room i_lt i_at v_lt v_at names origin under snaps named =
+met_named : (name : List ℕ) (i v : ℕ) (refused : Option Refusal) (old left : Stacked) (was new : Volume) (table : Table) → place_of name table ≡ None → nat_le 64 (device_count table) ≡ false → i < length table.stacks → old ≡ get_or table.stacks i old → v < length table.volumes → was ≡ get_or table.volumes v was → left.names ≡ old.names → new.origin ≡ was.origin → new.under ≡ was.under → new.snaps ≡ was.snaps ++ (record { snapshot = name; store = old.names }) ∷ [] → names_in new.merging ≡ names_in was.merging → AreNamed table → AreNamed (snapshot_left i v refused left new table).left
+met_named name i v None old left was new table none room i_lt i_at v_lt v_at names origin under snaps merging named =
+    taken_by_named table name i v old was new none room i_lt i_at v_lt v_at origin under snaps merging named
+met_named name i v (Some refusal) old left was new table none room i_lt i_at v_lt v_at names origin under snaps merging named =
     put_named table i old left i_lt i_at names named
 
 back_names : (name : List ℕ) (chunk : ℕ) (stacked : Stacked) (volume : Volume) → (meet name chunk stacked volume).stacked.names ≡ stacked.names
@@ -120,7 +122,7 @@ unfolding snapshot_made meet
 snapshot_made_named name sectors device store chunk table none room named = by (named_in sectors device store table) (named_there sectors device store table)
   where
     on : (n : Named) → AreThere table n → AreNamed (snapshot_met n.i n.v (meet name chunk n.stacked n.volume) table).left
-    on n there = met_named name n.i n.v _ n.stacked _ n.volume _ table none room there.i_lt there.i_at there.v_lt there.v_at (back_names name chunk n.stacked n.volume) refl refl refl named
+    on n there = met_named name n.i n.v _ n.stacked _ n.volume _ table none room there.i_lt there.i_at there.v_lt there.v_at (back_names name chunk n.stacked n.volume) refl refl refl refl named
 
     by : (r : Result Named Refusal) → ((n : Named) → r ≡ Ok n → AreThere table n) → AreNamed (snapshot_by name chunk table r).left
     by (Err e) there = named
@@ -156,7 +158,7 @@ pub closed_named : (v : ℕ) (table : Table) → AreNamed table → AreNamed (ch
 unfolding closed
 closed_named v table named =
     keeps_then AreNamed (volume_at v table) _ table named (λ old at.
-    keeps_if AreNamed (nat_lt 0 (length old.snaps)) Busy (still old >>= λ _. Ok (left_over (stack_under old) v table)) table named (λ none.
+    keeps_if AreNamed (nat_lt 0 (length old.snaps) || is_some old.merging) Busy (still old >>= λ _. Ok (left_over (stack_under old) v table)) table named (λ none.
     keeps_then AreNamed (still old) (λ _. Ok (left_over (stack_under old) v table)) table named (λ one quiet.
     let there = volume_there v table old at in
     left_over_named table v old (stack_under old) there.0 there.1 refl named)))
@@ -170,6 +172,7 @@ record ArePartNames (k : ℕ) (old : Volume) (parts : Stacked × Volume) : Type 
   origin : parts.1.origin ≡ old.origin
   under : parts.1.under ≡ old.under
   snaps : parts.1.snaps ≡ remove old.snaps k
+  merging : names_in parts.1.merging ≡ names_in old.merging
 
 stack_names : (names : Names) (back : Option Store) (stacked : Stacked) → stack_of names back ≡ Ok stacked → stacked.names ≡ names.store
 stack_names names None stacked h = absurd (not_ok NoSuchDevice stacked h)
@@ -184,7 +187,7 @@ part_names k old parts h =
     let c = came_by (stack_of a.0 (given_back b.0.number old.state.snaps)) _ parts q.2 in
     let is : ◌≡◌ {A = Stacked × Volume} (c.0, without_snapshot k b.0.number old) parts = same_ok _ parts c.2 in
     let there = names_there k old a.0 a.1 in
-    subst (ArePartNames k old) is (record { names = a.0; within = there.0; at = there.1; store = stack_names a.0 _ c.0 c.1; origin = refl; under = refl; snaps = refl })
+    subst (ArePartNames k old) is (record { names = a.0; within = there.0; at = there.1; store = stack_names a.0 _ c.0 c.1; origin = refl; under = refl; snaps = refl; merging = refl })
 
 -- a snapshot goes
 pub left_by_named : (v k : ℕ) (table : Table) → AreNamed table → AreNamed (changed table (left_by v k table)).left
@@ -194,7 +197,7 @@ left_by_named v k table named =
     keeps_then AreNamed (parted k old) (λ parts. Ok (given_by parts.0 v parts.1 table)) table named (λ parts did.
     let there = volume_there v table old at in
     let n = part_names k old parts did in
-    given_by_named table v k n.names parts.0 old parts.1 there.0 there.1 n.within n.at n.store n.origin n.under n.snaps named))
+    given_by_named table v k n.names parts.0 old parts.1 there.0 there.1 n.within n.at n.store n.origin n.under n.snaps n.merging named))
 
 with_left_named : (i : ℕ) (old : Stacked) (left : Option Device) (table : Table) → i < length table.stacks → old ≡ get_or table.stacks i old → AreNamed table → AreNamed (with_left i (left_as old left) table)
 with_left_named i old None table lt at named = removed_named table i named
@@ -214,6 +217,8 @@ removed_at_named (In v Origin) table named = closed_named v table named
 removed_at_named (In v (Under depth)) table named = named
 removed_at_named (In v (Snapshot k)) table named = left_by_named v k table named
 removed_at_named (In v (InStore k depth)) table named = named
+removed_at_named (In v Merging) table named = named
+removed_at_named (In v (MergingStore depth)) table named = named
 
 -- `remove`
 pub take_away_named : (name : List ℕ) (table : Table) → AreNamed table → AreNamed (changed table (take_away name table)).left
@@ -260,16 +265,21 @@ told_free_names depth message old done h =
     sym (ap (λ (d : Answer × Stacked). d.1.names) (same_ok _ done a.2))
 
 -- names of a volume that are the same
-record HasSameNames (old new : Volume) : Type 0 where
-  origin : new.origin ≡ old.origin
-  under : new.under ≡ old.under
-  snaps : new.snaps ≡ old.snaps
+pub record HasSameNames (old new : Volume) : Type 0 where
+  pub origin : new.origin ≡ old.origin
+  pub under : new.under ≡ old.under
+  pub snaps : new.snaps ≡ old.snaps
+  pub merging : names_in new.merging ≡ names_in old.merging
+
+-- devices and a merge that change
+pub merged_names : (m : Merged) (old : Volume) → HasSameNames old (with_merged m old)
+merged_names m old = record { origin = refl; under = refl; snaps = refl; merging = names_stay old.merging m.merge }
 
 told_names : (role : Role) (message : Message) (old : Volume) (done : Answer × Volume) → told_mounted role message old ≡ Ok done → HasSameNames old done.1
 unfolding told_mounted
 told_names role message old done h =
-    let a = came_by (told_role role message old.state) _ done h in
-    subst (λ (d : Answer × Volume). HasSameNames old d.1) (same_ok _ done a.2) (record { origin = refl; under = refl; snaps = refl })
+    let a = came_by (told_role role message (merged_in old)) _ done h in
+    subst (λ (d : Answer × Volume). HasSameNames old d.1) (same_ok _ done a.2) (merged_names a.0.1 old)
 
 pub told_at_named : (place : Place) (message : Message) (table : Table) → AreNamed table → AreNamed (kept table (told_at place message table)).left
 unfolding told_at
@@ -283,7 +293,7 @@ told_at_named (In v role) message table named =
     answers_then AreNamed (told_mounted role message old) (λ done. Ok (done.0, put_volume v done.1 table)) table named (λ done did.
     let there = volume_there v table old at in
     let n = told_names role message old done did in
-    put_volume_named table v old done.1 there.0 there.1 n.origin n.under n.snaps named))
+    put_volume_named table v old done.1 there.0 there.1 n.origin n.under n.snaps n.merging named))
 
 -- `message`
 pub tell_named : (name : List ℕ) (message : Message) (table : Table) → AreNamed table → AreNamed (kept table (tell name message table)).left
@@ -296,8 +306,11 @@ unfolding ticked
 ticked_named seconds table named =
     no_more_named table _ (λ f.
     let stacks = map_sum (stack_sum f) (stack_ticked seconds) table.stacks (λ s. refl) in
-    let volumes = map_sum (volume_sum f) (volume_ticked seconds) table.volumes (λ v. refl) in
+    let volumes = map_sum (volume_sum f) (volume_ticked seconds) table.volumes (ticked_same f) in
     omega (arith, stacks, volumes)) named
+  where
+    ticked_same : (f : List ℕ → ℕ) (v : Volume) → volume_sum f (volume_ticked seconds v) ≡ volume_sum f v
+    ticked_same f v = same_volume_names f v (volume_ticked seconds v) refl refl refl (names_stay v.merging _)
 
 -- Reads and writes.
 
@@ -309,7 +322,7 @@ in_volume_named v table command same named = by (volume_at v table) (volume_ther
     by (Ok old) there =
         let at = there old refl in
         let n = same old in
-        put_volume_named table v old (command old).left at.0 at.1 n.origin n.under n.snaps named
+        put_volume_named table v old (command old).left at.0 at.1 n.origin n.under n.snaps n.merging named
 
 at_role_named : {A : Type 0} (table : Table) (command : Role → Volume → Did A Volume) (r : Result Place Refusal) → ((role : Role) (old : Volume) → HasSameNames old (command role old).left) → AreNamed table → AreNamed (at_role table command r).left
 at_role_named table command (Err e) same named = named
@@ -317,12 +330,12 @@ at_role_named table command (Ok (Free i depth)) same named = named
 at_role_named table command (Ok (In v role)) same named = in_volume_named v table (command role) (same role) named
 
 read_names : (count : ℕ) (old : Volume) (asked : Result Asked Refusal) → HasSameNames old (read_by count old asked).left
-read_names count old (Err e) = record { origin = refl; under = refl; snaps = refl }
-read_names count old (Ok asks) = record { origin = refl; under = refl; snaps = refl }
+read_names count old (Err e) = record { origin = refl; under = refl; snaps = refl; merging = refl }
+read_names count old (Ok asks) = record { origin = refl; under = refl; snaps = refl; merging = names_stay old.merging _ }
 
 write_names : (count : ℕ) (bytes : List ℕ) (old : Volume) (asked : Result Asked Refusal) → HasSameNames old (write_by count bytes old asked).left
-write_names count bytes old (Err e) = record { origin = refl; under = refl; snaps = refl }
-write_names count bytes old (Ok asks) = record { origin = refl; under = refl; snaps = refl }
+write_names count bytes old (Err e) = record { origin = refl; under = refl; snaps = refl; merging = refl }
+write_names count bytes old (Ok asks) = record { origin = refl; under = refl; snaps = refl; merging = names_stay old.merging _ }
 
 -- `read`
 pub read_named : (name : List ℕ) (first count : ℕ) (table : Table) → AreNamed table → AreNamed (read name first count table).left

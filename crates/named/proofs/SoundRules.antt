@@ -15,11 +15,11 @@ use Rattle.table.specs.declared.lines.Target.{Target}
 use Rattle.table.specs.declared.lines.Target.TheVariants as targets
 use Rattle.command.specs.Words.{sectors_of}
 use Rattle.settled.specs.Devices.{Device, sectors_of as size_of}
-use Rattle.settled.specs.Attaching.{Store, attached}
+use Rattle.settled.specs.Attaching.{Store}
 use Rattle.named.specs.declared.place.Role.{Role}
 use Rattle.named.specs.declared.place.Place.{Place}
 use Rattle.named.specs.declared.place.Place.TheVariants.{Free, In}
-use Rattle.named.specs.State.{Stacked, Volume, Table}
+use Rattle.named.specs.State.{Stacked, Volume, Table, merged_in}
 use Rattle.named.specs.Places.{place_of, found, stack_at, volume_at}
 use Rattle.named.specs.Changes.{Did, kept, changed}
 use Rattle.named.specs.Disks.{device_count, with_stack, alone, blank, failing, is_size, make}
@@ -27,14 +27,14 @@ use Rattle.named.specs.Layers.{top, put, covered, layered, laid, broken, feature
 use Rattle.named.specs.Messages.{with_layers, told_in, told_free, told_role, told_mounted, told_at, tell, put_volume, stack_ticked, volume_ticked, ticked}
 use Rattle.named.specs.Raw.{raw_in, raw_under, fits, whole, loaded_under, loaded_free, in_use, loaded_at, load}
 use Rattle.named.specs.Origins.{same_size, origin_on, moved_under, origin_made}
-use Rattle.named.specs.Snapshots.{store_of, stack_back, meet, snapshot_met, snapshot_left, named_in, snapshot_by, snapshot_made, Named}
+use Rattle.named.specs.Snapshots.{attached_to, stack_back, meet, snapshot_met, snapshot_left, named_in, snapshot_by, snapshot_made, Named}
 use Rattle.named.specs.Creating.{made, is_merge, create}
 use Rattle.named.specs.Removing.{left_with, lowered_device, left_as, lowered_to, with_left, lowered}
 use Rattle.named.specs.Sectors.{Asked, asked_of, read_by, read_in, write_by, written_in, in_volume, at_role, read_some, read, write_some, write}
 use Rattle.named.specs.Sound.{is_sound_stack, is_sound_volume, is_sound, drops_writes}
 use Rattle.named.proofs.Keeping.{keeps_if, keeps_unless, keeps_then, answers_then, same_ok, not_ok, came_by, stack_there, volume_there}
 use Rattle.named.proofs.NamedRules.{AreThere, named_there}
-use Rattle.named.proofs.LoudAttach.{IsBackLoud, loud_back}
+use Rattle.named.proofs.LoudAttach.{IsBackLoud, loud_to}
 use Rattle.named.proofs.SoundFrames.{both, of_both, all_mapped, stack_sound, volume_whole, with_stack_sound, put_sound, removed_sound, put_volume_sound, moved_under_sound, taken_by_sound, loud_below}
 
 -- a table of which no device drops writes, with nothing in flight
@@ -89,8 +89,7 @@ origin_made_sound name sectors device table sound =
 pub back_loud : (name : List ℕ) (chunk : ℕ) (stacked : Stacked) (volume : Volume) → is_loud (meet name chunk stacked volume).stacked.device.layers ≡ is_loud stacked.device.layers
 unfolding meet
 back_loud name chunk stacked volume =
-    let a = attached (volume.given + 1) chunk (store_of stacked) volume.state in
-    by a.back (loud_back (volume.given + 1) chunk (store_of stacked) volume.state)
+    by (attached_to chunk stacked volume).back (loud_to chunk stacked volume)
   where
     by : (back : Option Store) → IsBackLoud (is_loud stacked.device.layers) back → is_loud (stack_back stacked back).device.layers ≡ is_loud stacked.device.layers
     by None h = refl
@@ -222,7 +221,7 @@ told_free_loud depth message old done h =
 told_whole : (role : Role) (message : Message) (old : Volume) (done : Answer × Volume) → told_mounted role message old ≡ Ok done → is_sound_volume done.1 ≡ is_sound_volume old
 unfolding told_mounted
 told_whole role message old done h =
-    let a = came_by (told_role role message old.state) _ done h in
+    let a = came_by (told_role role message (merged_in old)) _ done h in
     sym (ap (λ (d : Answer × Volume). is_sound_volume d.1) (same_ok _ done a.2))
 
 pub told_at_sound : (place : Place) (message : Message) (table : Table) → IsSound table → IsSound (kept table (told_at place message table)).left

@@ -6,11 +6,11 @@ use Rattle.std.specs.Str.{bytes_eq}
 use Rattle.std.proofs.lemmas.Option.{slice_get_cases}
 use Rattle.std.proofs.lemmas.List.Quantifiers.{position-Some}
 use Rattle.named.specs.declared.place.Role.{Role}
-use Rattle.named.specs.declared.place.Role.TheVariants.{Origin}
+use Rattle.named.specs.declared.place.Role.TheVariants.{Origin, Merging}
 use Rattle.named.specs.declared.place.Place.{Place}
-use Rattle.named.specs.State.{Stacked, Names, Volume, Table}
-use Rattle.named.specs.Places.{depth_in, is_among, free_at_depth, named_free, in_first_stack, place_free, store_at_depth, named_store, in_first_store, store_among, snapshot_or_store, role_among, under_or_among, role_of, in_volume, named_in, in_first, place_among, free_or_among, place_of}
-use Rattle.named.specs.Naming.{stack_sum, names_sum, volume_sum, uses}
+use Rattle.named.specs.State.{Stacked, Names, Volume, Table, names_in}
+use Rattle.named.specs.Places.{depth_in, is_among, free_at_depth, named_free, in_first_stack, place_free, store_at_depth, named_store, in_first_store, store_among, snapshot_or_store, role_among, merging_at_depth, role_merging, among_or_merging, under_or_among, role_of, in_volume, named_in, in_first, place_among, free_or_among, place_of}
+use Rattle.named.specs.Naming.{stack_sum, names_sum, merging_sum, volume_sum, uses}
 use Rattle.named.proofs.Sums.{no_sum, none_passes}
 
 -- 1 for a name, else 0
@@ -84,10 +84,30 @@ unused_among name snaps none =
     (λ k d lt. none_of _ _ (not_counted (bytes_eq (get_or snaps k d).snapshot name) (none_passes (λ (n : Names). bytes_eq n.snapshot name) snaps c.0 k d lt))
     (none_among name (get_or snaps k d).store (no_option _ (none_passes (λ (n : Names). is_among name n.store) snaps nowhere k d lt))))
 
+-- not of the snapshot that is being merged
+no_depth : (depth : Option ℕ) → merging_at_depth depth ≡ None → depth ≡ None
+no_depth None none = refl
+no_depth (Some depth) none = absurd (cc)
+
+not_merging : (b : Bool) (role : Role) (rest : Option Role) → (if b then Some role else rest) ≡ None → (b ≡ false) × (rest ≡ None)
+not_merging true role rest none = absurd (cc)
+not_merging false role rest none = (refl, none)
+
+unused_merging : (name : List ℕ) (merging : Option Names) → role_merging name merging ≡ None → merging_sum (is name) merging ≡ 0
+unfolding role_merging
+unused_merging name None none = refl
+unused_merging name (Some names) none =
+    let c = not_merging (bytes_eq names.snapshot name) Merging (merging_at_depth (depth_in name names.store)) none in
+    none_of _ _ (not_counted (bytes_eq names.snapshot name) c.0) (none_among name names.store (no_depth (depth_in name names.store) c.1))
+
 -- in no volume
-no_under : (name : List ℕ) (snaps : List Names) (o : Option ℕ) → under_or_among name snaps o ≡ None → (o ≡ None) × (role_among name snaps ≡ None)
-no_under name snaps None none = (refl, none)
-no_under name snaps (Some depth) none = absurd (cc)
+no_among : (name : List ℕ) (merging : Option Names) (role : Option Role) → among_or_merging name merging role ≡ None → (role ≡ None) × (role_merging name merging ≡ None)
+no_among name merging None none = (refl, none)
+no_among name merging (Some role) none = absurd (cc)
+
+no_under : (name : List ℕ) (snaps : List Names) (merging : Option Names) (o : Option ℕ) → under_or_among name snaps merging o ≡ None → (o ≡ None) × (among_or_merging name merging (role_among name snaps) ≡ None)
+no_under name snaps merging None none = (refl, none)
+no_under name snaps merging (Some depth) none = absurd (cc)
 
 no_origin : (origin : Bool) (rest : Option Role) → (if origin then Some Origin else rest) ≡ None → (origin ≡ false) × (rest ≡ None)
 no_origin true rest none = absurd (cc)
@@ -97,11 +117,13 @@ unused_in : (name : List ℕ) (volume : Volume) → role_of name volume ≡ None
 unfolding role_of
 unused_in name volume none =
     let c = no_origin (bytes_eq volume.origin name) _ none in
-    let u = no_under name volume.snaps (depth_in name volume.under) c.1 in
+    let u = no_under name volume.snaps (names_in volume.merging) (depth_in name volume.under) c.1 in
+    let a = no_among name (names_in volume.merging) (role_among name volume.snaps) u.1 in
     let origin = not_counted (bytes_eq volume.origin name) c.0 in
     let under = none_among name volume.under u.0 in
-    let snaps = unused_among name volume.snaps u.1 in
-    omega (arith, origin, under, snaps)
+    let snaps = unused_among name volume.snaps a.0 in
+    let merging = unused_merging name (names_in volume.merging) a.1 in
+    omega (arith, origin, under, snaps, merging)
 
 role_found : (v : ℕ) (role : Option Role) → is_some role ≡ true → in_volume v role ≡ None → ⊥
 role_found v None has none = absurd (cc)

@@ -1,11 +1,11 @@
 -- To be believed: `run`'s output, a volume's steps or its attach are said in these words.
 -- Making a disk. The commands are this project's own.
-use Rattle.std.specs.Prelude.{ℕ, ◌+◌, ◌*◌, ◌&&◌, not, Bool, false, List, [], ◌∷◌, ◌++◌, length, replicate, sum_by, nat_lt, nat_le, is_some, if◌then◌else◌, Result, Ok, Err}
+use Rattle.std.specs.Prelude.{ℕ, ◌+◌, ◌*◌, ◌&&◌, not, Bool, false, List, [], ◌∷◌, ◌++◌, length, replicate, sum_by, nat_lt, nat_le, is_some, if◌then◌else◌, Option, Some, None, Result, Ok, Err}
 use Rattle.sector.specs.declared.refusal.Refusal.{Refusal}
 use Rattle.sector.specs.declared.refusal.Refusal.TheVariants.{Busy, OutOfRange, TooMany}
 use Rattle.device.specs.Layers.{Broken}
 use Rattle.settled.specs.Devices.{Device}
-use Rattle.named.specs.State.{Stacked, Names, Volume, Table}
+use Rattle.named.specs.State.{Stacked, Names, Volume, Table, names_in}
 use Rattle.named.specs.Places.{place_of}
 
 -- the devices of a stack
@@ -16,9 +16,14 @@ devices_of stacked = length stacked.names
 abbrev pub devices_under : Names → ℕ
 devices_under names = 1 + length names.store
 
+-- the snapshot that is being merged and the devices of its store, if there is one
+abbrev pub devices_merging : Option Names → ℕ
+devices_merging None = 0
+devices_merging (Some names) = devices_under names
+
 -- the devices of a volume: the origin and those under it, and each snapshot with those under it
 abbrev pub devices_in : Volume → ℕ
-devices_in volume = 1 + length volume.under + sum_by devices_under volume.snaps
+devices_in volume = 1 + length volume.under + sum_by devices_under volume.snaps + devices_merging (names_in volume.merging)
 
 -- how many devices there are
 abbrev pub device_count : Table → ℕ

@@ -1,22 +1,22 @@
 -- To be believed: `run`'s output, a volume's steps or its attach are said in these words.
 -- Making layers. The targets are those of the kernel's pages on dm-flakey and dm-dust; the order of the refusals is this
 -- project's own.
-use Rattle.std.specs.Prelude.{◌==◌, ℕ, ◌+◌, Bool, false, List, [], ◌∷◌, slice_set, nat_le, if◌then◌else◌, Result, Ok, Err}
+use Rattle.std.specs.Prelude.{◌==◌, ℕ, ◌+◌, false, List, [], ◌∷◌, slice_set, nat_le, if◌then◌else◌, Result, Ok, Err}
 use Rattle.sector.specs.Bytes.{sectors_at}
 use Rattle.sector.specs.declared.refusal.Refusal.{Refusal}
-use Rattle.sector.specs.declared.refusal.Refusal.TheVariants.{Busy, TooMany, BadTable}
+use Rattle.sector.specs.declared.refusal.Refusal.TheVariants.{Busy, BadTable}
 use Rattle.device.specs.Layers.{Layer, Flaky, Dusty, Window, Features}
 use Rattle.layers.specs.Windows.{beside}
 use Rattle.words.specs.Given.{◌>>=◌}
 use Rattle.table.specs.declared.lines.Features.{Features as Words}
 use Rattle.settled.specs.Devices.{Device, sectors_of}
 use Rattle.named.specs.declared.place.Role.{Role}
-use Rattle.named.specs.declared.place.Role.TheVariants.{Origin, Under, Snapshot, Store}
+use Rattle.named.specs.declared.place.Role.TheVariants.{Origin, Under, Snapshot, Store, Merging, MergingStore}
 use Rattle.named.specs.declared.place.Place.{Place}
 use Rattle.named.specs.declared.place.Place.TheVariants.{Free, In}
 use Rattle.named.specs.State.{Stacked, Table}
 use Rattle.named.specs.Places.{place_of, found, stack_at}
-use Rattle.named.specs.Disks.{device_count, with_stack, alone, failing, is_size}
+use Rattle.named.specs.Disks.{with_stack, alone, failing, is_size}
 
 -- why nothing can be put on a device of a volume: an origin and a snapshot can't stand below, and what they stand on is in use
 abbrev pub taken : Role → Refusal
@@ -24,6 +24,8 @@ taken Origin = BadTable
 taken (Under depth) = Busy
 taken (Snapshot k) = BadTable
 taken (Store k depth) = Busy
+taken Merging = BadTable
+taken (MergingStore depth) = Busy
 
 -- a device of a stack that nothing uses, unless another stands on it
 abbrev pub top_of : ℕ → ℕ → Result ℕ Refusal

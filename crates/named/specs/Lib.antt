@@ -14,6 +14,7 @@ pub mod Lines
 pub mod Sectors
 pub mod Starting
 pub mod Events
+pub mod Merging
 pub mod Status
 pub mod Sound
 pub mod Naming

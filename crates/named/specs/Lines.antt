@@ -1,7 +1,7 @@
 -- To be believed: `run`'s output, a volume's steps or its attach are said in these words.
 -- Table lines of devices that are there. The lines are those of the kernel's pages on dm-flakey and dm-dust; that a disk has
 -- none is this project's own.
-use Rattle.std.specs.Prelude.{ℕ, zero, suc, ◌+◌, List, ◌∷◌, drop, slice_get, Option, Some, None, Result, Ok, Err}
+use Rattle.std.specs.Prelude.{ℕ, zero, suc, ◌+◌, List, ◌∷◌, slice_get, Option, Some, None, Result, Ok, Err}
 use Rattle.sector.specs.declared.refusal.Refusal.{Refusal}
 use Rattle.sector.specs.declared.refusal.Refusal.TheVariants.{BadTable}
 use Rattle.device.specs.Layers.{Layer, Flaky, Dusty, Broken, Features as Kinds}
@@ -13,11 +13,11 @@ use Rattle.table.specs.declared.lines.Target.TheVariants as targets
 use Rattle.table.specs.Printed.{text_of}
 use Rattle.settled.specs.Devices.{Device, sectors_of}
 use Rattle.named.specs.declared.place.Role.{Role}
-use Rattle.named.specs.declared.place.Role.TheVariants.{Origin, Under, Snapshot, Store}
+use Rattle.named.specs.declared.place.Role.TheVariants.{Origin, Under, Snapshot, Store, Merging, MergingStore}
 use Rattle.named.specs.declared.place.Place.{Place}
 use Rattle.named.specs.declared.place.Place.TheVariants.{Free, In}
-use Rattle.named.specs.State.{Stacked, Volume, Table}
-use Rattle.named.specs.Places.{place_of, found, stack_at, volume_at}
+use Rattle.named.specs.State.{Merging as Begun, Volume, Table}
+use Rattle.named.specs.Places.{place_of, found, stack_at, volume_at, merging_at}
 use Rattle.named.specs.Removing.{lowered_device}
 use Rattle.named.specs.Raw.{names_at}
 use Rattle.named.specs.Messages.{snap_at}
@@ -68,10 +68,22 @@ line_in_store k depth volume = do
   snap ← snap_at k volume.state
   line_in depth names.store snap.store
 
--- the line of an origin over the top of its stack
+-- the line of the device so deep in the store of the snapshot that is being merged
+unfoldable pub line_in_merging : ℕ → Volume → Result Line Refusal
+line_in_merging depth volume = merging_at volume >>= λ g. line_in depth g.names.store g.merge.store
+
+-- what an origin is over the top of its stack, and with a merge, over the top of the merging store
+unfoldable pub origin_target : Option Begun → Volume → Result Target Refusal
+origin_target None volume = over (slice_get volume.under 0) targets.Origin
+origin_target (Some g) volume = do
+  device ← named (slice_get volume.under 0)
+  store ← named (slice_get g.names.store 0)
+  Ok (targets.Merge device store g.merge.chunk)
+
+-- the line of an origin
 unfoldable pub origin_line : Volume → Result Line Refusal
 origin_line volume = do
-  target ← over (slice_get volume.under 0) targets.Origin
+  target ← origin_target volume.merging volume
   Ok (record { sectors = sectors_of volume.state.origin; target = target })
 
 -- the line of a snapshot, of the top of the stack under the origin, over the top of its store
@@ -83,11 +95,21 @@ snapshot_line k volume = do
   store ← named (slice_get names.store 0)
   Ok (record { sectors = sectors_of volume.state.origin; target = targets.Snapshot device store snap.chunk })
 
+-- the line of the snapshot that is being merged: that of any other
+unfoldable pub merging_line : Volume → Result Line Refusal
+merging_line volume = do
+  g ← merging_at volume
+  device ← named (slice_get volume.under 0)
+  store ← named (slice_get g.names.store 0)
+  Ok (record { sectors = sectors_of volume.state.origin; target = targets.Snapshot device store g.merge.chunk })
+
 abbrev pub line_of_role : Role → Volume → Result Line Refusal
 line_of_role Origin volume = origin_line volume
 line_of_role (Under depth) volume = line_in depth volume.under volume.state.origin
 line_of_role (Snapshot k) volume = snapshot_line k volume
 line_of_role (Store k depth) volume = line_in_store k depth volume
+line_of_role Merging volume = merging_line volume
+line_of_role (MergingStore depth) volume = line_in_merging depth volume
 
 -- the line of the device at a place
 unfoldable pub line_at : Place → Table → Result Line Refusal

@@ -12,12 +12,14 @@ use Rattle.layers.specs.Ticks.{layers_ticked}
 use Rattle.words.specs.Given.{◌>>=◌}
 use Rattle.settled.specs.Devices.{Device}
 use Rattle.settled.specs.Snaps.{Snap, Volume as Settled}
-use Rattle.settled.specs.Moments.{relayered, all_relayered}
+use Rattle.settled.specs.Moments.{relayered}
+use Rattle.settled.specs.Merges.{Merge, Merged}
+use Rattle.served.specs.Moments.{merged_relayered}
 use Rattle.named.specs.declared.place.Role.{Role}
-use Rattle.named.specs.declared.place.Role.TheVariants.{Origin, Under, Snapshot, Store}
+use Rattle.named.specs.declared.place.Role.TheVariants.{Origin, Under, Snapshot, Store, Merging, MergingStore}
 use Rattle.named.specs.declared.place.Place.{Place}
 use Rattle.named.specs.declared.place.Place.TheVariants.{Free, In}
-use Rattle.named.specs.State.{Stacked, Volume, Table}
+use Rattle.named.specs.State.{Stacked, Volume, Table, merged_in, with_merged}
 use Rattle.named.specs.Places.{place_of, found, stack_at, volume_at}
 use Rattle.named.specs.Layers.{put}
 
@@ -65,23 +67,33 @@ told_store k depth message state = do
   done ← told_snap depth message snap
   Ok (done.0, record { origin = state.origin; snaps = slice_set state.snaps k done.1 })
 
--- an origin and a snapshot are no layers
-abbrev pub told_role : Role → Message → Settled → Result (Answer × Settled) Refusal
-told_role Origin message state = Err BadTable
-told_role (Under depth) message state = told_under depth message state
-told_role (Snapshot k) message state = Err BadTable
-told_role (Store k depth) message state = told_store k depth message state
+-- a message to a device beside the merge
+abbrev pub told_beside : Option Merge → Result (Answer × Settled) Refusal → Result (Answer × Merged) Refusal
+told_beside merge told = told >>= λ done. Ok (done.0, record { volume = done.1; merge = merge })
 
--- a volume whose devices were changed
-abbrev pub with_state : Settled → Volume → Volume
-with_state state volume = record volume { state = state }
+-- a message to the layer so deep in the merging store
+unfoldable pub told_merge : ℕ → Message → Merge → Result (Answer × Merge) Refusal
+told_merge depth message g = told_in g.store depth message >>= λ done. Ok (done.0, record g { store = done.1 })
+
+unfoldable pub told_merging : ℕ → Message → Option Merge → Settled → Result (Answer × Merged) Refusal
+told_merging depth message None state = Err NoSuchDevice
+told_merging depth message (Some g) state = told_merge depth message g >>= λ done. Ok (done.0, record { volume = state; merge = Some done.1 })
+
+-- an origin and a snapshot are no layers
+abbrev pub told_role : Role → Message → Merged → Result (Answer × Merged) Refusal
+told_role Origin message m = Err BadTable
+told_role (Under depth) message m = told_beside m.merge (told_under depth message m.volume)
+told_role (Snapshot k) message m = Err BadTable
+told_role (Store k depth) message m = told_beside m.merge (told_store k depth message m.volume)
+told_role Merging message m = Err BadTable
+told_role (MergingStore depth) message m = told_merging depth message m.merge m.volume
 
 -- another volume at a place
 abbrev pub put_volume : ℕ → Volume → Table → Table
 put_volume v volume table = record { stacks = table.stacks; volumes = slice_set table.volumes v volume }
 
 unfoldable pub told_mounted : Role → Message → Volume → Result (Answer × Volume) Refusal
-told_mounted role message volume = told_role role message volume.state >>= λ done. Ok (done.0, with_state done.1 volume)
+told_mounted role message volume = told_role role message (merged_in volume) >>= λ done. Ok (done.0, with_merged done.1 volume)
 
 -- a message to a device at a place
 unfoldable pub told_at : Place → Message → Table → Result (Answer × Table) Refusal
@@ -105,7 +117,7 @@ abbrev pub stack_ticked : ℕ → Stacked → Stacked
 stack_ticked seconds stacked = with_device (relayered (layers_ticked seconds) stacked.device) stacked
 
 abbrev pub volume_ticked : ℕ → Volume → Volume
-volume_ticked seconds volume = with_state (all_relayered (layers_ticked seconds) volume.state) volume
+volume_ticked seconds volume = with_merged (merged_relayered (layers_ticked seconds) (merged_in volume)) volume
 
 -- `tick N`
 unfoldable pub ticked : ℕ → Table → Table

@@ -1,7 +1,7 @@
 -- To be believed: `run`'s output, a volume's steps or its attach are said in these words.
 -- Origins: made over a stack that nothing uses, and taken away again. The line is the kernel's `snapshot-origin`; the order
 -- of the refusals is this project's own.
-use Rattle.std.specs.Prelude.{◌==◌, ℕ, true, List, [], ◌∷◌, ◌++◌, length, nat_lt, if◌then◌else◌, None, Result, Ok, Err}
+use Rattle.std.specs.Prelude.{◌==◌, ◌||◌, ℕ, true, List, [], ◌∷◌, ◌++◌, length, nat_lt, is_some, if◌then◌else◌, None, Result, Ok, Err}
 use Rattle.std.specs.List.{remove}
 use Rattle.sector.specs.declared.refusal.Refusal.{Refusal}
 use Rattle.sector.specs.declared.refusal.Refusal.TheVariants.{Busy, NotQuiet, BadTable}
@@ -23,6 +23,7 @@ origin_on name stacked = record {
   under = stacked.names;
   stale = stacked.stale;
   snaps = [];
+  merging = None;
   state = record { origin = stacked.device; snaps = [] };
   given = 0;
   asked = 0;
@@ -51,9 +52,9 @@ stack_under volume = record { names = volume.under; device = volume.state.origin
 abbrev pub still : Volume → Result (Unit {0}) Refusal
 still volume = if volume.quiet then Ok tt else Err NotQuiet
 
--- an origin without snapshots goes, and nothing uses its stack any more
+-- an origin without snapshots and without a merge goes, and nothing uses its stack any more
 unfoldable pub closed : ℕ → Table → Result Table Refusal
 closed v table = do
   volume ← volume_at v table
-  if nat_lt 0 (length volume.snaps) then Err Busy else
+  if nat_lt 0 (length volume.snaps) || is_some volume.merging then Err Busy else
       still volume >>= λ _. Ok (record { stacks = table.stacks ++ stack_under volume ∷ []; volumes = remove table.volumes v })

@@ -1,14 +1,14 @@
 -- To be believed: `run`'s output, a volume's steps or its attach are said in these words.
 -- Where a name stands. The look-up is this project's own.
-use Rattle.std.specs.Prelude.{ℕ, ◌<◌, Bool, List, length, position, slice_get, is_some, if◌then◌else◌, Option, Some, None, Result, Ok, Err}
+use Rattle.std.specs.Prelude.{◌≡◌, ℕ, ◌<◌, Bool, true, List, length, position, slice_get, is_some, if◌then◌else◌, Option, Some, None, Result, Ok, Err}
 use Rattle.std.specs.Str.{bytes_eq}
 use Rattle.sector.specs.declared.refusal.Refusal.{Refusal}
 use Rattle.sector.specs.declared.refusal.Refusal.TheVariants.{NoSuchDevice}
 use Rattle.named.specs.declared.place.Role.{Role}
-use Rattle.named.specs.declared.place.Role.TheVariants.{Origin, Under, Snapshot, Store}
+use Rattle.named.specs.declared.place.Role.TheVariants.{Origin, Under, Snapshot, Store, Merging, MergingStore}
 use Rattle.named.specs.declared.place.Place.{Place}
 use Rattle.named.specs.declared.place.Place.TheVariants.{Free, In}
-use Rattle.named.specs.State.{Stacked, Names, Volume, Table}
+use Rattle.named.specs.State.{Stacked, Names, Merging as Begun, Volume, Table, names_in}
 
 -- how deep a name stands among the names of a stack
 abbrev pub depth_in : List ℕ → List (List ℕ) → Option ℕ
@@ -65,15 +65,30 @@ snapshot_or_store name snaps None = store_among name snaps
 unfoldable pub role_among : List ℕ → List Names → Option Role
 role_among name snaps = snapshot_or_store name snaps (position (λ n. bytes_eq n.snapshot name) snaps)
 
+-- so deep in the store of the snapshot that is being merged
+abbrev pub merging_at_depth : Option ℕ → Option Role
+merging_at_depth None = None
+merging_at_depth (Some depth) = Some (MergingStore depth)
+
+-- what a name is of the snapshot that is being merged and its store, if there is one
+unfoldable pub role_merging : List ℕ → Option Names → Option Role
+role_merging name None = None
+role_merging name (Some names) = if bytes_eq names.snapshot name then Some Merging else merging_at_depth (depth_in name names.store)
+
+-- among the snapshots, else of the one that is being merged
+abbrev pub among_or_merging : List ℕ → Option Names → Option Role → Option Role
+among_or_merging name merging (Some role) = Some role
+among_or_merging name merging None = role_merging name merging
+
 -- under the origin, else among the snapshots
-abbrev pub under_or_among : List ℕ → List Names → Option ℕ → Option Role
-under_or_among name snaps (Some depth) = Some (Under depth)
-under_or_among name snaps None = role_among name snaps
+abbrev pub under_or_among : List ℕ → List Names → Option Names → Option ℕ → Option Role
+under_or_among name snaps merging (Some depth) = Some (Under depth)
+under_or_among name snaps merging None = among_or_merging name merging (role_among name snaps)
 
 -- what a name is in a volume
 unfoldable pub role_of : List ℕ → Volume → Option Role
 role_of name volume =
-    if bytes_eq volume.origin name then Some Origin else under_or_among name volume.snaps (depth_in name volume.under)
+    if bytes_eq volume.origin name then Some Origin else under_or_among name volume.snaps (names_in volume.merging) (depth_in name volume.under)
 
 -- a role in volume v
 abbrev pub in_volume : ℕ → Option Role → Option Place
@@ -118,13 +133,26 @@ IsRoleAmong Origin snaps = ⊥
 IsRoleAmong (Under depth) snaps = ⊥
 IsRoleAmong (Snapshot k) snaps = k < length snaps
 IsRoleAmong (Store k depth) snaps = (k < length snaps) × IsStoreDepth depth (slice_get snaps k)
+IsRoleAmong Merging snaps = ⊥
+IsRoleAmong (MergingStore depth) snaps = ⊥
 
--- a role in a volume with so many snapshots
-abbrev pub HasRole : Role → ℕ → Type 0
-HasRole Origin snaps = Unit {0}
-HasRole (Under depth) snaps = Unit {0}
-HasRole (Snapshot k) snaps = k < snaps
-HasRole (Store k depth) snaps = k < snaps
+-- a role of the snapshot that is being merged, if there is one
+abbrev pub IsRoleMerging : Role → Option Names → Type 0
+IsRoleMerging Origin merging = ⊥
+IsRoleMerging (Under depth) merging = ⊥
+IsRoleMerging (Snapshot k) merging = ⊥
+IsRoleMerging (Store k depth) merging = ⊥
+IsRoleMerging Merging merging = is_some merging ≡ true
+IsRoleMerging (MergingStore depth) merging = IsStoreDepth depth merging
+
+-- a role in a volume with so many snapshots, in which a merge is begun or not
+abbrev pub HasRole : Role → ℕ → Bool → Type 0
+HasRole Origin snaps begun = Unit {0}
+HasRole (Under depth) snaps begun = Unit {0}
+HasRole (Snapshot k) snaps begun = k < snaps
+HasRole (Store k depth) snaps begun = k < snaps
+HasRole Merging snaps begun = begun ≡ true
+HasRole (MergingStore depth) snaps begun = begun ≡ true
 
 -- a role in a volume
 abbrev pub IsRoleIn : Role → Volume → Type 0
@@ -132,6 +160,8 @@ IsRoleIn Origin volume = Unit {0}
 IsRoleIn (Under depth) volume = depth < length volume.under
 IsRoleIn (Snapshot k) volume = IsRoleAmong (Snapshot k) volume.snaps
 IsRoleIn (Store k depth) volume = IsRoleAmong (Store k depth) volume.snaps
+IsRoleIn Merging volume = IsRoleMerging Merging (names_in volume.merging)
+IsRoleIn (MergingStore depth) volume = IsRoleMerging (MergingStore depth) (names_in volume.merging)
 
 abbrev pub IsRoleAt : Role → Option Volume → Type 0
 IsRoleAt role None = ⊥
@@ -162,3 +192,11 @@ volume_at v table = there (slice_get table.volumes v)
     there : Option Volume → Result Volume Refusal
     there None = Err NoSuchDevice
     there (Some volume) = Ok volume
+
+-- the merge of a volume, and the names of the snapshot that is merged
+abbrev pub merging_at : Volume → Result Begun Refusal
+merging_at volume = there volume.merging
+  where
+    there : Option Begun → Result Begun Refusal
+    there None = Err NoSuchDevice
+    there (Some g) = Ok g

@@ -9,13 +9,12 @@ use Rattle.layers.specs.Windows.{raw_of, has_disk}
 use Rattle.words.specs.Given.{◌>>=◌}
 use Rattle.command.specs.Words.{sectors_of}
 use Rattle.settled.specs.Devices.{Device}
-use Rattle.settled.specs.Snaps.{Snap, Volume as Settled}
 use Rattle.named.specs.declared.place.Role.{Role}
-use Rattle.named.specs.declared.place.Role.TheVariants.{Origin, Under, Snapshot, Store}
+use Rattle.named.specs.declared.place.Role.TheVariants.{Origin, Under, Snapshot, Store, Merging, MergingStore}
 use Rattle.named.specs.declared.place.Place.{Place}
 use Rattle.named.specs.declared.place.Place.TheVariants.{Free, In}
 use Rattle.named.specs.State.{Stacked, Names, Volume, Table}
-use Rattle.named.specs.Places.{place_of, found, stack_at, volume_at}
+use Rattle.named.specs.Places.{place_of, found, stack_at, volume_at, merging_at}
 use Rattle.named.specs.Layers.{put}
 use Rattle.named.specs.Messages.{snap_at}
 
@@ -50,12 +49,18 @@ raw_in_store k depth volume = do
   snap ← snap_at k volume.state
   raw_in depth names.store snap.store
 
+-- the raw bytes of the disk so deep in the store of the snapshot that is being merged
+unfoldable pub raw_in_merging : ℕ → Volume → Result (List ℕ) Refusal
+raw_in_merging depth volume = merging_at volume >>= λ g. raw_in depth g.names.store g.merge.store
+
 -- the raw bytes of a disk of a volume; an origin and a snapshot are no disks
 abbrev pub raw_under : Role → Volume → Result (List ℕ) Refusal
 raw_under Origin volume = Err BadTable
 raw_under (Under depth) volume = raw_in depth volume.under volume.state.origin
 raw_under (Snapshot k) volume = Err BadTable
 raw_under (Store k depth) volume = raw_in_store k depth volume
+raw_under Merging volume = Err BadTable
+raw_under (MergingStore depth) volume = raw_in_merging depth volume
 
 -- the raw bytes of a disk, used or not
 unfoldable pub raw_at : Place → Table → Result (List ℕ) Refusal

@@ -3,13 +3,12 @@
 use Rattle.std.specs.Prelude.{ℕ, List, drop, Option, Some, None, Result, Ok, Err}
 use Rattle.std.specs.List.{remove}
 use Rattle.sector.specs.declared.refusal.Refusal.{Refusal}
-use Rattle.sector.specs.declared.refusal.Refusal.TheVariants.{Busy}
+use Rattle.sector.specs.declared.refusal.Refusal.TheVariants.{Busy, MergeInProgress}
 use Rattle.device.specs.Layers.{Layer}
 use Rattle.layers.specs.Windows.{layers_below, bytes_below}
 use Rattle.words.specs.Given.{◌>>=◌}
 use Rattle.settled.specs.Devices.{Device}
-use Rattle.named.specs.declared.place.Role.{Role}
-use Rattle.named.specs.declared.place.Role.TheVariants.{Origin, Under, Snapshot, Store}
+use Rattle.named.specs.declared.place.Role.TheVariants.{Origin, Under, Snapshot, Store, Merging, MergingStore}
 use Rattle.named.specs.declared.place.Place.{Place}
 use Rattle.named.specs.declared.place.Place.TheVariants.{Free, In}
 use Rattle.named.specs.State.{Stacked, Table}
@@ -45,13 +44,15 @@ with_left i (Some stacked) table = put i stacked table
 unfoldable pub lowered : ℕ → Table → Result Table Refusal
 lowered i table = stack_at i table >>= λ stacked. Ok (with_left i (lowered_to stacked) table)
 
--- a device goes, unless another uses it
+-- a device goes, unless another uses it, or it is a snapshot that is being merged
 abbrev pub removed_at : Place → Table → Result Table Refusal
 removed_at (Free i depth) table = top_of i depth >>= λ i. lowered i table
 removed_at (In v Origin) table = closed v table
 removed_at (In v (Under depth)) table = Err Busy
 removed_at (In v (Snapshot k)) table = left_by v k table
 removed_at (In v (Store k depth)) table = Err Busy
+removed_at (In v Merging) table = Err MergeInProgress
+removed_at (In v (MergingStore depth)) table = Err Busy
 
 -- `remove NAME`
 unfoldable pub take_away : List ℕ → Table → Result Table Refusal

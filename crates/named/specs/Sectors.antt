@@ -1,9 +1,10 @@
 -- To be believed: `run`'s output, a volume's steps or its attach are said in these words.
--- Reading and writing origins and snapshots. What they show is the settled machine's; the commands, and that a volume takes
--- reads and writes of 2^60 sectors in all, so that its numbers never run out, are this project's own.
+-- Reading and writing origins and snapshots. What they show is the settled machine's, which goes on beside a merge; the
+-- commands, and that a volume takes reads and writes of 2^60 sectors in all, so that its numbers never run out, are this
+-- project's own.
 use Rattle.std.specs.Prelude.{◌≡◌, ℕ, ◌+◌, ◌<◌, List, nat_lt, if◌then◌else◌, Result, Ok, Err}
 use Rattle.sector.specs.declared.refusal.Refusal.{Refusal}
-use Rattle.sector.specs.declared.refusal.Refusal.TheVariants.{BadTable, TooMany}
+use Rattle.sector.specs.declared.refusal.Refusal.TheVariants.{BadTable, TooMany, MergingSnapshot}
 use Rattle.words.specs.Given.{◌>>=◌}
 use Rattle.chunk.specs.Pieces.{Span}
 use Rattle.command.specs.Words.{sectors_of}
@@ -13,25 +14,37 @@ use Rattle.plain.specs.declared.request.Reply.{Reply}
 use Rattle.plain.specs.declared.request.Reply.TheVariants.{Data, Written, Refused}
 use Rattle.settled.specs.Devices.{sectors_of as size_of}
 use Rattle.settled.specs.Snaps.{Volume as Settled}
-use Rattle.settled.specs.Pieces.{Answered}
-use Rattle.settled.specs.Commands.{written, read as read_settled, bytes_in, written_first, pieces_in}
+use Rattle.settled.specs.Merges.{Merged}
+use Rattle.settled.specs.Commands.{bytes_in}
+use Rattle.served.specs.Beside.{Served, written_beside, read_beside, count_beside, written_first_beside}
 use Rattle.plain.specs.Failures.{refusal_of}
 use Rattle.named.specs.declared.place.Role.{Role}
-use Rattle.named.specs.declared.place.Role.TheVariants.{Origin, Under, Snapshot, Store}
+use Rattle.named.specs.declared.place.Role.TheVariants.{Origin, Under, Snapshot, Store, Merging, MergingStore}
 use Rattle.named.specs.declared.place.Place.{Place}
 use Rattle.named.specs.declared.place.Place.TheVariants.{Free, In}
-use Rattle.named.specs.State.{Volume, Table}
+use Rattle.named.specs.State.{Volume, Table, merged_in, with_merged}
 use Rattle.named.specs.Places.{place_of, found, volume_at}
 use Rattle.named.specs.Changes.{Did, refused}
 use Rattle.named.specs.Messages.{snap_at, put_volume}
 use Rattle.named.specs.Raw.{fits, whole}
 
--- what a request is sent to: the origin, or a snapshot by its number
+-- disks and layers are neither read nor written by these commands
+abbrev pub serves : Role → Result (Unit {0}) Refusal
+serves Origin = Ok tt
+serves (Under depth) = Err BadTable
+serves (Snapshot k) = Ok tt
+serves (Store k depth) = Err BadTable
+serves Merging = Ok tt
+serves (MergingStore depth) = Err BadTable
+
+-- What a request is sent to: the origin, or a snapshot by its number. One that is being merged takes none.
 unfoldable pub dev_of : Role → Settled → Result Dev Refusal
 dev_of Origin state = Ok devs.Origin
 dev_of (Under depth) state = Err BadTable
 dev_of (Snapshot k) state = snap_at k state >>= λ snap. Ok (devs.Snap snap.number)
 dev_of (Store k depth) state = Err BadTable
+dev_of Merging state = Err MergingSnapshot
+dev_of (MergingStore depth) state = Err BadTable
 
 -- a volume takes these sectors yet
 abbrev pub takes : ℕ → Volume → Result (Unit {0}) Refusal
@@ -45,14 +58,15 @@ pub record Asked : Type 0 where
 -- so many sectors from the first on; a snapshot has as many as its origin
 unfoldable pub asked_of : Role → ℕ → ℕ → Volume → Result Asked Refusal
 asked_of role first count volume = do
-  dev ← dev_of role volume.state
+  _ ← serves role
   _ ← fits (size_of volume.state.origin) first count
+  dev ← dev_of role volume.state
   _ ← takes count volume
   Ok (record { dev = dev; span = record { first = first; count = count; size = size_of volume.state.origin } })
 
--- a volume that was asked for these sectors, in this state
-abbrev pub after_asking : ℕ → Settled → Volume → Volume
-after_asking count state volume = record volume { state = state; asked = volume.asked + count }
+-- a volume that was asked for these sectors, whose devices and merge are these
+abbrev pub after_asking : ℕ → Merged → Volume → Volume
+after_asking count m volume = record (with_merged m volume) { asked = volume.asked + count }
 
 -- what a read is answered with
 abbrev pub read_answer : Reply → Result (List ℕ) Refusal
@@ -64,7 +78,7 @@ read_answer (Refused failure) = Err (refusal_of failure)
 abbrev pub read_by : ℕ → Volume → Result Asked Refusal → Did (List ℕ) Volume
 read_by count volume (Err refusal) = refused volume refusal
 read_by count volume (Ok asks) =
-    record { answer = read_answer (read_settled asks.dev asks.span volume.state).reply; left = after_asking count volume.state volume }
+    record { answer = read_answer (read_beside asks.dev asks.span (merged_in volume)).reply; left = after_asking count (merged_in volume) volume }
 
 unfoldable pub read_in : Role → ℕ → ℕ → Volume → Did (List ℕ) Volume
 read_in role first count volume = read_by count volume (asked_of role first count volume)
@@ -75,13 +89,13 @@ write_answer (Data bytes) = Ok tt
 write_answer Written = Ok tt
 write_answer (Refused failure) = Err (refusal_of failure)
 
-abbrev pub written_as : ℕ → Answered → Volume → Did (Unit {0}) Volume
-written_as count done volume = record { answer = write_answer done.reply; left = after_asking count done.volume volume }
+abbrev pub written_as : ℕ → Served → Volume → Did (Unit {0}) Volume
+written_as count done volume = record { answer = write_answer done.reply; left = after_asking count done.state volume }
 
 -- sectors that were asked for are written
 abbrev pub write_by : ℕ → List ℕ → Volume → Result Asked Refusal → Did (Unit {0}) Volume
 write_by count bytes volume (Err refusal) = refused volume refusal
-write_by count bytes volume (Ok asks) = written_as count (written asks.dev asks.span bytes volume.state) volume
+write_by count bytes volume (Ok asks) = written_as count (written_beside asks.dev asks.span bytes (merged_in volume)) volume
 
 unfoldable pub written_in : Role → ℕ → ℕ → List ℕ → Volume → Did (Unit {0}) Volume
 written_in role first count bytes volume = write_by count bytes volume (asked_of role first count volume)
@@ -89,9 +103,9 @@ written_in role first count bytes volume = write_by count bytes volume (asked_of
 -- Where memory ran out in a write: it was not begun, or some first pieces were written, but not all.
 pub record ArePartWritten (count : ℕ) (bytes : List ℕ) (asks : Asked) (old new : Volume) : Type 0 where
   pub pieces : ℕ
-  pub fewer : pieces < pieces_in asks.span old.state
-  pub done : (written_first pieces asks.dev asks.span bytes old.state).reply ≡ Written
-  pub left : new ≡ after_asking count (written_first pieces asks.dev asks.span bytes old.state).volume old
+  pub fewer : pieces < count_beside asks.span (merged_in old)
+  pub done : (written_first_beside pieces asks.dev asks.span bytes (merged_in old)).reply ≡ Written
+  pub left : new ≡ after_asking count (written_first_beside pieces asks.dev asks.span bytes (merged_in old)).state old
 
 abbrev pub IsPartWrittenBy : ℕ → List ℕ → Volume → Volume → Result Asked Refusal → Type 0
 IsPartWrittenBy count bytes old new (Err refusal) = ⊥
@@ -102,7 +116,7 @@ IsPartWritten role first count bytes old new = IsPartWrittenBy count bytes old n
 
 -- where memory ran out in a read: no device was changed
 abbrev pub IsReadAsked : ℕ → Volume → Volume → Type 0
-IsReadAsked count old new = new ≡ after_asking count old.state old
+IsReadAsked count old new = new ≡ after_asking count (merged_in old) old
 
 -- a command on the volume at a place, and what it leaves of the table
 abbrev pub in_volume : {A : Type 0} → ℕ → Table → (Volume → Did A Volume) → Result Volume Refusal → Did A Table

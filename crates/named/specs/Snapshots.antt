@@ -2,24 +2,23 @@
 -- Snapshots: taken over an origin, with a stack that nothing uses as their store, and taken away again. The line is the
 -- kernel's `snapshot`; the order of the refusals is this project's own. What an attach reads, writes and answers is the
 -- settled machine's.
-use Rattle.std.specs.Prelude.{ℕ, zero, suc, ◌+◌, ◌&&◌, List, [], ◌∷◌, ◌++◌, slice_set, Option, Some, None, Result, Ok, Err}
+use Rattle.std.specs.Prelude.{ℕ, zero, suc, ◌+◌, ◌&&◌, List, [], ◌∷◌, ◌++◌, slice_set, is_some, if◌then◌else◌, Option, Some, None, Result, Ok, Err}
 use Rattle.std.specs.List.{remove}
 use Rattle.sector.specs.declared.refusal.Refusal.{Refusal}
-use Rattle.sector.specs.declared.refusal.Refusal.TheVariants.{NoSuchDevice}
+use Rattle.sector.specs.declared.refusal.Refusal.TheVariants.{NoSuchDevice, Stale, MergeInProgress}
 use Rattle.device.specs.Layers.{is_loud}
 use Rattle.words.specs.Given.{◌>>=◌}
 use Rattle.settled.specs.Devices.{sectors_of}
 use Rattle.settled.specs.Snaps.{Volume as Settled}
-use Rattle.settled.specs.Attaching.{Store, Attached, attached, detached, given_back}
-use Rattle.named.specs.declared.place.Role.{Role}
-use Rattle.named.specs.declared.place.Role.TheVariants.{Origin, Under, Snapshot, Store as InStore}
+use Rattle.settled.specs.Attaching.{Store, Attached, attached, refused_attach, detached, given_back}
+use Rattle.named.specs.declared.place.Role.TheVariants.{Origin, Under, Snapshot, Store as InStore, Merging, MergingStore}
 use Rattle.named.specs.declared.place.Place.{Place}
 use Rattle.named.specs.declared.place.Place.TheVariants.{Free, In}
 use Rattle.named.specs.State.{Stacked, Names, Volume, Table}
 use Rattle.named.specs.Places.{place_of, stack_at, volume_at}
 use Rattle.named.specs.Changes.{Did, refused}
 use Rattle.named.specs.Layers.{top, put}
-use Rattle.named.specs.Messages.{snap_at, put_volume, with_device}
+use Rattle.named.specs.Messages.{snap_at, with_device}
 use Rattle.named.specs.Raw.{names_at}
 use Rattle.named.specs.Origins.{same_size, still}
 
@@ -32,6 +31,8 @@ over (Some (In v (Under zero))) = Ok v
 over (Some (In v (Under (suc depth)))) = Err NoSuchDevice
 over (Some (In v (Snapshot k))) = Err NoSuchDevice
 over (Some (In v (InStore k depth))) = Err NoSuchDevice
+over (Some (In v Merging)) = Err NoSuchDevice
+over (Some (In v (MergingStore depth))) = Err NoSuchDevice
 
 -- a stack as a store that nothing uses
 abbrev pub store_of : Stacked → Store
@@ -61,9 +62,19 @@ abbrev pub met_by : List ℕ → Stacked → Volume → Attached → Met
 met_by name stacked volume a =
     record { refused = a.refused; stacked = stack_back stacked a.back; volume = with_snapshot name stacked a.volume volume }
 
+-- why no stack is attached while a merge is begun: one with a mark is refused for the mark
+abbrev pub kept_out : Stacked → Refusal
+kept_out stacked = if stacked.stale then Stale else MergeInProgress
+
+-- the attach of a stack, by a table line with this chunk size; while a merge is begun the stack is left as it is
+unfoldable pub attached_to : ℕ → Stacked → Volume → Attached
+attached_to chunk stacked volume =
+    if is_some volume.merging then refused_attach (kept_out stacked) (store_of stacked) volume.state
+    else attached (volume.given + 1) chunk (store_of stacked) volume.state
+
 -- a stack is attached to a volume, by a table line with this chunk size
 unfoldable pub meet : List ℕ → ℕ → Stacked → Volume → Met
-meet name chunk stacked volume = met_by name stacked volume (attached (volume.given + 1) chunk (store_of stacked) volume.state)
+meet name chunk stacked volume = met_by name stacked volume (attached_to chunk stacked volume)
 
 -- stack i is a store of volume v now, or is left where it was
 abbrev pub snapshot_left : ℕ → ℕ → Option Refusal → Stacked → Volume → Table → Did (Unit {0}) Table

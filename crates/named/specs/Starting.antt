@@ -1,6 +1,6 @@
 -- Requests that one command starts and later ones end: what is asked for by `start DEV read S N` and `start DEV write S DATA`,
 -- and why it is refused before the volume is asked. The commands are this project's own.
-use Rattle.std.specs.Prelude.{ℕ, List, Result, Ok, Err}
+use Rattle.std.specs.Prelude.{ℕ, List, Result, Err}
 use Rattle.sector.specs.declared.refusal.Refusal.{Refusal}
 use Rattle.sector.specs.declared.refusal.Refusal.TheVariants.{BadTable}
 use Rattle.words.specs.Given.{◌>>=◌}

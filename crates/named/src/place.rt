@@ -11,6 +11,10 @@ pub enum Role {
     Snapshot(usize),
     /// The device so deep in the stack of that snapshot's store.
     Store(usize, usize),
+    /// The snapshot that is being merged into the origin.
+    Merging,
+    /// The device so deep in the stack of that snapshot's store.
+    MergingStore(usize),
 }
 
 /// Where a device stands.

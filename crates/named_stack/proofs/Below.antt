@@ -5,7 +5,7 @@ use Rattle.std.specs.List.{remove}
 use Rattle.device.specs.Layers.{Layer}
 use Rattle.settled.specs.Devices.{Device}
 use Rattle.layers.specs.declared.stack.Stack.{Stack, Disk, Flakey', Dust', Error}
-use Rattle.layers.specs.Stack.{stack_layers, stack_contents, below_of}
+use Rattle.layers.specs.Stack.{stack_layers, below_of}
 use Rattle.layers.specs.declared.broken.Broken.{Broken}
 use Rattle.device.specs.declared.mem_disk.MemDisk.{MemDisk}
 use Rattle.layers.specs.Windows.{layers_below, bytes_below}

@@ -1,5 +1,5 @@
 -- How many sectors a stack has, by its bytes.
-use Rattle.std.proofs.Common.{◌≡◌, ℕ, ◌*◌, ◌/◌, ◌≤◌, length, refl, sym, ap, ◌∙◌, subst, arith}
+use Rattle.std.proofs.Common.{◌≡◌, ℕ, ◌*◌, ◌/◌, ◌≤◌, length, refl, sym, ap, ◌∙◌, arith}
 use Rattle.layers.specs.declared.stack.Stack.{Stack}
 use Rattle.layers.specs.Stack.{stack_size}
 use Rattle.layers.specs.Whole.{stack_whole, stack_small}

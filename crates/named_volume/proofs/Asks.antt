@@ -10,39 +10,46 @@ use Rattle.settled.specs.Snaps.{Volume as Settled}
 use Rattle.named.specs.declared.place.Role.{Role}
 use Rattle.named.specs.State.{Volume}
 use Rattle.named.specs.Raw.{fits}
-use Rattle.named.specs.Sectors.{Asked, dev_of, takes, asked_of}
+use Rattle.named.specs.Sectors.{Asked, dev_of, serves, takes, asked_of}
 
 module _ (role : Role) (first count : ℕ) (v : Volume) (state : Settled) (same : v.state ≡ state) where
-  -- the device takes no request
-  pub no_dev : (e : Refusal) → dev_of role state ≡ Err e → asked_of role first count v ≡ Err e
+  -- the role takes no request
+  pub no_serve : (e : Refusal) → serves role ≡ Err e → asked_of role first count v ≡ Err e
   unfolding asked_of
-  no_dev e is = let here : dev_of role v.state ≡ Err e = ap (dev_of role) same ∙ is in rw here refl
+  no_serve e is = rw is refl
 
   -- or has not all of the sectors
-  pub no_range : (dev : Dev) (e : Refusal) → dev_of role state ≡ Ok dev → fits (size_of state.origin) first count ≡ Err e → asked_of role first count v ≡ Err e
+  pub no_range : (e : Refusal) → serves role ≡ Ok tt → fits (size_of state.origin) first count ≡ Err e → asked_of role first count v ≡ Err e
   unfolding asked_of
-  no_range dev e is out =
-      let here : dev_of role v.state ≡ Ok dev = ap (dev_of role) same ∙ is in
+  no_range e is out =
       let past : fits (size_of v.state.origin) first count ≡ Err e = ap (λ (s : Settled). fits (size_of s.origin) first count) same ∙ out in
-      rw here (rw past refl)
+      rw is (rw past refl)
+
+  -- or is being merged
+  pub no_dev : (e : Refusal) → serves role ≡ Ok tt → fits (size_of state.origin) first count ≡ Ok tt → dev_of role state ≡ Err e → asked_of role first count v ≡ Err e
+  unfolding asked_of
+  no_dev e serve inside is =
+      let here : dev_of role v.state ≡ Err e = ap (dev_of role) same ∙ is in
+      let fit : fits (size_of v.state.origin) first count ≡ Ok tt = ap (λ (s : Settled). fits (size_of s.origin) first count) same ∙ inside in
+      rw serve (rw fit (rw here refl))
 
   -- or too many were asked for
-  pub no_more : (dev : Dev) (e : Refusal) → dev_of role state ≡ Ok dev → fits (size_of state.origin) first count ≡ Ok tt → takes count v ≡ Err e → asked_of role first count v ≡ Err e
+  pub no_more : (dev : Dev) (e : Refusal) → serves role ≡ Ok tt → fits (size_of state.origin) first count ≡ Ok tt → dev_of role state ≡ Ok dev → takes count v ≡ Err e → asked_of role first count v ≡ Err e
   unfolding asked_of
-  no_more dev e is inside many =
+  no_more dev e serve inside is many =
       let here : dev_of role v.state ≡ Ok dev = ap (dev_of role) same ∙ is in
       let fit : fits (size_of v.state.origin) first count ≡ Ok tt = ap (λ (s : Settled). fits (size_of s.origin) first count) same ∙ inside in
-      rw here (rw fit (rw many refl))
+      rw serve (rw fit (rw here (rw many refl)))
 
   -- else these are asked for
-  pub asks : (dev : Dev) (span : Span) → dev_of role state ≡ Ok dev → fits (size_of state.origin) first count ≡ Ok tt → takes count v ≡ Ok tt → span ≡ record { first = first; count = count; size = size_of state.origin } → asked_of role first count v ≡ Ok (record { dev = dev; span = span })
+  pub asks : (dev : Dev) (span : Span) → serves role ≡ Ok tt → fits (size_of state.origin) first count ≡ Ok tt → dev_of role state ≡ Ok dev → takes count v ≡ Ok tt → span ≡ record { first = first; count = count; size = size_of state.origin } → asked_of role first count v ≡ Ok (record { dev = dev; span = span })
   unfolding asked_of
-  asks dev span is inside more whole =
+  asks dev span serve inside is more whole =
       let here : dev_of role v.state ≡ Ok dev = ap (dev_of role) same ∙ is in
       let fit : fits (size_of v.state.origin) first count ≡ Ok tt = ap (λ (s : Settled). fits (size_of s.origin) first count) same ∙ inside in
       let all : (let r : Result Asked Refusal = Ok (record { dev = dev; span = record { first = first; count = count; size = size_of v.state.origin } }) in r) ≡ Ok (record { dev = dev; span = span }) =
       ap (λ (s : Settled). let r : Result Asked Refusal = Ok (record { dev = dev; span = record { first = first; count = count; size = size_of s.origin } }) in r) same ∙ ap (λ (s : Span). let r : Result Asked Refusal = Ok (record { dev = dev; span = s }) in r) (sym whole) in
-      rw here (rw fit (rw more all))
+      rw serve (rw fit (rw here (rw more all)))
 
 not_for_memory : (b : Bool) (e : Refusal) → (let r : Result (Unit {0}) Refusal = if b then Err OutOfRange else Ok tt in r) ≡ Err e → e ≢ NoMemory
 not_for_memory true e is none = absurd (cc)

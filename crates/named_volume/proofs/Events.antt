@@ -1,11 +1,18 @@
 -- What a call did to the volume of events, as the volume with names shows it.
-use Rattle.std.proofs.Common.{◌≡◌, ℕ, List, refl, sym, ap, ◌∙◌, subst}
-use Rattle.std.specs.Prelude.{Result, Ok, Err, IfOk, IfErr, OnOk}
+use Rattle.std.proofs.Common.{◌≡◌, ℕ, true, List, refl, sym, ap, ◌∙◌, subst}
+use Rattle.std.specs.Prelude.{Result, Ok, Err, IfOk, IfErr, OnOk, is_ok}
 use Rattle.sector.specs.declared.range.Range.{Range}
 use Rattle.sector.specs.declared.refusal.Refusal.{Refusal}
 use Rattle.chunk.specs.Pieces.{span_of}
 use Rattle.layers.specs.declared.stack.Stack.{Stack}
-use Rattle.layers.specs.Stack.{stack_contents, stack_layers, stack_size}
+use Rattle.layers.specs.Stack.{stack_contents, stack_layers, stack_size, stack_faults, stack_done}
+use Rattle.plain.specs.declared.event.Event.{Event}
+use Rattle.plain.specs.declared.event.Outcome.{Outcome}
+use Rattle.plain.specs.declared.event.NotDue.{NotDue}
+use Rattle.plain.specs.Legal.{IsLegalStep}
+use Rattle.volume.specs.Volumed.{is_due_of, is_loud_in_all, plain_of}
+use Rattle.volume.specs.Causes.{HasCause, IsOneAtMost}
+use Rattle.volume.specs.Exact.{IsExact}
 use Rattle.plain.specs.declared.request.Dev.{Dev}
 use Rattle.plain.specs.declared.request.Op.{Op}
 use Rattle.volume.specs.Leaving.{is_quiet_of}
@@ -14,14 +21,23 @@ use Rattle.plain.specs.declared.request.Replied.{Replied}
 use Rattle.resting.specs.Rested.{Rested, rested_of}
 use Rattle.resting.specs.Flying.{IsWhole}
 use Rattle.resting.specs.Among.{AreReadAmong, AreWrittenAmong, IsReadRefusedAmong, IsWriteRefusedAmong, pieces_among}
-use Rattle.named.specs.State.{Volume}
+use Rattle.named.specs.State.{Volume, merge_in}
 use Rattle.named.specs.Sectors.{Asked}
-use Rattle.named_volume.specs.Held.{flying_in, settled_in}
-use Rattle.named_volume.specs.Flights.{IsBehind, IsStarted, IsNotStarted, IsReadServed, IsWriteServed}
+use Rattle.named_volume.specs.Held.{flying_in, merged_inside, settled_in}
+use Rattle.named_volume.specs.Flights.{IsBehind, IsStarted, IsNotStarted, IsStepped, IsReadServed, IsWriteServed}
 
 -- the volume of events that stands behind
-pub behind : (before : Rested Stack) (volume : Volume) → IsWhole before → volume.state ≡ settled_in before → volume.quiet ≡ is_quiet_of before.events → volume.flying ≡ flying_in before.events → IsBehind before.events volume
-behind before volume whole state quiet flying = record { state = state ∙ ap settled_in whole; quiet = quiet; flying = flying }
+pub behind : (before : Rested Stack) (volume : Volume) → IsWhole before → volume.state ≡ settled_in before → merge_in volume.merging ≡ (merged_inside before).merge → volume.quiet ≡ is_quiet_of before.events → volume.flying ≡ flying_in before.events → IsBehind before.events volume
+behind before volume whole state merge quiet flying = record { state = state ∙ ap settled_in whole; merge = merge ∙ ap (λ (v : Rested Stack). (merged_inside v).merge) whole; quiet = quiet; flying = flying }
+
+-- an event that was due is done
+pub stepped : (event : Event) (before after : Rested Stack) (old new : Volume) → IsBehind before.events old → IsBehind after.events new → (r : Result Outcome NotDue) → is_ok r ≡ is_due_of stack_contents stack_layers before.events event
+    → IfOk r (λ outcome. IsExact stack_contents stack_layers event outcome before.events after.events)
+    → IfOk r (λ outcome. is_loud_in_all stack_layers before.events ≡ true → IsLegalStep (plain_of stack_contents stack_layers before.events) event outcome (plain_of stack_contents stack_layers after.events))
+    → IfOk r (λ outcome. HasCause stack_faults event outcome before.events after.events) → OnOk r (IsOneAtMost stack_done before.events after.events) → IfOk r (λ outcome. IsStepped event outcome old new)
+stepped event before after old new was is (Err e) due exact legal cause one = tt
+stepped event before after old new was is (Ok outcome) due exact legal cause one =
+    record { before = before.events; after = after.events; was = was; is = is; did = record { due = sym due; exact = exact; legal = legal; cause = cause; one = one } }
 
 module _ (before after : Rested Stack) (old new : Volume) (was : IsBehind before.events old) (is : IsBehind after.events new) (dev : Dev) (range : Range) (asked : Result Asked Refusal) (asks : asked ≡ Ok (record { dev = dev; span = span_of range })) where
   -- a request that is started, or isn't

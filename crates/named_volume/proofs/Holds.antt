@@ -1,5 +1,6 @@
 -- What holds of a volume with its names after a call of the volume.
 use Rattle.std.proofs.Common.{◌≡◌, ℕ, Bool, List, length, sym, ap, ◌∙◌}
+use Rattle.std.specs.Prelude.{Option}
 use Rattle.std.proofs.lemmas.List.{length-map}
 use Rattle.layers.specs.declared.stack.Stack.{Stack}
 use Rattle.layers.specs.Stack.{stack_layers, stack_size}
@@ -7,6 +8,7 @@ use Rattle.resting.specs.Rested.{Rested, Attached, numbers_of}
 use Rattle.resting.specs.Kept.{KeepsDevices}
 use Rattle.named.specs.State.{Names}
 use Rattle.named_volume.specs.Held.{IsHeld}
+use Rattle.named_volume.proofs.Merges.{still_begun}
 
 -- as many snapshots
 same_many : (before after : Rested Stack) → numbers_of after ≡ numbers_of before → length after.snaps ≡ length before.snaps
@@ -15,10 +17,11 @@ same_many before after same =
     sym (length-map after.snaps number) ∙ ap length same ∙ length-map before.snaps number
 
 -- a call that gives no numbers
-pub stays_held : (names : List Names) (before after : Rested Stack) (asked : ℕ) (sound : Bool) → IsHeld names before asked sound → KeepsDevices stack_layers stack_size before after → after.requests ≡ before.requests → IsHeld names after asked sound
-stays_held names before after asked sound held kept requests =
+pub stays_held : (names : List Names) (merging : Option Names) (before after : Rested Stack) (asked : ℕ) (sound : Bool) → IsHeld names merging before asked sound → KeepsDevices stack_layers stack_size before after → after.requests ≡ before.requests → IsHeld names merging after asked sound
+stays_held names merging before after asked sound held kept requests =
     record {
       many = held.many ∙ sym (same_many before after kept.numbers);
+      begun = held.begun ∙ still_begun before after kept.merging;
       requests = rw requests held.requests;
       few = held.few;
       loud = λ is. kept.loud ∙ held.loud is;

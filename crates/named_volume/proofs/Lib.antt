@@ -8,3 +8,8 @@ pub mod Parts
 pub mod Uses
 pub mod Tells
 pub mod Events
+pub mod Merges
+pub mod Begins
+pub mod Finishes
+pub mod Resumes
+pub mod Closes

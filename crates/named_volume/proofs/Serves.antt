@@ -4,7 +4,7 @@ use Rattle.std.specs.Prelude.{Result, Ok, Err, IfOk, IfErr, OnOk}
 use Rattle.sector.specs.declared.refusal.Refusal.{Refusal}
 use Rattle.sector.specs.declared.refusal.Refusal.TheVariants.{NoMemory}
 use Rattle.layers.specs.declared.stack.Stack.{Stack}
-use Rattle.layers.specs.Stack.{stack_contents, stack_layers, stack_size}
+use Rattle.layers.specs.Stack.{stack_contents, stack_layers}
 use Rattle.layers.specs.Beneath.{stack_reads}
 use Rattle.chunk.specs.Pieces.{Span}
 use Rattle.plain.specs.declared.request.Dev.{Dev}
@@ -12,18 +12,17 @@ use Rattle.plain.specs.declared.request.Reply.{Reply}
 use Rattle.plain.specs.declared.request.Reply.TheVariants.{Data, Written, Refused}
 use Rattle.plain.specs.declared.request.Failure.{Failure}
 use Rattle.plain.specs.declared.request.Failure.TheVariants.{Invalid, Io}
-use Rattle.settled.specs.Snaps.{Volume as Settled}
-use Rattle.settled.specs.Pieces.{Answered}
-use Rattle.settled.specs.Commands.{read, written, written_first, pieces_in}
+use Rattle.settled.specs.Merges.{Merged}
+use Rattle.served.specs.Beside.{Served, read_beside, written_beside, written_first_beside, count_beside}
 use Rattle.resting.specs.Rested.{Rested, has_dev}
 use Rattle.plain.specs.Failures.{refusal_of}
 use Rattle.resting.specs.Commands.{IsDoneBy, IsReadRefused, IsWriteRefused}
 use Rattle.resting.proofs.Unread.{read_leaves, refused_read_leaves}
 use Rattle.named.specs.declared.place.Role.{Role}
-use Rattle.named.specs.State.{Volume}
+use Rattle.named.specs.State.{Volume, merged_in}
 use Rattle.named.specs.Changes.{Did, Does}
 use Rattle.named.specs.Sectors.{Asked, asked_of, after_asking, read_answer, read_by, read_in, IsReadAsked, write_answer, write_by, written_in, ArePartWritten, IsPartWritten, IsPartWrittenBy}
-use Rattle.named_volume.specs.Held.{settled_in, IsSettledIn}
+use Rattle.named_volume.specs.Held.{merged_inside, IsSettledIn}
 
 -- the same answer, and the same left
 did : {A T : Type 0} (a b : Result A Refusal) (x y : T) → a ≡ b → x ≡ y → (let d : Did A T = record { answer = a; left = x } in d) ≡ record { answer = b; left = y }
@@ -45,24 +44,24 @@ write_refused role first count bytes volume new e why same known =
     (λ other. ap (write_by count bytes volume) why ∙ did (Err e) (Err e) volume new refl (sym same), λ none. inl same)
 
 -- A command that asks for these sectors of a settled volume.
-module _ (role : Role) (first count : ℕ) (volume new : Volume) (dev : Dev) (span : Span) (before after : Rested Stack) (asked : asked_of role first count volume ≡ Ok (record { dev = dev; span = span })) (state : volume.state ≡ settled_in before) (left : new ≡ after_asking count (settled_in after) volume) (settled : IsSettledIn before) (there : has_dev dev before ≡ true) where
+module _ (role : Role) (first count : ℕ) (volume new : Volume) (dev : Dev) (span : Span) (before after : Rested Stack) (asked : asked_of role first count volume ≡ Ok (record { dev = dev; span = span })) (state : merged_in volume ≡ merged_inside before) (left : new ≡ after_asking count (merged_inside after) volume) (settled : IsSettledIn before) (there : has_dev dev before ≡ true) where
   -- a read leaves the state
-  read_left : settled_in after ≡ settled_in before → after_asking count volume.state volume ≡ new
-  read_left same = ap (λ (s : Settled). after_asking count s volume) (state ∙ sym same) ∙ sym left
+  read_left : merged_inside after ≡ merged_inside before → after_asking count (merged_in volume) volume ≡ new
+  read_left same = ap (λ (m : Merged). after_asking count m volume) (state ∙ sym same) ∙ sym left
 
-  read_by_reply : (reply : Reply) (answer : Result (List ℕ) Refusal) → IsDoneBy stack_contents stack_layers stack_size (read dev span) reply before after → read_answer reply ≡ answer → read_in role first count volume ≡ record { answer = answer; left = new }
+  read_by_reply : (reply : Reply) (answer : Result (List ℕ) Refusal) → IsDoneBy stack_contents stack_layers (read_beside dev span) reply before after → read_answer reply ≡ answer → read_in role first count volume ≡ record { answer = answer; left = new }
   unfolding read_in
   read_by_reply reply answer done is =
       ap (read_by count volume) asked
-      ∙ did (read_answer (read dev span volume.state).reply) answer (after_asking count volume.state volume) new
-      (ap (λ (s : Settled). read_answer (read dev span s).reply) state ∙ ap (λ (a : Answered). read_answer a.reply) (done settled) ∙ is)
-      (read_left (read_leaves stack_contents stack_layers stack_size stack_reads dev span reply before after done settled))
+      ∙ did (read_answer (read_beside dev span (merged_in volume)).reply) answer (after_asking count (merged_in volume) volume) new
+      (ap (λ (m : Merged). read_answer (read_beside dev span m).reply) state ∙ ap (λ (a : Served). read_answer a.reply) (done settled) ∙ is)
+      (read_left (read_leaves stack_contents stack_layers stack_reads dev span reply before after done settled))
 
-  pub read_does : (result : Result (List ℕ) Refusal) → IfOk result (λ bytes. IsDoneBy stack_contents stack_layers stack_size (read dev span) (Data bytes) before after) → IfErr result (λ refusal. IsReadRefused stack_contents stack_layers stack_size dev span refusal before after)
+  pub read_does : (result : Result (List ℕ) Refusal) → IfOk result (λ bytes. IsDoneBy stack_contents stack_layers (read_beside dev span) (Data bytes) before after) → IfErr result (λ refusal. IsReadRefused stack_contents stack_layers dev span refusal before after)
       → Does result new (λ v. (v ≡ volume) ⊎ IsReadAsked count volume v) (read_in role first count volume)
   read_does (Ok bytes) done why = read_by_reply (Data bytes) (Ok bytes) done refl
   read_does (Err e) done why =
-      let same = sym (read_left (refused_read_leaves stack_contents stack_layers stack_size stack_reads dev span e before after why settled)) in (
+      let same = sym (read_left (refused_read_leaves stack_contents stack_layers stack_reads dev span e before after why settled)) in (
         λ other. elim why [
           | inl missing ↦ absurd (cc)
           | inr more ↦ elim more [
@@ -73,29 +72,29 @@ module _ (role : Role) (first count : ℕ) (volume new : Volume) (dev : Dev) (sp
         λ none. inr same,
       )
 
-  write_by_reply : (bytes : List ℕ) (reply : Reply) (answer : Result (Unit {0}) Refusal) → IsDoneBy stack_contents stack_layers stack_size (written dev span bytes) reply before after → write_answer reply ≡ answer → written_in role first count bytes volume ≡ record { answer = answer; left = new }
+  write_by_reply : (bytes : List ℕ) (reply : Reply) (answer : Result (Unit {0}) Refusal) → IsDoneBy stack_contents stack_layers (written_beside dev span bytes) reply before after → write_answer reply ≡ answer → written_in role first count bytes volume ≡ record { answer = answer; left = new }
   unfolding written_in
   write_by_reply bytes reply answer done is =
-      let here : written dev span bytes volume.state ≡ record { volume = settled_in after; reply = reply } = ap (written dev span bytes) state ∙ done settled in
+      let here : written_beside dev span bytes (merged_in volume) ≡ record { state = merged_inside after; reply = reply } = ap (written_beside dev span bytes) state ∙ done settled in
       ap (write_by count bytes volume) asked
-      ∙ did (write_answer (written dev span bytes volume.state).reply) answer (after_asking count (written dev span bytes volume.state).volume volume) new
-      (ap (λ (a : Answered). write_answer a.reply) here ∙ is)
-      (ap (λ (a : Answered). after_asking count a.volume volume) here ∙ sym left)
+      ∙ did (write_answer (written_beside dev span bytes (merged_in volume)).reply) answer (after_asking count (written_beside dev span bytes (merged_in volume)).state volume) new
+      (ap (λ (a : Served). write_answer a.reply) here ∙ is)
+      (ap (λ (a : Served). after_asking count a.state volume) here ∙ sym left)
 
-  part : (bytes : List ℕ) (pieces : ℕ) → pieces < pieces_in span (settled_in before) → IsDoneBy stack_contents stack_layers stack_size (written_first pieces dev span bytes) Written before after → IsPartWritten role first count bytes volume new
+  part : (bytes : List ℕ) (pieces : ℕ) → pieces < count_beside span (merged_inside before) → IsDoneBy stack_contents stack_layers (written_first_beside pieces dev span bytes) Written before after → IsPartWritten role first count bytes volume new
   unfolding IsPartWritten
   part bytes pieces fewer done =
       let asks : Asked = record { dev = dev; span = span } in
-      let here : written_first pieces dev span bytes volume.state ≡ record { volume = settled_in after; reply = Written } = ap (written_first pieces dev span bytes) state ∙ done settled in
+      let here : written_first_beside pieces dev span bytes (merged_in volume) ≡ record { state = merged_inside after; reply = Written } = ap (written_first_beside pieces dev span bytes) state ∙ done settled in
       let some : ArePartWritten count bytes asks volume new = record {
         pieces = pieces;
-        fewer = subst (λ (s : Settled). pieces < pieces_in span s) (sym state) fewer;
-        done = ap (λ (a : Answered). a.reply) here;
-        left = left ∙ ap (λ (a : Answered). after_asking count a.volume volume) (sym here);
+        fewer = subst (λ (m : Merged). pieces < count_beside span m) (sym state) fewer;
+        done = ap (λ (a : Served). a.reply) here;
+        left = left ∙ ap (λ (a : Served). after_asking count a.state volume) (sym here);
       } in
       subst (λ (r : Result Asked Refusal). IsPartWrittenBy count bytes volume new r) (sym asked) some
 
-  pub write_does : (bytes : List ℕ) (result : Result (Unit {0}) Refusal) → OnOk result (IsDoneBy stack_contents stack_layers stack_size (written dev span bytes) Written before after) → IfErr result (λ refusal. IsWriteRefused stack_contents stack_layers stack_size dev span bytes refusal before after)
+  pub write_does : (bytes : List ℕ) (result : Result (Unit {0}) Refusal) → OnOk result (IsDoneBy stack_contents stack_layers (written_beside dev span bytes) Written before after) → IfErr result (λ refusal. IsWriteRefused stack_contents stack_layers dev span bytes refusal before after)
       → Does result new (λ v. (v ≡ volume) ⊎ IsPartWritten role first count bytes volume v) (written_in role first count bytes volume)
   write_does bytes (Ok unit) done why = write_by_reply bytes Written (Ok unit) done refl
   write_does bytes (Err e) done why = elim why [

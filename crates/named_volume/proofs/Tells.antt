@@ -1,20 +1,23 @@
 -- A message to a layer of a volume, as the volume takes it.
 use Rattle.std.proofs.Common.{◌≡◌, ℕ, ◌<◌, length, get_or, refl, sym, ap, ◌∙◌, subst, inl, inr}
-use Rattle.std.specs.Prelude.{Result, Ok, Err, IfOk, IfErr}
+use Rattle.std.specs.Prelude.{Option, Some, None, Result, Ok, Err, IfOk, IfErr}
 use Rattle.sector.specs.declared.refusal.Refusal.{Refusal}
 use Rattle.layers.specs.declared.stack.Stack.{Stack}
 use Rattle.layers.specs.Stack.{stack_contents, stack_layers}
 use Rattle.layers.specs.declared.message.Message.{Message}
 use Rattle.layers.specs.declared.message.Answer.{Answer}
 use Rattle.layers.specs.Messages.{Answered, Refused, told}
+use Rattle.settled.specs.Merges.{Merge, Merged}
 use Rattle.settled.specs.Snaps.{Volume as Settled}
 use Rattle.resting.specs.Rested.{Attached, Rested}
-use Rattle.resting.specs.Telling.{IsOriginTold, IsStoreTold, IsTellRefused, place_relayered}
+use Rattle.resting.specs.Telling.{IsMergingTold, IsMergingUntold, IsOriginTold, IsStoreTold, IsTellRefused, place_relayered}
 use Rattle.named.specs.declared.place.Role.{Role}
-use Rattle.named.specs.State.{Volume}
+use Rattle.named.specs.State.{Volume, merged_in, with_merged}
 use Rattle.named.specs.Changes.{Steps}
-use Rattle.named.specs.Messages.{told_in, told_under, told_snap, told_store, told_role, told_mounted, with_state}
-use Rattle.named_volume.specs.Held.{settled_in}
+use Rattle.named.specs.Messages.{told_in, told_under, told_snap, told_store, told_role, told_mounted, told_beside, told_merge, told_merging}
+use Rattle.named_volume.specs.Held.{merged_inside, settled_in}
+use Rattle.named.proofs.Begun.{merged_same}
+use Rattle.named_volume.proofs.Merges.{machine_merge, merge_by}
 use Rattle.named_volume.proofs.Places.{at_place}
 
 -- to the stack under the origin
@@ -51,8 +54,38 @@ store_told k depth message before after (Err e) lt ok err =
       ],
     )
 
+-- the devices beside a merge that stays
+beside : (before after : Rested Stack) (s : Settled) → settled_in after ≡ s → (merged_inside after).merge ≡ (merged_inside before).merge → merged_inside after ≡ record { volume = s; merge = (merged_inside before).merge }
+beside before after s moved same =
+    ap (λ (v : Settled). let m : Merged = record { volume = v; merge = (merged_inside after).merge } in m) moved
+    ∙ ap (λ (g : Option Merge). let m : Merged = record { volume = s; merge = g } in m) same
+
+pub told_apart : (before after : Rested Stack) (r : Result Answer Refusal) (rule : Result (Answer × Settled) Refusal) → (merged_inside after).merge ≡ (merged_inside before).merge → Steps r (settled_in before) (settled_in after) rule → Steps r (merged_inside before) (merged_inside after) (told_beside (merged_inside before).merge rule)
+told_apart before after (Ok a) rule same h =
+    rw h (ap (λ (m : Merged). let r : Result (Answer × Merged) Refusal = Ok (a, m) in r) (sym (beside before after (settled_in after) refl same)))
+told_apart before after (Err e) rule same h = (beside before after (settled_in before) h.0 same, λ other. rw (h.1 other) refl)
+
+-- to the merging store
+pub merging_told : (depth : ℕ) (message : Message) (before after : Rested Stack) (r : Result Answer Refusal) → IfOk r (λ a. IsMergingTold stack_contents stack_layers depth message a before after)
+    → IfErr r (λ e. IsMergingUntold stack_layers depth message e before × (merged_inside after ≡ merged_inside before))
+    → Steps r (merged_inside before) (merged_inside after) (told_merging depth message (merged_inside before).merge (settled_in before))
+unfolding told_merging told_merge told_in
+merging_told depth message before after (Ok a) ok err =
+    let was : (merged_inside before).merge ≡ Some (machine_merge ok.merge) = ap merge_by ok.begun in
+    rw ok.moved (rw was (rw ok.told_is refl))
+merging_told depth message before after (Err e) ok err = (
+  err.1,
+  λ other. elim err.0 [
+    | inl none ↦ (let was : (merged_inside before).merge ≡ None = ap merge_by none.1 in rw was (rw none.0 refl))
+    | inr some ↦ (let was : (merged_inside before).merge ≡ Some (machine_merge some.0) = ap merge_by some.1 in elim some.2 [
+      | inl why ↦ rw was (rw why refl)
+      | inr room ↦ absurd (other room.0)
+    ])
+  ],
+)
+
 -- a message to a volume is one to its devices
-pub mounted : (role : Role) (message : Message) (r : Result Answer Refusal) (volume new : Volume) (state : Settled) → new ≡ with_state state volume → Steps r volume.state state (told_role role message volume.state) → Steps r volume new (told_mounted role message volume)
+pub mounted : (role : Role) (message : Message) (r : Result Answer Refusal) (volume new : Volume) (m : Merged) → new ≡ with_merged m volume → Steps r (merged_in volume) m (told_role role message (merged_in volume)) → Steps r volume new (told_mounted role message volume)
 unfolding told_mounted
-mounted role message (Ok a) volume new state is h = rw h (rw is refl)
-mounted role message (Err e) volume new state is h = (is ∙ ap (λ (s : Settled). with_state s volume) h.0, λ other. rw (h.1 other) refl)
+mounted role message (Ok a) volume new m is h = rw h (rw is refl)
+mounted role message (Err e) volume new m is h = (is ∙ ap (λ (k : Merged). with_merged k volume) h.0 ∙ merged_same volume, λ other. rw (h.1 other) refl)

@@ -1,24 +1,30 @@
 -- What a status line says of a snapshot, by what its volume tells.
 use Rattle.std.proofs.Common.{◌≡◌, ℕ, ◌<◌, List, length, get_or, true, false, refl, sym, ap, ◌∙◌}
-use Rattle.std.specs.Prelude.{Result, Ok, IfOk}
+use Rattle.std.specs.Prelude.{Option, Some, None, Result, Ok, IfOk}
 use Rattle.std.proofs.lemmas.Result.{IfOk-at_ok}
 use Rattle.std.specs.declared.alloc.AllocError.{AllocError}
 use Rattle.layers.specs.declared.stack.Stack.{Stack}
 use Rattle.layers.specs.Stack.{stack_contents, stack_size}
 use Rattle.chunk_alloc.specs.declared.usage.Usage.{Usage}
 use Rattle.status.specs.declared.State.{State}
-use Rattle.status.specs.declared.State.TheVariants.{Invalid, Used}
-use Rattle.status.specs.Lines.{origin_text, snapshot_text}
+use Rattle.status.specs.declared.State.TheVariants.{Invalid, Failed, Used}
+use Rattle.status.specs.Lines.{merge_text, origin_text, snapshot_text}
 use Rattle.settled.specs.Devices.{sectors_of as size_of}
 use Rattle.settled.specs.Snaps.{Snap}
 use Rattle.resting.specs.Rested.{Attached, Rested}
 use Rattle.resting.specs.Using.{IsUsed}
-use Rattle.named.specs.declared.place.Role.TheVariants.{Origin, Snapshot}
-use Rattle.named.specs.State.{Volume}
+use Rattle.settled.specs.Merges.{Merge}
+use Rattle.merge.specs.Merging.{Merging}
+use Rattle.volume.specs.Asking.{merging_usage}
+use Rattle.volume.specs.Stepping.{has_failed}
+use Rattle.named.specs.declared.place.Role.TheVariants.{Origin, Snapshot, Merging as Merging'}
+use Rattle.named.specs.Stacks.{device_of}
+use Rattle.named.specs.State.{Volume, Merging as Named}
 use Rattle.named.specs.Messages.{snap_at}
-use Rattle.named.specs.Status.{state_of, state_at, status_in}
+use Rattle.named.specs.Status.{merge_state, state_of, state_at, status_in}
 use Rattle.named_stack.proofs.StackSizes.{size_of as size_of_stack}
-use Rattle.named_volume.specs.Held.{settled_in}
+use Rattle.named_volume.specs.Held.{merged_inside, settled_in}
+use Rattle.named_volume.proofs.Merges.{machine_merge, merge_by}
 use Rattle.named_volume.proofs.Places.{at_place, stack_snap}
 
 -- one that is spoiled
@@ -29,10 +35,35 @@ invalid_is s dead = rw (sym dead) refl
 pub used_is : (s : Attached Stack) (usage : Usage) → true ≡ s.live → IsUsed stack_contents stack_size s usage → Used usage.allocated usage.total usage.metadata ≡ state_of (stack_snap s)
 used_is s usage live used = rw (sym live) (rw used.allocated (rw used.metadata (rw (used.total ∙ sym (size_of_stack s.store)) refl)))
 
+-- one that failed while it was merged
+pub failed_is : (v : Rested Stack) (m : Merging Stack) → v.events.merge ≡ Some m → has_failed v.events.merge ≡ true → (g : Merge) × ((merged_inside v).merge ≡ Some g) × (Failed ≡ merge_state g)
+failed_is v m is failed =
+    let mine : m.failed ≡ true = sym (ap (λ (o : Option (Merging Stack)). has_failed o) is) ∙ failed in
+    (machine_merge m, ap merge_by is, rw mine refl)
+
+-- and one that is merged
+pub merged_is : (v : Rested Stack) (store : Stack) (usage : Usage) (total : ℕ) (a : (m : Merging Stack) × (v.events.merge ≡ Some m) × (usage ≡ merging_usage m)) (b : (m : Merging Stack) × (v.events.merge ≡ Some m) × (store ≡ m.device))
+    → has_failed v.events.merge ≡ false → total ≡ size_of (device_of store) → (g : Merge) × ((merged_inside v).merge ≡ Some g) × (Used usage.allocated total usage.metadata ≡ merge_state g)
+merged_is v store usage total a b failed size =
+    let mine : a.0.failed ≡ false = sym (ap (λ (o : Option (Merging Stack)). has_failed o) a.1) ∙ failed in
+    let same : b.0 ≡ a.0 = (let both : Some b.0 ≡ Some a.0 = sym b.1 ∙ a.1 in cc) in
+    let sectors : total ≡ size_of (device_of a.0.device) = size ∙ ap (λ (s : Stack). size_of (device_of s)) b.2 ∙ ap (λ (m : Merging Stack). size_of (device_of m.device)) same in
+    (machine_merge a.0, ap merge_by a.1, rw mine (rw sectors (rw a.2 refl)))
+
 -- the status line of an origin
-pub origin_says : (sectors : ℕ) (text : List ℕ) (volume : Volume) (r : Result (List ℕ) AllocError) → r ≡ Ok text → IfOk r (λ t. t ≡ origin_text sectors) → sectors ≡ size_of volume.state.origin → status_in Origin volume ≡ Ok text
+pub origin_says : (sectors : ℕ) (text : List ℕ) (volume : Volume) (r : Result (List ℕ) AllocError) → volume.merging ≡ None → r ≡ Ok text → IfOk r (λ t. t ≡ origin_text sectors) → sectors ≡ size_of volume.state.origin → status_in Origin volume ≡ Ok text
 unfolding status_in
-origin_says sectors text volume r is says size = rw (sym size) (rw (IfOk-at_ok (λ (t : List ℕ). t ≡ origin_text sectors) is says) refl)
+origin_says sectors text volume r alone is says size = rw (sym size) (rw alone (rw (IfOk-at_ok (λ (t : List ℕ). t ≡ origin_text sectors) is says) refl))
+
+-- of one while a merge is begun
+pub merge_says : (sectors : ℕ) (state : State) (text : List ℕ) (volume : Volume) (r : Result (List ℕ) AllocError) (h : Named) → volume.merging ≡ Some h → state ≡ merge_state h.merge → r ≡ Ok text → IfOk r (λ t. t ≡ merge_text sectors state) → sectors ≡ size_of volume.state.origin → status_in Origin volume ≡ Ok text
+unfolding status_in
+merge_says sectors state text volume r h begun of is says size = rw (sym size) (rw begun (rw (sym of) (rw (IfOk-at_ok (λ (t : List ℕ). t ≡ merge_text sectors state) is says) refl)))
+
+-- of a snapshot that is being merged
+pub merging_says : (sectors : ℕ) (text : List ℕ) (volume : Volume) (r : Result (List ℕ) AllocError) → r ≡ Ok text → IfOk r (λ t. t ≡ snapshot_text sectors Invalid) → sectors ≡ size_of volume.state.origin → status_in Merging' volume ≡ Ok text
+unfolding status_in
+merging_says sectors text volume r is says size = rw (sym size) (rw (IfOk-at_ok (λ (t : List ℕ). t ≡ snapshot_text sectors Invalid) is says) refl)
 
 -- and of a snapshot
 pub snapshot_says : (k sectors : ℕ) (state : State) (text : List ℕ) (volume : Volume) (before : Rested Stack) (r : Result (List ℕ) AllocError) → volume.state ≡ settled_in before → k < length before.snaps → ((d : Snap) → state ≡ state_of (get_or (settled_in before).snaps k d)) → r ≡ Ok text → IfOk r (λ t. t ≡ snapshot_text sectors state) → sectors ≡ size_of volume.state.origin → status_in (Snapshot k) volume ≡ Ok text

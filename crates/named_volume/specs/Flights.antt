@@ -1,5 +1,5 @@
 -- What calls do to a volume whatever is in flight in it: that of the volume of events behind its names.
-use Rattle.std.specs.Prelude.{◌≡◌, ◌≢◌, ℕ, true, List, MatchResult, Result}
+use Rattle.std.specs.Prelude.{◌≡◌, ◌≢◌, ℕ, true, List, Some, MatchResult, Result}
 use Rattle.sector.specs.declared.refusal.Refusal.{Refusal}
 use Rattle.chunk.specs.Pieces.{pieces_of}
 use Rattle.layers.specs.declared.stack.Stack.{Stack}
@@ -9,22 +9,24 @@ use Rattle.plain.specs.declared.event.Outcome.{Outcome}
 use Rattle.plain.specs.declared.request.Op.{Op}
 use Rattle.plain.specs.declared.request.Request.{Request}
 use Rattle.plain.specs.Legal.{IsLegalStep}
-use Rattle.volume.specs.Volumed.{Volumed, is_due_of, is_loud_in_all, piece_of, plain_of}
+use Rattle.volume.specs.Volumed.{Volumed, is_due_of, is_loud_in_all, piece_with, plain_of}
 use Rattle.volume.specs.Causes.{HasCause, IsOneAtMost}
 use Rattle.volume.specs.Exact.{IsExact}
 use Rattle.volume.specs.Leaving.{is_quiet_of}
+use Rattle.volume.specs.Finishing.{finish_refusal}
 use Rattle.volume.specs.Submitting.{IsAcceptedAs, IsRefusedAs}
 use Rattle.plain.specs.declared.request.Replied.{Replied}
 use Rattle.resting.specs.Rested.{rested_of}
 use Rattle.resting.specs.Among.{IsRequestOf, AreReadAmong, AreWrittenAmong, IsReadRefusedAmong, IsWriteRefusedAmong}
 use Rattle.resting.specs.Draining.{IsDrained}
-use Rattle.named.specs.State.{Volume}
+use Rattle.named.specs.State.{Volume, merge_in}
 use Rattle.named.specs.Sectors.{Asked}
-use Rattle.named_volume.specs.Held.{flying_in, settled_in}
+use Rattle.named_volume.specs.Held.{flying_in, merged_inside, settled_in}
 
 -- A volume of events that stands behind a volume with names: the same devices, and the same in flight.
 pub record IsBehind (events : Volumed Stack) (volume : Volume) : Type 0 where
   pub state : volume.state ≡ settled_in (rested_of events)
+  pub merge : merge_in volume.merging ≡ (merged_inside (rested_of events)).merge
   pub quiet : volume.quiet ≡ is_quiet_of events
   pub flying : volume.flying ≡ flying_in events
 
@@ -71,11 +73,15 @@ IsSettledBy earlier later old new = InEvents (λ before after. IsDrained stack_c
 abbrev pub IsReadServed : Result (List ℕ) Refusal → List Replied → List Replied → Volume → Volume → Asked → Type 0
 IsReadServed result earlier later old new asks =
     InEvents (λ before after. MatchResult result
-    (λ bytes. AreReadAmong stack_contents stack_layers asks.dev (pieces_of (piece_of before.snaps) asks.span) bytes before after earlier later)
-    (λ refusal. IsReadRefusedAmong stack_contents stack_layers stack_size asks.dev (pieces_of (piece_of before.snaps) asks.span) refusal (rested_of before) (rested_of after) earlier later)) old new
+    (λ bytes. AreReadAmong stack_contents stack_layers asks.dev (pieces_of (piece_with before.merge before.snaps) asks.span) bytes before after earlier later)
+    (λ refusal. IsReadRefusedAmong stack_contents stack_layers stack_size asks.dev (pieces_of (piece_with before.merge before.snaps) asks.span) refusal (rested_of before) (rested_of after) earlier later)) old new
 
 abbrev pub IsWriteServed : List ℕ → Result (Unit {0}) Refusal → List Replied → List Replied → Volume → Volume → Asked → Type 0
 IsWriteServed bytes result earlier later old new asks =
     InEvents (λ before after. MatchResult result
-    (λ done. AreWrittenAmong stack_contents stack_layers asks.dev (pieces_of (piece_of before.snaps) asks.span) bytes before after earlier later)
-    (λ refusal. IsWriteRefusedAmong stack_contents stack_layers stack_size asks.dev (pieces_of (piece_of before.snaps) asks.span) bytes refusal (rested_of before) (rested_of after) earlier later)) old new
+    (λ done. AreWrittenAmong stack_contents stack_layers asks.dev (pieces_of (piece_with before.merge before.snaps) asks.span) bytes before after earlier later)
+    (λ refusal. IsWriteRefusedAmong stack_contents stack_layers stack_size asks.dev (pieces_of (piece_with before.merge before.snaps) asks.span) bytes refusal (rested_of before) (rested_of after) earlier later)) old new
+
+-- a merge is not finished, for this reason
+abbrev pub IsUnfinished : Refusal → Volume → Type 0
+IsUnfinished refusal volume = (events : Volumed Stack) × IsBehind events volume × (finish_refusal events ≡ Some refusal)

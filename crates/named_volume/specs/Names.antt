@@ -1,6 +1,9 @@
 -- What calls leave of the names of a volume's devices.
 use Rattle.std.specs.Prelude.{◌≡◌, ◌+◌, List, ℕ, [], ◌∷◌, ◌++◌}
-use Rattle.named.specs.State.{Stacked, Volume}
+use Rattle.std.specs.Prelude.{Some, None, Ok}
+use Rattle.std.specs.List.{remove}
+use Rattle.named.specs.State.{Stacked, Names, Volume, names_in}
+use Rattle.named.specs.Raw.{names_at}
 
 -- all names, marks and counts are as they were
 pub record KeepsNames (old new : Volume) : Type 0 where
@@ -8,6 +11,7 @@ pub record KeepsNames (old new : Volume) : Type 0 where
   pub under : new.under ≡ old.under
   pub stale : new.stale ≡ old.stale
   pub snaps : new.snaps ≡ old.snaps
+  pub merging : names_in new.merging ≡ names_in old.merging
   pub given : new.given ≡ old.given
   pub sound : new.sound ≡ old.sound
 
@@ -17,4 +21,29 @@ pub record IsNamedMore (name : List ℕ) (store : Stacked) (old new : Volume) : 
   pub under : new.under ≡ old.under
   pub stale : new.stale ≡ old.stale
   pub snaps : new.snaps ≡ old.snaps ++ (record { snapshot = name; store = store.names }) ∷ []
+  pub merging : names_in new.merging ≡ names_in old.merging
   pub given : new.given ≡ old.given + 1
+
+-- the snapshot at a place is merged now, and is none of the others any more
+pub record IsNamedBegun (k : ℕ) (old new : Volume) : Type 0 where
+  pub origin : new.origin ≡ old.origin
+  pub under : new.under ≡ old.under
+  pub stale : new.stale ≡ old.stale
+  pub names : Names
+  pub named : names_at k old ≡ Ok names
+  pub snaps : new.snaps ≡ remove old.snaps k
+  pub before : names_in old.merging ≡ None
+  pub merging : names_in new.merging ≡ Some names
+  pub given : new.given ≡ old.given
+
+-- no merge is begun any more, and this is its store
+pub record IsNamedLess (stacked : Stacked) (old new : Volume) : Type 0 where
+  pub origin : new.origin ≡ old.origin
+  pub under : new.under ≡ old.under
+  pub stale : new.stale ≡ old.stale
+  pub snaps : new.snaps ≡ old.snaps
+  pub names : Names
+  pub was : names_in old.merging ≡ Some names
+  pub store : stacked.names ≡ names.store
+  pub merging : names_in new.merging ≡ None
+  pub given : new.given ≡ old.given

@@ -1,6 +1,6 @@
 // Snapshots are taken and leave.
-ghost use Rattle.std.specs.Prelude.{◌≡◌, ◌≢◌, ◌⊎◌, ◌&&◌, ◌<◌, true, false, length, Some, None, Ok, Err, IfOk, IfErr, OnOk, OnErr, if◌then◌else◌};
-ghost use Rattle.sector.specs.declared.refusal.Refusal.TheVariants.{NoMemory, Stale, NotQuiet};
+ghost use Rattle.std.specs.Prelude.{◌≡◌, ◌≢◌, ◌⊎◌, ◌&&◌, ◌<◌, true, false, length, Some, None, is_some, Ok, Err, IfOk, IfErr, OnOk, OnErr, if◌then◌else◌};
+ghost use Rattle.sector.specs.declared.refusal.Refusal.TheVariants.{NoMemory, Stale, MergeInProgress, NotQuiet};
 ghost use Rattle.device.specs.Layers.{is_loud};
 ghost use Rattle.named.specs.Snapshots.{meet, parted};
 ghost use Rattle.named_volume.specs.Names.{IsNamedMore};
@@ -16,8 +16,8 @@ use words::Name;
 
 impl NamedVolume {
     /// Takes a snapshot of the origin, with a stack as its store, by a table line with this chunk size. Where a request is in
-    /// flight or anything is left to do, `Stale` for a stack with a mark, and else `NotQuiet`, but for `NoMemory`; then the
-    /// stack is given back as it was.
+    /// flight or anything is left to do, `Stale` for a stack with a mark, `MergeInProgress` beside a merge, and else `NotQuiet`,
+    /// but for `NoMemory`; then the stack is given back as it was.
     pub fn attach(
         &mut self,
         alloc: Global,
@@ -27,7 +27,7 @@ impl NamedVolume {
     ) -> Result<(), (Refusal, NamedStack)>
         ensures ok { OnOk result (self.old.sound ≡ true → self.old.quiet ≡ true → is_loud stack.device.layers ≡ true → ((meet name chunk stack self.old).refused ≡ None) × ((meet name chunk stack self.old).volume ≡ self.new)) }
         ensures err { IfErr result (λ e. e.0 ≢ NoMemory → self.old.sound ≡ true → self.old.quiet ≡ true → is_loud stack.device.layers ≡ true → ((meet name chunk stack self.old).refused ≡ Some e.0) × ((meet name chunk stack self.old).stacked ≡ e.1)) }
-        ensures busy { IfErr result (λ e. self.old.quiet ≡ false → ((e.0 ≡ NoMemory) ⊎ (e.0 ≡ (if stack.stale then Stale else NotQuiet))) × (e.1 ≡ stack)) }
+        ensures busy { IfErr result (λ e. self.old.quiet ≡ false → ((e.0 ≡ NoMemory) ⊎ (e.0 ≡ (if stack.stale then Stale else (if is_some self.old.merging then MergeInProgress else NotQuiet)))) × (e.1 ≡ stack)) }
         ensures starved { IfErr result (λ e. e.0 ≡ NoMemory → e.1 ≡ stack) }
         ensures named { OnOk result (IsNamedMore name stack self.old self.new) }
         ensures names { IfErr result (λ e. e.1.names ≡ stack.names) }

@@ -1,8 +1,10 @@
 // Requests that one call starts and later ones end.
-ghost use Rattle.std.specs.Prelude.{◌≡◌, ◌≢◌, ◌+◌, ◌*◌, ◌<◌, ◌≤◌, ℕ, List, length, get_or, is_ok, true, false, Ok, Err, IfErr, IfOk, OnOk, OnErr};
+ghost use Rattle.std.specs.Prelude.{◌≡◌, ◌≢◌, ◌+◌, ◌*◌, ◌<◌, ◌≤◌, ℕ, List, length, get_or, is_ok, true, false, not, ◌&&◌, None, Ok, Err, IfErr, IfOk, OnOk, OnErr};
 ghost use Rattle.sector.specs.declared.refusal.Refusal.TheVariants.{NoMemory, Invalid};
 ghost use Rattle.plain.specs.declared.request.Op.TheVariants.{Write};
 ghost use Rattle.settled.specs.Snaps.{Snap};
+ghost use Rattle.volume.specs.EventKinds.{is_of_merge};
+ghost use Rattle.named.specs.Events.{merge_done};
 ghost use Rattle.named.specs.Places.{IsRoleIn};
 ghost use Rattle.named.specs.Sectors.{asked_of};
 ghost use Rattle.named_volume.specs.Flights.{IsNotDue, IsNotStarted, IsSettledBy, IsStarted, IsStepped};
@@ -10,12 +12,13 @@ ghost use Rattle.named_volume.specs.Names.{KeepsNames};
 
 use crate::origin::NamedVolume;
 use crate::sectors::ask;
-use crate::stored::number_at;
+use crate::stored::{look, number_at};
 use named::Role;
 use plain::{Event, NotDue, Op, Outcome, ReqId, Request, SnapId};
 use resting::Replied;
 use sector::Refusal;
 use std::alloc::Global;
+use volume::is_of_merge;
 
 impl NamedVolume {
     /// Whether nothing is in flight or left to do.
@@ -34,8 +37,8 @@ impl NamedVolume {
     }
 
     /// Starts a read or a write of so many sectors from `first` on, and tells its number; it is in flight from then on. Refused
-    /// in this order: `BadTable` for disks and layers, `OutOfRange` for sectors past the end, `TooMany` where 2^60 sectors were
-    /// asked for in all; then, as the volume submits, `Invalid` for a spoiled snapshot, `OutOfRange` for sectors of two chunks,
+    /// in this order: `BadTable` for disks and layers, `OutOfRange` for sectors past the end, `MergingSnapshot` for the snapshot
+    /// that is being merged, `TooMany` where 2^60 sectors were asked for in all; then, as the volume submits, `Invalid` for a spoiled snapshot, `OutOfRange` for sectors of two chunks,
     /// `TooMany`, `NoMemory`, and `Invalid` for a snapshot whose store is full, which is spoiled by it.
     pub fn start(
         &mut self,
@@ -65,32 +68,34 @@ impl NamedVolume {
         self.volume.start(alloc, Request { dev, op, range })
     }
 
-    /// Does an event. `NotDue` where it isn't due, and then nothing changed; where nothing is in flight or left to do, none is.
+    /// Does an event. `NotDue` where it isn't due, and then nothing changed; where nothing is in flight or left to do, none is
+    /// but those of a merge.
     pub fn step(&mut self, event: Event) -> Result<Outcome, NotDue>
-        ensures idle { self.old.quiet ≡ true → is_ok result ≡ false }
+        ensures idle { self.old.quiet ≡ true → is_of_merge event ≡ false → is_ok result ≡ false }
         ensures stepped { IfOk result (λ outcome. IsStepped event outcome self.old self.new) }
-        ensures due { self.old.quiet ≡ false → OnErr result (IsNotDue event self.old) }
+        ensures due { (not (is_of_merge event) && self.old.quiet) ≡ false → OnErr result (IsNotDue event self.old) }
         ensures same { OnErr result (self.new ≡ self.old) }
         ensures kept { KeepsNames self.old self.new }
     {
-        if self.is_quiet() {
+        if !is_of_merge(event) && self.is_quiet() {
             return Err(NotDue);
         }
         self.volume.step(event)
     }
 
     /// Does the events that are due, each time the one that is due first, until none is. Each request that ends is told at the
-    /// end of `ended`. `NoMemory` where the allocator refuses room for that, and then the events before it stand.
+    /// end of `ended`. `NoMemory` where the allocator refuses room for that, and then nothing is done. Where nothing is in flight, this is the
+    /// whole merge, or up to the first of its operations that fails.
     pub fn settle(&mut self, ended: &mut Vec<Replied>) -> Result<(), Refusal>
         ensures quiet { OnOk result (self.new.quiet ≡ true) }
-        ensures drained { self.old.quiet ≡ false → IsSettledBy ended.old.items ended.new.items self.old self.new }
-        ensures idle { self.old.quiet ≡ true → (self.new ≡ self.old) × (ended.new.items ≡ ended.old.items) × (result ≡ Ok tt) }
+        ensures drained { OnOk result (IsSettledBy ended.old.items ended.new.items self.old self.new) }
+        ensures done { self.old.sound ≡ true → self.old.quiet ≡ true → OnOk result (self.new ≡ merge_done self.old) }
+        ensures still { self.old.quiet ≡ true → ended.new.items ≡ ended.old.items }
+        ensures alone { self.old.quiet ≡ true → self.old.merging ≡ None → self.new ≡ self.old }
         ensures kept { KeepsNames self.old self.new }
-        ensures err { IfErr result (λ e. e ≡ NoMemory) }
+        ensures err { IfErr result (λ e. (e ≡ NoMemory) × (self.new ≡ self.old) × (ended.new.items ≡ ended.old.items)) }
     {
-        if self.is_quiet() {
-            return Ok(());
-        }
+        look(&self.volume);
         self.volume.settle(ended)
     }
 }

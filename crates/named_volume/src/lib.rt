@@ -7,6 +7,7 @@
 
 mod attaching;
 mod flights;
+mod merging;
 mod names;
 mod origin;
 mod reporting;

@@ -1,11 +1,11 @@
 // A volume with the names of its devices.
-ghost use Rattle.std.specs.Prelude.{◌≡◌, ◌≢◌, ◌⊎◌, ◌<◌, ◌-◌, true, false, [], sum_by, IfOk, IfErr, IfSome, is_some, length, position};
+ghost use Rattle.std.specs.Prelude.{◌≡◌, ◌≢◌, ◌⊎◌, ◌<◌, ◌-◌, true, false, None, [], sum_by, Option, IfOk, IfErr, IfSome, is_some, length, position};
 ghost use Rattle.std.specs.Str.{bytes_eq};
 ghost use Rattle.sector.specs.declared.refusal.Refusal.TheVariants.{NoMemory, Busy, NotQuiet};
 ghost use Rattle.device.specs.Layers.{is_loud};
 ghost use Rattle.settled.specs.Devices.{sectors_of as size_of};
-ghost use Rattle.named.specs.Places.{role_of, role_among, store_among, is_among, IsRoleAmong, IsRoleIn};
-ghost use Rattle.named.specs.Disks.{devices_in, devices_under};
+ghost use Rattle.named.specs.Places.{role_of, role_among, role_merging, store_among, is_among, IsRoleAmong, IsRoleMerging, IsRoleIn};
+ghost use Rattle.named.specs.Disks.{devices_in, devices_merging, devices_under};
 ghost use Rattle.named.specs.Origins.{origin_on, stack_under};
 
 use crate::names::SnapNames;
@@ -25,6 +25,7 @@ pub struct NamedVolume {
     pub(crate) under: Vec<Name>,
     pub(crate) stale: bool,
     pub(crate) snaps: Vec<SnapNames>,
+    pub(crate) merging: Option<SnapNames>,
     pub(crate) volume: Resting<Stack>,
     pub(crate) asked: u64,
     pub(crate) sound: bool,
@@ -33,13 +34,13 @@ pub struct NamedVolume {
 impl Model for NamedVolume {
     ghost use Rattle.volume.specs.Leaving.{is_quiet_of};
     ghost use Rattle.named.specs.State.{Volume};
-    ghost use Rattle.named_volume.specs.Held.{flying_in, settled_in, IsHeld};
+    ghost use Rattle.named_volume.specs.Held.{flying_in, merging_with, settled_in, IsHeld};
 
     ghost Value = { Volume };
 
-    ghost view = { λ m. record { origin = m.origin; under = m.under.items; stale = m.stale; snaps = m.snaps.items; state = settled_in m.volume; given = m.volume.attached; asked = m.asked; sound = m.sound; quiet = is_quiet_of m.volume.events; flying = flying_in m.volume.events } };
+    ghost view = { λ m. record { origin = m.origin; under = m.under.items; stale = m.stale; snaps = m.snaps.items; merging = merging_with m.merging m.volume; state = settled_in m.volume; given = m.volume.attached; asked = m.asked; sound = m.sound; quiet = is_quiet_of m.volume.events; flying = flying_in m.volume.events } };
 
-    ghost invariant = { λ m. IsHeld m.snaps.items m.volume m.asked m.sound };
+    ghost invariant = { λ m. IsHeld m.snaps.items m.merging m.volume m.asked m.sound };
 }
 
 fn snapshot_of(snaps: &[SnapNames], name: &Name) -> Option<usize>
@@ -83,6 +84,36 @@ fn role_among(snaps: &[SnapNames], name: &Name) -> Option<Role>
     }
 }
 
+/// What a name is of the snapshot that is being merged and its store.
+#[tactic(auto, unfolding(named::specs::Places::role_merging))]
+fn role_merging(merging: &Option<SnapNames>, name: &Name) -> Option<Role>
+    ensures role { result ≡ role_merging name.now merging.now }
+    ensures within { IfSome result (λ role. IsRoleMerging role merging.now) }
+{
+    match merging {
+        None => None,
+        Some(names) => {
+            if names.is_snapshot(name) {
+                return Some(Role::Merging);
+            }
+            match names.depth(name) {
+                None => None,
+                Some(depth) => Some(Role::MergingStore(depth)),
+            }
+        }
+    }
+}
+
+/// What is left of so many devices, those of the snapshot that is being merged taken away.
+fn without_merging(merging: &Option<SnapNames>, most: usize) -> usize
+    ensures { result ≡ most - devices_merging merging.now }
+{
+    match merging {
+        None => most,
+        Some(names) => most.saturating_sub(1).saturating_sub(names.devices()),
+    }
+}
+
 /// What is left of so many devices, those of some snapshots and their stores taken away.
 fn left_after(snaps: &[SnapNames], most: usize) -> usize
     ensures { result ≡ most - sum_by devices_under snaps.now }
@@ -112,6 +143,7 @@ impl NamedVolume {
                 under,
                 stale,
                 snaps: Vec::new(alloc),
+                merging: None,
                 volume,
                 asked: 0,
                 sound,
@@ -120,18 +152,19 @@ impl NamedVolume {
         }
     }
 
-    /// Gives the stack under the origin back. In this order: `Busy` where there is a snapshot, `NotQuiet` where a request is in
+    /// Gives the stack under the origin back. In this order: `Busy` where there is a snapshot or a merge is begun, `NotQuiet` where a request is in
     /// flight.
     pub fn close(self) -> Result<NamedStack, (Refusal, NamedVolume)>
-        ensures ok { IfOk result (λ stack. (self.snaps ≡ []) × (self.quiet ≡ true) × (stack ≡ stack_under self)) }
+        ensures ok { IfOk result (λ stack. (self.snaps ≡ []) × (self.merging ≡ None) × (self.quiet ≡ true) × (stack ≡ stack_under self)) }
         ensures sound { IfOk result (λ stack. self.sound ≡ true → is_loud stack.device.layers ≡ true) }
-        ensures err { IfErr result (λ e. (((e.0 ≡ Busy) × (self.snaps ≢ [])) ⊎ ((e.0 ≡ NotQuiet) × (self.snaps ≡ []) × (self.quiet ≡ false))) × (e.1 ≡ self)) }
+        ensures err { IfErr result (λ e. (((e.0 ≡ Busy) × ((self.snaps ≢ []) ⊎ (is_some self.merging ≡ true))) ⊎ ((e.0 ≡ NotQuiet) × (self.snaps ≡ []) × (self.merging ≡ None) × (self.quiet ≡ false))) × (e.1 ≡ self)) }
     {
         let NamedVolume {
             origin,
             under,
             stale,
             snaps,
+            merging,
             volume,
             asked,
             sound,
@@ -145,6 +178,7 @@ impl NamedVolume {
                     under,
                     stale,
                     snaps,
+                    merging,
                     volume,
                     asked,
                     sound,
@@ -165,7 +199,7 @@ impl NamedVolume {
         ensures { result ≡ most - devices_in self.now }
     {
         let left = most.saturating_sub(1).saturating_sub(self.under.len());
-        left_after(&self.snaps, left)
+        without_merging(&self.merging, left_after(&self.snaps, left))
     }
 
     /// What a name is in the volume.
@@ -179,7 +213,10 @@ impl NamedVolume {
         }
         match depth_in(&self.under, name) {
             Some(depth) => Some(Role::Under(depth)),
-            None => role_among(&self.snaps, name),
+            None => match role_among(&self.snaps, name) {
+                Some(role) => Some(role),
+                None => role_merging(&self.merging, name),
+            },
         }
     }
 

@@ -1,19 +1,24 @@
 // What the devices of a volume tell of themselves: disks, table lines and status lines.
-ghost use Rattle.std.specs.Prelude.{◌≡◌, ◌<◌, true, length, MatchResult, Ok, Err};
+ghost use Rattle.std.specs.Prelude.{◌≡◌, ◌<◌, true, is_some, length, Some, None, MatchResult, Ok, Err};
 ghost use Rattle.device.specs.Disk.{disk_contents};
 ghost use Rattle.words.specs.Given.{Gives};
-ghost use Rattle.named.specs.Places.{IsRoleIn};
-ghost use Rattle.named.specs.Lines.{line_of_role, origin_line as origin_line_of, snapshot_line as snapshot_line_of};
-ghost use Rattle.named.specs.Raw.{raw_under};
+ghost use Rattle.named.specs.Places.{IsRoleIn, IsRoleMerging};
+ghost use Rattle.named.specs.declared.place.Role.TheVariants.{MergingStore};
+ghost use Rattle.named.specs.State.{Merging as Begun, names_in};
+ghost use Rattle.named.specs.Lines.{line_in_merging, line_of_role, merging_line as merging_line_of, origin_line as origin_line_of, snapshot_line as snapshot_line_of};
+ghost use Rattle.named.specs.Raw.{raw_in_merging, raw_under};
 ghost use Rattle.named.specs.Status.{status_in};
 
+use crate::names::SnapNames;
 use crate::origin::NamedVolume;
-use crate::stored::{chunk_at, look, state_at, store_at};
+use crate::stored::{
+    chunk_at, look, merging_chunk, merging_state, merging_store, state_at, store_at,
+};
 use device::MemDisk;
 use named::Role;
 use named_stack::{disk_in, line_in, sectors_of};
 use sector::Refusal;
-use status::{origin_line, snapshot_line};
+use status::{State, merge_line, origin_line, snapshot_line};
 use std::alloc::Global;
 use table::{Line, Target};
 use words::Text;
@@ -28,13 +33,71 @@ impl NamedVolume {
         match role {
             Role::Under(depth) => disk_in(depth, &self.under, self.volume.origin()),
             Role::Store(k, depth) => self.snaps[k].disk(depth, store_at(&self.volume, k)),
-            Role::Origin | Role::Snapshot(_) => Err(Refusal::BadTable),
+            Role::MergingStore(depth) => self.disk_of_merging(depth),
+            Role::Origin | Role::Snapshot(_) | Role::Merging => Err(Refusal::BadTable),
         }
     }
 
-    /// The line of the origin.
-    #[tactic(auto, unfolding(named::specs::Lines::origin_line))]
-    fn line_of_origin(&self) -> Result<Line, Refusal>
+    /// The disk so deep in the store of the snapshot that is being merged. `BadTable` for another device.
+    #[tactic(auto, unfolding(named::specs::Raw::raw_in_merging))]
+    fn disk_of_merging(&self, depth: usize) -> Result<&MemDisk, Refusal>
+        requires { IsRoleMerging (MergingStore depth) (names_in self.now.merging) }
+        ensures { MatchResult result (λ disk. raw_in_merging depth self.now ≡ Ok (disk_contents disk.now)) (λ e. raw_in_merging depth self.now ≡ Err e) }
+    {
+        match &self.merging {
+            None => unreachable!(),
+            Some(names) => match merging_store(&self.volume) {
+                None => unreachable!(),
+                Some(store) => names.disk(depth, store),
+            },
+        }
+    }
+
+    /// The line of the device so deep in that store. `BadTable` for a disk.
+    #[tactic(auto, unfolding(named::specs::Lines::line_in_merging))]
+    fn line_in_merging(&self, depth: usize) -> Result<Line, Refusal>
+        requires { IsRoleMerging (MergingStore depth) (names_in self.now.merging) }
+        ensures { result ≡ line_in_merging depth self.now }
+    {
+        match &self.merging {
+            None => unreachable!(),
+            Some(names) => match merging_store(&self.volume) {
+                None => unreachable!(),
+                Some(store) => names.line(depth, store),
+            },
+        }
+    }
+
+    /// The line of the snapshot that is being merged: that of any other.
+    #[tactic(auto, unfolding(named::specs::Lines::merging_line))]
+    fn line_of_merging(&self) -> Result<Line, Refusal>
+        requires { is_some self.now.merging ≡ true }
+        ensures { result ≡ merging_line_of self.now }
+    {
+        let names = match &self.merging {
+            None => unreachable!(),
+            Some(names) => names,
+        };
+        let chunk = match merging_chunk(&self.volume) {
+            None => unreachable!(),
+            Some(chunk) => chunk,
+        };
+        let device = self.under.get(0).ok_or(Refusal::BadTable)?;
+        let store = names.top().ok_or(Refusal::BadTable)?;
+        Ok(Line {
+            sectors: sectors_of(self.volume.origin()),
+            target: Target::Snapshot {
+                device: device.copy(),
+                store: store.copy(),
+                chunk,
+            },
+        })
+    }
+
+    /// The origin's line where no merge is begun.
+    #[tactic(auto, unfolding(named::specs::Lines::origin_line, named::specs::Lines::origin_target))]
+    fn line_of_plain_origin(&self) -> Result<Line, Refusal>
+        requires { self.now.merging ≡ None }
         ensures { result ≡ origin_line_of self.now }
     {
         match self.under.get(0) {
@@ -45,6 +108,38 @@ impl NamedVolume {
                     device: device.copy(),
                 },
             }),
+        }
+    }
+
+    /// The origin's line while a merge is begun.
+    #[tactic(auto, unfolding(named::specs::Lines::origin_line, named::specs::Lines::origin_target))]
+    fn line_of_merged_origin(&self, names: &SnapNames) -> Result<Line, Refusal>
+        requires { (g : Begun) × (self.now.merging ≡ Some g) × (g.names ≡ names.now) }
+        ensures { result ≡ origin_line_of self.now }
+    {
+        let chunk = match merging_chunk(&self.volume) {
+            None => unreachable!(),
+            Some(chunk) => chunk,
+        };
+        let device = self.under.get(0).ok_or(Refusal::BadTable)?;
+        let store = names.top().ok_or(Refusal::BadTable)?;
+        Ok(Line {
+            sectors: sectors_of(self.volume.origin()),
+            target: Target::Merge {
+                device: device.copy(),
+                store: store.copy(),
+                chunk,
+            },
+        })
+    }
+
+    /// The line of the origin.
+    fn line_of_origin(&self) -> Result<Line, Refusal>
+        ensures { result ≡ origin_line_of self.now }
+    {
+        match &self.merging {
+            Some(names) => self.line_of_merged_origin(names),
+            None => self.line_of_plain_origin(),
         }
     }
 
@@ -77,6 +172,8 @@ impl NamedVolume {
             Role::Under(depth) => line_in(depth, &self.under, self.volume.origin()),
             Role::Snapshot(k) => self.line_of_snapshot(k),
             Role::Store(k, depth) => self.snaps[k].line(depth, store_at(&self.volume, k)),
+            Role::Merging => self.line_of_merging(),
+            Role::MergingStore(depth) => self.line_in_merging(depth),
         }
     }
 
@@ -90,9 +187,15 @@ impl NamedVolume {
         look(&self.volume);
         let sectors = u64::from(sectors_of(self.volume.origin()));
         let text = match role {
-            Role::Origin => origin_line(alloc, sectors),
+            Role::Origin => match merging_state(&self.volume) {
+                None => origin_line(alloc, sectors),
+                Some(state) => merge_line(alloc, sectors, state),
+            },
+            Role::Merging => snapshot_line(alloc, sectors, State::Invalid),
             Role::Snapshot(k) => snapshot_line(alloc, sectors, state_at(&self.volume, k)),
-            Role::Under(_) | Role::Store(_, _) => return Err(Refusal::BadTable),
+            Role::Under(_) | Role::Store(_, _) | Role::MergingStore(_) => return Err(
+                Refusal::BadTable,
+            ),
         };
         match text {
             Ok(text) => Ok(text),

@@ -1,5 +1,5 @@
 // Reads and writes of the origin and of snapshots.
-ghost use Rattle.std.specs.Prelude.{◌≡◌, ◌≢◌, ◌⊎◌, ◌+◌, ◌*◌, ◌<◌, ◌≤◌, length, true, false, Ok, Err, IfOk, IfErr, OnOk, OnErr};
+ghost use Rattle.std.specs.Prelude.{◌≡◌, ◌≢◌, ◌⊎◌, ◌+◌, ◌*◌, ◌<◌, ◌≤◌, length, is_some, true, false, Ok, Err, IfOk, IfErr, OnOk, OnErr};
 ghost use Rattle.sector.specs.declared.refusal.Refusal.TheVariants.{NoMemory, BadTable, TooMany};
 ghost use Rattle.chunk.specs.Pieces.{span_of};
 ghost use Rattle.layers.specs.Stack.{stack_size};
@@ -7,7 +7,7 @@ ghost use Rattle.resting.specs.Rested.{has_dev};
 ghost use Rattle.named.specs.State.{Volume};
 ghost use Rattle.named.specs.Changes.{Does};
 ghost use Rattle.named.specs.Places.{HasRole, IsRoleIn};
-ghost use Rattle.named.specs.Sectors.{asked_of, dev_of, takes, read_in, written_in, IsReadAsked, IsPartWritten};
+ghost use Rattle.named.specs.Sectors.{asked_of, dev_of, serves, takes, read_in, written_in, IsReadAsked, IsPartWritten};
 ghost use Rattle.named_volume.specs.Flights.{IsReadServed, IsWriteServed};
 ghost use Rattle.named_volume.specs.Held.{settled_in};
 ghost use Rattle.named_volume.specs.Names.{KeepsNames};
@@ -24,18 +24,31 @@ use std::alloc::Global;
 /// One more than the most sectors that a volume is asked for in all.
 const ASKED_END: u64 = 1_152_921_504_606_846_976;
 
-/// What a request to this role is sent to. `BadTable` for disks and layers.
+/// Whether a request may be sent to this role. `BadTable` for disks and layers.
+fn serves(role: Role) -> Result<(), Refusal>
+    ensures value { result ≡ serves role }
+    ensures known { IfErr result (λ e. e ≡ BadTable) }
+{
+    match role {
+        Role::Origin | Role::Snapshot(_) | Role::Merging => Ok(()),
+        Role::Under(_) | Role::Store(_, _) | Role::MergingStore(_) => Err(Refusal::BadTable),
+    }
+}
+
+/// What a request to this role is sent to. `BadTable` for disks and layers, `MergingSnapshot` for the one that is being
+/// merged.
 #[tactic(auto, unfolding(named::specs::Sectors::dev_of))]
 fn dev_of(volume: &Resting<Stack>, role: Role) -> Result<Dev, Refusal>
-    requires { HasRole role (length volume.now.snaps) }
+    requires { HasRole role (length volume.now.snaps) (is_some volume.now.events.merge) }
     ensures value { result ≡ dev_of role (settled_in volume.now) }
     ensures there { IfOk result (λ dev. has_dev dev volume.now ≡ true) }
-    ensures known { IfErr result (λ e. e ≡ BadTable) }
+    ensures known { IfErr result (λ e. e ≢ NoMemory) }
 {
     match role {
         Role::Origin => Ok(Dev::Origin),
         Role::Snapshot(k) => Ok(Dev::Snap(volume.number(k))),
-        Role::Under(_) | Role::Store(_, _) => Err(Refusal::BadTable),
+        Role::Merging => Err(Refusal::MergingSnapshot),
+        Role::Under(_) | Role::Store(_, _) | Role::MergingStore(_) => Err(Refusal::BadTable),
     }
 }
 
@@ -57,7 +70,7 @@ fn count_asked(asked: &mut u64, count: u32) -> Result<(), Refusal>
 }
 
 /// What a command asks of a volume that was asked for so many sectors: of which device, and which sectors. They are counted
-/// then. In this order: `BadTable` for disks and layers, `OutOfRange` for sectors past the end, `TooMany`.
+/// then. In this order: `BadTable` for disks and layers, `OutOfRange` for sectors past the end, `MergingSnapshot`, `TooMany`.
 pub(crate) fn ask(
     volume: &Resting<Stack>,
     asked: &mut u64,
@@ -65,7 +78,7 @@ pub(crate) fn ask(
     first: u32,
     count: u32,
 ) -> Result<(Dev, Range), Refusal>
-    requires role { HasRole role (length volume.now.snaps) }
+    requires role { HasRole role (length volume.now.snaps) (is_some volume.now.events.merge) }
     requires few { asked.old < 1_152_921_504_606_846_976 }
     ensures ok { IfOk result (λ asks. (v : Volume) → v.state ≡ settled_in volume.now → v.asked ≡ asked.old → asked_of role first count v ≡ Ok (record { dev = asks.0; span = span_of asks.1 })) }
     ensures err { IfErr result (λ e. (v : Volume) → v.state ≡ settled_in volume.now → v.asked ≡ asked.old → asked_of role first count v ≡ Err e) }
@@ -76,12 +89,16 @@ pub(crate) fn ask(
     ensures more { OnOk result ((asked.new ≡ asked.old + count) × (asked.new < 1_152_921_504_606_846_976)) }
     ensures same { OnErr result (asked.new ≡ asked.old) }
 {
-    let dev = match dev_of(volume, role) {
-        Ok(dev) => dev,
+    match serves(role) {
+        Ok(()) => {}
         Err(refusal) => return Err(refusal),
-    };
+    }
     let range = match range_in(u64::from(sectors_of(volume.origin())), first, count) {
         Ok(range) => range,
+        Err(refusal) => return Err(refusal),
+    };
+    let dev = match dev_of(volume, role) {
+        Ok(dev) => dev,
         Err(refusal) => return Err(refusal),
     };
     match count_asked(asked, count) {
@@ -92,7 +109,8 @@ pub(crate) fn ask(
 
 impl NamedVolume {
     /// Reads so many sectors of the origin or of a snapshot, from `first` on. In this order: `BadTable` for disks and layers,
-    /// `OutOfRange` for sectors past the end, `TooMany` where 2^60 sectors were asked for in all; then, as the volume reads,
+    /// `OutOfRange` for sectors past the end, `MergingSnapshot` for the snapshot that is being merged, `TooMany` where 2^60
+    /// sectors were asked for in all; then, as the volume reads,
     /// `Invalid`, `Io` and `NoMemory`. Where requests are in flight, those that end in the meantime are told at the end of
     /// `ended`.
     pub fn read(

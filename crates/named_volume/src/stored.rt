@@ -1,14 +1,16 @@
 // What a volume over stacks tells of the snapshot at a place.
-ghost use Rattle.std.specs.Prelude.{◌≡◌, ◌<◌, true, length, get_or};
+ghost use Rattle.std.specs.Prelude.{◌≡◌, ◌<◌, true, length, get_or, IfSome, IfNone, Some, None};
 ghost use Rattle.layers.specs.Stack.{stack_layers};
+ghost use Rattle.settled.specs.Merges.{Merge};
 ghost use Rattle.settled.specs.Snaps.{Snap};
 ghost use Rattle.volume.specs.Leaving.{is_quiet_of};
 ghost use Rattle.resting.specs.Rested.{is_loud_in};
 ghost use Rattle.named.specs.Stacks.{device_of};
-ghost use Rattle.named.specs.Status.{state_of};
-ghost use Rattle.named_volume.specs.Held.{settled_in, IsSettledIn};
+ghost use Rattle.named.specs.Status.{merge_state, state_of};
+ghost use Rattle.named_volume.specs.Held.{merged_inside, settled_in, IsSettledIn};
 
 use layers::Stack;
+use named_stack::sectors_of;
 use plain::SnapId;
 use resting::Resting;
 use status::State;
@@ -57,4 +59,43 @@ pub(crate) fn state_at(volume: &Resting<Stack>, k: usize) -> State
             metadata: usage.metadata,
         },
     }
+}
+
+/// The stack of the merging store, if a merge is begun.
+pub(crate) fn merging_store(volume: &Resting<Stack>) -> Option<&Stack>
+    ensures some { IfSome result (λ store. (g : Merge) × ((merged_inside volume.now).merge ≡ Some g) × (device_of store.now ≡ g.store)) }
+    ensures none { IfNone result ((merged_inside volume.now).merge ≡ None) }
+{
+    volume.merging_store()
+}
+
+/// The chunk size of the merge, in sectors.
+pub(crate) fn merging_chunk(volume: &Resting<Stack>) -> Option<u32>
+    ensures some { IfSome result (λ chunk. (g : Merge) × ((merged_inside volume.now).merge ≡ Some g) × (chunk ≡ g.chunk)) }
+    ensures none { IfNone result ((merged_inside volume.now).merge ≡ None) }
+{
+    volume.merging_chunk()
+}
+
+/// What the status line of the origin says of the merge.
+pub(crate) fn merging_state(volume: &Resting<Stack>) -> Option<State>
+    ensures some { IfSome result (λ state. (g : Merge) × ((merged_inside volume.now).merge ≡ Some g) × (state ≡ merge_state g)) }
+    ensures none { IfNone result ((merged_inside volume.now).merge ≡ None) }
+{
+    let usage = match volume.merging_usage() {
+        None => return None,
+        Some(usage) => usage,
+    };
+    let store = match volume.merging_store() {
+        None => return None,
+        Some(store) => store,
+    };
+    if volume.is_merge_failed() {
+        return Some(State::Failed);
+    }
+    Some(State::Used {
+        allocated: usage.allocated,
+        total: u64::from(sectors_of(store)),
+        metadata: usage.metadata,
+    })
 }

@@ -1,5 +1,5 @@
 // Messages to the layers of a volume, and the time.
-ghost use Rattle.std.specs.Prelude.{◌≡◌, length};
+ghost use Rattle.std.specs.Prelude.{◌≡◌, is_some, length};
 ghost use Rattle.layers.specs.Stack.{stack_contents, stack_layers, stack_size};
 ghost use Rattle.volume.specs.Leaving.{is_quiet_of};
 ghost use Rattle.resting.specs.Flying.{flying_of};
@@ -7,7 +7,7 @@ ghost use Rattle.resting.specs.Kept.{KeepsDevices};
 ghost use Rattle.named.specs.Changes.{Steps};
 ghost use Rattle.named.specs.Places.{HasRole, IsRoleIn};
 ghost use Rattle.named.specs.Messages.{told_mounted, told_role, volume_ticked};
-ghost use Rattle.named_volume.specs.Held.{settled_in, IsSettledIn};
+ghost use Rattle.named_volume.specs.Held.{merged_inside, IsSettledIn};
 
 use crate::origin::NamedVolume;
 use layers::{Answer, Message, Stack};
@@ -17,19 +17,19 @@ use sector::Refusal;
 
 /// Tells the layer of this role. `BadTable` for the origin and a snapshot, then as for a stack.
 fn tell_role(volume: &mut Resting<Stack>, role: Role, message: &Message) -> Result<Answer, Refusal>
-    requires { HasRole role (length volume.old.snaps) }
-    ensures steps { Steps result (settled_in volume.old) (settled_in volume.new) (told_role role message.now (settled_in volume.old)) }
+    requires { HasRole role (length volume.old.snaps) (is_some volume.old.events.merge) }
+    ensures steps { Steps result (merged_inside volume.old) (merged_inside volume.new) (told_role role message.now (merged_inside volume.old)) }
     ensures settled { IsSettledIn volume.old → IsSettledIn volume.new }
     ensures kept { KeepsDevices stack_layers stack_size volume.old volume.new }
     ensures requests { volume.new.requests ≡ volume.old.requests }
-    ensures copies { volume.new.copies ≡ volume.old.copies }
     ensures quiet { is_quiet_of volume.new.events ≡ is_quiet_of volume.old.events }
     ensures flying { flying_of stack_contents stack_layers volume.new.events ≡ flying_of stack_contents stack_layers volume.old.events }
 {
     match role {
-        Role::Origin | Role::Snapshot(_) => Err(Refusal::BadTable),
+        Role::Origin | Role::Snapshot(_) | Role::Merging => Err(Refusal::BadTable),
         Role::Under(depth) => volume.message_origin(depth, message),
         Role::Store(k, depth) => volume.message_store(k, depth, message),
+        Role::MergingStore(depth) => volume.message_merging(depth, message),
     }
 }
 

@@ -1,5 +1,5 @@
 -- A command among others, between two of its pieces.
-use Rattle.std.proofs.Common.{◌≡◌, ℕ, suc, zero, ◌+◌, ◌-◌, ◌*◌, ◌<◌, ◌≤◌, List, [], ◌∷◌, ◌++◌, length, take, drop, None, refl, sym, ◌∙◌, ap, subst, arith}
+use Rattle.std.proofs.Common.{◌≡◌, ℕ, suc, zero, ◌+◌, ◌-◌, ◌*◌, ◌<◌, ◌≤◌, List, [], ◌∷◌, ◌++◌, length, take, drop, refl, sym, ◌∙◌, ap, subst, arith}
 use Rattle.std.specs.Prelude.{min}
 use Rattle.std.proofs.lemmas.List.{take_all}
 use Rattle.sector.specs.declared.range.Range.{Range}
@@ -43,10 +43,8 @@ cut_none n out = sym (ap (λ (xs : List ℕ). out ++ xs) (take_all n [] (omega a
 module _ {B : Type 0} (layers : B → List Layer) (size : B → ℕ) where
   -- from byte `from` of the command on: what pieces keep, and how many numbers were given
   pub record GoesAmong (from : ℕ) (old new : Volumed B) : Type 0 where
-    pub alone : new.merge ≡ None
     pub kept : KeepsDevices layers size (rested_of old) (rested_of new)
     pub requests : 512 * new.requests ≤ 512 * old.requests + from
-    pub copies : 512 * new.copies ≤ 512 * old.copies + 8 * from
 
   -- where a read stands, and how many bytes were taken
   pub record IsUnderWayAmong (chunk : ℕ) (range : Range) (pieces : List Span) (taken room : ℕ) (old v : Volumed B) : Type 0 where
@@ -56,19 +54,17 @@ module _ {B : Type 0} (layers : B → List Layer) (size : B → ℕ) where
     pub few : taken ≤ from
     pub enough : 512 * range.count ≤ room
 
-  pub among_start : (v : Volumed B) → v.merge ≡ None → GoesAmong 0 v v
-  among_start v alone = record { alone = alone; kept = devices_none size layers (rested_of v); requests = omega arith; copies = omega arith }
+  pub among_start : (v : Volumed B) → GoesAmong 0 v v
+  among_start v = record { kept = devices_none size layers (rested_of v); requests = omega arith }
 
-  pub among_next : (from count : ℕ) (old v new : Volumed B) → GoesAmong from old v → new.merge ≡ None → KeepsDevices layers size (rested_of v) (rested_of new) → new.requests ≤ v.requests + 1 → new.copies ≤ v.copies + 8 → 0 < count → GoesAmong (from + count * 512) old new
-  among_next from count old v new so alone kept requests copies some = record {
-    alone = alone;
+  pub among_next : (from count : ℕ) (old v new : Volumed B) → GoesAmong from old v → KeepsDevices layers size (rested_of v) (rested_of new) → new.requests ≤ v.requests + 1 → 0 < count → GoesAmong (from + count * 512) old new
+  among_next from count old v new so kept requests some = record {
     kept = devices_more size layers (rested_of old) (rested_of v) (rested_of new) so.kept kept;
     requests = omega (arith, so.requests, requests, some);
-    copies = omega (arith, so.copies, copies, some);
   }
 
-  pub among_within : (from count : ℕ) (old new : Volumed B) → GoesAmong from old new → from ≤ 512 * count → (new.requests ≤ old.requests + count) × (new.copies ≤ old.copies + 8 * count)
-  among_within from count old new so le = (omega (arith, so.requests, le), omega (arith, so.copies, le))
+  pub among_within : (from count : ℕ) (old new : Volumed B) → GoesAmong from old new → from ≤ 512 * count → new.requests ≤ old.requests + count
+  among_within from count old new so le = omega (arith, so.requests, le)
 
 module _ {B : Type 0} (contents : B → List ℕ) (layers : B → List Layer) (size : B → ℕ) (dev : Dev) where
   -- so far: these pieces were read, of all of them

@@ -21,17 +21,17 @@ use Rattle.settled.specs.Commands.{bytes_in}
 use Rattle.snapshot.specs.Kept.{Kept}
 use Rattle.volume.specs.Volumed.{Volumed}
 use Rattle.snapshots.specs.Finding.{place_of_snap}
-use Rattle.volume.specs.Leaving.{is_quiet_of, usage_of}
+use Rattle.volume.specs.Leaving.{usage_of}
 use Rattle.volume.specs.Submitting.{IsRefusedAs}
 use Rattle.plain.specs.declared.request.Replied.{Replied}
 use Rattle.resting.specs.Rested.{Attached, attached_of, rested_of, has_number, snap_at}
 use Rattle.plain.specs.Failures.{refusal_of}
 use Rattle.resting.specs.Serving.{IsGood}
-use Rattle.resting.specs.Draining.{IsDrained}
+use Rattle.resting.specs.Draining.{IsDrainedApart, is_idle_of}
 use Rattle.resting.specs.Among.{IsServedAmong, IsRefusedAmong, IsRequestOf, IsPieceServed, IsPieceFailed, AreReadAmong, AreWrittenAmong, IsTurnedAway, is_live_dev, live_in, sectors_of}
 use Rattle.resting.proofs.Seen.{dev_missing}
 use Rattle.resting.proofs.Closes.{found_snap}
-use Rattle.resting.proofs.Drains.{drained_none}
+use Rattle.resting.proofs.Drains.{apart_none}
 
 module _ {B : Type 0} (contents : B → List ℕ) (layers : B → List Layer) (dev : Dev) where
   from_start : (op : Op) (p : Span) (reply : Reply) (u v w : Volumed B) (before now after : List Replied) → v ≡ u → now ≡ before → IsPieceServed contents layers dev op p reply v w now after → IsPieceServed contents layers dev op p reply u w before after
@@ -100,22 +100,22 @@ module _ {B : Type 0} (contents : B → List ℕ) (layers : B → List Layer) (s
   turned_plain old new before after other refused told = record {
     mid = new;
     refused = refused;
-    drained = subst (λ (rs : List Replied). IsDrained contents layers new new before rs) (sym told) (drained_none contents layers size new before);
+    drained = subst (λ (rs : List Replied). IsDrainedApart contents layers new new before rs) (sym told) (apart_none contents layers size new before);
     dead = λ e. (refl, told);
     other = λ e. (refl, told);
-    quiet = λ live is. absurd (other is);
+    idle = λ live is. absurd (other is);
   }
 
-  -- and all was done that was due then
-  pub turned_invalid : (live : Bool) (why : Refusal) (old mid new : Volumed B) (before now after : List Replied) → why ≡ InvalidRefusal → live ≡ is_live_dev request.dev (rested_of old) → now ≡ before → IsRefusedAs contents layers size request refusal old mid → refusal ≡ InvalidRefusal
-      → IsDrained contents layers mid new now after → (live ≡ false → (new ≡ mid) × (after ≡ now)) → (live ≡ true → why ≡ InvalidRefusal → is_quiet_of new ≡ true) → IsTurnedAway contents layers size request why old new before after
-  turned_invalid live why old mid new before now after invalid is told refused same drained dead quiet = record {
+  -- and all was done that was due then, but for events of a merge
+  pub turned_invalid : (live : Bool) (old mid new : Volumed B) (before now after : List Replied) → live ≡ is_live_dev request.dev (rested_of old) → now ≡ before → IsRefusedAs contents layers size request refusal old mid → refusal ≡ InvalidRefusal
+      → IsDrainedApart contents layers mid new now after → (live ≡ false → (new ≡ mid) × (after ≡ now)) → (live ≡ true → is_idle_of contents layers new ≡ true) → IsTurnedAway contents layers size request InvalidRefusal old new before after
+  turned_invalid live old mid new before now after is told refused same drained dead idle = record {
     mid = mid;
-    refused = subst (λ (r : Refusal). IsRefusedAs contents layers size request r old mid) (same ∙ sym invalid) refused;
-    drained = subst (λ (rs : List Replied). IsDrained contents layers mid new rs after) told drained;
+    refused = subst (λ (r : Refusal). IsRefusedAs contents layers size request r old mid) same refused;
+    drained = subst (λ (rs : List Replied). IsDrainedApart contents layers mid new rs after) told drained;
     dead = λ e. (let d = dead (is ∙ e) in (d.0, d.1 ∙ told));
-    other = λ no. absurd (no invalid);
-    quiet = λ e w. quiet (is ∙ e) w;
+    other = λ differs. absurd (differs refl);
+    idle = λ e w. idle (is ∙ e);
   }
 
 module _ {B : Type 0} (contents : B → List ℕ) (layers : B → List Layer) (size : B → ℕ) (dev : Dev) (op : Op) (piece : Span) (request : Request) (asked : IsRequestOf dev op piece request) (old new : Volumed B) (before after : List Replied) where

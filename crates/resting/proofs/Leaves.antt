@@ -1,23 +1,20 @@
 -- A snapshot leaves.
-use Rattle.std.proofs.Common.{◌≡◌, ◌⊎◌, inl, inr, ℕ, zero, suc, ◌<◌, Bool, true, false, List, [], ◌∷◌, length, get_or, map, Option, Some, None, refl, sym, ◌∙◌, ap, subst, arith}
+use Rattle.std.proofs.Common.{◌≡◌, ◌⊎◌, inl, inr, ℕ, zero, suc, ◌<◌, Bool, true, false, List, [], ◌∷◌, length, get_or, map, Option, Some, None, refl, sym, ◌∙◌, ap, arith}
 use Rattle.std.specs.Prelude.{◌==◌, ◌&&◌, not, if◌then◌else◌}
-use Rattle.std.specs.List.{All, list_all, remove}
+use Rattle.std.specs.List.{list_all, remove}
 use Rattle.std.proofs.lemmas.Bool.{cases_Bool, cond-true, cond-false}
 use Rattle.std.proofs.lemmas.List.Quantifiers.{position-Some}
 use Rattle.device.specs.Layers.{Layer, is_loud}
 use Rattle.settled.specs.Snaps.{Snap}
-use Rattle.event_machine.specs.Held.{Held}
 use Rattle.settled.specs.Attaching.{Store, detached, given_back}
-use Rattle.event_machine.specs.Rest.{IsResting, IsAtRest}
 use Rattle.snapshot.specs.Kept.{Kept}
 use Rattle.snapshot.specs.declared.opening.StoreDev.{StoreDev}
-use Rattle.volume_laws.proofs.Lists.{All-remove, map-remove}
 use Rattle.volume.specs.Volumed.{Volumed, is_loud_in_all, is_loud_with}
-use Rattle.volume.specs.Moved.{device_of, held_of, moving_of}
+use Rattle.volume.specs.Moved.{device_of}
 use Rattle.snapshots.specs.Finding.{place_of_snap}
 use Rattle.volume.specs.Leaving.{has_group_in, is_done_of, is_quiet_of, leaving_refusal, detach_refusal, IsWithout}
 use Rattle.volume.specs.Submitting.{is_merging}
-use Rattle.resting.specs.Rested.{Attached, attached_of, rested_of, snap_of, IsSettled, has_dev, snap_at, without}
+use Rattle.resting.specs.Rested.{Attached, attached_of, rested_of, snap_of, merged_of, IsSettled, has_dev, snap_at, without}
 use Rattle.resting.specs.Leaving.{IsDetachedAs}
 use Rattle.resting.proofs.Seen.{loud_same, dev_found, dev_missing}
 use Rattle.sector.specs.declared.refusal.Refusal.{Refusal}
@@ -75,6 +72,7 @@ module _ {B : Type 0} (contents : B → List ℕ) (layers : B → List Layer) (n
         back = back_as (map attached_of old.snaps) (attached_of (get_or old.snaps out.place d)) here.0
             ∙ ap (λ (b : B). Some (let st : Store = record { device = device_of contents layers b; stale = (get_or old.snaps out.place d).stale } in st)) (sym dev)
             ∙ ap (λ (b : Bool). Some (let st : Store = record { device = device_of contents layers store.device; stale = b } in st)) (sym mark);
+        merge = ap (λ (v : Volumed B). (merged_of contents layers (rested_of v)).merge) out.becomes;
       }
 
 -- there is a snapshot where one is found
@@ -93,7 +91,7 @@ and_second : (a b : Bool) → (a && b) ≡ true → b ≡ true
 and_second true b e = e
 and_second false b e = absurd (cc)
 
-all_without : {X : Type 0} (test : X → Bool) (xs : List X) (k : ℕ) → list_all test xs ≡ true → list_all test (remove xs k) ≡ true
+pub all_without : {X : Type 0} (test : X → Bool) (xs : List X) (k : ℕ) → list_all test xs ≡ true → list_all test (remove xs k) ≡ true
 all_without test [] zero e = refl
 all_without test [] (suc k) e = refl
 all_without test (x ∷ xs) zero e = and_second (test x) (list_all test xs) e
@@ -102,24 +100,21 @@ all_without test (x ∷ xs) (suc k) e = elim (cases_Bool (test x)) [
   | inr fails ↦ absurd (let both : false ≡ true = sym (ap (λ b. b && list_all test xs) fails) ∙ e in cc)
 ]
 
--- without a merge, only for its place's sake, or the volume's
-alone_leaving : {B : Type 0} (number : ℕ) (v : Volumed B) → v.merge ≡ None → detach_refusal number v ≡ leaving_refusal (place_of_snap number v.snaps) (is_quiet_of v)
-alone_leaving number v alone = ap (λ m. if is_merging number m then Some MergeInProgress else leaving_refusal (place_of_snap number v.snaps) (is_quiet_of v)) alone
-
 -- a snapshot leaves a quiet volume alone
 quiet_left : (o : Option ℕ) (quiet : Bool) → leaving_refusal o quiet ≡ None → quiet ≡ true
 quiet_left None quiet e = absurd (cc)
 quiet_left (Some k) true e = refl
 quiet_left (Some k) false e = absurd (cc)
 
+leaving_quiet : (mine quiet : Bool) (o : Option ℕ) → (if mine then Some MergeInProgress else leaving_refusal o quiet) ≡ None → quiet ≡ true
+leaving_quiet true quiet o e = absurd (cc)
+leaving_quiet false quiet o e = quiet_left o quiet e
+
 module _ {B : Type 0} (number : ℕ) (old new : Volumed B) (store : StoreDev B) (out : IsWithout number old new store) where
   -- the volume was quiet, and is
-  pub left_alone : old.merge ≡ None → new.merge ≡ None
-  left_alone alone = ap (λ (v : Volumed B). v.merge) out.becomes ∙ alone
-
-  pub left_quiet : old.merge ≡ None → detach_refusal number old ≡ None → (is_quiet_of old ≡ true) × (is_quiet_of new ≡ true)
-  left_quiet alone admitted =
-      let was = quiet_left (place_of_snap number old.snaps) (is_quiet_of old) (sym (alone_leaving number old alone) ∙ admitted) in
+  pub left_quiet : detach_refusal number old ≡ None → (is_quiet_of old ≡ true) × (is_quiet_of new ≡ true)
+  left_quiet admitted =
+      let was = leaving_quiet (is_merging number old.merge) (is_quiet_of old) (place_of_snap number old.snaps) admitted in
       let others : List (Kept B) = remove old.snaps out.place in (
         was,
         ap (λ (v : Volumed B). is_quiet_of v) out.becomes
@@ -129,33 +124,28 @@ module _ {B : Type 0} (number : ℕ) (old new : Volumed B) (store : StoreDev B) 
       )
 
   -- what is left of a settled volume is settled
-  pub left_settles : (contents : B → List ℕ) (layers : B → List Layer) (size : B → ℕ) → IsSettled contents layers size (rested_of old) → IsSettled contents layers size (rested_of new)
-  left_settles contents layers size settled =
-      let was_loud : is_loud_in_all layers old ≡ true = sym (loud_same contents layers old) ∙ settled.loud in
-      let all : (is_loud (layers old.origin) && list_all (λ (s : Kept B). is_loud (layers s.device)) old.snaps) ≡ true = loud_others contents layers size old was_loud in
-      let held : List Held = map (held_of contents layers) old.snaps in
+  pub left_settles : (layers : B → List Layer) → detach_refusal number old ≡ None → IsSettled layers (rested_of old) → IsSettled layers (rested_of new)
+  left_settles layers admitted settled =
+      let was_loud : is_loud_in_all layers old ≡ true = sym (loud_same (λ b. []) layers old) ∙ settled.loud in
+      let all : (is_loud (layers old.origin) && list_all (λ (s : Kept B). is_loud (layers s.device)) old.snaps) ≡ true = loud_others (λ b. []) layers (λ b. 0) old was_loud in
       record {
-        loud = loud_same contents layers new ∙ ap (λ (v : Volumed B). is_loud_in_all layers v) out.becomes
+        loud = loud_same (λ b. []) layers new ∙ ap (λ (v : Volumed B). is_loud_in_all layers v) out.becomes
             ∙ ap (is_loud_with layers old.merge) (ap (λ b. b && list_all (λ (s : Kept B). is_loud (layers s.device)) (remove old.snaps out.place)) (and_first (is_loud (layers old.origin)) (list_all (λ (s : Kept B). is_loud (layers s.device)) old.snaps) all)
             ∙ all_without (λ (s : Kept B). is_loud (layers s.device)) old.snaps out.place (and_second (is_loud (layers old.origin)) (list_all (λ (s : Kept B). is_loud (layers s.device)) old.snaps) all) ∙ sym all)
             ∙ was_loud;
-        rest = subst (λ (v : Volumed B). IsAtRest (size v.origin) (moving_of contents layers None v)) (sym out.becomes) (record {
-          whole = settled.rest.whole;
-          snaps = subst (All (IsResting (size old.origin))) (sym (map-remove (held_of contents layers) old.snaps out.place)) (All-remove (IsResting (size old.origin)) held out.place settled.rest.snaps);
-          requests = settled.rest.requests;
-          alone = settled.rest.alone;
-        });
+        quiet = (left_quiet admitted).1;
       }
 
 -- why none leaves a volume
 abbrev pub WhyNone : {B : Type 0} → ℕ → Volumed B → Bool → Refusal → Type 0
-WhyNone number v quiet refusal = ((refusal ≡ NoSuchDevice) × (has_dev (ToSnap number) (rested_of v) ≡ false)) ⊎ ((refusal ≡ NotQuiet) × (quiet ≡ false))
+WhyNone number v quiet refusal = ((refusal ≡ NoSuchDevice) × (has_dev (ToSnap number) (rested_of v) ≡ false)) ⊎ ((refusal ≡ MergeInProgress) × (is_merging number v.merge ≡ true)) ⊎ ((refusal ≡ NotQuiet) × (quiet ≡ false))
 
-refused_at : {B : Type 0} (number : ℕ) (v : Volumed B) (o : Option ℕ) (quiet : Bool) (refusal : Refusal) → place_of_snap number v.snaps ≡ o → leaving_refusal o quiet ≡ Some refusal
+refused_at : {B : Type 0} (number : ℕ) (v : Volumed B) (o : Option ℕ) (quiet mine : Bool) (refusal : Refusal) → place_of_snap number v.snaps ≡ o → is_merging number v.merge ≡ mine → (if mine then Some MergeInProgress else leaving_refusal o quiet) ≡ Some refusal
     → WhyNone number v quiet refusal × (refusal ≡ NotQuiet → has_dev (ToSnap number) (rested_of v) ≡ true)
-refused_at number v None quiet refusal none e = (let same : refusal ≡ NoSuchDevice = cc in (inl (same, dev_missing number v none), λ other. absurd (cc)))
-refused_at number v (Some k) true refusal at e = absurd (cc)
-refused_at number v (Some k) false refusal at e = (let same : refusal ≡ NotQuiet = cc in (inr (same, refl), λ other. dev_found number k v at))
+refused_at number v o quiet true refusal at is e = (let same : refusal ≡ MergeInProgress = cc in (inr (inl (same, is)), λ other. absurd (cc)))
+refused_at number v None quiet false refusal none is e = (let same : refusal ≡ NoSuchDevice = cc in (inl (same, dev_missing number v none), λ other. absurd (cc)))
+refused_at number v (Some k) true false refusal at is e = absurd (cc)
+refused_at number v (Some k) false false refusal at is e = (let same : refusal ≡ NotQuiet = cc in (inr (inr (same, refl)), λ other. dev_found number k v at))
 
-pub not_left : {B : Type 0} (number : ℕ) (v : Volumed B) → v.merge ≡ None → (refusal : Refusal) → detach_refusal number v ≡ Some refusal → WhyNone number v (is_quiet_of v) refusal × (refusal ≡ NotQuiet → has_dev (ToSnap number) (rested_of v) ≡ true)
-not_left number v alone refusal e = refused_at number v (place_of_snap number v.snaps) (is_quiet_of v) refusal refl (sym (alone_leaving number v alone) ∙ e)
+pub not_left : {B : Type 0} (number : ℕ) (v : Volumed B) → (refusal : Refusal) → detach_refusal number v ≡ Some refusal → WhyNone number v (is_quiet_of v) refusal × (refusal ≡ NotQuiet → has_dev (ToSnap number) (rested_of v) ≡ true)
+not_left number v refusal e = refused_at number v (place_of_snap number v.snaps) (is_quiet_of v) (is_merging number v.merge) refusal refl refl e

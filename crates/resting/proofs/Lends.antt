@@ -11,15 +11,16 @@ use Rattle.chunk_alloc.specs.declared.usage.Usage.{Usage}
 use Rattle.model.specs.Pairs.{pairs_of}
 use Rattle.settled.specs.Saves.{next_of}
 use Rattle.event_machine.specs.Held.{Held}
+use Rattle.event_machine.specs.MergeRest.{IsBetween}
 use Rattle.event_machine.specs.Rest.{IsKept, IsResting}
 use Rattle.snapshot.specs.Kept.{Kept}
 use Rattle.volume_laws.proofs.Lists.{map-remove}
 use Rattle.volume.specs.Volumed.{Volumed}
-use Rattle.volume.specs.Moved.{held_of}
+use Rattle.volume.specs.Moved.{held_of, moving_of}
 use Rattle.volume.specs.Whole.{IsCounted}
 use Rattle.snapshots.specs.Finding.{place_of_snap}
 use Rattle.volume.specs.Leaving.{usage_of}
-use Rattle.resting.specs.Rested.{Attached, Rested, attached_of, rested_of, IsSettled, snap_at, without}
+use Rattle.resting.specs.Rested.{Attached, Rested, attached_of, rested_of, snap_at, without}
 use Rattle.resting.specs.Using.{IsUsed}
 use Rattle.resting.proofs.Leaves.{at_place}
 
@@ -50,20 +51,20 @@ turned : (a b : ℕ) → a * b ≡ b * a
 turned a b = grind arith
 
 module _ {B : Type 0} (contents : B → List ℕ) (layers : B → List Layer) (size : B → ℕ) (v : Volumed B) (k : ℕ) (s : Kept B) (within : k < length v.snaps) (is : (e : Kept B) → s ≡ get_or v.snaps k e) where
-  -- a live snapshot of a settled volume is kept as its store's bytes say
-  kept_at : IsSettled contents layers size (rested_of v) → s.live ≡ true → IsKept (size v.origin) (held_of contents layers s)
-  kept_at settled live =
+  -- a live snapshot of a volume between two commands is kept as its store's bytes say
+  kept_at : IsBetween (size v.origin) (moving_of contents layers None v) → s.live ≡ true → IsKept (size v.origin) (held_of contents layers s)
+  kept_at between live =
       let held : List Held = map (held_of contents layers) v.snaps in
       let lt : k < length held = omega (arith, within, length-map v.snaps (held_of contents layers)) in
       let there : get_or held k (held_of contents layers s) ≡ held_of contents layers s = get_or-map (held_of contents layers) v.snaps k s (held_of contents layers s) within ∙ ap (held_of contents layers) (sym (is s)) in
-      let rest : IsResting (size v.origin) (held_of contents layers s) = subst (IsResting (size v.origin)) there (settled.rest.snaps k (held_of contents layers s) lt) in
+      let rest : IsResting (size v.origin) (held_of contents layers s) = subst (IsResting (size v.origin)) there (between.snaps k (held_of contents layers s) lt) in
       rest.live live
 
   -- and so are the numbers of its status line
   pub used_at : (u : Usage) → s.live ≡ true → IsCounted s → s.state.size ≡ size s.device → u.allocated ≡ s.next * s.state.chunk → u.total ≡ s.state.size → u.metadata ≡ (s.state.current + 2) * s.state.chunk
-      → IsSettled contents layers size (rested_of v) → IsUsed contents size (attached_of s) u
-  used_at u live counted sized allocated total metadata settled =
-      let kept = kept_at settled live in
+      → IsBetween (size v.origin) (moving_of contents layers None v) → IsUsed contents size (attached_of s) u
+  used_at u live counted sized allocated total metadata between =
+      let kept = kept_at between live in
       let pairs : s.pairs ≡ pairs_of s.state.chunk (contents s.device) = sym kept.pairs in
       let next : s.next ≡ next_of s.state.chunk (pairs_of s.state.chunk (contents s.device)) = kept.next ∙ ap (next_of s.state.chunk) pairs in
       let areas : s.state.current ≡ length (pairs_of s.state.chunk (contents s.device)) / (32 * s.state.chunk) =

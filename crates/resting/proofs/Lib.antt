@@ -1,7 +1,10 @@
 pub mod Settled
 pub mod Quiet
 pub mod WriteRuns
-pub mod Alone
+pub mod Begun
+pub mod MergeBegun
+pub mod MergeResumed
+pub mod MergeFinished
 pub mod Seen
 pub mod Limits
 pub mod Served
@@ -17,7 +20,6 @@ pub mod Reading
 pub mod Leaves
 pub mod Takes
 pub mod Closes
-pub mod Started
 pub mod Alike
 pub mod Lends
 pub mod Unread
@@ -29,3 +31,9 @@ pub mod Parts
 pub mod SnapWrites
 pub mod PlainWrites
 pub mod Flying
+pub mod Others
+pub mod Rooms
+pub mod Drained
+pub mod WithoutMerge
+pub mod Freed
+pub mod Runs

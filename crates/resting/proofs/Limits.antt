@@ -1,8 +1,8 @@
 -- A request that can be served is refused for its snapshot's sake alone.
 use Rattle.std.proofs.Common.{◌≡◌, inl, inr, ℕ, ◌+◌, ◌*◌, ◌/◌, ◌%◌, ◌<◌, ◌≤◌, Bool, true, false, List, [], ◌∷◌, length, Option, Some, None, refl, sym, ◌∙◌, ap, arith, nat_eq}
-use Rattle.std.specs.Prelude.{◌&&◌, ◌||◌, not, nat_lt, nat_le, sum_by, count_by, slice_index_or, ◌++◌}
+use Rattle.std.specs.Prelude.{◌==◌, ◌&&◌, ◌||◌, not, nat_lt, nat_le, sum_by, count_by, slice_index_or, ◌++◌, if◌then◌else◌}
 use Rattle.std.specs.List.{list_all}
-use Rattle.std.proofs.lemmas.Bool.{cases_Bool, eqb-true, true≢false}
+use Rattle.std.proofs.lemmas.Bool.{cases_Bool, cond-false, eqb-true, true≢false}
 use Rattle.std.proofs.lemmas.List.{nil_from_length}
 use Rattle.std.proofs.lemmas.List.Sums.{count_by-le-length}
 use Rattle.std.proofs.lemmas.Nat.{div-add-mod'}
@@ -16,12 +16,14 @@ use Rattle.pending.specs.declared.flights.Kind.{Kind}
 use Rattle.pending.specs.declared.flights.Kind.TheVariants.{OriginRead, OriginWrite, SnapRead, SnapWrite}
 use Rattle.chunk.proofs.PiecePlaces.{piece_high}
 use Rattle.snapshot.specs.Kept.{Kept}
-use Rattle.volume.specs.Volumed.{Volumed, piece_of, piece_with}
+use Rattle.merge.specs.Merging.{Merging}
+use Rattle.volume.specs.Asking.{merging_number}
+use Rattle.volume.specs.Volumed.{Volumed, piece_with}
 use Rattle.snapshots.specs.Numbers.{count_in, numbers_in}
 use Rattle.snapshots.specs.Finding.{place_of_snap}
 use Rattle.volume.specs.Leaving.{is_done_of, is_quiet_of}
 use Rattle.snapshots.specs.Starting.{starts}
-use Rattle.volume.specs.Submitting.{first_of_two, refusal_at, dev_refusal, range_refusal, limit_refusal, is_piece_of, are_too_many, starting, submit_refusal}
+use Rattle.volume.specs.Submitting.{first_of_two, refusal_at, dev_refusal, range_refusal, limit_refusal, is_merging, is_piece_of, are_too_many, starting, submit_refusal}
 use Rattle.volume.proofs.Quieted.{quiet_done, quiet_flights}
 use Rattle.volume.proofs.Sums.{sum_cons}
 use Rattle.resting.specs.Rested.{rested_of, has_dev}
@@ -65,11 +67,15 @@ counts_none (s ∷ snaps) e =
     let rest = counts_none snaps (and_second (is_done_of s) (list_all is_done_of snaps) e) in
     omega (arith, sum_cons count_in s snaps, here, rest)
 
-starting_few : {B : Type 0} (kind : Kind) (first : ℕ) (snaps : List (Kept B)) → starting kind first None snaps ≤ length snaps
-starting_few OriginRead first snaps = omega arith
-starting_few OriginWrite first snaps = count_by-le-length (starts first) snaps
-starting_few (SnapRead number) first snaps = omega arith
-starting_few (SnapWrite number) first snaps = count_by-le-length (λ s. nat_eq s.number number && starts first s) snaps
+none_or_few : (b : Bool) (n most : ℕ) → n ≤ most → (if b then 0 else n) ≤ most
+none_or_few true n most le = omega arith
+none_or_few false n most le = le
+
+starting_few : {B : Type 0} (kind : Kind) (first : ℕ) (merge : Option (Merging B)) (snaps : List (Kept B)) → starting kind first merge snaps ≤ length snaps
+starting_few OriginRead first merge snaps = omega arith
+starting_few OriginWrite first merge snaps = none_or_few _ (count_by (starts first) snaps) (length snaps) (count_by-le-length (starts first) snaps)
+starting_few (SnapRead number) first merge snaps = omega arith
+starting_few (SnapWrite number) first merge snaps = count_by-le-length (λ s. nat_eq s.number number && starts first s) snaps
 
 within_piece : (first count piece q r : ℕ) → first + count ≤ piece * q + piece → q * piece + r ≡ first → r + count ≤ piece
 within_piece first count piece q r high whole = let turned : q * piece ≡ piece * q = grind arith in omega (arith, high, whole, turned)
@@ -81,32 +87,42 @@ refused_at dev v (Some k) refusal there e = elim (cases_Bool (slice_index_or (Ra
   | inr dead ↦ (let some : Some Invalid ≡ Some refusal = rw dead at e in cc)
 ]
 
-dev_refused : {B : Type 0} (dev : Dev) (v : Volumed B) (refusal : Refusal) → has_dev dev (rested_of v) ≡ true → dev_refusal dev None v.snaps ≡ Some refusal → refusal ≡ Invalid
-dev_refused Origin v refusal there e = absurd (cc)
-dev_refused (ToSnap n) v refusal there e = refused_at (ToSnap n) v (place_of_snap n v.snaps) refusal (λ none. true≢false (sym there ∙ dev_missing n v none)) e
+-- the snapshot that is being merged is none of those that are there
+not_merging : {B : Type 0} (n : ℕ) (m : Option (Merging B)) (snaps : List (Kept B)) → ((number : ℕ) → merging_number m ≡ Some number → place_of_snap number snaps ≡ None) → (place_of_snap n snaps ≡ None → ⊥) → is_merging n m ≡ false
+not_merging n None snaps apart there = refl
+not_merging n (Some m) snaps apart there = elim (cases_Bool (m.number == n)) [
+  | inl this ↦ absurd (there (ap (λ k. place_of_snap k snaps) (sym (eqb-true m.number n this)) ∙ apart m.number refl))
+  | inr other ↦ other
+]
+
+dev_refused : {B : Type 0} (dev : Dev) (v : Volumed B) (refusal : Refusal) → ((number : ℕ) → merging_number v.merge ≡ Some number → place_of_snap number v.snaps ≡ None) → has_dev dev (rested_of v) ≡ true → dev_refusal dev v.merge v.snaps ≡ Some refusal → refusal ≡ Invalid
+dev_refused Origin v refusal apart there e = absurd (cc)
+dev_refused (ToSnap n) v refusal apart there e =
+    let found : place_of_snap n v.snaps ≡ None → ⊥ = λ none. true≢false (sym there ∙ dev_missing n v none) in
+    refused_at (ToSnap n) v (place_of_snap n v.snaps) refusal found (sym (cond-false _ _ _ (not_merging n v.merge v.snaps apart found)) ∙ e)
 
 first_only : (a b : Option Refusal) (refusal : Refusal) → b ≡ None → first_of_two a b ≡ Some refusal → a ≡ Some refusal
 first_only None b refusal none e = absurd (let both : None ≡ Some refusal = sym none ∙ e in cc)
 first_only (Some other) b refusal none e = e
 
-module _ {B : Type 0} (size : B → ℕ) (request : Request) (v : Volumed B) (can : CanServe size request.dev request.op request.range v) (alone : v.merge ≡ None) (quiet : is_quiet_of v ≡ true) (few : length v.snaps ≤ 8) where
-  range_none : range_refusal (piece_of v.snaps) (size v.origin) request.range ≡ None
+module _ {B : Type 0} (size : B → ℕ) (request : Request) (v : Volumed B) (can : CanServe size request.dev request.op request.range v) (apart : (number : ℕ) → merging_number v.merge ≡ Some number → place_of_snap number v.snaps ≡ None) (quiet : is_quiet_of v ≡ true) (few : length v.snaps ≤ 8) where
+  range_none : range_refusal (piece_with v.merge v.snaps) (size v.origin) request.range ≡ None
   range_none =
-      let whole : request.range.first / piece_of v.snaps * piece_of v.snaps + request.range.first % piece_of v.snaps ≡ request.range.first = div-add-mod' request.range.first (piece_of v.snaps) in
-      let high = piece_high (piece_of v.snaps) request.range.first request.range.count can.pos can.some can.one in
-      let within = within_piece request.range.first request.range.count (piece_of v.snaps) (request.range.first / piece_of v.snaps) (request.range.first % piece_of v.snaps) high whole in
-      let fits : is_piece_of (piece_of v.snaps) (size v.origin) request.range ≡ true =
-      ap (λ b. b && nat_le (request.range.first + request.range.count) (size v.origin) && nat_le (request.range.first % piece_of v.snaps + request.range.count) (piece_of v.snaps)) (lt-true 0 request.range.count can.some)
-      ∙ ap (λ b. b && nat_le (request.range.first % piece_of v.snaps + request.range.count) (piece_of v.snaps)) (le-true (request.range.first + request.range.count) (size v.origin) can.inside)
-      ∙ le-true (request.range.first % piece_of v.snaps + request.range.count) (piece_of v.snaps) within in
+      let whole : request.range.first / piece_with v.merge v.snaps * piece_with v.merge v.snaps + request.range.first % piece_with v.merge v.snaps ≡ request.range.first = div-add-mod' request.range.first (piece_with v.merge v.snaps) in
+      let high = piece_high (piece_with v.merge v.snaps) request.range.first request.range.count can.pos can.some can.one in
+      let within = within_piece request.range.first request.range.count (piece_with v.merge v.snaps) (request.range.first / piece_with v.merge v.snaps) (request.range.first % piece_with v.merge v.snaps) high whole in
+      let fits : is_piece_of (piece_with v.merge v.snaps) (size v.origin) request.range ≡ true =
+      ap (λ b. b && nat_le (request.range.first + request.range.count) (size v.origin) && nat_le (request.range.first % piece_with v.merge v.snaps + request.range.count) (piece_with v.merge v.snaps)) (lt-true 0 request.range.count can.some)
+      ∙ ap (λ b. b && nat_le (request.range.first % piece_with v.merge v.snaps + request.range.count) (piece_with v.merge v.snaps)) (le-true (request.range.first + request.range.count) (size v.origin) can.inside)
+      ∙ le-true (request.range.first % piece_with v.merge v.snaps + request.range.count) (piece_with v.merge v.snaps) within in
       rw fits refl
 
-  limit_none : limit_refusal (starting (kind_of request) request.range.first None v.snaps) v ≡ None
+  limit_none : limit_refusal (starting (kind_of request) request.range.first v.merge v.snaps) v ≡ None
   limit_none =
-      let new : ℕ = starting (kind_of request) request.range.first None v.snaps in
+      let new : ℕ = starting (kind_of request) request.range.first v.merge v.snaps in
       let flights : length v.flights ≡ 0 = ap length (quiet_flights v quiet) in
       let counts : sum_by count_in v.snaps ≡ 0 = counts_none v.snaps (quiet_done v quiet) in
-      let started : new ≤ length v.snaps = starting_few (kind_of request) request.range.first v.snaps in
+      let started : new ≤ length v.snaps = starting_few (kind_of request) request.range.first v.merge v.snaps in
       let a : nat_le 64 (length v.flights) ≡ false = le-false 64 (length v.flights) (omega (arith, flights)) in
       let b : nat_le 18_446_744_073_709_551_615 v.requests ≡ false = le-false 18_446_744_073_709_551_615 v.requests (omega (arith, can.requests)) in
       let c : nat_lt 256 (sum_by count_in v.snaps + new) ≡ false = lt-false 256 (sum_by count_in v.snaps + new) (omega (arith, counts, started, few)) in
@@ -116,6 +132,5 @@ module _ {B : Type 0} (size : B → ℕ) (request : Request) (v : Volumed B) (ca
   -- its snapshot is spoiled
   pub only_invalid : (refusal : Refusal) → submit_refusal size request v ≡ Some refusal → refusal ≡ Invalid
   only_invalid refusal e =
-      let later : first_of_two (range_refusal (piece_of v.snaps) (size v.origin) request.range) (limit_refusal (starting (kind_of request) request.range.first None v.snaps) v) ≡ None = rw range_none limit_none in
-      let plain = ap (λ m. first_of_two (dev_refusal request.dev m v.snaps) (first_of_two (range_refusal (piece_with m v.snaps) (size v.origin) request.range) (limit_refusal (starting (kind_of request) request.range.first m v.snaps) v))) alone in
-      dev_refused request.dev v refusal can.there (first_only (dev_refusal request.dev None v.snaps) _ refusal later (sym plain ∙ e))
+      let later : first_of_two (range_refusal (piece_with v.merge v.snaps) (size v.origin) request.range) (limit_refusal (starting (kind_of request) request.range.first v.merge v.snaps) v) ≡ None = rw range_none limit_none in
+      dev_refused request.dev v refusal apart can.there (first_only (dev_refusal request.dev v.merge v.snaps) _ refusal later e)

@@ -23,12 +23,15 @@ use Rattle.settled.proofs.Each.{Each, each_from}
 use Rattle.settled.proofs.Chunks.{HasChunks}
 use Rattle.snapshot.specs.Kept.{Kept}
 use Rattle.volume.specs.Volumed.{Volumed}
+use Rattle.event_machine.specs.Rest.{IsAtRest}
+use Rattle.served.specs.Beside.{read_beside}
 use Rattle.volume.specs.Moved.{moving_of}
 use Rattle.resting.specs.Rested.{Attached, Rested, attached_of, rested_of, snap_of, settled_of, IsSettled, has_dev, has_number}
 use Rattle.plain.specs.Failures.{refusal_of}
 use Rattle.resting.specs.Commands.{IsDoneBy, IsReadRefused}
 use Rattle.resting.specs.Showing.{Arrays, entry_of, arrays_of, arrays_in, saved_at, saved_of, IsPlainRead, IsReadLost, IsPlainReadRefused, sectors_in}
 use Rattle.resting.proofs.Seen.{settled_same}
+use Rattle.resting.proofs.WithoutMerge.{alone_reads, alone_reads_first}
 use Rattle.resting.proofs.Rests.{IsInside, IsWell, inside_joined}
 use Rattle.resting.proofs.ShownReads.{IsReadTo, pieces_shown, pieces_read, pieces_dead}
 
@@ -74,10 +77,10 @@ module _ {B : Type 0} (contents : B → List ℕ) (layers : B → List Layer) wh
   chunks_each chunk [] all = tt
   chunks_each chunk (x ∷ xs) all = (All-head (λ (s : Kept B). s.state.chunk ≡ chunk) x xs all, chunks_each chunk xs (All-tail (λ (s : Kept B). s.state.chunk ≡ chunk) x xs all))
 
-  pub settled_well : (size : B → ℕ) (chunk : ℕ) (v : Volumed B) → All (λ (s : Kept B). s.state.chunk ≡ chunk) v.snaps → IsSettled contents layers size (rested_of v) → IsWell (size v.origin) chunk (settled_of contents layers (rested_of v))
-  settled_well size chunk v all settled = record {
+  pub settled_well : (size : B → ℕ) (chunk : ℕ) (v : Volumed B) → All (λ (s : Kept B). s.state.chunk ≡ chunk) v.snaps → IsAtRest (size v.origin) (moving_of contents layers None v) → IsWell (size v.origin) chunk (settled_of contents layers (rested_of v))
+  settled_well size chunk v all rest = record {
     moving = moving_of contents layers None v;
-    rest = settled.rest;
+    rest = rest;
     is = sym (settled_same contents layers None v);
     chunks = chunks_each chunk v.snaps all;
   }
@@ -110,25 +113,26 @@ read_plain sectors chunk dev range v pos some inside well least =
     )
 
 module _ {B : Type 0} (contents : B → List ℕ) (layers : B → List Layer) (size : B → ℕ) (dev : Dev) (range : Range) (chunk : ℕ) (v w : Volumed B) (pos : 0 < chunk) (some : 0 < range.count) (inside : range.first + range.count ≤ size v.origin)
-    (all : All (λ (s : Kept B). s.state.chunk ≡ chunk) v.snaps) (least : least_of (settled_of contents layers (rested_of v)).snaps ≡ chunk) where
-  done_plain : (reply : Reply) → IsDoneBy contents layers size (read dev (span_of range)) reply (rested_of v) (rested_of w) → IsSettled contents layers size (rested_of v)
+    (all : All (λ (s : Kept B). s.state.chunk ≡ chunk) v.snaps) (least : least_of (settled_of contents layers (rested_of v)).snaps ≡ chunk) (alone : v.merge ≡ None) (rest : IsAtRest (size v.origin) (moving_of contents layers None v)) where
+  done_plain : (reply : Reply) → IsDoneBy contents layers (read_beside dev (span_of range)) reply (rested_of v) (rested_of w) → IsSettled layers (rested_of v)
       → IsPlainReply dev (span_of range) (arrays_in contents layers (rested_of v)) reply × (arrays_in contents layers (rested_of w) ≡ arrays_in contents layers (rested_of v))
   done_plain reply done settled =
       let old : Volume = settled_of contents layers (rested_of v) in
-      let law = read_plain (size v.origin) chunk dev range old pos some inside (settled_well contents layers size chunk v all settled) least in (
-        subst (IsPlainReply dev (span_of range) (arrays_of old)) (ap (λ (a : Answered). a.reply) (done settled)) law.0,
-        ap (λ (a : Answered). arrays_of a.volume) (sym (done settled)) ∙ law.1,
+      let did = alone_reads contents layers v w alone dev (span_of range) reply (done settled) in
+      let law = read_plain (size v.origin) chunk dev range old pos some inside (settled_well contents layers size chunk v all rest) least in (
+        subst (IsPlainReply dev (span_of range) (arrays_of old)) (ap (λ (a : Answered). a.reply) did) law.0,
+        ap (λ (a : Answered). arrays_of a.volume) (sym did) ∙ law.1,
       )
 
   -- one that is done
-  pub plain_read : (bytes : List ℕ) → IsDoneBy contents layers size (read dev (span_of range)) (Data bytes) (rested_of v) (rested_of w) → IsSettled contents layers size (rested_of v)
+  pub plain_read : (bytes : List ℕ) → IsDoneBy contents layers (read_beside dev (span_of range)) (Data bytes) (rested_of v) (rested_of w) → IsSettled layers (rested_of v)
       → IsPlainRead dev (span_of range) bytes (arrays_in contents layers (rested_of v)) (arrays_in contents layers (rested_of w))
   plain_read bytes done settled =
       let law = done_plain (Data bytes) done settled in
       record { array = law.0.0; live = law.0.1; read = law.0.2; same = law.1 }
 
   -- one that is refused
-  pub plain_read_refused : (refusal : Refusal) → IsReadRefused contents layers size dev (span_of range) refusal (rested_of v) (rested_of w) → IsSettled contents layers size (rested_of v)
+  pub plain_read_refused : (refusal : Refusal) → IsReadRefused contents layers dev (span_of range) refusal (rested_of v) (rested_of w) → IsSettled layers (rested_of v)
       → IsPlainReadRefused dev refusal (arrays_in contents layers (rested_of v)) (arrays_in contents layers (rested_of w))
   plain_read_refused refusal why settled =
       let old : Arrays = arrays_in contents layers (rested_of v) in
@@ -138,6 +142,6 @@ module _ {B : Type 0} (contents : B → List ℕ) (layers : B → List Layer) (s
         | inr there ↦ elim there [
           | inl failed ↦ subst (λ (r : Refusal). IsPlainReadRefused dev r old new) (sym failed.1.1) (done_plain (Refused failed.1.0) failed.1.2 settled)
           | inr starved ↦ subst (λ (r : Refusal). IsPlainReadRefused dev r old new) (sym starved.1)
-              (tt, ap (λ (a : Answered). arrays_of a.volume) (sym (starved.2.3 settled)) ∙ pieces_shown dev (take starved.2.0 (pieces_of (least_of (settled_of contents layers (rested_of v)).snaps) (span_of range))) [] (settled_of contents layers (rested_of v)))
+              (tt, ap (λ (a : Answered). arrays_of a.volume) (sym (alone_reads_first contents layers v w alone starved.2.0 dev (span_of range) (Data starved.2.1) (starved.2.3 settled))) ∙ pieces_shown dev (take starved.2.0 (pieces_of (least_of (settled_of contents layers (rested_of v)).snaps) (span_of range))) [] (settled_of contents layers (rested_of v)))
         ]
       ]

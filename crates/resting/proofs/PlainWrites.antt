@@ -1,5 +1,5 @@
 -- A write of many sectors of a settled volume is one of plain arrays.
-use Rattle.std.proofs.Common.{◌≡◌, inl, inr, ℕ, zero, suc, ◌+◌, ◌*◌, ◌/◌, ◌<◌, ◌≤◌, Bool, true, false, List, [], ◌∷◌, ◌++◌, length, take, drop, map, arith, refl, ap, ◌∙◌, sym, subst, length-take, length-drop}
+use Rattle.std.proofs.Common.{◌≡◌, inl, inr, ℕ, zero, suc, ◌+◌, ◌*◌, ◌/◌, ◌<◌, ◌≤◌, Bool, true, false, List, [], ◌∷◌, ◌++◌, None, length, take, drop, map, arith, refl, ap, ◌∙◌, sym, subst, length-take, length-drop}
 use Rattle.std.specs.Prelude.{◌==◌, if◌then◌else◌}
 use Rattle.std.specs.List.{All}
 use Rattle.std.proofs.Math.Seq.{take-add}
@@ -34,14 +34,18 @@ use Rattle.settled.proofs.Chunks.{HasChunks}
 use Rattle.settling.proofs.Shown.{origin_write_shows}
 use Rattle.settled.proofs.SavedBytes.{save_all_bytes}
 use Rattle.snapshot.specs.Kept.{Kept}
+use Rattle.event_machine.specs.Rest.{IsAtRest}
+use Rattle.served.specs.Beside.{chunk_beside, written_beside}
 use Rattle.volume.specs.Volumed.{Volumed}
-use Rattle.resting.specs.Rested.{rested_of, settled_of, IsSettled}
+use Rattle.volume.specs.Moved.{moving_of}
+use Rattle.resting.specs.Rested.{rested_of, settled_of, merged_of, IsSettled}
 use Rattle.plain.specs.Failures.{refusal_of}
 use Rattle.resting.specs.Commands.{IsDoneBy, IsWriteRefused}
 use Rattle.resting.specs.Showing.{Arrays, entry_of, arrays_of, arrays_in, saved_at, saved_of, IsLive, AreKept, IsWritten, IsLost, IsPlainWrite, IsPlainWriteRefused, pieces_for, sectors_in}
 use Rattle.resting.proofs.Rests.{IsInside, IsWell, one_all, well_orders, well_whole, well_after}
 use Rattle.resting.proofs.Parts.{with_sectors_none, written_none, written_more, lost_more}
 use Rattle.resting.proofs.SnapWrites.{save_number, AreShownBy, in_stays, in_written}
+use Rattle.resting.proofs.WithoutMerge.{chunk_alone, alone_writes, alone_writes_first}
 use Rattle.resting.proofs.PlainReads.{missing_shows, sectors_joined, has_pieces, settled_well, span_inside}
 
 -- what is shown after a write of one piece
@@ -184,7 +188,7 @@ fewer_in (suc count) [] = omega arith
 fewer_in (suc count) (p ∷ pieces) = let h = fewer_in count pieces in omega (arith, h)
 
 module _ {B : Type 0} (contents : B → List ℕ) (layers : B → List Layer) (size : B → ℕ) (dev : Dev) (range : Range) (chunk : ℕ) (bytes : List ℕ) (v w : Volumed B) (pos : 0 < chunk) (some : 0 < range.count) (inside : range.first + range.count ≤ size v.origin) (len : length bytes ≡ 512 * range.count)
-    (all : All (λ (s : Kept B). s.state.chunk ≡ chunk) v.snaps) (least : least_of (settled_of contents layers (rested_of v)).snaps ≡ chunk) where
+    (all : All (λ (s : Kept B). s.state.chunk ≡ chunk) v.snaps) (least : least_of (settled_of contents layers (rested_of v)).snaps ≡ chunk) (alone : v.merge ≡ None) (rest : IsAtRest (size v.origin) (moving_of contents layers None v)) where
   abbrev old : Arrays
   old = arrays_in contents layers (rested_of v)
 
@@ -203,26 +207,29 @@ module _ {B : Type 0} (contents : B → List ℕ) (layers : B → List Layer) (s
   many : 0 < length pieces
   many = has_pieces range.first (range.first + range.count) pieces cut.join (omega (arith, some))
 
+  count_is : chunk_beside (merged_of contents layers (rested_of v)) ≡ least_of (settled_of contents layers (rested_of v)).snaps
+  count_is = chunk_alone contents layers v alone
+
   -- the first pieces, by the settled machine
   first_written : (count : ℕ) (reply : Reply) → (let a : Answered = record { volume = settled_of contents layers (rested_of w); reply = reply } in write_pieces dev (take count pieces) bytes (settled_of contents layers (rested_of v)) ≡ a)
-      → IsSettled contents layers size (rested_of v) → AreWritten dev range.first (take count pieces) bytes old new reply
+      → IsSettled layers (rested_of v) → AreWritten dev range.first (take count pieces) bytes old new reply
   first_written count reply done settled =
       let few = fewer_in count pieces in
       let whole = count_all in
       let (end, join) = join_take range.first (range.first + range.count) count pieces cut.join in
       subst (λ (a : Answered). AreWritten dev range.first (take count pieces) bytes old (arrays_of a.volume) a.reply) done
-      (pieces_written (size v.origin) chunk pos dev range.first end (take count pieces) bytes (settled_of contents layers (rested_of v)) (settled_well contents layers size chunk v all settled)
+      (pieces_written (size v.origin) chunk pos dev range.first end (take count pieces) bytes (settled_of contents layers (rested_of v)) (settled_well contents layers size chunk v all rest)
       (each_take (IsInside (size v.origin) chunk) count pieces (span_inside (size v.origin) chunk range pos inside)) join (omega (arith, few, whole, len)))
 
-  whole_written : (reply : Reply) → IsDoneBy contents layers size (written dev (span_of range) bytes) reply (rested_of v) (rested_of w) → IsSettled contents layers size (rested_of v) → AreWritten dev range.first pieces bytes old new reply
+  whole_written : (reply : Reply) → IsDoneBy contents layers (written_beside dev (span_of range) bytes) reply (rested_of v) (rested_of w) → IsSettled layers (rested_of v) → AreWritten dev range.first pieces bytes old new reply
   unfolding written
   whole_written reply done settled =
       let is : take (length pieces) pieces ≡ pieces = take_all (length pieces) pieces (omega arith) in
       subst (λ (ps : List Span). AreWritten dev range.first ps bytes old new reply) is
-      (first_written (length pieces) reply (ap (λ (ps : List Span). write_pieces dev ps bytes (settled_of contents layers (rested_of v))) is ∙ ap (λ n. write_pieces dev (pieces_of n (span_of range)) bytes (settled_of contents layers (rested_of v))) (sym least) ∙ done settled) settled)
+      (first_written (length pieces) reply (ap (λ (ps : List Span). write_pieces dev ps bytes (settled_of contents layers (rested_of v))) is ∙ ap (λ n. write_pieces dev (pieces_of n (span_of range)) bytes (settled_of contents layers (rested_of v))) (sym least) ∙ alone_writes contents layers v w alone dev (span_of range) bytes reply (done settled)) settled)
 
   -- one that is done
-  pub plain_write : IsDoneBy contents layers size (written dev (span_of range) bytes) Written (rested_of v) (rested_of w) → IsSettled contents layers size (rested_of v) → IsPlainWrite dev (span_of range) bytes old new
+  pub plain_write : IsDoneBy contents layers (written_beside dev (span_of range) bytes) Written (rested_of v) (rested_of w) → IsSettled layers (rested_of v) → IsPlainWrite dev (span_of range) bytes old new
   plain_write done settled =
       let law = whole_written Written done settled in
       let count = count_all in
@@ -233,19 +240,19 @@ module _ {B : Type 0} (contents : B → List ℕ) (layers : B → List Layer) (s
   failed_write Io law = law
 
   -- one that is refused
-  plain_write_refused : (refusal : Refusal) → IsWriteRefused contents layers size dev (span_of range) bytes refusal (rested_of v) (rested_of w) → IsSettled contents layers size (rested_of v) → IsPlainWriteRefused dev (span_of range) pieces bytes refusal old new
+  plain_write_refused : (refusal : Refusal) → IsWriteRefused contents layers dev (span_of range) bytes refusal (rested_of v) (rested_of w) → IsSettled layers (rested_of v) → IsPlainWriteRefused dev (span_of range) pieces bytes refusal old new
   plain_write_refused refusal why settled = elim why [
     | inl missing ↦ subst (λ (r : Refusal). IsPlainWriteRefused dev (span_of range) pieces bytes r old new) (sym missing.0) (missing_shows contents layers dev (rested_of v) missing.1, ap (arrays_in contents layers) missing.2)
     | inr there ↦ elim there [
       | inl failed ↦ subst (λ (r : Refusal). IsPlainWriteRefused dev (span_of range) pieces bytes r old new) (sym failed.1.1) (failed_write failed.1.0 (whole_written (Refused failed.1.0) failed.1.2 settled))
       | inr starved ↦ subst (λ (r : Refusal). IsPlainWriteRefused dev (span_of range) pieces bytes r old new) (sym starved.1) (
         starved.2.0,
-        subst (λ (n : ℕ). starved.2.0 < length (pieces_of n (span_of range))) least starved.2.1,
-        (first_written starved.2.0 Written (ap (λ n. write_pieces dev (take starved.2.0 (pieces_of n (span_of range))) bytes (settled_of contents layers (rested_of v))) (sym least) ∙ starved.2.2 settled) settled).1,
+        subst (λ (n : ℕ). starved.2.0 < length (pieces_of n (span_of range))) (count_is ∙ least) starved.2.1,
+        (first_written starved.2.0 Written (ap (λ n. write_pieces dev (take starved.2.0 (pieces_of n (span_of range))) bytes (settled_of contents layers (rested_of v))) (sym least) ∙ alone_writes_first contents layers v w alone starved.2.0 dev (span_of range) bytes Written (starved.2.2 settled)) settled).1,
       )
     ]
   ]
 
-  pub plain_write_lost : (refusal : Refusal) → IsWriteRefused contents layers size dev (span_of range) bytes refusal (rested_of v) (rested_of w) → IsSettled contents layers size (rested_of v)
+  pub plain_write_lost : (refusal : Refusal) → IsWriteRefused contents layers dev (span_of range) bytes refusal (rested_of v) (rested_of w) → IsSettled layers (rested_of v)
       → IsPlainWriteRefused dev (span_of range) (pieces_for contents layers (span_of range) (rested_of v)) bytes refusal old new
   plain_write_lost refusal why settled = subst (λ (n : ℕ). IsPlainWriteRefused dev (span_of range) (pieces_of n (span_of range)) bytes refusal old new) (sym least) (plain_write_refused refusal why settled)

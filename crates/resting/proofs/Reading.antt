@@ -20,16 +20,18 @@ use Rattle.plain.specs.declared.request.Reply.{Reply}
 use Rattle.plain.specs.declared.request.Reply.TheVariants.{Data}
 use Rattle.settled.specs.Devices.{Device, answers, read_reply}
 use Rattle.settled.specs.Snaps.{Snap, Volume}
-use Rattle.settled.specs.Pieces.{Answered, Served, read_place, read_snap, in_snap}
-use Rattle.settled.specs.Commands.{piece_of as least_of, bytes_in, read_piece, read_pieces, read}
+use Rattle.settled.specs.Pieces.{Served, read_place, read_snap, in_snap}
+use Rattle.settled.specs.Commands.{bytes_in, read_piece, read_pieces, read}
+use Rattle.settled.specs.Merges.{Merge, Merged, Merging, place_in, read_at, read_parts, read_through}
+use Rattle.served.specs.Beside.{Served as Beside, served_by, chunk_by, chunk_beside, read_beside, read_first_beside}
 use Rattle.chunk.proofs.Runs.{StandsAt}
 use Rattle.volume.specs.Volumed.{Volumed}
-use Rattle.resting.specs.Rested.{rested_of, settled_of, IsSettled, has_dev}
+use Rattle.resting.specs.Rested.{rested_of, merged_of, IsSettled, has_dev}
 use Rattle.resting.specs.Commands.{IsDoneBy, IsReadRefused}
-use Rattle.resting.specs.Serving.{CanAsk, IsPieceRead, IsPieceRefused}
+use Rattle.resting.specs.Serving.{CanAsk, part_read, IsPieceRead, IsPieceRefused}
 use Rattle.resting.proofs.WriteRuns.{answer}
 use Rattle.resting.proofs.Going.{GoesSo}
-use Rattle.resting.proofs.ReadRuns.{ReadsTo, reads_more, reads_all, reads_failed, reads_first, reads_fewer}
+use Rattle.resting.proofs.ReadRuns.{parts_read, served_parts, ReadsTo, reads_more, reads_all, reads_failed, reads_first, reads_fewer}
 
 -- a reply has at most so many bytes
 abbrev HasAtMost : ℕ → Reply → Type 0
@@ -66,36 +68,64 @@ pub piece_short : (dev : Dev) (piece : Span) (v : Volume) → HasAtMost piece.co
 piece_short Origin piece v = reply_short v.origin piece.first piece.count
 piece_short (ToSnap number) piece v = in_short number piece v.origin v.snaps
 
+-- nor one that is read beside a merge
+merging_short : (piece : Span) (m : Merging) (o : Option ℕ) → HasAtMost piece.count (read_at o piece m).reply
+merging_short piece m None = reply_short m.volume.origin piece.first piece.count
+merging_short piece m (Some n) = reply_short m.merge.store _ piece.count
+
+part_short : (dev : Dev) (piece : Span) (o : Option Merge) (v : Volume) → HasAtMost piece.count (part_read dev piece (record { volume = v; merge = o })).reply
+part_short dev piece None v = piece_short dev piece v
+part_short Origin piece (Some g) v = merging_short piece (record { volume = v; merge = g }) (place_in piece.first g)
+part_short (ToSnap number) piece (Some g) v = piece_short (ToSnap number) piece v
+
 -- all that was read
-pub all_taken : (dev : Dev) (piece : Span) (v w : Volume) (bytes : List ℕ) → read_piece dev piece v ≡ answer w (Data bytes) → length bytes ≤ 512 * piece.count
-all_taken dev piece v w bytes e = subst (λ (a : Answered). HasAtMost piece.count a.reply) e (piece_short dev piece v)
+pub all_taken : (dev : Dev) (piece : Span) (v w : Merged) (bytes : List ℕ) → part_read dev piece v ≡ answer w (Data bytes) → length bytes ≤ 512 * piece.count
+all_taken dev piece v w bytes e = subst (λ (a : Beside). HasAtMost piece.count a.reply) e (part_short dev piece v.merge v.volume)
+
+-- a read, and its first pieces, by all their parts
+whole_by : (dev : Dev) (span : Span) (o : Option Merge) (v : Volume)
+    → served_by (read dev span) (read_through dev span) o v ≡ served_by (read_pieces dev (pieces_of (chunk_by o v) span) []) (read_parts dev (pieces_of (chunk_by o v) span) []) o v
+unfolding read read_through
+whole_by dev span None v = refl
+whole_by dev span (Some g) v = refl
+
+pub read_whole : (dev : Dev) (span : Span) (m : Merged) → read_beside dev span m ≡ parts_read dev (pieces_of (chunk_beside m) span) [] m
+unfolding read_beside
+read_whole dev span m = whole_by dev span m.merge m.volume ∙ served_parts dev (pieces_of (chunk_beside m) span) [] m
+
+first_by : (count : ℕ) (dev : Dev) (span : Span) (o : Option Merge) (v : Volume)
+    → read_first_beside count dev span (record { volume = v; merge = o }) ≡ served_by (read_pieces dev (take count (pieces_of (chunk_by o v) span)) []) (read_parts dev (take count (pieces_of (chunk_by o v) span)) []) o v
+first_by count dev span None v = refl
+first_by count dev span (Some g) v = refl
+
+pub read_first_parts : (count : ℕ) (dev : Dev) (span : Span) (m : Merged) → read_first_beside count dev span m ≡ parts_read dev (take count (pieces_of (chunk_beside m) span)) [] m
+read_first_parts count dev span m = first_by count dev span m.merge m.volume ∙ served_parts dev (take count (pieces_of (chunk_beside m) span)) [] m
 
 module _ {B : Type 0} (contents : B → List ℕ) (layers : B → List Layer) (size : B → ℕ) (dev : Dev) (range : Range) (chunk : ℕ) (out out' : List ℕ) (rest rest' : List Span) (piece : Range) (old v new : Volumed B) where
   abbrev Before : Type 0
-  Before = IsSettled contents layers size (rested_of old)
+  Before = IsSettled layers (rested_of old)
 
   abbrev pub ReadSo : List Span → List ℕ → Volumed B → Type 0
-  ReadSo pieces bytes w = ReadsTo dev (IsSettled contents layers size (rested_of old)) (pieces_of chunk (span_of range)) pieces bytes (settled_of contents layers (rested_of old)) (settled_of contents layers (rested_of w))
+  ReadSo pieces bytes w = ReadsTo dev (IsSettled layers (rested_of old)) (pieces_of chunk (span_of range)) pieces bytes (merged_of contents layers (rested_of old)) (merged_of contents layers (rested_of w))
 
-  module _ (so : ReadSo rest out v) (e : rest ≡ span_of piece ∷ rest') (stays : IsSettled contents layers size (rested_of old) → IsSettled contents layers size (rested_of v)) where
+  module _ (so : ReadSo rest out v) (e : rest ≡ span_of piece ∷ rest') (stays : IsSettled layers (rested_of old) → IsSettled layers (rested_of v)) where
     -- one piece more
-    pub got_more : IsPieceRead contents layers size (read_piece dev (span_of piece)) out out' (rested_of v) (rested_of new) → ReadSo rest' out' new
+    pub got_more : IsPieceRead contents layers (part_read dev (span_of piece)) out out' (rested_of v) (rested_of new) → ReadSo rest' out' new
     got_more done =
-        reads_more dev Before (pieces_of chunk (span_of range)) rest rest' out out' (span_of piece) (settled_of contents layers (rested_of old)) (settled_of contents layers (rested_of v)) (settled_of contents layers (rested_of new)) done.0 so e done.1
+        reads_more dev Before (pieces_of chunk (span_of range)) rest rest' out out' (span_of piece) (merged_of contents layers (rested_of old)) (merged_of contents layers (rested_of v)) (merged_of contents layers (rested_of new)) done.0 so e done.1
         (λ settled. done.2 (stays settled)) (λ settled. done.3 (stays settled))
 
     -- one that is not done
-    pub got_refused : (refusal : Refusal) → has_dev dev (rested_of old) ≡ true → least_of (settled_of contents layers (rested_of old)).snaps ≡ chunk
-        → IsPieceRefused contents layers size (read_piece dev (span_of piece)) refusal (rested_of v) (rested_of new) → IsReadRefused contents layers size dev (span_of range) refusal (rested_of old) (rested_of new)
-    unfolding read
+    pub got_refused : (refusal : Refusal) → has_dev dev (rested_of old) ≡ true → chunk_beside (merged_of contents layers (rested_of old)) ≡ chunk
+        → IsPieceRefused contents layers (part_read dev (span_of piece)) refusal (rested_of v) (rested_of new) → IsReadRefused contents layers dev (span_of range) refusal (rested_of old) (rested_of new)
     got_refused refusal there least refused = elim refused [
       | inl failed ↦ inr (inl (
         there,
         (
           failed.0,
           failed.1,
-          λ settled. ap (λ n. read_pieces dev (pieces_of n (span_of range)) [] (settled_of contents layers (rested_of old))) least
-              ∙ reads_failed dev Before (pieces_of chunk (span_of range)) rest rest' out (span_of piece) (settled_of contents layers (rested_of old)) (settled_of contents layers (rested_of v)) (settled_of contents layers (rested_of new)) failed.0 so e
+          λ settled. read_whole dev (span_of range) (merged_of contents layers (rested_of old)) ∙ ap (λ n. parts_read dev (pieces_of n (span_of range)) [] (merged_of contents layers (rested_of old))) least
+              ∙ reads_failed dev Before (pieces_of chunk (span_of range)) rest rest' out (span_of piece) (merged_of contents layers (rested_of old)) (merged_of contents layers (rested_of v)) (merged_of contents layers (rested_of new)) failed.0 so e
               (λ l. failed.2 (stays l)) settled,
         ),
       ))
@@ -105,23 +135,22 @@ module _ {B : Type 0} (contents : B → List ℕ) (layers : B → List Layer) (s
         (
           length so.passed,
           out,
-          subst (λ (n : ℕ). length so.passed < length (pieces_of n (span_of range))) (sym least) (reads_fewer dev Before (pieces_of chunk (span_of range)) rest rest' out (span_of piece) (settled_of contents layers (rested_of old)) (settled_of contents layers (rested_of v)) so e),
-          λ settled. ap (λ n. read_pieces dev (take (length so.passed) (pieces_of n (span_of range))) [] (settled_of contents layers (rested_of old))) least
-              ∙ reads_first dev Before (pieces_of chunk (span_of range)) rest out (settled_of contents layers (rested_of old)) (settled_of contents layers (rested_of v)) so settled
-              ∙ ap (λ (w : Volume). answer w (Data out)) (sym starved.1),
+          subst (λ (n : ℕ). length so.passed < length (pieces_of n (span_of range))) (sym least) (reads_fewer dev Before (pieces_of chunk (span_of range)) rest rest' out (span_of piece) (merged_of contents layers (rested_of old)) (merged_of contents layers (rested_of v)) so e),
+          λ settled. read_first_parts (length so.passed) dev (span_of range) (merged_of contents layers (rested_of old)) ∙ ap (λ n. parts_read dev (take (length so.passed) (pieces_of n (span_of range))) [] (merged_of contents layers (rested_of old))) least
+              ∙ reads_first dev Before (pieces_of chunk (span_of range)) rest out (merged_of contents layers (rested_of old)) (merged_of contents layers (rested_of v)) so settled
+              ∙ ap (λ (w : Merged). answer w (Data out)) (sym starved.1),
         ),
       ))
     ]
 
   -- all of it
-  pub got_all : ReadSo rest out v → rest ≡ [] → least_of (settled_of contents layers (rested_of old)).snaps ≡ chunk → IsDoneBy contents layers size (read dev (span_of range)) (Data out) (rested_of old) (rested_of v)
-  unfolding read
+  pub got_all : ReadSo rest out v → rest ≡ [] → chunk_beside (merged_of contents layers (rested_of old)) ≡ chunk → IsDoneBy contents layers (read_beside dev (span_of range)) (Data out) (rested_of old) (rested_of v)
   got_all so none least = λ settled.
-      ap (λ n. read_pieces dev (pieces_of n (span_of range)) [] (settled_of contents layers (rested_of old))) least
-      ∙ reads_all dev Before (pieces_of chunk (span_of range)) rest out (settled_of contents layers (rested_of old)) (settled_of contents layers (rested_of v)) so none settled
+      read_whole dev (span_of range) (merged_of contents layers (rested_of old)) ∙ ap (λ n. parts_read dev (pieces_of n (span_of range)) [] (merged_of contents layers (rested_of old))) least
+      ∙ reads_all dev Before (pieces_of chunk (span_of range)) rest out (merged_of contents layers (rested_of old)) (merged_of contents layers (rested_of v)) so none settled
 
 -- what is taken of a piece's bytes is all of them
-pub whole_taken : (dev : Dev) (piece : Span) (v w : Volume) (bytes slice : List ℕ) (len n : ℕ) → slice ≡ bytes → len ≡ length bytes → n ≡ min len (piece.count * 512) → read_piece dev piece v ≡ answer w (Data bytes) → take n slice ≡ bytes
+pub whole_taken : (dev : Dev) (piece : Span) (v w : Merged) (bytes slice : List ℕ) (len n : ℕ) → slice ≡ bytes → len ≡ length bytes → n ≡ min len (piece.count * 512) → part_read dev piece v ≡ answer w (Data bytes) → take n slice ≡ bytes
 whole_taken dev piece v w bytes slice len n same long is e =
     let le = all_taken dev piece v w bytes e in
     let count : n ≡ length bytes = omega (arith, is, le, long) in
@@ -144,6 +173,6 @@ pos_pieces chunk span some =
     omega (arith, many, length-map (range_with_len (span.first / chunk) n) (part_in chunk span), length-range_with_len (span.first / chunk) n)
 
 -- memory was refused at once
-pub refused_first : {B : Type 0} (contents : B → List ℕ) (layers : B → List Layer) (size : B → ℕ) (dev : Dev) (range : Range) (v : Volumed B) → CanAsk size dev range v → IsReadRefused contents layers size dev (span_of range) NoMemory (rested_of v) (rested_of v)
+pub refused_first : {B : Type 0} (contents : B → List ℕ) (layers : B → List Layer) (size : B → ℕ) (dev : Dev) (range : Range) (v : Volumed B) → CanAsk size dev range v → IsReadRefused contents layers dev (span_of range) NoMemory (rested_of v) (rested_of v)
 refused_first contents layers size dev range v can =
-    inr (inr (can.there, refl, (0, [], pos_pieces (least_of (settled_of contents layers (rested_of v)).snaps) (span_of range) can.some, λ settled. refl)))
+    inr (inr (can.there, refl, (0, [], pos_pieces (chunk_beside (merged_of contents layers (rested_of v))) (span_of range) can.some, λ settled. read_first_parts 0 dev (span_of range) (merged_of contents layers (rested_of v)))))

@@ -1,6 +1,6 @@
 -- A request that was not accepted.
-use Rattle.std.proofs.Common.{◌≡◌, ◌≢◌, inl, inr, ℕ, Bool, ◌+◌, ◌≤◌, true, List, [], ◌∷◌, length, map, None, refl, sym, ◌∙◌, ap, arith}
-use Rattle.std.specs.Prelude.{◌&&◌, not}
+use Rattle.std.proofs.Common.{◌≡◌, ◌≢◌, inl, inr, ℕ, Bool, ◌+◌, ◌≤◌, true, List, [], ◌∷◌, length, map, Option, Some, None, refl, sym, ◌∙◌, ap, arith}
+use Rattle.std.specs.Prelude.{◌&&◌, not, IfSome}
 use Rattle.std.specs.List.{list_all}
 use Rattle.sector.specs.declared.refusal.Refusal.{Refusal}
 use Rattle.sector.specs.declared.refusal.Refusal.TheVariants.{NoMemory, Invalid}
@@ -9,7 +9,9 @@ use Rattle.plain.specs.declared.request.Request.{Request}
 use Rattle.snapshot.specs.Kept.{Kept}
 use Rattle.volume.specs.Volumed.{Volumed, is_loud_in_all, is_loud_with}
 use Rattle.volume.specs.Leaving.{has_group_in, is_done_of, is_quiet_of}
+use Rattle.snapshots.specs.Finding.{place_of_snap}
 use Rattle.snapshots.specs.Starting.{unroomed}
+use Rattle.volume.specs.Asking.{merging_number}
 use Rattle.volume.specs.Submitting.{SameButRoom, IsRefusedAs}
 use Rattle.resting.specs.Serving.{CanServe}
 use Rattle.resting.proofs.Limits.{only_invalid}
@@ -33,11 +35,16 @@ pub room_loud : {B : Type 0} (layers : B → List Layer) (old new : Volumed B) �
 room_loud {B} layers old new same =
     ap (λ (v : Volumed B). is_loud_in_all layers v) same.becomes ∙ ap (λ b. is_loud_with layers old.merge (is_loud (layers old.origin) && b)) (all_roomed (λ s. is_loud (layers s.device)) new.snaps old.snaps same.roomed (λ s. refl))
 
+-- what a look at the snapshot that is being merged says
+pub apart_by : {B : Type 0} (v : Volumed B) (seen : Option ℕ) → seen ≡ merging_number v.merge → IfSome seen (λ number. place_of_snap number v.snaps ≡ None) → (number : ℕ) → merging_number v.merge ≡ Some number → place_of_snap number v.snaps ≡ None
+apart_by v None is apart number e = absurd (let none : None ≡ Some number = is ∙ e in cc)
+apart_by v (Some n) is apart number e = (let some : Some n ≡ Some number = is ∙ e in let same : n ≡ number = cc in ap (λ k. place_of_snap k v.snaps) (sym same) ∙ apart)
+
 module _ {B : Type 0} (contents : B → List ℕ) (layers : B → List Layer) (size : B → ℕ) (request : Request) (refusal : Refusal) (old new : Volumed B) (refused : IsRefusedAs contents layers size request refusal old new) where
   -- refused for another reason than its snapshot: memory
-  pub starved_only : CanServe size request.dev request.op request.range old → old.merge ≡ None → is_quiet_of old ≡ true → length old.snaps ≤ 8 → refusal ≢ Invalid → (refusal ≡ NoMemory) × SameButRoom old new
-  starved_only can alone quiet few other = elim refused [
-    | inl first ↦ absurd (other (only_invalid size request old can alone quiet few refusal first.0))
+  pub starved_only : CanServe size request.dev request.op request.range old → ((number : ℕ) → merging_number old.merge ≡ Some number → place_of_snap number old.snaps ≡ None) → is_quiet_of old ≡ true → length old.snaps ≤ 8 → refusal ≢ Invalid → (refusal ≡ NoMemory) × SameButRoom old new
+  starved_only can apart quiet few other = elim refused [
+    | inl first ↦ absurd (other (only_invalid size request old can apart quiet few refusal first.0))
     | inr later ↦ elim later [
       | inl starved ↦ (starved.1, starved.2)
       | inr full ↦ absurd (other full.1)

@@ -9,18 +9,22 @@ use Rattle.plain.specs.declared.request.Dev.TheVariants.{Origin, Snap as ToSnap}
 use Rattle.plain.specs.declared.request.Reply.{Reply}
 use Rattle.settled.specs.Snaps.{Snap, Volume}
 use Rattle.event_machine.specs.Held.{Held}
+use Rattle.event_machine.specs.MergeRest.{merge_in, merged_of as merged_in_events}
 use Rattle.event_machine.specs.Requests.{volume_of}
+use Rattle.settled.specs.Merges.{Merged}
 use Rattle.snapshot.specs.Kept.{Kept}
-use Rattle.volume.specs.Volumed.{Volumed, is_loud_in_all, piece_of, is_loud_with}
+use Rattle.merge.specs.Merging.{Merging}
+use Rattle.volume.specs.Asking.{merging_number}
+use Rattle.volume.specs.Volumed.{Volumed, is_loud_in_all, piece_of, piece_with, is_loud_with}
 use Rattle.volume.specs.Moved.{device_of, held_of, moving_of}
 use Rattle.snapshots.specs.Numbers.{number_of_snap}
 use Rattle.volume.specs.Causes.{counts_of, counts_with}
 use Rattle.snapshots.specs.Finding.{place_of_snap}
 use Rattle.snapshots.proofs.Finds.{any_of, position_none, position_any}
 use Rattle.volume.proofs.Relayered.{map_twice}
-use Rattle.resting.specs.Rested.{Attached, Rested, attached_of, rested_of, snap_of, settled_of, is_loud_in, has_number, has_dev, numbers_of, chunks_of, sizes_of}
+use Rattle.resting.specs.Rested.{Attached, Rested, attached_of, rested_of, snap_of, settled_of, merged_of as merged_at, is_loud_in, has_number, has_dev, numbers_of, chunks_of, sizes_of}
 use Rattle.resting.specs.Kept.{KeepsDevices}
-use Rattle.volume.specs.Stepping.{KeepsAll}
+use Rattle.volume.specs.Stepping.{KeepsAll, merged_of}
 use Rattle.volume.proofs.Counting.{head_counted}
 
 all_of : {X Y : Type 0} (test : Y → Bool) (f : X → Y) (xs : List X) → list_all test (map f xs) ≡ list_all (λ x. test (f x)) xs
@@ -36,6 +40,14 @@ module _ {B : Type 0} (contents : B → List ℕ) (layers : B → List Layer) wh
   pub settled_same : (replied : Option Reply) (v : Volumed B) → settled_of contents layers (rested_of v) ≡ volume_of (moving_of contents layers replied v)
   settled_same replied v = ap (λ (ss : List Snap). let w : Volume = record { origin = device_of contents layers v.origin; snaps = ss } in w) (snaps_same v.snaps)
 
+  -- with its merge
+  pub merged_same : (replied : Option Reply) (v : Volumed B) → merged_at contents layers (rested_of v) ≡ merged_in_events (moving_of contents layers replied v)
+  merged_same replied v = ap (λ (x : Volume). let w : Merged = record { volume = x; merge = merge_in (moving_of contents layers None v).merge } in w) (settled_same replied v)
+
+  -- nothing of it changed
+  pub merged_still : (old new : Volumed B) → moving_of contents layers None new ≡ moving_of contents layers None old → merged_at contents layers (rested_of new) ≡ merged_at contents layers (rested_of old)
+  merged_still old new same = merged_same None new ∙ ap merged_in_events same ∙ sym (merged_same None old)
+
   pub loud_same : (v : Volumed B) → is_loud_in layers (rested_of v) ≡ is_loud_in_all layers v
   loud_same v = ap (λ b. is_loud_with layers v.merge (is_loud (layers v.origin) && b)) (all_of (λ (s : Attached B). is_loud (layers s.store)) attached_of v.snaps)
 
@@ -49,6 +61,13 @@ module _ {B : Type 0} (size : B → ℕ) where
   sizes_same : (v : Volumed B) → sizes_of size (rested_of v) ≡ counts_of size v
   sizes_same v = ap (λ (ns : List ℕ). counts_with size v.merge (size v.origin ∷ ns)) (map_twice attached_of (λ (s : Attached B). size s.store) v.snaps)
 
+  -- the same snapshot is being merged
+  pub number_kept : (x y : Option (Merging B)) → merged_of y ≡ merged_of x → merging_number y ≡ merging_number x
+  number_kept None None e = refl
+  number_kept None (Some y) e = absurd (cc)
+  number_kept (Some x) None e = absurd (cc)
+  number_kept (Some x) (Some y) e = (let same : (y.number, y.state.chunk) ≡ (x.number, x.state.chunk) = cc in ap (λ (p : ℕ × ℕ). Some p.0) same)
+
   -- events and requests keep the devices
   pub devices_kept : (layers : B → List Layer) (old new : Volumed B) → KeepsAll size old new → is_loud_in_all layers new ≡ is_loud_in_all layers old → KeepsDevices layers size (rested_of old) (rested_of new)
   devices_kept layers old new h loud = record {
@@ -57,13 +76,14 @@ module _ {B : Type 0} (size : B → ℕ) where
     sizes = sizes_same new ∙ h.sizes ∙ sym (sizes_same old);
     loud = loud_same (λ b. []) layers new ∙ loud ∙ sym (loud_same (λ b. []) layers old);
     attached = h.attached;
+    merging = number_kept old.merge new.merge h.merged;
   }
 
   pub devices_none : (layers : B → List Layer) (v : Rested B) → KeepsDevices layers size v v
-  devices_none layers v = record { numbers = refl; chunks = refl; sizes = refl; loud = refl; attached = refl }
+  devices_none layers v = record { numbers = refl; chunks = refl; sizes = refl; loud = refl; attached = refl; merging = refl }
 
   pub devices_more : (layers : B → List Layer) (u v w : Rested B) → KeepsDevices layers size u v → KeepsDevices layers size v w → KeepsDevices layers size u w
-  devices_more layers u v w h k = record { numbers = k.numbers ∙ h.numbers; chunks = k.chunks ∙ h.chunks; sizes = k.sizes ∙ h.sizes; loud = k.loud ∙ h.loud; attached = k.attached ∙ h.attached }
+  devices_more layers u v w h k = record { numbers = k.numbers ∙ h.numbers; chunks = k.chunks ∙ h.chunks; sizes = k.sizes ∙ h.sizes; loud = k.loud ∙ h.loud; attached = k.attached ∙ h.attached; merging = k.merging ∙ h.merging }
 
   head_or : ℕ → List ℕ → ℕ
   head_or d [] = d
@@ -81,8 +101,19 @@ module _ {B : Type 0} (size : B → ℕ) where
   piece_by (x ∷ xs) = refl
 
   -- and pieces are as large
-  pub piece_kept : (layers : B → List Layer) (old new : Volumed B) → KeepsDevices layers size (rested_of old) (rested_of new) → piece_of new.snaps ≡ piece_of old.snaps
-  piece_kept layers old new h = piece_by new.snaps ∙ ap (head_or 1024) (sym (chunks_same new) ∙ h.chunks ∙ chunks_same old) ∙ sym (piece_by old.snaps)
+  second_or : ℕ → Option (ℕ × ℕ) → ℕ
+  second_or other None = other
+  second_or other (Some pair) = pair.1
+
+  piece_seen : (m : Option (Merging B)) (xs : List (Kept B)) → piece_with m xs ≡ second_or (piece_of xs) (merged_of m)
+  unfolding second_or
+  piece_seen None xs = refl
+  piece_seen (Some m) xs = refl
+
+  pub piece_kept : (old new : Volumed B) → KeepsAll size old new → piece_with new.merge new.snaps ≡ piece_with old.merge old.snaps
+  piece_kept old new h =
+      let others : piece_of new.snaps ≡ piece_of old.snaps = piece_by new.snaps ∙ ap (head_or 1024) h.chunks ∙ sym (piece_by old.snaps) in
+      piece_seen new.merge new.snaps ∙ ap (λ n. second_or n (merged_of new.merge)) others ∙ ap (second_or (piece_of old.snaps)) h.merged ∙ sym (piece_seen old.merge old.snaps)
 
   pub snap_chunks_kept : (layers : B → List Layer) (old new : Volumed B) → KeepsDevices layers size (rested_of old) (rested_of new) → map (λ (s : Kept B). s.state.chunk) new.snaps ≡ map (λ (s : Kept B). s.state.chunk) old.snaps
   snap_chunks_kept layers old new h = sym (chunks_same new) ∙ h.chunks ∙ chunks_same old

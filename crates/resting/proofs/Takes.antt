@@ -1,17 +1,18 @@
 -- A snapshot is taken.
-use Rattle.std.proofs.Common.{◌≡◌, ℕ, Bool, true, false, List, [], ◌∷◌, ◌++◌, length, map, None, refl, sym, ◌∙◌, ap, subst}
-use Rattle.std.specs.Prelude.{◌==◌, ◌&&◌, not, is_some}
+use Rattle.std.proofs.Common.{◌≡◌, ◌≢◌, inl, inr, ℕ, Bool, true, false, List, [], ◌∷◌, ◌++◌, length, map, Option, Some, None, refl, sym, ◌∙◌, ap}
+use Rattle.std.specs.Prelude.{◌==◌, ◌&&◌, not, is_some, if◌then◌else◌}
 use Rattle.std.specs.List.{list_all}
+use Rattle.std.proofs.lemmas.Bool.{cases_Bool, cond-true, cond-false}
 use Rattle.sector.specs.declared.refusal.Refusal.{Refusal}
+use Rattle.sector.specs.declared.refusal.Refusal.TheVariants.{MergeInProgress, Stale}
 use Rattle.device.specs.Layers.{Layer, is_loud}
 use Rattle.settled.specs.Snaps.{Volume}
 use Rattle.settled.specs.Attaching.{attached, refused_attach}
-use Rattle.event_machine.specs.Rest.{IsAtRest}
 use Rattle.snapshot.specs.declared.opening.StoreDev.{StoreDev}
+use Rattle.merge.specs.Merging.{Merging}
 use Rattle.volume.specs.Volumed.{Volumed, is_loud_in_all}
-use Rattle.volume.specs.Moved.{moving_of}
 use Rattle.volume.specs.Leaving.{has_group_in, is_done_of, is_quiet_of}
-use Rattle.volume.specs.Taking.{taking_refusal, attach_refusal}
+use Rattle.volume.specs.Taking.{taking_refusal, attach_refusal, IsNotTaken}
 use Rattle.resting.specs.Rested.{attached_of, rested_of, settled_of, IsSettled}
 use Rattle.resting.specs.Taking.{IsTakenAs}
 use Rattle.volume.specs.Attached.{store_of, volume_in, IsGained, IsAttachedAs}
@@ -48,6 +49,16 @@ quiet_before false true quiet count attached chunk e = absurd (cc)
 quiet_before false false false count attached chunk e = absurd (cc)
 quiet_before false false true count attached chunk e = refl
 
+-- nor a merge begun
+not_begun : (stale begun quiet : Bool) (count attached chunk : ℕ) → taking_refusal stale begun quiet count attached chunk ≡ None → begun ≡ false
+not_begun true begun quiet count attached chunk e = absurd (cc)
+not_begun false true quiet count attached chunk e = absurd (cc)
+not_begun false false quiet count attached chunk e = refl
+
+none_begun_in : {B : Type 0} (o : Option (Merging B)) → is_some o ≡ false → o ≡ None
+none_begun_in None e = refl
+none_begun_in (Some m) e = absurd (cc)
+
 module _ {B : Type 0} (contents : B → List ℕ) (layers : B → List Layer) (size : B → ℕ) (number chunk : ℕ) (store : StoreDev B) (old new : Volumed B) (gained : IsGained layers size number store old new) where
   done_snap : is_done_of gained.snap ≡ true
   done_snap = rw (gained.copies, gained.marks, gained.untried) refl
@@ -64,8 +75,11 @@ module _ {B : Type 0} (contents : B → List ℕ) (layers : B → List Layer) (s
       and_true true = refl
       and_true false = refl
 
-  pub taken_alone : old.merge ≡ None → new.merge ≡ None
-  taken_alone alone = ap (λ (v : Volumed B). v.merge) gained.becomes ∙ alone
+  -- no merge was begun, nor is
+  pub taken_alone : attach_refusal store.stale chunk old ≡ None → (old.merge ≡ None) × (new.merge ≡ None)
+  taken_alone admitted =
+      let was = none_begun_in old.merge (not_begun store.stale (is_some old.merge) (is_quiet_of old) (length old.snaps) old.attached chunk admitted) in
+      (was, ap (λ (v : Volumed B). v.merge) gained.becomes ∙ was)
 
   pub taken_as : IsTakenAs layers size number store (rested_of old) (rested_of new)
   taken_as = record {
@@ -83,15 +97,11 @@ module _ {B : Type 0} (contents : B → List ℕ) (layers : B → List Layer) (s
   }
 
   -- a settled volume and a store that drops no writes make a settled volume
-  pub taken_settles : (is_loud_in_all layers old ≡ true → is_loud (layers store.device) ≡ true → IsAttachedAs contents layers number chunk store old new)
-      → is_loud_in_all layers new ≡ (is_loud_in_all layers old && is_loud (layers store.device)) → IsSettled contents layers size (rested_of old) → is_loud (layers store.device) ≡ true → IsSettled contents layers size (rested_of new)
-  taken_settles attached_as both settled given =
-      let was : is_loud_in_all layers old ≡ true = sym (loud_same contents layers old) ∙ settled.loud in
-      let origin : size new.origin ≡ size old.origin = ap (λ (v : Volumed B). size v.origin) gained.becomes in
-      record {
-        loud = loud_same contents layers new ∙ both ∙ ap (λ b. b && is_loud (layers store.device)) was ∙ given;
-        rest = subst (λ (n : ℕ). IsAtRest n (moving_of contents layers None new)) (sym origin) ((attached_as was given).rests (size old.origin) None settled.rest);
-      }
+  pub taken_settles : attach_refusal store.stale chunk old ≡ None → is_loud_in_all layers new ≡ (is_loud_in_all layers old && is_loud (layers store.device)) → IsSettled layers (rested_of old) → is_loud (layers store.device) ≡ true → IsSettled layers (rested_of new)
+  taken_settles admitted both settled given = record {
+    loud = loud_same contents layers new ∙ both ∙ ap (λ b. b && is_loud (layers store.device)) (sym (loud_same contents layers old) ∙ settled.loud) ∙ given;
+    quiet = (taken_quiet admitted).1;
+  }
 
 module _ {B : Type 0} (contents : B → List ℕ) (layers : B → List Layer) (number chunk : ℕ) where
   -- in the words of what callers see
@@ -105,3 +115,41 @@ module _ {B : Type 0} (contents : B → List ℕ) (layers : B → List Layer) (n
       → attached number chunk (store_of contents layers store) (settled_of contents layers (rested_of old)) ≡ refused_attach refusal (store_of contents layers back) (settled_of contents layers (rested_of old))
   refused_seen refusal store back old e =
       ap (attached number chunk (store_of contents layers store)) (settled_same contents layers None old) ∙ e ∙ ap (refused_attach refusal (store_of contents layers back)) (sym (settled_same contents layers None old))
+
+  -- where a merge is begun only a stale store is refused for its own sake
+  module _ (store back : StoreDev B) (old : Volumed B) (m : Merging B) (begun : old.merge ≡ Some m) (refusal : Refusal) (unread : attach_refusal store.stale chunk old ≡ Some refusal → back ≡ store) where
+    began : attach_refusal store.stale chunk old ≡ (if store.stale then Some Stale else Some MergeInProgress)
+    began = ap (λ o. taking_refusal store.stale (is_some o) (is_quiet_of old) (length old.snaps) old.attached chunk) begun
+
+    pub refused_begun : (first : attach_refusal store.stale chunk old ≡ Some refusal) → refusal ≢ MergeInProgress → (v : Volume) → attached number chunk (store_of contents layers store) v ≡ refused_attach refusal (store_of contents layers back) v
+    unfolding attached
+    refused_begun first other v = elim (cases_Bool store.stale) [
+      | inl stale ↦ (let why : Some Stale ≡ Some refusal = sym (cond-true _ _ _ stale) ∙ sym began ∙ first in
+          let same : Stale ≡ refusal = cc in
+          cond-true _ _ _ stale
+          ∙ ap (λ r. refused_attach r (store_of contents layers store) v) same
+          ∙ ap (λ (s : StoreDev B). refused_attach refusal (store_of contents layers s) v) (sym (unread first)))
+      | inr fresh ↦ absurd (let why : Some MergeInProgress ≡ Some refusal = sym (cond-false _ _ _ fresh) ∙ sym began ∙ first in let same : refusal ≡ MergeInProgress = cc in other same)
+    ]
+
+    never_admitted : attach_refusal store.stale chunk old ≡ None → ⊥
+    never_admitted none = not_begun_at store.stale (sym began ∙ none)
+      where
+        not_begun_at : (stale : Bool) → (if stale then Some Stale else Some MergeInProgress) ≡ None → ⊥
+        not_begun_at true e = absurd (cc)
+        not_begun_at false e = absurd (cc)
+
+    pub begun_back : (origin size : ℕ) (bytes : List ℕ) → IsNotTaken store.stale chunk origin size bytes old refusal → refusal ≢ MergeInProgress → (v : Volume)
+        → attached number chunk (store_of contents layers store) v ≡ refused_attach refusal (store_of contents layers back) v
+    begun_back origin size bytes (inl first) other v = refused_begun first other v
+    begun_back origin size bytes (inr later) other v = absurd (never_admitted later.0)
+
+  -- whether one is begun or not
+  pub back_seen : (store back : StoreDev B) (old : Volumed B) (refusal : Refusal) (origin size : ℕ) (bytes : List ℕ) → IsNotTaken store.stale chunk origin size bytes old refusal → (attach_refusal store.stale chunk old ≡ Some refusal → back ≡ store)
+      → (old.merge ≡ None → attached number chunk (store_of contents layers store) (volume_in contents layers old) ≡ refused_attach refusal (store_of contents layers back) (volume_in contents layers old)) → refusal ≢ MergeInProgress
+      → attached number chunk (store_of contents layers store) (settled_of contents layers (rested_of old)) ≡ refused_attach refusal (store_of contents layers back) (settled_of contents layers (rested_of old))
+  back_seen store back old refusal origin size bytes refused unread alone other = seen_of old.merge refl
+    where
+      seen_of : (o : Option (Merging B)) → old.merge ≡ o → attached number chunk (store_of contents layers store) (settled_of contents layers (rested_of old)) ≡ refused_attach refusal (store_of contents layers back) (settled_of contents layers (rested_of old))
+      seen_of None none = refused_seen refusal store back old (alone none)
+      seen_of (Some m) begun = begun_back store back old m begun refusal unread origin size bytes refused other (settled_of contents layers (rested_of old))

@@ -1,5 +1,5 @@
 -- A device that was told a message has other layers.
-use Rattle.std.proofs.Common.{◌≡◌, ◌⊎◌, ℕ, ◌<◌, List, length, get_or, set, map, Some, None, refl, sym, ◌∙◌, ap, subst, arith}
+use Rattle.std.proofs.Common.{◌≡◌, ◌⊎◌, inl, inr, ℕ, ◌<◌, true, List, length, get_or, set, map, Option, Some, None, refl, sym, ◌∙◌, ap, subst, arith}
 use Rattle.std.proofs.lemmas.List.{length-map, map-set, get_or_default}
 use Rattle.sector.specs.declared.refusal.Refusal.{Refusal}
 use Rattle.sector.specs.declared.refusal.Refusal.TheVariants.{NoMemory}
@@ -10,18 +10,23 @@ use Rattle.layers.specs.Messages.{Told, Answered, Refused, NeedsRoom, answer_of,
 use Rattle.plain.specs.declared.request.Dev.TheVariants.{Origin, Snap as ToSnap}
 use Rattle.settled.specs.Devices.{Device}
 use Rattle.settled.specs.Snaps.{Snap, Volume}
+use Rattle.event_machine.specs.MergeRest.{merge_in}
+use Rattle.event_machine.specs.MergeSeen.{held_in, merge_held_of}
 use Rattle.event_machine.specs.Requests.{volume_of}
+use Rattle.settled.specs.Merges.{Merge, Merged}
+use Rattle.served.specs.Moments.{store_relayered as merging_store_relayered}
+use Rattle.merge.specs.Merging.{Merging, due_of as merging_due}
 use Rattle.settled.specs.Moments.{store_relayered}
 use Rattle.snapshot.specs.Kept.{Kept}
 use Rattle.volume.specs.Volumed.{Volumed}
 use Rattle.snapshots.specs.Finding.{place_of_snap}
 use Rattle.volume.specs.Layering.{Measures}
-use Rattle.volume.specs.Moved.{device_of, moving_of}
-use Rattle.volume.specs.Telling.{layers_left, layers_told, IsTold, IsNotTold}
+use Rattle.volume.specs.Moved.{device_of, merge_seen, moving_of}
+use Rattle.volume.specs.Telling.{layers_left, layers_told, IsTold, IsNotTold, IsRelayeredAt}
 use Rattle.snapshots.proofs.Finds.{position_within}
-use Rattle.volume.proofs.Told.{relayered_there, snap_told, untold_moving}
-use Rattle.resting.specs.Rested.{Attached, attached_of, rested_of, snap_of, settled_of}
-use Rattle.resting.specs.Telling.{place_relayered, IsOriginTold, IsStoreTold, IsTellRefused}
+use Rattle.volume.proofs.Told.{merging_told, relayered_there, snap_told, untold_moving}
+use Rattle.resting.specs.Rested.{Attached, attached_of, rested_of, snap_of, settled_of, merged_of}
+use Rattle.resting.specs.Telling.{place_relayered, IsOriginTold, IsStoreTold, IsTellRefused, IsMergingTold, IsMergingUntold}
 use Rattle.resting.proofs.Seen.{settled_same}
 use Rattle.resting.proofs.Lends.{seen_at}
 
@@ -105,3 +110,28 @@ module _ {B : Type 0} (m : Measures B) (layers : B → List Layer) (depth : ℕ)
               ∙ ap (λ (ss : List Snap). (let x : Volume = record { origin = device_of m.contents layers v.origin; snaps = ss } in x)) (snaps_moved s at t f turned)
               ∙ ap (λ (x : Attached B). place_relayered m.contents layers k x after (settled_of m.contents layers (rested_of v))) (sym (seen s at d));
         }
+
+  -- the merging store
+  module _ (n : ℕ) (apart : place_of_snap n v.snaps ≡ None) where
+    pub merging_told_as : (a : Answer) → IsTold m layers (ToSnap n) depth message a v w → IsMergingTold m.contents layers depth message a (rested_of v) (rested_of w)
+    merging_told_as a h = told_by h.device
+      where
+        told_by : IsRelayeredAt m layers (ToSnap n) (layers_told depth message) v w → IsMergingTold m.contents layers depth message a (rested_of v) (rested_of w)
+        told_by (inl there) = absurd (let two : Some there.place ≡ None = sym there.found ∙ apart in cc)
+        told_by (inr there) =
+            let g : Merging B = there.merge in
+            let after : List Layer = layers_told depth message (layers g.device) in
+            let held : Option Merge → Merged = λ o. record { volume = settled_of m.contents layers (rested_of v); merge = o } in
+            let mk : Device → Merged = λ d. held (Some (record (merge_held_of (record { due = merging_due m.contents true g; layers = layers g.device; next = g.next })).merge { store = d })) in
+            record {
+              merge = g;
+              after = after;
+              begun = there.is;
+              told_is = answered (layers g.device) (told (layers g.device) depth message) a (ap answer_of (sym (merging_told m.contents layers n depth message g v apart there.is there.mine)) ∙ h.answer_is);
+              moved = ap (λ (x : Volumed B). merged_of m.contents layers (rested_of x)) there.becomes
+                  ∙ ap mk (told_device g.device there.device there.relayered_is.rest.contents_are there.relayered_is.layers_are)
+                  ∙ ap (λ (o : Option (Merging B)). held (merging_store_relayered (λ ls. after) (merge_in (held_in (merge_seen m.contents layers o))))) (sym there.is);
+            }
+
+    pub merging_untold : (g : Merging B) → v.merge ≡ Some g → g.number ≡ n → (r : Refusal) → IsNotTold m layers (ToSnap n) depth message r v w → IsMergingUntold layers depth message r (rested_of v)
+    merging_untold g is mine r h = inr (g, is, subst (λ (t : Told (List Layer)). (t ≡ Refused r) ⊎ ((r ≡ NoMemory) × NeedsRoom message t)) (merging_told m.contents layers n depth message g v apart is mine) h.why)

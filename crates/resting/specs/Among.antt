@@ -14,14 +14,13 @@ use Rattle.plain.specs.declared.request.Reply.TheVariants.{Refused}
 use Rattle.plain.specs.declared.request.Failure.{Failure}
 use Rattle.plain.specs.declared.request.Request.{Request}
 use Rattle.settled.specs.Commands.{bytes_in}
-use Rattle.volume.specs.Volumed.{Volumed, piece_of}
-use Rattle.volume.specs.Leaving.{is_quiet_of}
+use Rattle.volume.specs.Volumed.{Volumed, piece_with}
 use Rattle.volume.specs.Submitting.{IsAcceptedAs, IsRefusedAs}
 use Rattle.plain.specs.declared.request.Replied.{Replied}
 use Rattle.resting.specs.Rested.{Attached, Rested, rested_of, has_dev}
 use Rattle.plain.specs.Failures.{refusal_of}
 use Rattle.resting.specs.Serving.{IsGood}
-use Rattle.resting.specs.Draining.{IsDrained, IsAnsweredAmong}
+use Rattle.resting.specs.Draining.{IsDrainedApart, IsAnsweredAmong, is_idle_of}
 
 -- whether a request's device is a snapshot that is live
 abbrev pub live_in : {B : Type 0} → ℕ → List (Attached B) → Bool
@@ -32,23 +31,24 @@ abbrev pub is_live_dev : {B : Type 0} → Dev → Rested B → Bool
 is_live_dev Origin v = false
 is_live_dev (ToSnap number) v = live_in number v.snaps
 
--- A request was accepted, and all that was due then was done: its reply, and those to others, which come after those that
--- were there.
+-- A request was accepted, and all that was due then was done, of a merge only until its reply: that, and those to others,
+-- which come after those that were there.
 pub record IsServedAmong {B : Type 0} (contents : B → List ℕ) (layers : B → List Layer) (request : Request) (reply : Reply) (old new : Volumed B) (before after : List Replied) : Type 0 where
   pub number : ℕ
   pub mid : Volumed B
   pub accepted : IsAcceptedAs contents layers request number old mid
   pub answered : IsAnsweredAmong contents layers number reply mid new before after
-  pub quiet : is_quiet_of new ≡ true
+  pub idle : is_idle_of contents layers new ≡ true
 
--- A request was refused. Only where it found its live snapshot's store full, and spoiled it, all that was due then was done.
+-- A request was refused. Only where it found its live snapshot's store full, and spoiled it, all that was due then was done, but for events of
+-- a merge.
 pub record IsTurnedAway {B : Type 0} (contents : B → List ℕ) (layers : B → List Layer) (size : B → ℕ) (request : Request) (refusal : Refusal) (old new : Volumed B) (before after : List Replied) : Type 0 where
   pub mid : Volumed B
   pub refused : IsRefusedAs contents layers size request refusal old mid
-  pub drained : IsDrained contents layers mid new before after
+  pub drained : IsDrainedApart contents layers mid new before after
   pub dead : is_live_dev request.dev (rested_of old) ≡ false → (new ≡ mid) × (after ≡ before)
   pub other : refusal ≢ InvalidRefusal → (new ≡ mid) × (after ≡ before)
-  pub quiet : is_live_dev request.dev (rested_of old) ≡ true → refusal ≡ InvalidRefusal → is_quiet_of new ≡ true
+  pub idle : is_live_dev request.dev (rested_of old) ≡ true → refusal ≡ InvalidRefusal → is_idle_of contents layers new ≡ true
 
 -- or memory was
 abbrev pub IsRefusedAmong : {B : Type 0} → (B → List ℕ) → (B → List Layer) → (B → ℕ) → Request → Refusal → Volumed B → Volumed B → List Replied → List Replied → Type 0
@@ -129,4 +129,4 @@ IsWriteRefusedAmong contents layers size dev pieces bytes refusal old new before
 
 -- the pieces of a range
 abbrev pub pieces_among : {B : Type 0} → Span → Rested B → List Span
-pieces_among span v = pieces_of (piece_of v.events.snaps) span
+pieces_among span v = pieces_of (piece_with v.events.merge v.events.snaps) span

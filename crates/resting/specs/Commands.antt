@@ -9,28 +9,27 @@ use Rattle.plain.specs.declared.request.Dev.{Dev}
 use Rattle.plain.specs.declared.request.Reply.{Reply}
 use Rattle.plain.specs.declared.request.Reply.TheVariants.{Data, Written, Refused}
 use Rattle.plain.specs.declared.request.Failure.{Failure}
-use Rattle.settled.specs.Snaps.{Volume}
-use Rattle.settled.specs.Pieces.{Answered}
-use Rattle.settled.specs.Commands.{written, read, written_first, read_first, pieces_in}
-use Rattle.resting.specs.Rested.{Rested, settled_of, IsSettled, has_dev}
+use Rattle.settled.specs.Merges.{Merged}
+use Rattle.served.specs.Beside.{Served, written_beside, read_beside, written_first_beside, read_first_beside, count_beside}
+use Rattle.resting.specs.Rested.{Rested, merged_of, IsSettled, has_dev}
 use Rattle.plain.specs.Failures.{refusal_of}
 
 -- where the volume is settled, this was done, with this reply
-abbrev pub IsDoneBy : {B : Type 0} → (B → List ℕ) → (B → List Layer) → (B → ℕ) → (Volume → Answered) → Reply → Rested B → Rested B → Type 0
-IsDoneBy contents layers size command reply old new =
-    IsSettled contents layers size old → command (settled_of contents layers old) ≡ record { volume = settled_of contents layers new; reply = reply }
+abbrev pub IsDoneBy : {B : Type 0} → (B → List ℕ) → (B → List Layer) → (Merged → Served) → Reply → Rested B → Rested B → Type 0
+IsDoneBy contents layers command reply old new =
+    IsSettled layers old → command (merged_of contents layers old) ≡ record { state = merged_of contents layers new; reply = reply }
 
 -- Why a write is refused: its device is not there, and nothing changed; or a piece failed; or memory was refused, and some
 -- first pieces stand, but not all.
-abbrev pub IsWriteRefused : {B : Type 0} → (B → List ℕ) → (B → List Layer) → (B → ℕ) → Dev → Span → List ℕ → Refusal → Rested B → Rested B → Type 0
-IsWriteRefused contents layers size dev span bytes refusal old new =
+abbrev pub IsWriteRefused : {B : Type 0} → (B → List ℕ) → (B → List Layer) → Dev → Span → List ℕ → Refusal → Rested B → Rested B → Type 0
+IsWriteRefused contents layers dev span bytes refusal old new =
     ((refusal ≡ NoSuchDevice) × (has_dev dev old ≡ false) × (new ≡ old))
-    ⊎ ((has_dev dev old ≡ true) × ((failure : Failure) × (refusal ≡ refusal_of failure) × IsDoneBy contents layers size (written dev span bytes) (Refused failure) old new))
-    ⊎ ((has_dev dev old ≡ true) × (refusal ≡ NoMemory) × ((count : ℕ) × (count < pieces_in span (settled_of contents layers old)) × IsDoneBy contents layers size (written_first count dev span bytes) Written old new))
+    ⊎ ((has_dev dev old ≡ true) × ((failure : Failure) × (refusal ≡ refusal_of failure) × IsDoneBy contents layers (written_beside dev span bytes) (Refused failure) old new))
+    ⊎ ((has_dev dev old ≡ true) × (refusal ≡ NoMemory) × ((count : ℕ) × (count < count_beside span (merged_of contents layers old)) × IsDoneBy contents layers (written_first_beside count dev span bytes) Written old new))
 
 -- and a read
-abbrev pub IsReadRefused : {B : Type 0} → (B → List ℕ) → (B → List Layer) → (B → ℕ) → Dev → Span → Refusal → Rested B → Rested B → Type 0
-IsReadRefused contents layers size dev span refusal old new =
+abbrev pub IsReadRefused : {B : Type 0} → (B → List ℕ) → (B → List Layer) → Dev → Span → Refusal → Rested B → Rested B → Type 0
+IsReadRefused contents layers dev span refusal old new =
     ((refusal ≡ NoSuchDevice) × (has_dev dev old ≡ false) × (new ≡ old))
-    ⊎ ((has_dev dev old ≡ true) × ((failure : Failure) × (refusal ≡ refusal_of failure) × IsDoneBy contents layers size (read dev span) (Refused failure) old new))
-    ⊎ ((has_dev dev old ≡ true) × (refusal ≡ NoMemory) × ((count : ℕ) × (bytes : List ℕ) × (count < pieces_in span (settled_of contents layers old)) × IsDoneBy contents layers size (read_first count dev span) (Data bytes) old new))
+    ⊎ ((has_dev dev old ≡ true) × ((failure : Failure) × (refusal ≡ refusal_of failure) × IsDoneBy contents layers (read_beside dev span) (Refused failure) old new))
+    ⊎ ((has_dev dev old ≡ true) × (refusal ≡ NoMemory) × ((count : ℕ) × (bytes : List ℕ) × (count < count_beside span (merged_of contents layers old)) × IsDoneBy contents layers (read_first_beside count dev span) (Data bytes) old new))

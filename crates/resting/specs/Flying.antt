@@ -1,9 +1,9 @@
 -- What is in flight in a volume, and what is in memory of its snapshots: the event machine without its devices' bytes and
 -- layers, which callers see by themselves.
-use Rattle.std.specs.Prelude.{◌≡◌, ℕ, List, [], None, map}
+use Rattle.std.specs.Prelude.{◌≡◌, ℕ, List, [], Option, Some, None, map}
 use Rattle.device.specs.Layers.{Layer}
 use Rattle.settled.specs.Devices.{Device}
-use Rattle.event_machine.specs.Held.{Held, Moving}
+use Rattle.event_machine.specs.Held.{Held, MergeHeld, Moving, on_device}
 use Rattle.volume.specs.Volumed.{Volumed}
 use Rattle.volume.specs.Moved.{moving_of}
 use Rattle.resting.specs.Rested.{Rested, rested_of}
@@ -16,9 +16,14 @@ untold = record { bytes = []; layers = [] }
 abbrev pub without_store : Held → Held
 without_store h = record h { snap = record h.snap { store = untold } }
 
+-- and a merge
+abbrev pub without_merging_store : Option MergeHeld → Option MergeHeld
+without_merging_store None = None
+without_merging_store (Some m) = Some (on_device m untold)
+
 -- a volume of events without its devices
 abbrev pub without_devices : Moving → Moving
-without_devices v = record v { origin = untold; snaps = map without_store v.snaps }
+without_devices v = record v { origin = untold; snaps = map without_store v.snaps; merge = without_merging_store v.merge }
 
 abbrev pub flying_of : {B : Type 0} → (B → List ℕ) → (B → List Layer) → Volumed B → Moving
 flying_of contents layers v = without_devices (moving_of contents layers None v)

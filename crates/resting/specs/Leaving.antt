@@ -4,7 +4,7 @@ use Rattle.device.specs.Layers.{Layer}
 use Rattle.settled.specs.Attaching.{detached, given_back}
 use Rattle.snapshot.specs.declared.opening.StoreDev.{StoreDev}
 use Rattle.volume.specs.Attached.{store_of}
-use Rattle.resting.specs.Rested.{Attached, Rested, settled_of, snap_at, without}
+use Rattle.resting.specs.Rested.{Attached, Rested, settled_of, merged_of, snap_at, without}
 
 -- The snapshot with a number left, and its store was given back; and so it is of the settled machine.
 pub record IsDetachedAs {B : Type 0} (contents : B → List ℕ) (layers : B → List Layer) (number : ℕ) (store : StoreDev B) (old new : Rested B) : Type 0 where
@@ -19,3 +19,4 @@ pub record IsDetachedAs {B : Type 0} (contents : B → List ℕ) (layers : B →
   pub attached : new.attached ≡ old.attached
   pub left : (settled_of contents layers new).snaps ≡ detached number (settled_of contents layers old).snaps
   pub back : given_back number (settled_of contents layers old).snaps ≡ Some (store_of contents layers store)
+  pub merge : (merged_of contents layers new).merge ≡ (merged_of contents layers old).merge

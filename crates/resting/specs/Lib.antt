@@ -12,3 +12,4 @@ pub mod Showing
 pub mod Draining
 pub mod Among
 pub mod Flying
+pub mod Merging

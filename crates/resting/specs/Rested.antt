@@ -4,11 +4,13 @@ use Rattle.std.specs.List.{list_any, list_all}
 use Rattle.device.specs.Layers.{Layer, is_loud}
 use Rattle.plain.specs.declared.request.Dev.{Dev}
 use Rattle.plain.specs.declared.request.Dev.TheVariants.{Origin, Snap as ToSnap}
-use Rattle.event_machine.specs.Rest.{IsAtRest}
+use Rattle.event_machine.specs.MergeRest.{merge_in}
+use Rattle.settled.specs.Merges.{Merged}
 use Rattle.settled.specs.Snaps.{Snap, Volume}
 use Rattle.snapshot.specs.Kept.{Kept}
 use Rattle.volume.specs.Volumed.{Volumed, is_loud_with}
 use Rattle.volume.specs.Causes.{counts_with}
+use Rattle.volume.specs.Leaving.{is_quiet_of}
 use Rattle.volume.specs.Moved.{device_of, moving_of}
 
 -- A snapshot: its number, the sectors of its chunks, whether it is live, whether its store is stale, and its store's device.
@@ -48,12 +50,15 @@ settled_of contents layers v = record { origin = device_of contents layers v.ori
 abbrev pub is_loud_in : {B : Type 0} → (B → List Layer) → Rested B → Bool
 is_loud_in layers v = is_loud_with layers v.events.merge (is_loud (layers v.origin) && list_all (λ s. is_loud (layers s.store)) v.snaps)
 
--- No device drops writes, and what is kept of each live snapshot is what its store's own bytes say. A new volume over a disk
--- that drops no writes is settled, and each call leaves a settled volume settled, but for the attach of a store that drops
--- writes, and for a request that is started, until all that is due is done.
-pub record IsSettled {B : Type 0} (contents : B → List ℕ) (layers : B → List Layer) (size : B → ℕ) (v : Rested B) : Type 0 where
+-- the same with the merge, if one is begun
+abbrev pub merged_of : {B : Type 0} → (B → List ℕ) → (B → List Layer) → Rested B → Merged
+merged_of contents layers v = record { volume = settled_of contents layers v; merge = merge_in (moving_of contents layers None v.events).merge }
+
+-- No device drops writes, and nothing is in flight or left to do, but for what a merge has left between two of its groups.
+-- Then all that is kept in memory of a live snapshot and of the merge is what their stores' own bytes say.
+pub record IsSettled {B : Type 0} (layers : B → List Layer) (v : Rested B) : Type 0 where
   pub loud : is_loud_in layers v ≡ true
-  pub rest : IsAtRest (size v.origin) (moving_of contents layers None v.events)
+  pub quiet : is_quiet_of v.events ≡ true
 
 abbrev pub has_number : {B : Type 0} → ℕ → Attached B → Bool
 has_number number s = s.number == number

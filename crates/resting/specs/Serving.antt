@@ -9,13 +9,16 @@ use Rattle.plain.specs.declared.request.Dev.{Dev}
 use Rattle.plain.specs.declared.request.Reply.{Reply}
 use Rattle.plain.specs.declared.request.Reply.TheVariants.{Data, Written, Refused}
 use Rattle.plain.specs.declared.request.Failure.{Failure}
-use Rattle.settled.specs.Snaps.{Volume}
-use Rattle.settled.specs.Pieces.{Answered}
-use Rattle.settled.specs.Commands.{bytes_in}
+use Rattle.chunk.specs.Pieces.{Span, span_of}
+use Rattle.settled.specs.Commands.{bytes_in, write_piece, read_piece}
+use Rattle.settled.specs.Merges.{Merged, write_part, read_part}
+use Rattle.served.specs.Beside.{Served, served}
 use Rattle.plain.specs.declared.request.Op.{Op}
-use Rattle.settled.specs.Requests.{FitsRange}
-use Rattle.volume.specs.Volumed.{Volumed, piece_of}
-use Rattle.resting.specs.Rested.{Rested, rested_of, settled_of, IsSettled, has_dev}
+use Rattle.plain.specs.declared.request.Request.{Request}
+use Rattle.settled.specs.Requests.{FitsRange, answer_of}
+use Rattle.event_machine.specs.MergeSettles.{part_of}
+use Rattle.volume.specs.Volumed.{Volumed, piece_with}
+use Rattle.resting.specs.Rested.{Rested, rested_of, merged_of, IsSettled, has_dev}
 use Rattle.plain.specs.Failures.{refusal_of}
 use Rattle.resting.specs.Commands.{IsDoneBy}
 
@@ -25,10 +28,10 @@ pub record CanServe {B : Type 0} (size : B → ℕ) (dev : Dev) (op : Op) (range
   pub there : has_dev dev (rested_of v) ≡ true
   pub some : 0 < range.count
   pub inside : range.first + range.count ≤ size v.origin
-  pub one : (range.first + range.count - 1) / piece_of v.snaps ≡ range.first / piece_of v.snaps
+  pub one : (range.first + range.count - 1) / piece_with v.merge v.snaps ≡ range.first / piece_with v.merge v.snaps
   pub bytes : FitsRange op range.count
-  pub pos : 0 < piece_of v.snaps
-  pub chunks : All (λ s. s.state.chunk ≡ piece_of v.snaps) v.snaps
+  pub pos : 0 < piece_with v.merge v.snaps
+  pub chunks : All (λ s. s.state.chunk ≡ piece_with v.merge v.snaps) v.snaps
   pub requests : v.requests < 9_223_372_036_854_775_808
 
 -- What is asked of a command: its device is there, its range has a sector and lies inside the origin, and there are
@@ -45,17 +48,28 @@ IsGood (Data bytes) = Unit {0}
 IsGood Written = Unit {0}
 IsGood (Refused failure) = ⊥
 
+-- one piece of a command, whether a merge is begun or not
+abbrev pub part_written : Dev → Span → List ℕ → Merged → Served
+part_written dev piece bytes m = served (write_piece dev piece bytes) (write_part dev piece bytes) m
+
+abbrev pub part_read : Dev → Span → Merged → Served
+part_read dev piece m = served (read_piece dev piece) (read_part dev piece) m
+
+-- the request of a piece
+abbrev pub part_done : Request → Merged → Served
+part_done request m = served (answer_of request) (part_of request.dev request.op (span_of request.range)) m
+
 -- a piece was done
-abbrev pub IsPieceDone : {B : Type 0} → (B → List ℕ) → (B → List Layer) → (B → ℕ) → (Volume → Answered) → Rested B → Rested B → Type 0
-IsPieceDone contents layers size command old new = (got : Reply) × IsGood got × IsDoneBy contents layers size command got old new
+abbrev pub IsPieceDone : {B : Type 0} → (B → List ℕ) → (B → List Layer) → (Merged → Served) → Rested B → Rested B → Type 0
+IsPieceDone contents layers command old new = (got : Reply) × IsGood got × IsDoneBy contents layers command got old new
 
 -- or failed, or memory was refused and nothing changed
-abbrev pub IsPieceRefused : {B : Type 0} → (B → List ℕ) → (B → List Layer) → (B → ℕ) → (Volume → Answered) → Refusal → Rested B → Rested B → Type 0
-IsPieceRefused contents layers size command refusal old new =
-    ((failure : Failure) × (refusal ≡ refusal_of failure) × IsDoneBy contents layers size command (Refused failure) old new)
-    ⊎ ((refusal ≡ NoMemory) × (settled_of contents layers new ≡ settled_of contents layers old))
+abbrev pub IsPieceRefused : {B : Type 0} → (B → List ℕ) → (B → List Layer) → (Merged → Served) → Refusal → Rested B → Rested B → Type 0
+IsPieceRefused contents layers command refusal old new =
+    ((failure : Failure) × (refusal ≡ refusal_of failure) × IsDoneBy contents layers command (Refused failure) old new)
+    ⊎ ((refusal ≡ NoMemory) × (merged_of contents layers new ≡ merged_of contents layers old))
 
 -- what was read comes after these bytes
-abbrev pub IsPieceRead : {B : Type 0} → (B → List ℕ) → (B → List Layer) → (B → ℕ) → (Volume → Answered) → List ℕ → List ℕ → Rested B → Rested B → Type 0
-IsPieceRead contents layers size command before after old new =
-    (got : Reply) × IsGood got × IsDoneBy contents layers size command got old new × (IsSettled contents layers size old → after ≡ before ++ bytes_in got)
+abbrev pub IsPieceRead : {B : Type 0} → (B → List ℕ) → (B → List Layer) → (Merged → Served) → List ℕ → List ℕ → Rested B → Rested B → Type 0
+IsPieceRead contents layers command before after old new =
+    (got : Reply) × IsGood got × IsDoneBy contents layers command got old new × (IsSettled layers old → after ≡ before ++ bytes_in got)

@@ -5,7 +5,7 @@ ghost use Rattle.plain.specs.declared.request.Reply.{Reply as AnyReply};
 ghost use Rattle.plain.specs.declared.request.Op.TheVariants.{Read, Write};
 ghost use Rattle.chunk.specs.Pieces.{span_of, pieces_of};
 ghost use Rattle.settled.specs.Commands.{bytes_in};
-ghost use Rattle.volume.specs.Volumed.{piece_of};
+ghost use Rattle.volume.specs.Volumed.{piece_with};
 ghost use Rattle.resting.specs.Rested.{has_dev, rested_of};
 ghost use Rattle.resting.specs.Flying.{IsWhole};
 ghost use Rattle.resting.specs.Kept.{KeepsDevices};
@@ -30,14 +30,11 @@ fn write_piece_among<B: Block>(
     bytes: &[u8],
     ended: &mut Vec<Replied>,
 ) -> Result<(), Refusal>
-    requires alone { volume.old.merge ≡ None }
     requires room { length bytes.now ≡ 512 * piece.count }
-    ensures alone { volume.new.merge ≡ None }
     ensures written { OnOk result ((reply : AnyReply) × IsPieceServed B.contents B.layers dev (Write bytes.now) (span_of piece) reply volume.old volume.new ended.old.items ended.new.items) }
     ensures failed { IfErr result (λ refusal. IsPieceFailed B.contents B.layers B.size dev (Write bytes.now) (span_of piece) refusal volume.old volume.new ended.old.items ended.new.items) }
     ensures kept { KeepsDevices B.layers B.size (rested_of volume.old) (rested_of volume.new) }
     ensures requests { volume.new.requests ≤ volume.old.requests + 1 }
-    ensures copies { volume.new.copies ≤ volume.old.copies + 8 }
 {
     let Ok(bytes) = Buf::from_slice(alloc, bytes) else {
         return Err(Refusal::NoMemory);
@@ -64,16 +61,13 @@ fn read_piece_among<B: Block>(
     out: &mut Vec<u8>,
     ended: &mut Vec<Replied>,
 ) -> Result<(), Refusal>
-    requires alone { volume.old.merge ≡ None }
     requires room { vec_len out.old + 512 * piece.count ≤ vec_capacity out.old }
-    ensures alone { volume.new.merge ≡ None }
     ensures read { OnOk result ((reply : AnyReply) × IsPieceServed B.contents B.layers dev Read (span_of piece) reply volume.old volume.new ended.old.items ended.new.items × (out.new.items ≡ out.old.items ++ take (512 * piece.count) (bytes_in reply))) }
     ensures failed { IfErr result (λ refusal. IsPieceFailed B.contents B.layers B.size dev Read (span_of piece) refusal volume.old volume.new ended.old.items ended.new.items) }
     ensures len { vec_len out.new ≤ vec_len out.old + 512 * piece.count }
     ensures capacity { vec_capacity out.old ≤ vec_capacity out.new }
     ensures kept { KeepsDevices B.layers B.size (rested_of volume.old) (rested_of volume.new) }
     ensures requests { volume.new.requests ≤ volume.old.requests + 1 }
-    ensures copies { volume.new.copies ≤ volume.old.copies + 8 }
 {
     let request = Request {
         dev,
@@ -104,14 +98,11 @@ fn write_pieces_among<B: Block>(
     bytes: &[u8],
     ended: &mut Vec<Replied>,
 ) -> Result<(), Refusal>
-    requires alone { volume.old.merge ≡ None }
     requires room { length bytes.now ≡ 512 * range.count }
-    ensures alone { volume.new.merge ≡ None }
-    ensures written { OnOk result (AreWrittenAmong B.contents B.layers dev (pieces_of (piece_of volume.old.snaps) (span_of range)) bytes.now volume.old volume.new ended.old.items ended.new.items) }
-    ensures stopped { IfErr result (λ refusal. IsWriteStopped B.contents B.layers B.size dev (pieces_of (piece_of volume.old.snaps) (span_of range)) bytes.now refusal volume.old volume.new ended.old.items ended.new.items) }
+    ensures written { OnOk result (AreWrittenAmong B.contents B.layers dev (pieces_of (piece_with volume.old.merge volume.old.snaps) (span_of range)) bytes.now volume.old volume.new ended.old.items ended.new.items) }
+    ensures stopped { IfErr result (λ refusal. IsWriteStopped B.contents B.layers B.size dev (pieces_of (piece_with volume.old.merge volume.old.snaps) (span_of range)) bytes.now refusal volume.old volume.new ended.old.items ended.new.items) }
     ensures kept { KeepsDevices B.layers B.size (rested_of volume.old) (rested_of volume.new) }
     ensures requests { volume.new.requests ≤ volume.old.requests + range.count }
-    ensures copies { volume.new.copies ≤ volume.old.copies + 8 * range.count }
 {
     let geometry = Geometry {
         chunk: volume.piece(),
@@ -138,16 +129,13 @@ fn read_pieces_among<B: Block>(
     out: &mut Vec<u8>,
     ended: &mut Vec<Replied>,
 ) -> Result<(), Refusal>
-    requires alone { volume.old.merge ≡ None }
     requires empty { out.old.items ≡ [] }
     requires none { vec_len out.old ≡ 0 }
     requires room { 512 * range.count ≤ vec_capacity out.old }
-    ensures alone { volume.new.merge ≡ None }
-    ensures read { OnOk result (AreReadAmong B.contents B.layers dev (pieces_of (piece_of volume.old.snaps) (span_of range)) out.new.items volume.old volume.new ended.old.items ended.new.items) }
-    ensures stopped { IfErr result (λ refusal. IsReadStopped B.contents B.layers B.size dev (pieces_of (piece_of volume.old.snaps) (span_of range)) refusal volume.old volume.new ended.old.items ended.new.items) }
+    ensures read { OnOk result (AreReadAmong B.contents B.layers dev (pieces_of (piece_with volume.old.merge volume.old.snaps) (span_of range)) out.new.items volume.old volume.new ended.old.items ended.new.items) }
+    ensures stopped { IfErr result (λ refusal. IsReadStopped B.contents B.layers B.size dev (pieces_of (piece_with volume.old.merge volume.old.snaps) (span_of range)) refusal volume.old volume.new ended.old.items ended.new.items) }
     ensures kept { KeepsDevices B.layers B.size (rested_of volume.old) (rested_of volume.new) }
     ensures requests { volume.new.requests ≤ volume.old.requests + range.count }
-    ensures copies { volume.new.copies ≤ volume.old.copies + 8 * range.count }
 {
     let geometry = Geometry {
         chunk: volume.piece(),
@@ -185,7 +173,6 @@ impl<B: Block> Resting<B> {
         ensures whole { IsWhole self.old × IsWhole self.new }
         ensures kept { KeepsDevices B.layers B.size self.old self.new }
         ensures requests { self.new.requests ≤ self.old.requests + range.count }
-        ensures copies { self.new.copies ≤ self.old.copies + 8 * range.count }
     {
         if !is_there(&self.volume, dev) {
             return Err(Refusal::NoSuchDevice);
@@ -221,7 +208,6 @@ impl<B: Block> Resting<B> {
         ensures whole { IsWhole self.old × IsWhole self.new }
         ensures kept { KeepsDevices B.layers B.size self.old self.new }
         ensures requests { self.new.requests ≤ self.old.requests + range.count }
-        ensures copies { self.new.copies ≤ self.old.copies + 8 * range.count }
     {
         if !is_there(&self.volume, dev) {
             return Err(Refusal::NoSuchDevice);

@@ -1,36 +1,36 @@
 // All that is due is done while requests of several commands are in flight.
-ghost use Rattle.std.specs.Prelude.{◌≡◌, IfErr, OnOk, IfOk, true, None};
+ghost use Rattle.std.specs.Prelude.{◌≡◌, ◌+◌, ◌≤◌, length, vec_capacity, vec_len, IfErr, OnOk, true, None};
 ghost use Rattle.sector.specs.declared.refusal.Refusal.TheVariants.{NoMemory};
 ghost use Rattle.volume.specs.Leaving.{is_quiet_of};
-ghost use Rattle.resting.specs.Rested.{rested_of};
+ghost use Rattle.settled.specs.Merges.{merged};
+ghost use Rattle.resting.specs.Rested.{rested_of, merged_of, IsSettled};
 ghost use Rattle.resting.specs.Flying.{IsWhole};
 ghost use Rattle.resting.specs.Kept.{KeepsDevices};
-ghost use Rattle.resting.specs.Draining.{IsDrained, IsAnsweredAmong};
+ghost use Rattle.resting.specs.Draining.{IsDrained, IsDrainedApart, IsAnsweredAmong, is_idle_of};
 
 use crate::{Replied, Resting};
 use device::Block;
 use plain::{Failure, NotDue, Outcome, Reply, ReqId};
 use sector::Refusal;
-use volume::Volume;
+use volume::{Volume, is_of_merge};
 
-/// Does the events that are due, each time the one that is due first, until none is. Each reply is put at the end of `ended`.
-pub(crate) fn drain<B: Block>(
-    volume: &mut Volume<B>,
-    ended: &mut Vec<Replied>,
-) -> Result<(), Refusal>
-    requires alone { volume.old.merge ≡ None }
-    ensures alone { volume.new.merge ≡ None }
-    ensures drained { IsDrained B.contents B.layers volume.old volume.new ended.old.items ended.new.items }
+/// Does the events that are due, each time the one that is due first, until none is. Each reply is put at the end of `ended`,
+/// where room for one of each request in flight is taken first: where that is refused, nothing is done.
+fn drain<B: Block>(volume: &mut Volume<B>, ended: &mut Vec<Replied>) -> Result<(), Refusal>
+    ensures drained { OnOk result (IsDrained B.contents B.layers volume.old volume.new ended.old.items ended.new.items) }
     ensures quiet { OnOk result (is_quiet_of volume.new ≡ true) }
-    ensures err { IfErr result (λ refusal. refusal ≡ NoMemory) }
+    ensures merged { OnOk result (IsSettled B.layers (rested_of volume.old) → merged (merged_of B.contents B.layers (rested_of volume.old)) ≡ merged_of B.contents B.layers (rested_of volume.new)) }
+    ensures still { is_quiet_of volume.old ≡ true → ended.new.items ≡ ended.old.items }
+    ensures alone { is_quiet_of volume.old ≡ true → volume.old.merge ≡ None → volume.new ≡ volume.old }
+    ensures err { IfErr result (λ refusal. (refusal ≡ NoMemory) × (volume.new ≡ volume.old) × (ended.new.items ≡ ended.old.items)) }
     ensures kept { KeepsDevices B.layers B.size (rested_of volume.old) (rested_of volume.new) }
     ensures requests { volume.new.requests ≡ volume.old.requests }
-    ensures copies { volume.new.copies ≡ volume.old.copies }
 {
+    let _ = volume.is_quiet();
+    let Ok(()) = ended.reserve(volume.flying()) else {
+        return Err(Refusal::NoMemory);
+    };
     while let Some(event) = volume.due() {
-        let Ok(()) = ended.reserve(1) else {
-            return Err(Refusal::NoMemory);
-        };
         match volume.step(event) {
             Ok(Outcome::Reply(number, reply)) => ended.push_reserved(Replied { number, reply }),
             Ok(Outcome::Done) => {}
@@ -41,28 +41,52 @@ pub(crate) fn drain<B: Block>(
     Ok(())
 }
 
-/// Does the events that are due likewise, and tells the reply to one request; those to others are put at the end of `ended`.
+/// Does the events that are due likewise, until none is but one of a merge. There is room in `ended` for a reply to each
+/// request in flight.
+pub(crate) fn drain_apart<B: Block>(volume: &mut Volume<B>, ended: &mut Vec<Replied>)
+    requires room { vec_len ended.old + length volume.old.flights ≤ vec_capacity ended.old }
+    ensures drained { IsDrainedApart B.contents B.layers volume.old volume.new ended.old.items ended.new.items }
+    ensures idle { is_idle_of B.contents B.layers volume.new ≡ true }
+    ensures kept { KeepsDevices B.layers B.size (rested_of volume.old) (rested_of volume.new) }
+    ensures requests { volume.new.requests ≡ volume.old.requests }
+{
+    while let Some(event) = volume.due() {
+        if is_of_merge(event) {
+            break;
+        }
+        match volume.step(event) {
+            Ok(Outcome::Reply(number, reply)) => ended.push_reserved(Replied { number, reply }),
+            Ok(Outcome::Done) => {}
+            Ok(Outcome::Fault) => {}
+            Err(NotDue) => unreachable!(),
+        }
+    }
+}
+
+/// Does the events that are due likewise, those of a merge only until the reply to one request, and tells that reply; those
+/// to others are put at the end of `ended`, which has room for one of each request in flight.
 pub(crate) fn drain_for<B: Block>(
     volume: &mut Volume<B>,
     own: ReqId,
     ended: &mut Vec<Replied>,
-) -> Result<Reply, Refusal>
-    requires alone { volume.old.merge ≡ None }
-    ensures alone { volume.new.merge ≡ None }
-    ensures answered { IfOk result (λ reply. IsAnsweredAmong B.contents B.layers own reply volume.old volume.new ended.old.items ended.new.items) }
-    ensures quiet { OnOk result (is_quiet_of volume.new ≡ true) }
-    ensures err { IfErr result (λ refusal. refusal ≡ NoMemory) }
+) -> Reply
+    requires room { vec_len ended.old + length volume.old.flights ≤ vec_capacity ended.old }
+    ensures answered { IsAnsweredAmong B.contents B.layers own result volume.old volume.new ended.old.items ended.new.items }
+    ensures idle { is_idle_of B.contents B.layers volume.new ≡ true }
     ensures kept { KeepsDevices B.layers B.size (rested_of volume.old) (rested_of volume.new) }
     ensures requests { volume.new.requests ≡ volume.old.requests }
-    ensures copies { volume.new.copies ≡ volume.old.copies }
 {
     let mut answer = Reply::Refused(Failure::Invalid);
+    let mut told = false;
     while let Some(event) = volume.due() {
-        let Ok(()) = ended.reserve(1) else {
-            return Err(Refusal::NoMemory);
-        };
+        if told && is_of_merge(event) {
+            break;
+        }
         match volume.step(event) {
-            Ok(Outcome::Reply(number, reply)) if number == own => answer = reply,
+            Ok(Outcome::Reply(number, reply)) if number == own => {
+                answer = reply;
+                told = true;
+            }
             Ok(Outcome::Reply(other, reply)) => ended.push_reserved(Replied {
                 number: other,
                 reply,
@@ -72,21 +96,24 @@ pub(crate) fn drain_for<B: Block>(
             Err(NotDue) => unreachable!(),
         }
     }
-    Ok(answer)
+    answer
 }
 
 impl<B: Block> Resting<B> {
-    /// Does the events that are due, each time the one that is due first, until none is. Each reply is put at the end of
-    /// `ended`, and room for one is there before each event, so that no reply is lost: where that is refused (`NoMemory`),
-    /// the events before stand, with their replies.
+    /// Does the events that are due, those of a merge among them, each time the one that is due first, until none is. Each
+    /// reply is put at the end of `ended`. Room for one of each request in flight is taken once, before the first event:
+    /// where that is refused (`NoMemory`), nothing is done. A settled volume is left as the settled machine's whole merge
+    /// leaves it, and as it was where no merge is begun.
     pub fn settle(&mut self, ended: &mut Vec<Replied>) -> Result<(), Refusal>
-        ensures drained { IsDrained B.contents B.layers self.old.events self.new.events ended.old.items ended.new.items }
+        ensures drained { OnOk result (IsDrained B.contents B.layers self.old.events self.new.events ended.old.items ended.new.items) }
         ensures quiet { OnOk result (is_quiet_of self.new.events ≡ true) }
-        ensures err { IfErr result (λ refusal. refusal ≡ NoMemory) }
+        ensures merged { OnOk result (IsSettled B.layers self.old → merged (merged_of B.contents B.layers self.old) ≡ merged_of B.contents B.layers self.new) }
+        ensures still { is_quiet_of self.old.events ≡ true → ended.new.items ≡ ended.old.items }
+        ensures alone { is_quiet_of self.old.events ≡ true → self.old.events.merge ≡ None → self.new ≡ self.old }
+        ensures err { IfErr result (λ refusal. (refusal ≡ NoMemory) × (self.new ≡ self.old) × (ended.new.items ≡ ended.old.items)) }
         ensures whole { IsWhole self.old × IsWhole self.new }
         ensures kept { KeepsDevices B.layers B.size self.old self.new }
         ensures requests { self.new.requests ≡ self.old.requests }
-        ensures copies { self.new.copies ≡ self.old.copies }
     {
         drain(&mut self.volume, ended)
     }

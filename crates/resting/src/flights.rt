@@ -13,7 +13,7 @@ ghost use Rattle.volume.specs.Exact.{IsExact};
 ghost use Rattle.volume.specs.Causes.{HasCause, IsOneAtMost};
 ghost use Rattle.volume.specs.Leaving.{is_quiet_of};
 ghost use Rattle.volume.specs.Submitting.{submit_refusal, IsAcceptedAs, IsRefusedAs};
-ghost use Rattle.resting.specs.Rested.{rested_of, settled_of, is_loud_in, IsSettled};
+ghost use Rattle.resting.specs.Rested.{rested_of, merged_of, is_loud_in, IsSettled};
 ghost use Rattle.resting.specs.Flying.{IsWhole};
 ghost use Rattle.resting.specs.Kept.{KeepsDevices};
 
@@ -27,10 +27,9 @@ use volume::Volume;
 
 /// Whether a volume of events is quiet. One that is, and of which no device drops writes, is settled.
 fn is_still<B: Block>(volume: &Volume<B>) -> bool
-    requires alone { volume.now.merge ≡ None }
     ensures value { result ≡ is_quiet_of volume.now }
-    ensures rest { result ≡ true → is_loud_in B.layers (rested_of volume.now) ≡ true → IsSettled B.contents B.layers B.size (rested_of volume.now) }
-    ensures still { IsSettled B.contents B.layers B.size (rested_of volume.now) → result ≡ true }
+    ensures rest { result ≡ true → is_loud_in B.layers (rested_of volume.now) ≡ true → IsSettled B.layers (rested_of volume.now) }
+    ensures still { IsSettled B.layers (rested_of volume.now) → result ≡ true }
 {
     volume.is_quiet()
 }
@@ -41,19 +40,16 @@ fn begin<B: Block>(
     alloc: Global,
     request: Request,
 ) -> Result<ReqId, Refusal>
-    requires alone { volume.old.merge ≡ None }
     requires bytes { (bytes : List ℕ) → request.op ≡ Write bytes → length bytes ≡ 512 * request.range.count }
-    ensures alone { volume.new.merge ≡ None }
     ensures ok { IfOk result (λ number. IsAcceptedAs B.contents B.layers request number volume.old volume.new) }
     ensures admitted { IfOk result (λ _. submit_refusal B.size request volume.old ≡ None) }
     ensures exact { IfOk result (λ number. (replied : Option AnyReply) → submitted number request (moving_of B.contents B.layers replied volume.old) ≡ moving_of B.contents B.layers replied volume.new) }
     ensures refused { IfErr result (λ refusal. IsRefusedAs B.contents B.layers B.size request refusal volume.old volume.new) }
     ensures declined { IfErr result (λ refusal. refusal ≡ Invalid → (number : ℕ) (replied : Option AnyReply) → submitted number request (moving_of B.contents B.layers replied volume.old) ≡ moving_of B.contents B.layers (Some (Refused IsInvalid)) volume.new) }
     ensures starved { IfErr result (λ refusal. refusal ≢ Invalid → (replied : Option AnyReply) → moving_of B.contents B.layers replied volume.new ≡ moving_of B.contents B.layers replied volume.old) }
-    ensures same { IfErr result (λ refusal. refusal ≢ Invalid → (settled_of B.contents B.layers (rested_of volume.new) ≡ settled_of B.contents B.layers (rested_of volume.old)) × (is_quiet_of volume.new ≡ is_quiet_of volume.old)) }
+    ensures same { IfErr result (λ refusal. refusal ≢ Invalid → (merged_of B.contents B.layers (rested_of volume.new) ≡ merged_of B.contents B.layers (rested_of volume.old)) × (is_quiet_of volume.new ≡ is_quiet_of volume.old)) }
     ensures kept { KeepsDevices B.layers B.size (rested_of volume.old) (rested_of volume.new) }
     ensures requests { volume.new.requests ≤ volume.old.requests + 1 }
-    ensures copies { volume.new.copies ≤ volume.old.copies + 8 }
 {
     look(volume);
     match volume.submit(alloc, request) {
@@ -64,8 +60,6 @@ fn begin<B: Block>(
 
 /// Does an event of a volume of events.
 fn advance<B: Block>(volume: &mut Volume<B>, event: Event) -> Result<Outcome, NotDue>
-    requires alone { volume.old.merge ≡ None }
-    ensures alone { volume.new.merge ≡ None }
     ensures legal { IfOk result (λ outcome. is_loud_in_all B.layers volume.old ≡ true → IsLegalStep (plain_of B.contents B.layers volume.old) event outcome (plain_of B.contents B.layers volume.new)) }
     ensures exact { IfOk result (λ outcome. IsExact B.contents B.layers event outcome volume.old volume.new) }
     ensures due { is_ok result ≡ is_due_of B.contents B.layers volume.old event }
@@ -75,7 +69,6 @@ fn advance<B: Block>(volume: &mut Volume<B>, event: Event) -> Result<Outcome, No
     ensures same { OnErr result (volume.new ≡ volume.old) }
     ensures kept { KeepsDevices B.layers B.size (rested_of volume.old) (rested_of volume.new) }
     ensures requests { volume.new.requests ≡ volume.old.requests }
-    ensures copies { volume.new.copies ≡ volume.old.copies }
 {
     match volume.step(event) {
         Ok(outcome) => Ok(outcome),
@@ -88,8 +81,8 @@ impl<B: Block> Resting<B> {
     /// A settled volume is; and one that is, and of which no device drops writes, is settled, whatever was done to it.
     pub fn is_quiet(&self) -> bool
         ensures value { result ≡ is_quiet_of self.now.events }
-        ensures rest { result ≡ true → is_loud_in B.layers self.now ≡ true → IsSettled B.contents B.layers B.size self.now }
-        ensures still { IsSettled B.contents B.layers B.size self.now → result ≡ true }
+        ensures rest { result ≡ true → is_loud_in B.layers self.now ≡ true → IsSettled B.layers self.now }
+        ensures still { IsSettled B.layers self.now → result ≡ true }
     {
         is_still(&self.volume)
     }
@@ -109,11 +102,10 @@ impl<B: Block> Resting<B> {
         ensures refused { IfErr result (λ refusal. IsRefusedAs B.contents B.layers B.size request refusal self.old.events self.new.events) }
         ensures declined { IfErr result (λ refusal. refusal ≡ Invalid → (number : ℕ) (replied : Option AnyReply) → submitted number request (moving_of B.contents B.layers replied self.old.events) ≡ moving_of B.contents B.layers (Some (Refused IsInvalid)) self.new.events) }
         ensures starved { IfErr result (λ refusal. refusal ≢ Invalid → (replied : Option AnyReply) → moving_of B.contents B.layers replied self.new.events ≡ moving_of B.contents B.layers replied self.old.events) }
-        ensures same { IfErr result (λ refusal. refusal ≢ Invalid → (settled_of B.contents B.layers self.new ≡ settled_of B.contents B.layers self.old) × (is_quiet_of self.new.events ≡ is_quiet_of self.old.events)) }
+        ensures same { IfErr result (λ refusal. refusal ≢ Invalid → (merged_of B.contents B.layers self.new ≡ merged_of B.contents B.layers self.old) × (is_quiet_of self.new.events ≡ is_quiet_of self.old.events)) }
         ensures whole { IsWhole self.old × IsWhole self.new }
         ensures kept { KeepsDevices B.layers B.size self.old self.new }
         ensures requests { self.new.requests ≤ self.old.requests + 1 }
-        ensures copies { self.new.copies ≤ self.old.copies + 8 }
     {
         begin(&mut self.volume, alloc, request)
     }
@@ -132,7 +124,6 @@ impl<B: Block> Resting<B> {
         ensures whole { IsWhole self.old × IsWhole self.new }
         ensures kept { KeepsDevices B.layers B.size self.old self.new }
         ensures requests { self.new.requests ≡ self.old.requests }
-        ensures copies { self.new.copies ≡ self.old.copies }
     {
         advance(&mut self.volume, event)
     }

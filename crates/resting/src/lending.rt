@@ -1,8 +1,9 @@
 // What callers ask of the snapshot at a place, counted from 0 in order of attaching.
-ghost use Rattle.std.specs.Prelude.{◌≡◌, ℕ, ◌<◌, length, slice_index_or, is_some, IfSome, Some};
+ghost use Rattle.std.specs.Prelude.{◌≡◌, ℕ, ◌<◌, length, slice_index_or, is_some, IfSome, Some, false};
 ghost use Rattle.std.specs.List.{remove};
 ghost use Rattle.snapshot.specs.Kept.{Kept};
 ghost use Rattle.volume.specs.Leaving.{usage_of};
+ghost use Rattle.volume.specs.Submitting.{is_merging};
 ghost use Rattle.resting.specs.Flying.{IsWhole};
 ghost use Rattle.resting.specs.Rested.{Attached, IsSettled, snap_at, without};
 ghost use Rattle.resting.specs.Using.{IsUsed};
@@ -13,12 +14,13 @@ use device::Block;
 use plain::SnapId;
 
 impl<B: Block> Resting<B> {
-    /// Its number: no snapshot before it has the same.
+    /// Its number: no snapshot before it has the same, nor the one that is being merged.
     pub fn number(&self, k: usize) -> SnapId
         requires { k < length self.now.snaps }
         ensures value { (d : Attached B) → result ≡ (slice_index_or self.now.snaps k d).number }
         ensures first { (d : Attached B) → snap_at result self.now.snaps ≡ Some (slice_index_or self.now.snaps k d) }
         ensures rest { without result self.now.snaps ≡ remove self.now.snaps k }
+        ensures apart { is_merging result self.now.events.merge ≡ false }
     {
         self.volume.snap(k).number()
     }
@@ -54,8 +56,10 @@ impl<B: Block> Resting<B> {
         ensures whole { IsWhole self.now }
         ensures is { (d : Kept B) → result ≡ usage_of (slice_index_or self.now.events.snaps k d) }
         ensures live { (d : Attached B) → is_some result ≡ (slice_index_or self.now.snaps k d).live }
-        ensures used { IfSome result (λ usage. IsSettled B.contents B.layers B.size self.now → (d : Attached B) → IsUsed B.contents B.size (slice_index_or self.now.snaps k d) usage) }
+        ensures used { IfSome result (λ usage. IsSettled B.layers self.now → (d : Attached B) → IsUsed B.contents B.size (slice_index_or self.now.snaps k d) usage) }
     {
+        // What a quiet volume is.
+        let _ = self.volume.is_quiet();
         let snap = self.volume.snap(k);
         if snap.is_live() {
             Some(snap.usage())

@@ -17,6 +17,7 @@ mod draining;
 mod flights;
 mod layering;
 mod lending;
+mod merging;
 mod pieces;
 mod resting;
 mod serving;

@@ -3,7 +3,9 @@ ghost use Rattle.std.specs.Prelude.{◌≡◌, ◌⊎◌, ℕ, ◌+◌, ◌*◌,
 ghost use Rattle.plain.specs.declared.request.Reply.TheVariants.{Data, Refused, Written};
 ghost use Rattle.plain.specs.declared.request.Op.TheVariants.{Read, Write};
 ghost use Rattle.chunk.specs.Pieces.{span_of};
-ghost use Rattle.settled.specs.Commands.{write_piece as piece_written, read_piece as piece_read, written, read};
+ghost use Rattle.volume.specs.Volumed.{piece_with};
+ghost use Rattle.served.specs.Beside.{written_beside, read_beside};
+ghost use Rattle.resting.specs.Serving.{part_written, part_read};
 ghost use Rattle.resting.specs.Rested.{rested_of, IsSettled};
 ghost use Rattle.resting.specs.Kept.{KeepsDevices};
 ghost use Rattle.resting.specs.Between.{IsBetween};
@@ -30,12 +32,12 @@ fn write_piece<B: Block>(
     requires between { IsBetween volume.old }
     requires can { CanServe B.size dev (Write bytes.now) piece volume.old }
     ensures between { IsBetween volume.new }
-    ensures settled { IsSettled B.contents B.layers B.size (rested_of volume.old) → IsSettled B.contents B.layers B.size (rested_of volume.new) }
-    ensures done { OnOk result (IsPieceDone B.contents B.layers B.size (piece_written dev (span_of piece) bytes.now) (rested_of volume.old) (rested_of volume.new)) }
-    ensures refused { IfErr result (λ refusal. IsPieceRefused B.contents B.layers B.size (piece_written dev (span_of piece) bytes.now) refusal (rested_of volume.old) (rested_of volume.new)) }
+    ensures settled { IsSettled B.layers (rested_of volume.old) → IsSettled B.layers (rested_of volume.new) }
+    ensures done { OnOk result (IsPieceDone B.contents B.layers (part_written dev (span_of piece) bytes.now) (rested_of volume.old) (rested_of volume.new)) }
+    ensures refused { IfErr result (λ refusal. IsPieceRefused B.contents B.layers (part_written dev (span_of piece) bytes.now) refusal (rested_of volume.old) (rested_of volume.new)) }
     ensures kept { KeepsDevices B.layers B.size (rested_of volume.old) (rested_of volume.new) }
+    ensures piece { piece_with volume.new.merge volume.new.snaps ≡ piece_with volume.old.merge volume.old.snaps }
     ensures requests { volume.new.requests ≤ volume.old.requests + 1 }
-    ensures copies { volume.new.copies ≤ volume.old.copies + 8 }
 {
     let Ok(bytes) = Buf::from_slice(alloc, bytes) else {
         return Err(Refusal::NoMemory);
@@ -65,15 +67,15 @@ fn read_piece<B: Block>(
     requires can { CanServe B.size dev Read piece volume.old }
     requires room { vec_len out.old + 512 * piece.count ≤ vec_capacity out.old }
     ensures between { IsBetween volume.new }
-    ensures settled { IsSettled B.contents B.layers B.size (rested_of volume.old) → IsSettled B.contents B.layers B.size (rested_of volume.new) }
-    ensures done { OnOk result (IsPieceRead B.contents B.layers B.size (piece_read dev (span_of piece)) out.old.items out.new.items (rested_of volume.old) (rested_of volume.new)) }
-    ensures refused { IfErr result (λ refusal. IsPieceRefused B.contents B.layers B.size (piece_read dev (span_of piece)) refusal (rested_of volume.old) (rested_of volume.new)) }
+    ensures settled { IsSettled B.layers (rested_of volume.old) → IsSettled B.layers (rested_of volume.new) }
+    ensures done { OnOk result (IsPieceRead B.contents B.layers (part_read dev (span_of piece)) out.old.items out.new.items (rested_of volume.old) (rested_of volume.new)) }
+    ensures refused { IfErr result (λ refusal. IsPieceRefused B.contents B.layers (part_read dev (span_of piece)) refusal (rested_of volume.old) (rested_of volume.new)) }
     ensures out_err { OnErr result (out.new.items ≡ out.old.items) }
     ensures len { vec_len out.new ≤ vec_len out.old + 512 * piece.count }
     ensures capacity { vec_capacity out.old ≤ vec_capacity out.new }
     ensures kept { KeepsDevices B.layers B.size (rested_of volume.old) (rested_of volume.new) }
+    ensures piece { piece_with volume.new.merge volume.new.snaps ≡ piece_with volume.old.merge volume.old.snaps }
     ensures requests { volume.new.requests ≤ volume.old.requests + 1 }
-    ensures copies { volume.new.copies ≤ volume.old.copies + 8 }
 {
     let request = Request {
         dev,
@@ -107,15 +109,16 @@ pub(crate) fn write_pieces<B: Block>(
     requires can { CanAsk B.size dev range volume.old }
     requires room { length bytes.now ≡ 512 * range.count }
     ensures between { IsBetween volume.new }
-    ensures settled { IsSettled B.contents B.layers B.size (rested_of volume.old) → IsSettled B.contents B.layers B.size (rested_of volume.new) }
-    ensures done { OnOk result (IsDoneBy B.contents B.layers B.size (written dev (span_of range) bytes.now) Written (rested_of volume.old) (rested_of volume.new)) }
-    ensures refused { IfErr result (λ refusal. IsWriteRefused B.contents B.layers B.size dev (span_of range) bytes.now refusal (rested_of volume.old) (rested_of volume.new)) }
-    ensures shows { OnOk result (IsSettled B.contents B.layers B.size (rested_of volume.old) → IsPlainWrite dev (span_of range) bytes.now (arrays_in B.contents B.layers (rested_of volume.old)) (arrays_in B.contents B.layers (rested_of volume.new))) }
-    ensures loses { IfErr result (λ refusal. IsSettled B.contents B.layers B.size (rested_of volume.old) → IsPlainWriteRefused dev (span_of range) (pieces_for B.contents B.layers (span_of range) (rested_of volume.old)) bytes.now refusal (arrays_in B.contents B.layers (rested_of volume.old)) (arrays_in B.contents B.layers (rested_of volume.new))) }
+    ensures settled { IsSettled B.layers (rested_of volume.old) → IsSettled B.layers (rested_of volume.new) }
+    ensures done { OnOk result (IsDoneBy B.contents B.layers (written_beside dev (span_of range) bytes.now) Written (rested_of volume.old) (rested_of volume.new)) }
+    ensures refused { IfErr result (λ refusal. IsWriteRefused B.contents B.layers dev (span_of range) bytes.now refusal (rested_of volume.old) (rested_of volume.new)) }
+    ensures shows { OnOk result (IsSettled B.layers (rested_of volume.old) → volume.old.merge ≡ None → IsPlainWrite dev (span_of range) bytes.now (arrays_in B.contents B.layers (rested_of volume.old)) (arrays_in B.contents B.layers (rested_of volume.new))) }
+    ensures loses { IfErr result (λ refusal. IsSettled B.layers (rested_of volume.old) → volume.old.merge ≡ None → IsPlainWriteRefused dev (span_of range) (pieces_for B.contents B.layers (span_of range) (rested_of volume.old)) bytes.now refusal (arrays_in B.contents B.layers (rested_of volume.old)) (arrays_in B.contents B.layers (rested_of volume.new))) }
     ensures kept { KeepsDevices B.layers B.size (rested_of volume.old) (rested_of volume.new) }
     ensures requests { volume.new.requests ≤ volume.old.requests + range.count }
-    ensures copies { volume.new.copies ≤ volume.old.copies + 8 * range.count }
 {
+    // A quiet volume, no device of which drops writes, is at rest.
+    let _ = volume.is_quiet();
     let geometry = Geometry {
         chunk: volume.piece(),
         sectors: range.size,
@@ -142,15 +145,16 @@ pub(crate) fn read_pieces<B: Block>(
     requires between { IsBetween volume.old }
     requires can { CanAsk B.size dev range volume.old }
     ensures between { IsBetween volume.new }
-    ensures settled { IsSettled B.contents B.layers B.size (rested_of volume.old) → IsSettled B.contents B.layers B.size (rested_of volume.new) }
-    ensures done { IfOk result (λ bytes. IsDoneBy B.contents B.layers B.size (read dev (span_of range)) (Data bytes) (rested_of volume.old) (rested_of volume.new)) }
-    ensures refused { IfErr result (λ refusal. IsReadRefused B.contents B.layers B.size dev (span_of range) refusal (rested_of volume.old) (rested_of volume.new)) }
-    ensures shows { IfOk result (λ bytes. IsSettled B.contents B.layers B.size (rested_of volume.old) → IsPlainRead dev (span_of range) bytes (arrays_in B.contents B.layers (rested_of volume.old)) (arrays_in B.contents B.layers (rested_of volume.new))) }
-    ensures loses { IfErr result (λ refusal. IsSettled B.contents B.layers B.size (rested_of volume.old) → IsPlainReadRefused dev refusal (arrays_in B.contents B.layers (rested_of volume.old)) (arrays_in B.contents B.layers (rested_of volume.new))) }
+    ensures settled { IsSettled B.layers (rested_of volume.old) → IsSettled B.layers (rested_of volume.new) }
+    ensures done { IfOk result (λ bytes. IsDoneBy B.contents B.layers (read_beside dev (span_of range)) (Data bytes) (rested_of volume.old) (rested_of volume.new)) }
+    ensures refused { IfErr result (λ refusal. IsReadRefused B.contents B.layers dev (span_of range) refusal (rested_of volume.old) (rested_of volume.new)) }
+    ensures shows { IfOk result (λ bytes. IsSettled B.layers (rested_of volume.old) → volume.old.merge ≡ None → IsPlainRead dev (span_of range) bytes (arrays_in B.contents B.layers (rested_of volume.old)) (arrays_in B.contents B.layers (rested_of volume.new))) }
+    ensures loses { IfErr result (λ refusal. IsSettled B.layers (rested_of volume.old) → volume.old.merge ≡ None → IsPlainReadRefused dev refusal (arrays_in B.contents B.layers (rested_of volume.old)) (arrays_in B.contents B.layers (rested_of volume.new))) }
     ensures kept { KeepsDevices B.layers B.size (rested_of volume.old) (rested_of volume.new) }
     ensures requests { volume.new.requests ≤ volume.old.requests + range.count }
-    ensures copies { volume.new.copies ≤ volume.old.copies + 8 * range.count }
 {
+    // A quiet volume, no device of which drops writes, is at rest.
+    let _ = volume.is_quiet();
     let Ok(mut out) = Vec::with_capacity(alloc, range.count as usize * SECTOR_BYTES) else {
         return Err(Refusal::NoMemory);
     };

@@ -5,7 +5,7 @@ ghost use Rattle.device.specs.Layers.{is_loud};
 ghost use Rattle.plain.specs.declared.request.Reply.TheVariants.{Data, Written};
 ghost use Rattle.chunk.specs.Pieces.{span_of};
 ghost use Rattle.volume.specs.Leaving.{is_quiet_of};
-ghost use Rattle.settled.specs.Commands.{written, read};
+ghost use Rattle.served.specs.Beside.{written_beside, read_beside};
 ghost use Rattle.resting.specs.Rested.{has_dev, rested_of, IsSettled};
 ghost use Rattle.resting.specs.Kept.{KeepsDevices};
 ghost use Rattle.resting.specs.Commands.{IsDoneBy, IsWriteRefused, IsReadRefused};
@@ -34,18 +34,13 @@ impl<B: Block> Model for Resting<B> {
     ghost Value = { Rested B };
 
     ghost view = { λ v. rested_of v.volume };
-
-    ghost use Rattle.std.specs.Prelude.{◌≡◌, None};
-
-    // No call begins a merge yet.
-    ghost invariant = { λ v. v.volume.merge ≡ None };
 }
 
 impl<B: Block> Resting<B> {
     /// A volume over an origin disk, without snapshots. Where memory is refused, the disk is given back.
     pub fn new(alloc: Global, origin: B) -> Result<Resting<B>, (Refusal, B)>
         ensures ok { IfOk result (λ v. v ≡ rested_of (record { origin = origin; snaps = []; merge = None; flights = []; requests = 0; copies = 0; attached = 0 })) }
-        ensures settled { IfOk result (λ v. is_loud (B.layers origin) ≡ true → IsSettled B.contents B.layers B.size v) }
+        ensures settled { IfOk result (λ v. is_loud (B.layers origin) ≡ true → IsSettled B.layers v) }
         ensures err { IfErr result (λ e. e ≡ record { 0 = NoMemory; 1 = origin }) }
     {
         match Volume::new(alloc, origin) {
@@ -81,15 +76,14 @@ impl<B: Block> Resting<B> {
         requires inside { range.first + range.count ≤ B.size self.old.origin }
         requires requests { self.old.requests + range.count < 9_223_372_036_854_775_808 }
         ensures quiet { is_quiet_of self.new.events ≡ true }
-        ensures settled { IsSettled B.contents B.layers B.size self.old → IsSettled B.contents B.layers B.size self.new }
-        ensures done { IfOk result (λ bytes. IsDoneBy B.contents B.layers B.size (read dev (span_of range)) (Data bytes) self.old self.new) }
+        ensures settled { IsSettled B.layers self.old → IsSettled B.layers self.new }
+        ensures done { IfOk result (λ bytes. IsDoneBy B.contents B.layers (read_beside dev (span_of range)) (Data bytes) self.old self.new) }
         ensures there { OnOk result (has_dev dev self.old ≡ true) }
-        ensures refused { IfErr result (λ refusal. IsReadRefused B.contents B.layers B.size dev (span_of range) refusal self.old self.new) }
-        ensures shows { IfOk result (λ bytes. IsSettled B.contents B.layers B.size self.old → IsPlainRead dev (span_of range) bytes (arrays_in B.contents B.layers self.old) (arrays_in B.contents B.layers self.new)) }
-        ensures loses { IfErr result (λ refusal. IsSettled B.contents B.layers B.size self.old → IsPlainReadRefused dev refusal (arrays_in B.contents B.layers self.old) (arrays_in B.contents B.layers self.new)) }
+        ensures refused { IfErr result (λ refusal. IsReadRefused B.contents B.layers dev (span_of range) refusal self.old self.new) }
+        ensures shows { IfOk result (λ bytes. IsSettled B.layers self.old → self.old.events.merge ≡ None → IsPlainRead dev (span_of range) bytes (arrays_in B.contents B.layers self.old) (arrays_in B.contents B.layers self.new)) }
+        ensures loses { IfErr result (λ refusal. IsSettled B.layers self.old → self.old.events.merge ≡ None → IsPlainReadRefused dev refusal (arrays_in B.contents B.layers self.old) (arrays_in B.contents B.layers self.new)) }
         ensures kept { KeepsDevices B.layers B.size self.old self.new }
         ensures requests { self.new.requests ≤ self.old.requests + range.count }
-        ensures copies { self.new.copies ≤ self.old.copies + 8 * range.count }
     {
         look(&self.volume);
         if !is_there(&self.volume, dev) {
@@ -119,15 +113,14 @@ impl<B: Block> Resting<B> {
         requires room { length bytes.now ≡ 512 * range.count }
         requires requests { self.old.requests + range.count < 9_223_372_036_854_775_808 }
         ensures quiet { is_quiet_of self.new.events ≡ true }
-        ensures settled { IsSettled B.contents B.layers B.size self.old → IsSettled B.contents B.layers B.size self.new }
-        ensures done { OnOk result (IsDoneBy B.contents B.layers B.size (written dev (span_of range) bytes.now) Written self.old self.new) }
+        ensures settled { IsSettled B.layers self.old → IsSettled B.layers self.new }
+        ensures done { OnOk result (IsDoneBy B.contents B.layers (written_beside dev (span_of range) bytes.now) Written self.old self.new) }
         ensures there { OnOk result (has_dev dev self.old ≡ true) }
-        ensures refused { IfErr result (λ refusal. IsWriteRefused B.contents B.layers B.size dev (span_of range) bytes.now refusal self.old self.new) }
-        ensures shows { OnOk result (IsSettled B.contents B.layers B.size self.old → IsPlainWrite dev (span_of range) bytes.now (arrays_in B.contents B.layers self.old) (arrays_in B.contents B.layers self.new)) }
-        ensures loses { IfErr result (λ refusal. IsSettled B.contents B.layers B.size self.old → IsPlainWriteRefused dev (span_of range) (pieces_for B.contents B.layers (span_of range) self.old) bytes.now refusal (arrays_in B.contents B.layers self.old) (arrays_in B.contents B.layers self.new)) }
+        ensures refused { IfErr result (λ refusal. IsWriteRefused B.contents B.layers dev (span_of range) bytes.now refusal self.old self.new) }
+        ensures shows { OnOk result (IsSettled B.layers self.old → self.old.events.merge ≡ None → IsPlainWrite dev (span_of range) bytes.now (arrays_in B.contents B.layers self.old) (arrays_in B.contents B.layers self.new)) }
+        ensures loses { IfErr result (λ refusal. IsSettled B.layers self.old → self.old.events.merge ≡ None → IsPlainWriteRefused dev (span_of range) (pieces_for B.contents B.layers (span_of range) self.old) bytes.now refusal (arrays_in B.contents B.layers self.old) (arrays_in B.contents B.layers self.new)) }
         ensures kept { KeepsDevices B.layers B.size self.old self.new }
         ensures requests { self.new.requests ≤ self.old.requests + range.count }
-        ensures copies { self.new.copies ≤ self.old.copies + 8 * range.count }
     {
         look(&self.volume);
         if !is_there(&self.volume, dev) {

@@ -1,21 +1,21 @@
 // One piece of a command: it is submitted, and the events that are due are done until none is.
-ghost use Rattle.std.specs.Prelude.{◌≡◌, ℕ, ◌+◌, ◌≤◌, length, Option, None, Some, IfOk, IfErr, OnOk, OnErr, true};
+ghost use Rattle.std.specs.Prelude.{◌≡◌, ℕ, ◌+◌, ◌≤◌, length, Option, None, Some, IfOk, IfErr, OnOk, true, false};
 ghost use Rattle.sector.specs.declared.refusal.Refusal.TheVariants.{NoMemory};
 ghost use Rattle.plain.specs.declared.request.Reply.{Reply};
 ghost use Rattle.plain.specs.declared.request.Reply.TheVariants.{Refused};
 ghost use Rattle.plain.specs.declared.request.Failure.TheVariants.{Invalid};
 ghost use Rattle.event_machine.specs.Due.{due};
 ghost use Rattle.event_machine.specs.Submitting.{submitted};
-ghost use Rattle.settled.specs.Requests.{answer_of};
-ghost use Rattle.volume.specs.Volumed.{is_loud_in_all};
+ghost use Rattle.volume.specs.Volumed.{is_loud_in_all, piece_with};
 ghost use Rattle.volume.specs.Moved.{moving_of};
 ghost use Rattle.volume.specs.Reaching.{IsRun};
-ghost use Rattle.volume.specs.Leaving.{is_quiet_of};
+ghost use Rattle.volume.specs.Leaving.{has_group_in, is_quiet_of};
 ghost use Rattle.volume.specs.Submitting.{SameButRoom};
-ghost use Rattle.resting.specs.Rested.{rested_of, settled_of, IsSettled, has_dev};
+ghost use Rattle.resting.specs.Rested.{rested_of, merged_of, IsSettled, has_dev};
 ghost use Rattle.resting.specs.Kept.{KeepsDevices};
 ghost use Rattle.resting.specs.Between.{IsBetween};
-ghost use Rattle.resting.specs.Serving.{CanServe};
+ghost use Rattle.resting.specs.Commands.{IsDoneBy};
+ghost use Rattle.resting.specs.Serving.{CanServe, part_done};
 ghost use Rattle.volume.specs.Stepping.{KeepsAll};
 
 use device::Block;
@@ -24,19 +24,20 @@ use sector::Refusal;
 use std::alloc::Global;
 use volume::Volume;
 
-/// Does the events that are due, each time the one that is due first, until none is. Tells the last reply, and the one that
-/// was given before where there is none.
+/// Does the events that are due, each time the one that is due first, until the volume is quiet: none is then due but one of a
+/// merge. Tells the last reply, and the one that was given before where there is none.
 fn settle<B: Block>(volume: &mut Volume<B>, mut reply: Reply) -> Reply
-    requires alone { volume.old.merge ≡ None }
-    ensures alone { volume.new.merge ≡ None }
+    requires free { has_group_in volume.old.merge ≡ false }
     ensures run { IsRun B.contents B.layers (Some reply) (Some result) volume.old volume.new }
     ensures none { (replied : Option Reply) → due (moving_of B.contents B.layers replied volume.new) ≡ None }
     ensures quiet { is_quiet_of volume.new ≡ true }
     ensures kept { KeepsAll B.size volume.old volume.new }
     ensures requests { volume.new.requests ≡ volume.old.requests }
-    ensures copies { volume.new.copies ≡ volume.old.copies }
 {
-    while let Some(event) = volume.due() {
+    while !volume.is_quiet() {
+        let Some(event) = volume.due() else {
+            unreachable!()
+        };
         match volume.step(event) {
             Ok(Outcome::Reply(_, given)) => reply = given,
             Ok(Outcome::Done) => {}
@@ -50,18 +51,18 @@ fn settle<B: Block>(volume: &mut Volume<B>, mut reply: Reply) -> Reply
 /// Submits the request of a piece. One that its snapshot refuses is answered `Invalid`, and may have spoiled that snapshot;
 /// where memory is refused nothing changed.
 fn enter<B: Block>(volume: &mut Volume<B>, alloc: Global, request: Request) -> Result<(), Refusal>
-    requires alone { volume.old.merge ≡ None }
     requires quiet { is_quiet_of volume.old ≡ true }
     requires few { length volume.old.snaps ≤ 8 }
     requires can { CanServe B.size request.dev request.op request.range volume.old }
-    ensures alone { volume.new.merge ≡ None }
     ensures ok { OnOk result ((number : ℕ) × (submitted number request (moving_of B.contents B.layers (Some (Refused Invalid)) volume.old) ≡ moving_of B.contents B.layers (Some (Refused Invalid)) volume.new)) }
     ensures starved { IfErr result (λ refusal. (refusal ≡ NoMemory) × SameButRoom volume.old volume.new × (moving_of B.contents B.layers None volume.new ≡ moving_of B.contents B.layers None volume.old)) }
+    ensures free { has_group_in volume.new.merge ≡ false }
     ensures loud { is_loud_in_all B.layers volume.new ≡ is_loud_in_all B.layers volume.old }
     ensures kept { KeepsAll B.size volume.old volume.new }
     ensures requests { volume.new.requests ≤ volume.old.requests + 1 }
-    ensures copies { volume.new.copies ≤ volume.old.copies + 8 }
 {
+    // Of the snapshots that a request may go to, none is the one that is being merged.
+    let _ = volume.merging();
     match volume.submit(alloc, request) {
         Ok(_) => Ok(()),
         Err(refusal) => match refusal {
@@ -80,13 +81,15 @@ pub(crate) fn serve<B: Block>(
     requires between { IsBetween volume.old }
     requires can { CanServe B.size request.dev request.op request.range volume.old }
     ensures between { IsBetween volume.new }
-    ensures settled { IsSettled B.contents B.layers B.size (rested_of volume.old) → IsSettled B.contents B.layers B.size (rested_of volume.new) }
-    ensures answer { IfOk result (λ reply. IsSettled B.contents B.layers B.size (rested_of volume.old) → answer_of request (settled_of B.contents B.layers (rested_of volume.old)) ≡ record { volume = settled_of B.contents B.layers (rested_of volume.new); reply = reply }) }
-    ensures starved { IfErr result (λ refusal. (refusal ≡ NoMemory) × (settled_of B.contents B.layers (rested_of volume.new) ≡ settled_of B.contents B.layers (rested_of volume.old))) }
+    ensures settled { IsSettled B.layers (rested_of volume.old) → IsSettled B.layers (rested_of volume.new) }
+    ensures answer { IfOk result (λ reply. IsDoneBy B.contents B.layers (part_done request) reply (rested_of volume.old) (rested_of volume.new)) }
+    ensures starved { IfErr result (λ refusal. (refusal ≡ NoMemory) × (merged_of B.contents B.layers (rested_of volume.new) ≡ merged_of B.contents B.layers (rested_of volume.old))) }
     ensures kept { KeepsDevices B.layers B.size (rested_of volume.old) (rested_of volume.new) }
+    ensures piece { piece_with volume.new.merge volume.new.snaps ≡ piece_with volume.old.merge volume.old.snaps }
     ensures requests { volume.new.requests ≤ volume.old.requests + 1 }
-    ensures copies { volume.new.copies ≤ volume.old.copies + 8 }
 {
+    // A quiet volume, no device of which drops writes, is at rest.
+    let _ = volume.is_quiet();
     match enter(volume, alloc, request) {
         Ok(()) => {}
         Err(refusal) => return Err(refusal),
@@ -103,14 +106,18 @@ pub(crate) fn look<B: Block>(volume: &Volume<B>)
 
 /// Whether a request's device is there.
 pub(crate) fn is_there<B: Block>(volume: &Volume<B>, dev: Dev) -> bool
-    requires alone { volume.now.merge ≡ None }
     ensures { result ≡ has_dev dev (rested_of volume.now) }
 {
     match dev {
         Dev::Origin => true,
-        Dev::Snap(number) => match volume.store(number) {
-            Ok(_) => true,
-            Err(_) => false,
-        },
+        Dev::Snap(number) => {
+            if volume.merging() == Some(number) {
+                return false;
+            }
+            match volume.store(number) {
+                Ok(_) => true,
+                Err(_) => false,
+            }
+        }
     }
 }

@@ -1,5 +1,5 @@
 -- One line of a desk.
-use Rattle.std.proofs.Common.{◌≡◌, ℕ, List, [], ◌∷◌, Option, Some, sym, ap, ◌∙◌, inl, inr, subst, arith, true, false, ◌<◌, ◌^◌, length}
+use Rattle.std.proofs.Common.{◌≡◌, ℕ, List, [], ◌∷◌, Option, Some, sym, ap, ◌∙◌, inl, inr, subst, arith, true, ◌<◌, ◌^◌, length}
 use Rattle.std.specs.Prelude.{Ok, Err, IfSome}
 use Rattle.sector.specs.declared.refusal.Refusal.{Refusal}
 use Rattle.reply.specs.declared.Reply.{Reply}

@@ -1,6 +1,6 @@
 -- What a line leaves of the devices, by what its command does.
-use Rattle.std.proofs.Common.{◌≡◌, ◌≢◌, ◌⊎◌, ℕ, List, [], ◌++◌, Option, Some, None, refl, sym, ap, ◌∙◌, inl, inr, subst}
-use Rattle.std.specs.Prelude.{IfErr, IfSome, OnOk, Result, Ok, Err}
+use Rattle.std.proofs.Common.{◌≡◌, ◌≢◌, ℕ, List, [], ◌++◌, Option, Some, None, refl, sym, ap, ◌∙◌, inl, inr, subst}
+use Rattle.std.specs.Prelude.{IfErr, IfSome, OnErr, OnOk, Result, Ok, Err}
 use Rattle.sector.specs.declared.refusal.Refusal.{Refusal}
 use Rattle.sector.specs.declared.refusal.Refusal.TheVariants.{NoMemory}
 use Rattle.command.specs.Line.{said_of}
@@ -13,7 +13,7 @@ use Rattle.runner.specs.Ended.{ended_lines, line_replies}
 use Rattle.command.specs.declared.events.Event.{Event}
 use Rattle.devices.specs.Devices.{KeepsOthers}
 use Rattle.runner.specs.Left.{IsLeft, IsLeftSaid, IsLineLeft, IsStepLeft}
-use Rattle.runner.specs.Output.{Outcome, answered, told}
+use Rattle.runner.specs.Output.{answered, told}
 use Rattle.runner.specs.Done.{IsToldFor}
 use Rattle.runner.specs.Steps.{reworded}
 use Rattle.runner.proofs.AskingLemmas.{memory_or_not}
@@ -23,6 +23,15 @@ pub on_worded : {A B : Type 0} (words : A → B) (call : Result A Refusal) (repl
 on_worded {B = B} words (Ok x) reply P is h = let Q : Result B Refusal → Type 0 = λ r. OnOk r P in subst Q (sym is) h
 on_worded {B = B} words (Err e) reply P is h = let Q : Result B Refusal → Type 0 = λ r. OnOk r P in subst Q (sym is) tt
 
+-- and what holds of its refusal
+pub err_worded : {A B : Type 0} (words : A → B) (call : Result A Refusal) (reply : Result B Refusal) (P : Type 0) → reply ≡ reworded words call → OnErr call P → OnErr reply P
+err_worded {B = B} words (Ok x) reply P is h = let Q : Result B Refusal → Type 0 = λ r. OnErr r P in subst Q (sym is) tt
+err_worded {B = B} words (Err e) reply P is h = let Q : Result B Refusal → Type 0 = λ r. OnErr r P in subst Q (sym is) h
+
+pub refused_worded : {A B : Type 0} (words : A → B) (call : Result A Refusal) (reply : Result B Refusal) (P : Refusal → Type 0) → reply ≡ reworded words call → IfErr call P → IfErr reply P
+refused_worded {B = B} words (Ok x) reply P is h = let Q : Result B Refusal → Type 0 = λ r. IfErr r P in subst Q (sym is) tt
+refused_worded {B = B} words (Err e) reply P is h = let Q : Result B Refusal → Type 0 = λ r. IfErr r P in subst Q (sym is) h
+
 -- a command that is refused before its volume is asked
 pub worded_asked : {A B : Type 0} (words : B → Reply) (asks : Result A Refusal) (call : Result B Refusal) (reply : Result Reply Refusal) → IfErr asks (λ e. call ≡ Err e) → reply ≡ reworded words call → IsFirst (refusal_in asks) (told (reworded Some reply))
 worded_asked words (Ok x) call reply same is = tt
@@ -31,6 +40,11 @@ worded_asked words (Err e) call reply same is = inl (ap (λ r. told (reworded So
 pub asked_still : {A : Type 0} (P : Type 0) (asks : Result A Refusal) → IfErr asks (λ _. P) → IfSome (refusal_in asks) (λ _. P)
 asked_still P (Ok x) h = tt
 asked_still P (Err e) h = h
+
+-- one that is refused leaves all as it was
+pub refused_stays : {A B : Type 0} (asks : Result A Refusal) (call : Result B Refusal) (P : Type 0) → IfErr asks (λ e. call ≡ Err e) → OnErr call P → IfErr asks (λ _. P)
+refused_stays (Ok x) call P same h = tt
+refused_stays {B = B} (Err e) call P same h = let Q : Result B Refusal → Type 0 = λ r. OnErr r P in subst Q same h
 
 -- both facts of it
 pub asked_both : {A : Type 0} (P Q : Type 0) (asks : Result A Refusal) → IfErr asks (λ _. P) → Q → IfSome (refusal_in asks) (λ _. P × Q)
@@ -77,5 +91,7 @@ step_starved volume event answer table before after is same = record {
   others = inl refl;
   stepped = tt;
   stays = (refl, same);
+  refused = λ other. absurd (other refl);
+  merging = λ about. refl;
   due = λ other. absurd (other refl);
 }

@@ -1,5 +1,5 @@
 -- A message that is answered by more than that it is done leaves all devices as they were.
-use Rattle.std.proofs.Common.{◌≡◌, ◌≢◌, ℕ, ◌-◌, Bool, true, false, List, [], ◌∷◌, set, refl, sym, ap, ◌∙◌, inl, inr, subst}
+use Rattle.std.proofs.Common.{◌≡◌, ◌≢◌, ℕ, ◌-◌, Bool, true, false, List, [], ◌∷◌, Option, Some, None, set, refl, sym, ap, ◌∙◌, inl, inr, subst}
 use Rattle.std.specs.Prelude.{Result, Ok, Err, ◌==◌, if◌then◌else◌}
 use Rattle.std.proofs.lemmas.Option.{slice_get_cases}
 use Rattle.sector.specs.declared.refusal.Refusal.{Refusal}
@@ -13,14 +13,15 @@ use Rattle.layers.specs.Messages.{Told, Answered, Refused, told, told_with, laye
 use Rattle.words.specs.Given.{◌>>=◌}
 use Rattle.settled.specs.Devices.{Device}
 use Rattle.settled.specs.Snaps.{Snap, Volume as Settled}
+use Rattle.settled.specs.Merges.{Merge, Merged}
 use Rattle.named.specs.declared.place.Role.{Role}
-use Rattle.named.specs.declared.place.Role.TheVariants.{Origin, Under, Snapshot, Store}
+use Rattle.named.specs.declared.place.Role.TheVariants.{Origin, Under, Snapshot, Store, Merging as MergingRole, MergingStore}
 use Rattle.named.specs.declared.place.Place.{Place}
 use Rattle.named.specs.declared.place.Place.TheVariants.{Free, In}
-use Rattle.named.specs.State.{Stacked, Volume, Table}
+use Rattle.named.specs.State.{Stacked, Merging, Volume, Table, merge_in, merged_in, with_merge, with_merged}
 use Rattle.named.specs.Places.{place_of, found, stack_at, volume_at}
 use Rattle.named.specs.Layers.{put}
-use Rattle.named.specs.Messages.{with_layers, told_in, told_free, told_under, snap_at, told_snap, told_store, told_role, told_mounted, put_volume, told_at, tell}
+use Rattle.named.specs.Messages.{with_layers, told_in, told_free, told_under, snap_at, told_snap, told_store, told_beside, told_merge, told_merging, told_role, told_mounted, put_volume, told_at, tell}
 use Rattle.named.proofs.AtPlace.{put_back}
 use Rattle.named.proofs.Keeping.{same_ok, not_ok, stack_there, volume_there}
 
@@ -106,19 +107,42 @@ snap_back k state snap h = elim (slice_get_cases state.snaps k).1 [
   | inr (past, nothing) ↦ let at : snap_at k state ≡ Err NoSuchDevice = rw nothing refl in absurd (not_ok _ snap (sym at ∙ h))
 ]
 
-role_same : (role : Role) (m : Message) (state : Settled) → LeavesSame state (told_role role m state)
+-- a message beside the merge
+beside_same : (merge : Option Merge) (rule : Result (Answer × Settled) Refusal) (state : Settled) → LeavesSame state rule → LeavesSame (record { volume = state; merge = merge }) (told_beside merge rule)
+beside_same merge rule state h = then_same rule (λ after. record { volume = after; merge = merge }) state (record { volume = state; merge = merge }) h refl
+
+merging_same : (depth : ℕ) (m : Message) (merge : Option Merge) (state : Settled) → LeavesSame (record { volume = state; merge = merge }) (told_merging depth m merge state)
+unfolding told_merging told_merge
+merging_same depth m None state = tt
+merging_same depth m (Some g) state =
+    then_same (told_merge depth m g) (λ after. record { volume = state; merge = Some after }) g (record { volume = state; merge = Some g })
+    (then_same (told_in g.store depth m) (λ store. record g { store = store }) g.store g (in_same g.store depth m) refl) refl
+
+role_same : (role : Role) (m : Message) (merged : Merged) → LeavesSame merged (told_role role m merged)
 unfolding told_under told_store told_snap
-role_same Origin m state = tt
-role_same (Under depth) m state = then_same (told_in state.origin depth m) _ state.origin state (in_same state.origin depth m) refl
-role_same (Snapshot k) m state = tt
-role_same (Store k depth) m state = looked (snap_at k state) _ state (λ snap at.
+role_same Origin m merged = tt
+role_same (Under depth) m merged = let state = merged.volume in
+    beside_same merged.merge (told_under depth m state) state (then_same (told_in state.origin depth m) _ state.origin state (in_same state.origin depth m) refl)
+role_same (Snapshot k) m merged = tt
+role_same (Store k depth) m merged = let state = merged.volume in
+    beside_same merged.merge (told_store k depth m state) state (looked (snap_at k state) _ state (λ snap at.
     then_same (told_snap depth m snap) (λ after. record { origin = state.origin; snaps = set state.snaps k after }) snap state
     (then_same (told_in snap.store depth m) _ snap.store snap (in_same snap.store depth m) refl)
-    (ap (λ (snaps : List Snap). record { origin = state.origin; snaps = snaps }) (snap_back k state snap at)))
+    (ap (λ (snaps : List Snap). record { origin = state.origin; snaps = snaps }) (snap_back k state snap at))))
+role_same MergingRole m merged = tt
+role_same (MergingStore depth) m merged = merging_same depth m merged.merge merged.volume
+
+-- a volume with the devices and the merge that it has
+same_merged : (volume : Volume) → with_merged (merged_in volume) volume ≡ volume
+same_merged volume = ap (λ merging. record volume { merging = merging }) (same_merge volume.merging)
+  where
+    same_merge : (merging : Option Merging) → with_merge merging (merge_in merging) ≡ merging
+    same_merge None = refl
+    same_merge (Some g) = refl
 
 mounted_same : (role : Role) (m : Message) (volume : Volume) → LeavesSame volume (told_mounted role m volume)
 unfolding told_mounted
-mounted_same role m volume = then_same (told_role role m volume.state) _ volume.state volume (role_same role m volume.state) refl
+mounted_same role m volume = then_same (told_role role m (merged_in volume)) (λ after. with_merged after volume) (merged_in volume) volume (role_same role m (merged_in volume)) (same_merged volume)
 
 at_same : (place : Place) (m : Message) (table : Table) → LeavesSame table (told_at place m table)
 unfolding told_at

@@ -42,6 +42,9 @@ none_done (commands.StartRead device first count) table = refl
 none_done (commands.StartWrite device first bytes) table = refl
 none_done (commands.Step volume event) table = refl
 none_done (commands.Settle volume) table = refl
+none_done (commands.Merge name) table = refl
+none_done (commands.Resume volume) table = refl
+none_done (commands.Finish volume) table = refl
 none_done (commands.Status device) table = refl
 none_done (commands.Table device) table = refl
 
@@ -94,6 +97,9 @@ sound_starts (commands.Read device first count) sound = refl
 sound_starts (commands.Write device first bytes) sound = refl
 sound_starts (commands.Step volume event) sound = refl
 sound_starts (commands.Settle volume) sound = refl
+sound_starts (commands.Merge name) sound = refl
+sound_starts (commands.Resume volume) sound = refl
+sound_starts (commands.Finish volume) sound = refl
 sound_starts (commands.Status device) sound = refl
 sound_starts (commands.Table device) sound = refl
 

@@ -16,7 +16,8 @@ abbrev pub refusal_in : {A : Type 0} → Result A Refusal → Option Refusal
 refusal_in (Ok answer) = None
 refusal_in (Err refusal) = Some refusal
 
--- why sectors are not read or written, a request is not started, or an event not done, before the volume is asked
+-- why sectors are not read or written, a request is not started, an event not done, or a merge not finished, before the volume
+-- is asked
 abbrev pub first_refusal : Command → Table → Option Refusal
 first_refusal (commands.Read device first count) table = refusal_in (read_asked device first count table)
 first_refusal (commands.Write device first bytes) table = refusal_in (write_asked device first bytes table)
@@ -24,6 +25,7 @@ first_refusal (commands.StartRead device first count) table = refusal_in (read_a
 first_refusal (commands.StartWrite device first bytes) table = refusal_in (write_asked device first bytes table)
 first_refusal (commands.Step volume event) table = refusal_in (event_asked volume event table)
 first_refusal (commands.Settle volume) table = refusal_in (origin_by volume table)
+first_refusal (commands.Finish volume) table = refusal_in (origin_by volume table)
 first_refusal (commands.Disk name sectors) table = None
 first_refusal (commands.Create name line) table = None
 first_refusal (commands.Remove name) table = None
@@ -31,6 +33,8 @@ first_refusal (commands.Load disk first bytes) table = None
 first_refusal (commands.Save disk first count) table = None
 first_refusal (commands.Message device message) table = None
 first_refusal (commands.Tick seconds) table = None
+first_refusal (commands.Merge name) table = None
+first_refusal (commands.Resume volume) table = None
 first_refusal (commands.Status device) table = None
 first_refusal (commands.Table device) table = None
 

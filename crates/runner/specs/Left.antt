@@ -1,6 +1,6 @@
 -- What a command leaves of the devices in any case, whatever drops writes and whatever is in flight: of one that is asked of
 -- a volume, that no other device changes.
-use Rattle.std.specs.Prelude.{◌≡◌, ◌≢◌, ◌⊎◌, ◌++◌, ℕ, false, List, Option, Some, None, Result, Ok, Err, IfErr, IfOk, OnErr, OnOk}
+use Rattle.std.specs.Prelude.{◌≡◌, ◌≢◌, ◌⊎◌, ◌++◌, ◌&&◌, ℕ, true, false, is_ok, not, List, Option, Some, None, Result, Ok, Err, IfErr, IfOk, OnErr, OnOk}
 use Rattle.sector.specs.declared.refusal.Refusal.{Refusal}
 use Rattle.sector.specs.declared.refusal.Refusal.TheVariants.{NoMemory}
 use Rattle.command.specs.Line.{said_of}
@@ -16,13 +16,16 @@ use Rattle.reply.specs.declared.Reply.TheVariants.{Data, Done, Fault, Number}
 use Rattle.plain.specs.Replies.{reply_in}
 use Rattle.plain.specs.declared.request.Replied.{Replied}
 use Rattle.named.specs.State.{Table}
-use Rattle.named.specs.Events.{event_asked, origin_by, rested}
+use Rattle.named.specs.Events.{event_asked, is_merge_event, origin_by, rested, snapshot_named, step_event}
+use Rattle.named.specs.Merging.{merge_begun}
 use Rattle.named.specs.Places.{volume_at}
 use Rattle.named.specs.Sectors.{Asked}
 use Rattle.named.specs.Starting.{read_asked, write_asked}
 use Rattle.devices.specs.Devices.{Flies, KeepsOthers}
-use Rattle.devices.specs.Flights.{IsDoneFor, IsEventDoneFor, IsNotDueIn, IsReadAmong, IsSettledAmong, IsStartedAs, IsWrittenAmong, event_of}
-use Rattle.devices.specs.Ruled.{is_quiet_in}
+use Rattle.devices.specs.Flights.{IsDoneFor, IsEventDoneFor, IsNotDueIn, IsReadAmong, IsStartedAs, IsWrittenAmong, event_of, is_about_merging}
+use Rattle.devices.specs.Merging.{IsBegunIn, IsFinishedIn, IsUnfinishedIn}
+use Rattle.devices.specs.Ruled.{is_alone_in, is_quiet_in, volume_for}
+use Rattle.named_volume.specs.Flights.{IsSettledBy}
 use Rattle.runner.specs.Steps.{reworded}
 
 -- What was read, and what was done for it of what is in flight in the volume.
@@ -54,20 +57,40 @@ stepped_reply outcomes.Done = Done
 stepped_reply outcomes.Fault = Fault
 stepped_reply (outcomes.Reply number reply) = Done
 
--- the event that is named was done, or memory was refused, or it was not due
+-- The event that is named was done, or memory was refused, or it was not due. One about a snapshot that is being merged is never
+-- due.
 pub record IsStepLeft (volume : List ℕ) (event : Event) (answer : Result Reply Refusal) (old new : Table) (before after : List Replied) : Type 0 where
   pub outcome : Result Outcome Refusal
   pub answer_is : answer ≡ reworded stepped_reply outcome
   pub others : KeepsOthers volume old new
   pub stepped : IfOk outcome (λ o. IsEventDoneFor volume (event_of event old) o old new × (after ≡ before ++ reply_in o))
   pub stays : OnErr outcome ((new ≡ old) × (after ≡ before))
-  pub due : IfErr outcome (λ e. e ≢ NoMemory → IfOk (event_asked volume event old) (λ v. is_quiet_in (volume_at v old) ≡ false → IsNotDueIn (event_of event old) (volume_at v old)))
+  pub refused : IfErr outcome (λ e. e ≢ NoMemory → e ≡ step_event volume event old)
+  pub merging : is_about_merging (snapshot_named event) old ≡ true → is_ok outcome ≡ false
+  pub due : IfErr outcome (λ e. e ≢ NoMemory → IfOk (event_asked volume event old) (λ v. is_about_merging (snapshot_named event) old ≡ false
+      → (not (is_merge_event event) && is_quiet_in (volume_at v old)) ≡ false → IsNotDueIn (event_of event old) (volume_at v old)))
 
--- once a volume was settled nothing is in flight in it
+-- Once a volume was settled nothing is in flight in it: all that was due was done. A settle that is refused does nothing, and one of
+-- a volume in which nothing is in flight and no merge is begun changes nothing.
 pub record IsSettleLeft (volume : List ℕ) (answer : Result Reply Refusal) (old new : Table) (before after : List Replied) : Type 0 where
   pub others : KeepsOthers volume old new
   pub rested : OnOk answer (rested volume old new ≡ Ok tt)
-  pub drained : IfOk (origin_by volume old) (λ v. IsDoneFor volume (IsSettledAmong before after) old new)
+  pub drained : OnOk answer (IsDoneFor volume (IsSettledBy before after) old new)
+  pub stays : OnErr answer ((new ≡ old) × (after ≡ before))
+  pub alone : is_alone_in (volume_for volume old) ≡ true → new ≡ old
+
+-- A merge that is begun changes its volume alone. One that isn't is refused by its rule, or memory was refused; then all is as it was.
+pub record IsMergeLeft (name : List ℕ) (answer : Result Reply Refusal) (old new : Table) (before after : List Replied) : Type 0 where
+  pub begun : OnOk answer (IsDoneFor name IsBegunIn old new)
+  pub refused : IfErr answer (λ e. (new ≡ old) × (e ≢ NoMemory → merge_begun name old ≡ Err e))
+  pub alone : after ≡ before
+
+-- a merge that is finished gives the stack of its store back, and changes its volume alone
+pub record IsFinishLeft (volume : List ℕ) (answer : Result Reply Refusal) (old new : Table) (before after : List Replied) : Type 0 where
+  pub finished : OnOk answer (IfOk (origin_by volume old) (λ v. IsFinishedIn v old new (volume_at v old)))
+  pub unfinished : IfErr answer (λ e. IfOk (origin_by volume old) (λ v. e ≢ NoMemory → IsUnfinishedIn e (volume_at v old)))
+  pub stays : OnErr answer (new ≡ old)
+  pub alone : after ≡ before
 
 -- what a command leaves, with this answer; one that has its rule in any case is left to that
 abbrev pub IsLeft : Command → Result Reply Refusal → Table → Table → List Replied → List Replied → Type 0
@@ -77,6 +100,8 @@ IsLeft (commands.StartRead device first count) answer old new before after = IsS
 IsLeft (commands.StartWrite device first bytes) answer old new before after = IsStartLeft device (WriteOp bytes) (write_asked device first bytes old) answer old new before after
 IsLeft (commands.Step volume event) answer old new before after = IsStepLeft volume event answer old new before after
 IsLeft (commands.Settle volume) answer old new before after = IsSettleLeft volume answer old new before after
+IsLeft (commands.Merge name) answer old new before after = IsMergeLeft name answer old new before after
+IsLeft (commands.Finish volume) answer old new before after = IsFinishLeft volume answer old new before after
 IsLeft (commands.Status device) answer old new before after = (new ≡ old) × (after ≡ before)
 IsLeft (commands.Table device) answer old new before after = (new ≡ old) × (after ≡ before)
 IsLeft (commands.Save disk first count) answer old new before after = (new ≡ old) × (after ≡ before)
@@ -86,6 +111,7 @@ IsLeft (commands.Remove name) answer old new before after = after ≡ before
 IsLeft (commands.Load disk first bytes) answer old new before after = after ≡ before
 IsLeft (commands.Message device message) answer old new before after = after ≡ before
 IsLeft (commands.Tick seconds) answer old new before after = after ≡ before
+IsLeft (commands.Resume volume) answer old new before after = after ≡ before
 
 -- the same of what a line says
 abbrev pub IsLeftSaid : Result (Option Command) Refusal → Result (Option Reply) Refusal → Table → Table → List Replied → List Replied → Type 0

@@ -76,6 +76,9 @@ IsPartDone (commands.StartRead device first count) old new = new ≡ old
 IsPartDone (commands.StartWrite device first bytes) old new = new ≡ old
 IsPartDone (commands.Step volume event) old new = new ≡ old
 IsPartDone (commands.Settle volume) old new = new ≡ old
+IsPartDone (commands.Merge name) old new = new ≡ old
+IsPartDone (commands.Resume volume) old new = new ≡ old
+IsPartDone (commands.Finish volume) old new = new ≡ old
 IsPartDone (commands.Status device) old new = new ≡ old
 IsPartDone (commands.Table device) old new = new ≡ old
 

@@ -1,10 +1,12 @@
 -- Of which commands their rule says what they answer, by what each asks: a command that asks nothing of a volume answers by
--- its rule in any case; one that does, where no device of that volume drops writes and nothing is in flight in it.
-use Rattle.std.specs.Prelude.{ℕ, Bool, true, false, List, Option, Some, None, Result, Ok, Err}
+-- its rule in any case, and so does one that lets a merge go on; another one, where no device of that volume drops writes and
+-- nothing is in flight in it. A single event of a merge has its own contract.
+use Rattle.std.specs.Prelude.{◌&&◌, ℕ, Bool, true, false, not, List, Option, Some, None, Result, Ok, Err}
 use Rattle.sector.specs.declared.refusal.Refusal.{Refusal}
 use Rattle.command.specs.Line.{said_of}
 use Rattle.command.specs.declared.grammar.Command.{Command}
 use Rattle.command.specs.declared.grammar.Command.TheVariants as commands
+use Rattle.named.specs.Events.{is_merge_event}
 use Rattle.named.specs.State.{Table}
 use Rattle.devices.specs.Ruled.{is_quiet_in, is_sound_in, is_sound_target, volume_for}
 
@@ -12,8 +14,10 @@ abbrev pub is_ruled : Command → Table → Bool
 is_ruled (commands.Read device first count) table = is_sound_in (volume_for device table)
 is_ruled (commands.Write device first bytes) table = is_sound_in (volume_for device table)
 is_ruled (commands.Status device) table = is_sound_in (volume_for device table)
-is_ruled (commands.Step volume event) table = is_quiet_in (volume_for volume table)
-is_ruled (commands.Settle volume) table = is_quiet_in (volume_for volume table)
+is_ruled (commands.Step volume event) table = not (is_merge_event event) && is_quiet_in (volume_for volume table)
+is_ruled (commands.Settle volume) table = is_sound_in (volume_for volume table)
+is_ruled (commands.Merge name) table = is_sound_in (volume_for name table)
+is_ruled (commands.Finish volume) table = is_sound_in (volume_for volume table)
 is_ruled (commands.Create name line) table = is_sound_target line.sectors line.target table
 is_ruled (commands.StartRead device first count) table = false
 is_ruled (commands.StartWrite device first bytes) table = false
@@ -23,6 +27,7 @@ is_ruled (commands.Load disk first bytes) table = true
 is_ruled (commands.Save disk first count) table = true
 is_ruled (commands.Message device message) table = true
 is_ruled (commands.Tick seconds) table = true
+is_ruled (commands.Resume volume) table = true
 is_ruled (commands.Table device) table = true
 
 -- a line that says no command has its rule too

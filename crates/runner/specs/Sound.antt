@@ -1,5 +1,6 @@
 -- Of which lines contracts say what they answer. A layer that drops writes answers Ok and does nothing (dm-flakey's
--- `drop_writes`), so once a line has made such a layer nothing is said of answers; nor while a request is in flight.
+-- `drop_writes`), so once a line has made such a layer nothing is said of answers; nor while a request is in flight, or a group of
+-- a merge is formed.
 use Rattle.std.specs.Prelude.{ℕ, Bool, true, false, not, List, Option, Some, None, Result, Ok, Err}
 use Rattle.std.specs.List.{list_all}
 use Rattle.sector.specs.declared.refusal.Refusal.{Refusal}
@@ -7,9 +8,10 @@ use Rattle.lines.specs.Lines.{lines_of}
 use Rattle.command.specs.Line.{said_of}
 use Rattle.command.specs.declared.grammar.Command.{Command}
 use Rattle.command.specs.declared.grammar.Command.TheVariants as commands
+use Rattle.named.specs.Events.{is_merge_event}
 use Rattle.named.specs.Sound.{drops_writes}
 
--- a command that makes no layer that drops writes, and starts no request
+-- a command that makes no layer that drops writes, starts no request, and does no single event of a merge
 abbrev pub is_sound_command : Command → Bool
 is_sound_command (commands.Create name line) = not (drops_writes line.target)
 is_sound_command (commands.Disk name sectors) = true
@@ -22,8 +24,11 @@ is_sound_command (commands.Read device first count) = true
 is_sound_command (commands.Write device first bytes) = true
 is_sound_command (commands.StartRead device first count) = false
 is_sound_command (commands.StartWrite device first bytes) = false
-is_sound_command (commands.Step volume event) = true
+is_sound_command (commands.Step volume event) = not (is_merge_event event)
 is_sound_command (commands.Settle volume) = true
+is_sound_command (commands.Merge name) = true
+is_sound_command (commands.Resume volume) = true
+is_sound_command (commands.Finish volume) = true
 is_sound_command (commands.Status device) = true
 is_sound_command (commands.Table device) = true
 
@@ -32,7 +37,7 @@ is_sound_said (Ok None) = true
 is_sound_said (Ok (Some command)) = is_sound_command command
 is_sound_said (Err refusal) = true
 
--- a line that makes no such layer and starts no request
+-- a line that makes no such layer, starts no request, and does no single event of a merge
 unfoldable pub is_sound_line : List ℕ → Bool
 is_sound_line line = is_sound_said (said_of 65536 line)
 

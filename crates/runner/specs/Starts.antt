@@ -22,6 +22,9 @@ starts (commands.Read device first count) = false
 starts (commands.Write device first bytes) = false
 starts (commands.Step volume event) = false
 starts (commands.Settle volume) = false
+starts (commands.Merge name) = false
+starts (commands.Resume volume) = false
+starts (commands.Finish volume) = false
 starts (commands.Status device) = false
 starts (commands.Table device) = false
 

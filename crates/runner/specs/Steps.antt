@@ -1,6 +1,7 @@
 -- To be believed: `run`'s output, a volume's steps or its attach are said in these words.
 -- What each command answers, and the devices after it. Which number a request gets that a command starts, and when it ends, is
--- its volume's own affair, where each event has its contract; texts with such commands are left out where this machine is used.
+-- its volume's own affair, where each event has its contract; so is a single event of a merge. Texts with such commands are left
+-- out where this machine is used.
 use Rattle.std.specs.Prelude.{ℕ, List, Option, Some, None, Result, Ok, Err}
 use Rattle.sector.specs.declared.refusal.Refusal.{Refusal}
 use Rattle.sector.specs.declared.refusal.Refusal.TheVariants.{NotDue}
@@ -21,6 +22,7 @@ use Rattle.named.specs.Sectors.{read, write}
 use Rattle.named.specs.Status.{status_text}
 use Rattle.named.specs.Lines.{line_text}
 use Rattle.named.specs.Events.{settle, step_event}
+use Rattle.named.specs.Merging.{merge_begun, merge_resumed, merge_finished}
 
 -- an answer in other words, unless there is a refusal
 abbrev pub reworded : {A B : Type 0} → (A → B) → Result A Refusal → Result B Refusal
@@ -52,7 +54,10 @@ step (commands.Write device first bytes) table = done_as (write device first byt
 step (commands.StartRead device first count) table = refused table NotDue
 step (commands.StartWrite device first bytes) table = refused table NotDue
 step (commands.Step volume event) table = refused table (step_event volume event table)
-step (commands.Settle volume) table = done_as (seen table (settle volume table))
+step (commands.Settle volume) table = done_as (changed table (settle volume table))
+step (commands.Merge name) table = done_as (changed table (merge_begun name table))
+step (commands.Resume volume) table = done_as (changed table (merge_resumed volume table))
+step (commands.Finish volume) table = done_as (changed table (merge_finished volume table))
 step (commands.Status device) table = told_as Said (seen table (status_text device table))
 step (commands.Table device) table = told_as Said (seen table (line_text device table))
 

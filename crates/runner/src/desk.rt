@@ -93,12 +93,13 @@ impl Desk {
     /// Does what a line says, the line given without its end, and prints the lines of the requests that ended in it, and then
     /// its own answer. A line whose words are refused answers that refusal alone, and so does a start or an event whose
     /// names or sectors are refused, whatever is in flight. Where the allocator refuses any memory, the line prints that and
-    /// changes no device, but that of a read, a write or a settle some part may have been done. The one error is
+    /// changes no device, but that of a read or a write some part may have been done. The one error is
     /// `RunError::Write`, the writer's own; then the line was done all the same, and part of what it prints may be printed.
     pub fn line<W: Write>(&mut self, line: &[u8], writer: &mut W) -> Result<(), RunError>
         ensures done { (done : Outcome) × IsLineDone line.now self.old.table done × (self.new ≡ followed self.old done)
             × OnOk result (Appends (W.contents writer.old) (W.contents writer.new) (printed done.replies)) }
-        // No device drops writes, and nothing is in flight, until a line makes one that does or starts a request.
+        // No device drops writes, and nothing is in flight, until a line makes one that does, starts a request or steps an event
+        // of a merge.
         ensures sound { is_sound self.old.table ≡ true → is_sound_line line.now ≡ true → is_sound self.new.table ≡ true }
         ensures error { IfErr result IsWriters }
         ensures named { AreNamed self.new.table }

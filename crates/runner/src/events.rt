@@ -1,7 +1,7 @@
 // Events, one by one.
-ghost use Rattle.std.specs.Prelude.{◌≡◌, true, Some, IfSome, OnErr};
+ghost use Rattle.std.specs.Prelude.{◌≡◌, true, false, Some, IfSome, OnErr};
 ghost use Rattle.named.specs.Changes.{Does, refused};
-ghost use Rattle.named.specs.Events.{event_asked, step_event};
+ghost use Rattle.named.specs.Events.{event_asked, is_merge_event, step_event};
 ghost use Rattle.named.specs.Naming.{AreNamed};
 ghost use Rattle.named.specs.Sound.{is_sound};
 ghost use Rattle.devices.specs.Devices.{table_of};
@@ -27,14 +27,14 @@ pub fn step_volume(
     event: &Event,
     ended: &mut Vec<Replied>,
 ) -> Result<Reply, Refusal>
-    ensures done { is_quiet_in (volume_for name.now (table_of held.old)) ≡ true → Does result (table_of held.new) (λ t. t ≡ table_of held.old) (refused (table_of held.old) (step_event name.now event.now (table_of held.old))) }
-    ensures told { is_quiet_in (volume_for name.now (table_of held.old)) ≡ true → ended.new.items ≡ ended.old.items }
+    ensures done { is_merge_event event.now ≡ false → is_quiet_in (volume_for name.now (table_of held.old)) ≡ true → Does result (table_of held.new) (λ t. t ≡ table_of held.old) (refused (table_of held.old) (step_event name.now event.now (table_of held.old))) }
+    ensures told { is_merge_event event.now ≡ false → is_quiet_in (volume_for name.now (table_of held.old)) ≡ true → ended.new.items ≡ ended.old.items }
     ensures asks { IsFirst (refusal_in (event_asked name.now event.now (table_of held.old))) (told (reworded Some result)) }
     ensures still { IfSome (refusal_in (event_asked name.now event.now (table_of held.old))) (λ _. (table_of held.new ≡ table_of held.old) × (ended.new.items ≡ ended.old.items)) }
     ensures left { IsStepLeft name.now event.now result (table_of held.old) (table_of held.new) ended.old.items ended.new.items }
     ensures err { OnErr result (table_of held.new ≡ table_of held.old) }
     ensures kept { OnErr result (ended.new.items ≡ ended.old.items) }
-    ensures sound { is_sound (table_of held.old) ≡ true → is_sound (table_of held.new) ≡ true }
+    ensures sound { is_merge_event event.now ≡ false → is_sound (table_of held.old) ≡ true → is_sound (table_of held.new) ≡ true }
     ensures named { AreNamed (table_of held.old) → AreNamed (table_of held.new) }
 {
     ended.reserve(1).map_err(|_| Refusal::NoMemory)?;

@@ -24,7 +24,8 @@ pub fn run<R: Read, W: Write>(
     writer: &mut W,
     workers: u32,
 ) -> Result<Summary, RunError>
-    // Where no line makes a layer that drops writes, and memory ran out for no line, the text alone says what is printed.
+    // Where no line makes a layer that drops writes, starts a request or steps an event of a merge, and memory ran out for no
+    // line, the text alone says what is printed.
     ensures exact { IfOk result (λ summary. IfSome (R.remaining reader.old) (λ text. is_sound_text text ≡ true
         → summary.no_memory ≡ 0 → Appends (W.contents writer.old) (W.contents writer.new) (output_of text))) }
     // Then it says too how many lines there are of each kind.

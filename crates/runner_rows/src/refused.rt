@@ -90,6 +90,27 @@ const FLIGHTS: [(&str, &str); 16] = [
     ("settle vol", "reply 4 written\nok\n"),
 ];
 
+/// Lines about a merge, and what each answers: the origin goes back to what the snapshot shows.
+const MERGES: [(&str, &str); 17] = [
+    ("disk base 128", "ok\n"),
+    ("disk cow 64", "ok\n"),
+    ("create vol 0 128 snapshot-origin base", "ok\n"),
+    ("write vol 0 65536*11", "ok\n"),
+    ("create snap 0 128 snapshot base cow P 1", "ok\n"),
+    ("write vol 5 512*aa", "ok\n"),
+    ("merge snap", "ok\n"),
+    ("read snap 5 1", "err 7 MergingSnapshot\n"),
+    ("read vol 5 1", "ok 512*11\n"),
+    ("status vol", "ok 0 128 snapshot-merge 3/64 2\n"),
+    ("finish vol", "err 22 NotFinished\n"),
+    ("resume vol", "ok\n"),
+    ("settle vol", "ok\n"),
+    ("status vol", "ok 0 128 snapshot-merge 2/64 2\n"),
+    ("finish vol", "ok\n"),
+    ("save base 5 1", "ok 512*11\n"),
+    ("remove vol", "ok\n"),
+];
+
 /// A desk; the second try meets no refusal where the first did.
 fn new_desk(alloc: Global) -> Result<Desk, RunError> {
     match Desk::new(alloc, 1) {
@@ -159,6 +180,11 @@ fn done(
 #[test]
 fn says_so_and_changes_no_device(rt: HostRuntime) -> Result<(), Fail> {
     Ok(done(&rt, &LINES, &QUERIES)?)
+}
+
+#[test]
+fn says_so_and_leaves_a_merge_as_it_was(rt: HostRuntime) -> Result<(), Fail> {
+    Ok(done(&rt, &MERGES, &QUERIES)?)
 }
 
 #[test]

@@ -3,17 +3,26 @@
 -- without a line end is this project's own.
 use Rattle.std.specs.Prelude.{ℕ, List, ◌++◌, codes, decimal}
 use Rattle.status.specs.declared.State.{State}
-use Rattle.status.specs.declared.State.TheVariants.{Invalid, Used}
+use Rattle.status.specs.declared.State.TheVariants.{Invalid, Failed, Used}
 
--- `<allocated>/<total> <metadata>` in sectors, or that the snapshot is spoiled
+-- `<allocated>/<total> <metadata>` in sectors, or that the snapshot is spoiled, or that its merge failed
 abbrev pub state_text : State → List ℕ
 state_text Invalid = codes "Invalid"
+state_text Failed = codes "Merge failed"
 state_text (Used allocated total metadata) = decimal allocated ++ codes "/" ++ decimal total ++ codes " " ++ decimal metadata
 
 -- of an origin of so many sectors
 abbrev pub origin_text : ℕ → List ℕ
 origin_text sectors = codes "0 " ++ decimal sectors ++ codes " snapshot-origin"
 
+-- of a device of so many sectors whose target has a state
+abbrev pub stated_text : ℕ → List ℕ → State → List ℕ
+stated_text sectors target state = codes "0 " ++ decimal sectors ++ target ++ state_text state
+
 -- of a snapshot of so many sectors
 abbrev pub snapshot_text : ℕ → State → List ℕ
-snapshot_text sectors state = codes "0 " ++ decimal sectors ++ codes " snapshot " ++ state_text state
+snapshot_text sectors state = stated_text sectors (codes " snapshot ") state
+
+-- of an origin of so many sectors that a snapshot is merged into
+abbrev pub merge_text : ℕ → State → List ℕ
+merge_text sectors state = stated_text sectors (codes " snapshot-merge ") state

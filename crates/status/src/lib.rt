@@ -1,21 +1,23 @@
-//! Status lines of origins and snapshots, as the kernel's admin-guide page on snapshots has them.
+//! Status lines of origins, snapshots and merges, as the kernel's admin-guide page on snapshots has them.
 //!
 //! It stands on `words` for texts. It promises that each line is the one of its definition in `specs/`, byte by byte.
 //! What the numbers of a line are is the caller's; only want of memory keeps a line from being made.
 #![tactic(auto)]
 
 ghost use Rattle.std.specs.Prelude.{◌≡◌, ◌++◌, OnOk, IfOk, decimal};
-ghost use Rattle.status.specs.Lines.{origin_text, snapshot_text, state_text};
+ghost use Rattle.status.specs.Lines.{origin_text, snapshot_text, merge_text, stated_text, state_text};
 
 use itoa::Buffer;
 use std::alloc::{AllocError, Global};
 use words::Text;
 
-/// What a status line says of a snapshot.
+/// What a status line says of a snapshot, or of one that is being merged into its origin.
 #[derive(Clone, Copy, Debug, PartialEq, Eq)]
 pub enum State {
     /// The snapshot is spoiled.
     Invalid,
+    /// A device failed in the merge, which stands still.
+    Failed,
     /// Sectors of the snapshot's store: those in use, all, and those in use that hold no copies.
     Used {
         allocated: u64,
@@ -32,12 +34,13 @@ fn push_number(text: &mut Vec<u8>, number: u64) -> Result<(), AllocError>
     text.extend_from_slice(buffer.format(number).as_bytes())
 }
 
-/// Adds what a status line says of a snapshot.
+/// Adds what a status line says of a snapshot, or of one that is being merged.
 fn push_state(text: &mut Vec<u8>, state: State) -> Result<(), AllocError>
     ensures { OnOk result (text.new.items ≡ text.old.items ++ state_text state) }
 {
     match state {
         State::Invalid => text.extend_from_slice(b"Invalid"),
+        State::Failed => text.extend_from_slice(b"Merge failed"),
         State::Used {
             allocated,
             total,
@@ -63,16 +66,30 @@ pub fn origin_line(alloc: Global, sectors: u64) -> Result<Text, AllocError>
     Ok(Text::from_vec(text))
 }
 
-/// The status line of a snapshot of so many sectors, without a line end.
-pub fn snapshot_line(alloc: Global, sectors: u64, state: State) -> Result<Text, AllocError>
-    ensures { IfOk result (λ text. text ≡ snapshot_text sectors state) }
+/// The line of a device of so many sectors whose target, with a space on either side, has a state.
+fn stated_line(alloc: Global, sectors: u64, target: &[u8], state: State) -> Result<Text, AllocError>
+    ensures { IfOk result (λ text. text ≡ stated_text sectors target.now state) }
 {
     let mut text = Vec::new(alloc);
     text.extend_from_slice(b"0 ")?;
     push_number(&mut text, sectors)?;
-    text.extend_from_slice(b" snapshot ")?;
+    text.extend_from_slice(target)?;
     push_state(&mut text, state)?;
     Ok(Text::from_vec(text))
+}
+
+/// The status line of a snapshot of so many sectors, without a line end.
+pub fn snapshot_line(alloc: Global, sectors: u64, state: State) -> Result<Text, AllocError>
+    ensures { IfOk result (λ text. text ≡ snapshot_text sectors state) }
+{
+    stated_line(alloc, sectors, b" snapshot ", state)
+}
+
+/// The status line of an origin of so many sectors that a snapshot is merged into, without a line end.
+pub fn merge_line(alloc: Global, sectors: u64, state: State) -> Result<Text, AllocError>
+    ensures { IfOk result (λ text. text ≡ merge_text sectors state) }
+{
+    stated_line(alloc, sectors, b" snapshot-merge ", state)
 }
 
 #[cfg(test)]
@@ -96,6 +113,16 @@ mod tests {
         );
         let spoiled = snapshot_line(rt.alloc(), 128, State::Invalid)?;
         assert_eq!(rt; spoiled.as_slice(), b"0 128 snapshot Invalid".as_slice());
+        let merged = merge_line(rt.alloc(), 8_388_608, state)?;
+        assert_eq!(rt;
+            merged.as_slice(),
+            b"0 8388608 snapshot-merge 397896/2097152 1560".as_slice()
+        );
+        let failed = merge_line(rt.alloc(), 128, State::Failed)?;
+        assert_eq!(rt;
+            failed.as_slice(),
+            b"0 128 snapshot-merge Merge failed".as_slice()
+        );
         Ok(())
     }
 }

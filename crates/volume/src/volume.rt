@@ -1,11 +1,14 @@
 // A volume, and what callers ask of it.
-ghost use Rattle.std.specs.Prelude.{◌≡◌, ◌≤◌, [], None, IfErr, IfNone, IfOk, IfSome, Option, false, length, true};
+ghost use Rattle.std.specs.Prelude.{◌≡◌, ◌≤◌, [], None, IfErr, IfNone, IfOk, IfSome, Option, Some, false, length, true};
 ghost use Rattle.chunk.specs.Sizes.{is_chunk};
 ghost use Rattle.std.specs.List.{All};
 ghost use Rattle.plain.specs.declared.request.Reply.{Reply};
 ghost use Rattle.event_machine.specs.MergeDue.{due_all};
 ghost use Rattle.volume.specs.Moved.{moving_of};
 ghost use Rattle.sector.specs.declared.refusal.Refusal.TheVariants.{NoMemory};
+ghost use Rattle.merge.specs.Due.{has_group_of};
+ghost use Rattle.merge.specs.Merging.{Merging, books_of as merging_books};
+ghost use Rattle.volume_laws.specs.MergeDue.{has_group};
 ghost use Rattle.volume_laws.specs.Waits.{IsQuiet};
 ghost use Rattle.volume.specs.Asking.{IsMergeStill};
 ghost use Rattle.volume.specs.EventKinds.{is_of_merge};
@@ -119,6 +122,7 @@ impl<B: Block> Volume<B> {
         ensures event { result ≡ next_of B.contents B.layers self.now }
         ensures machine { (replied : Option Reply) → due_all (moving_of B.contents B.layers replied self.now) ≡ result }
         ensures calm { IfSome result (λ event. is_of_merge event ≡ true → has_group_in self.now.merge ≡ false → is_quiet_of self.now ≡ true) }
+        ensures seen { IfSome result (λ event. is_of_merge event ≡ true → (m : Merging B) → self.now.merge ≡ Some m → has_group_of m.group ≡ has_group (merging_books B.contents true m)) }
         ensures quiet { IfNone result (IsQuiet (books_of B.contents B.layers B.size self.now) × IsMergeStill self.now.merge) }
     {
         match first_due(&self.snaps, &self.flights) {

@@ -7,7 +7,7 @@ use Rattle.devices.proofs.flights.start_at.Goals as goal
 pub returns-clause-named : goal.returns-clause-named
 returns-clause-named c = λ named.
     put_volume_named (table_of c.args.held.now) c.args.v c.index_mut.result.now c.start.new.self c.requires.place.0 c.index_mut.ensures.value
-    c.start.ensures.kept.origin c.start.ensures.kept.under c.start.ensures.kept.snaps named
+    c.start.ensures.kept.origin c.start.ensures.kept.under c.start.ensures.kept.snaps c.start.ensures.kept.merging named
 
 pub returns-clause-stays : goal.returns-clause-stays
 returns-clause-stays c =

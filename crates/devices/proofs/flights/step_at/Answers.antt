@@ -1,3 +1,5 @@
+use Rattle.std.specs.Prelude.{not}
+use Rattle.volume.specs.EventKinds.{is_of_merge}
 use Rattle.devices.specs.Devices.{table_of}
 use Rattle.named.proofs.NamedFrames.{put_volume_named}
 use Rattle.named_volume.specs.Names.{KeepsNames}
@@ -12,13 +14,13 @@ returns c =
     let lt = c.requires in
     let at = c.index_mut.ensures.value in
     record {
-      idle = λ quiet. c.step.ensures.idle (quiet_here table c.args.v old quiet lt at);
+      idle = λ quiet apart. c.step.ensures.idle (quiet_here table c.args.v old quiet lt at) apart;
       stepped = stepped_did c.args.event c.step.result c.args.v table old c.step.new.self lt at c.step.ensures.stepped;
-      due = not_due_in c.args.event c.step.result c.args.v table old lt at c.step.ensures.due;
+      due = not_due_in (not (is_of_merge c.args.event)) c.args.event c.step.result c.args.v table old lt at c.step.ensures.due;
       same = same_in c.step.result c.args.v table old c.step.new.self at c.step.ensures.same;
       one = changed_in KeepsNames c.args.v table old c.step.new.self lt at c.step.ensures.kept;
-      sound = step_sound c.step.result c.args.v table old c.step.new.self lt at c.step.ensures.idle c.step.ensures.same;
+      sound = λ apart. step_sound c.step.result c.args.v table old c.step.new.self lt at (λ quiet. c.step.ensures.idle quiet apart) c.step.ensures.same;
       named = λ named.
           put_volume_named table c.args.v old c.step.new.self lt at
-          c.step.ensures.kept.origin c.step.ensures.kept.under c.step.ensures.kept.snaps named;
+          c.step.ensures.kept.origin c.step.ensures.kept.under c.step.ensures.kept.snaps c.step.ensures.kept.merging named;
     }

@@ -31,5 +31,5 @@ returns c =
           (of_both _ _ (c.read.ensures.kept.sound ∙ volume_sound table c.args.v old sound lt at) (c.read.ensures.quiet (volume_quiet table c.args.v old sound lt at))) sound;
       named = λ named.
           put_volume_named table c.args.v old c.read.new.self lt at
-          c.read.ensures.kept.origin c.read.ensures.kept.under c.read.ensures.kept.snaps named;
+          c.read.ensures.kept.origin c.read.ensures.kept.under c.read.ensures.kept.snaps c.read.ensures.kept.merging named;
     }

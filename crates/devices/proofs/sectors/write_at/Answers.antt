@@ -31,5 +31,5 @@ returns c =
           (of_both _ _ (c.write.ensures.kept.sound ∙ volume_sound table c.args.v old sound lt at) (c.write.ensures.quiet (volume_quiet table c.args.v old sound lt at))) sound;
       named = λ named.
           put_volume_named table c.args.v old c.write.new.self lt at
-          c.write.ensures.kept.origin c.write.ensures.kept.under c.write.ensures.kept.snaps named;
+          c.write.ensures.kept.origin c.write.ensures.kept.under c.write.ensures.kept.snaps c.write.ensures.kept.merging named;
     }

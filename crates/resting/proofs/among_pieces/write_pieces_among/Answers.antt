@@ -3,8 +3,7 @@ use Rattle.std.proofs.Common.{◌+◌, ◌-◌, ◌*◌, take, drop, refl, ◌�
 use Rattle.chunk.specs.Pieces.{span_of, pieces_of}
 use Rattle.chunk.proofs.Limits.{is_chunk-some, is_chunk-small}
 use Rattle.chunk.proofs.Runs.{StandsAt, first_piece, stands_first, stands_next, stands_last}
-use Rattle.volume.specs.Volumed.{piece_of}
-use Rattle.resting.proofs.Alone.{piece_alone}
+use Rattle.volume.specs.Volumed.{piece_with}
 use Rattle.resting.proofs.Writing.{part_fits}
 use Rattle.resting.proofs.AmongRuns.{among_start, among_next, among_within, writes_start, writes_next, writes_end, writes_stop}
 use Rattle.resting.proofs.among_pieces.write_pieces_among.Goals as goal
@@ -18,11 +17,11 @@ pub loop-piece-init : goal.loop-piece-init
 loop-piece-init g c = record {
   can = tt;
   finite = tt;
-  stands = subst (λ n. StandsAt n c.args.range.first (c.args.range.first + c.args.range.count) 0 c.into_iter-piece-iterator.result) (piece_alone c.args.volume.now c.piece.result c.requires.alone c.piece.ensures.piece)
+  stands = subst (λ n. StandsAt n c.args.range.first (c.args.range.first + c.args.range.count) 0 c.into_iter-piece-iterator.result) c.piece.ensures.piece
       (stands_first c.piece.result (span_of c.args.range) _ _ c.pieces-piece-items.ensures.cut c.into_iter-piece-iterator.ensures.into_iter_gives);
-  so = among_start g.B.Block.layers g.B.Block.size c.args.volume.now c.requires.alone;
-  did = writes_start g.B.Block.contents g.B.Block.layers g.B.Block.size c.args.dev (pieces_of (piece_of c.args.volume.now.snaps) (span_of c.args.range)) c.into_iter-piece-iterator.result c.args.bytes.now c.args.volume.now c.args.ended.now.items
-      (c.into_iter-piece-iterator.ensures.into_iter_gives ∙ c.pieces-piece-items.ensures.pieces ∙ ap (λ n. pieces_of n (span_of c.args.range)) (piece_alone c.args.volume.now c.piece.result c.requires.alone c.piece.ensures.piece));
+  so = among_start g.B.Block.layers g.B.Block.size c.args.volume.now;
+  did = writes_start g.B.Block.contents g.B.Block.layers g.B.Block.size c.args.dev (pieces_of (piece_with c.args.volume.now.merge c.args.volume.now.snaps) (span_of c.args.range)) c.into_iter-piece-iterator.result c.args.bytes.now c.args.volume.now c.args.ended.now.items
+      (c.into_iter-piece-iterator.ensures.into_iter_gives ∙ c.pieces-piece-items.ensures.pieces ∙ ap (λ n. pieces_of n (span_of c.args.range)) c.piece.ensures.piece);
 }
 
 pub overflow_add-to : goal.overflow_add-to
@@ -43,32 +42,25 @@ pub write_piece_among-requires : goal.write_piece_among-requires
 write_piece_among-requires g c =
     let is = first_piece _ _ _ _ _ _ _ c.loop-piece.invariant.stands c.in-Some.ensures.steps in
     let bytes = is.bytes in
-    record { alone = c.loop-piece.invariant.so.alone; room = part_fits c.loop-piece.from c.in-Some.piece.count c.args.range.count c.args.bytes.now c.requires.room (omega arith) }
+    record { room = part_fits c.loop-piece.from c.in-Some.piece.count c.args.range.count c.args.bytes.now c.requires.room (omega arith) }
 
 pub returns-in-Err-clause-stopped : goal.returns-in-Err-clause-stopped
 returns-in-Err-clause-stopped g c =
-    writes_stop g.B.Block.contents g.B.Block.layers g.B.Block.size c.args.dev (pieces_of (piece_of c.args.volume.now.snaps) (span_of c.args.range)) c.loop-piece.piece-iterator c.next.new.self (span_of c.in-Some.piece) c.loop-piece.from c.args.bytes.now
+    writes_stop g.B.Block.contents g.B.Block.layers g.B.Block.size c.args.dev (pieces_of (piece_with c.args.volume.now.merge c.args.volume.now.snaps) (span_of c.args.range)) c.loop-piece.piece-iterator c.next.new.self (span_of c.in-Some.piece) c.loop-piece.from c.args.bytes.now
     (take (c.loop-piece.from + c.in-Some.piece.count * 512 - c.loop-piece.from) (drop c.loop-piece.from c.args.bytes.now)) c.in-Err.refusal
     c.args.volume.now c.loop-piece.volume c.write_piece_among.new.volume c.args.ended.now.items c.loop-piece.ended.items c.write_piece_among.new.ended.items c.loop-piece.invariant.did c.in-Some.ensures.steps refl c.in-Err.ensures.failed
 
 pub returns-in-Err-clause-kept : goal.returns-in-Err-clause-kept
 returns-in-Err-clause-kept g c =
     let is = first_piece _ _ _ _ _ _ _ c.loop-piece.invariant.stands c.in-Some.ensures.steps in
-    (among_next g.B.Block.layers g.B.Block.size c.loop-piece.from c.in-Some.piece.count c.args.volume.now c.loop-piece.volume c.write_piece_among.new.volume c.loop-piece.invariant.so c.in-Err.ensures.alone c.in-Err.ensures.kept c.in-Err.ensures.requests c.in-Err.ensures.copies is.some).kept
+    (among_next g.B.Block.layers g.B.Block.size c.loop-piece.from c.in-Some.piece.count c.args.volume.now c.loop-piece.volume c.write_piece_among.new.volume c.loop-piece.invariant.so c.in-Err.ensures.kept c.in-Err.ensures.requests is.some).kept
 
 pub returns-in-Err-clause-requests : goal.returns-in-Err-clause-requests
 returns-in-Err-clause-requests g c =
     let is = first_piece _ _ _ _ _ _ _ c.loop-piece.invariant.stands c.in-Some.ensures.steps in
     let bytes = is.bytes in
-    let more = among_next g.B.Block.layers g.B.Block.size c.loop-piece.from c.in-Some.piece.count c.args.volume.now c.loop-piece.volume c.write_piece_among.new.volume c.loop-piece.invariant.so c.in-Err.ensures.alone c.in-Err.ensures.kept c.in-Err.ensures.requests c.in-Err.ensures.copies is.some in
-    (among_within g.B.Block.layers g.B.Block.size (c.loop-piece.from + c.in-Some.piece.count * 512) c.args.range.count c.args.volume.now c.write_piece_among.new.volume more (omega arith)).0
-
-pub returns-in-Err-clause-copies : goal.returns-in-Err-clause-copies
-returns-in-Err-clause-copies g c =
-    let is = first_piece _ _ _ _ _ _ _ c.loop-piece.invariant.stands c.in-Some.ensures.steps in
-    let bytes = is.bytes in
-    let more = among_next g.B.Block.layers g.B.Block.size c.loop-piece.from c.in-Some.piece.count c.args.volume.now c.loop-piece.volume c.write_piece_among.new.volume c.loop-piece.invariant.so c.in-Err.ensures.alone c.in-Err.ensures.kept c.in-Err.ensures.requests c.in-Err.ensures.copies is.some in
-    (among_within g.B.Block.layers g.B.Block.size (c.loop-piece.from + c.in-Some.piece.count * 512) c.args.range.count c.args.volume.now c.write_piece_among.new.volume more (omega arith)).1
+    let more = among_next g.B.Block.layers g.B.Block.size c.loop-piece.from c.in-Some.piece.count c.args.volume.now c.loop-piece.volume c.write_piece_among.new.volume c.loop-piece.invariant.so c.in-Err.ensures.kept c.in-Err.ensures.requests is.some in
+    (among_within g.B.Block.layers g.B.Block.size (c.loop-piece.from + c.in-Some.piece.count * 512) c.args.range.count c.args.volume.now c.write_piece_among.new.volume more (omega arith))
 
 pub loop-piece-preserved : goal.loop-piece-preserved
 loop-piece-preserved g c =
@@ -77,15 +69,15 @@ loop-piece-preserved g c =
       can = tt;
       finite = tt;
       stands = stands_next _ _ _ _ _ _ _ c.loop-piece.invariant.stands c.in-Some.ensures.steps;
-      so = among_next g.B.Block.layers g.B.Block.size c.loop-piece.from c.in-Some.piece.count c.args.volume.now c.loop-piece.volume c.write_piece_among.new.volume c.loop-piece.invariant.so c.in-Ok.ensures.alone c.in-Ok.ensures.kept c.in-Ok.ensures.requests c.in-Ok.ensures.copies is.some;
-      did = writes_next g.B.Block.contents g.B.Block.layers g.B.Block.size c.args.dev (pieces_of (piece_of c.args.volume.now.snaps) (span_of c.args.range)) c.loop-piece.piece-iterator c.next.new.self (span_of c.in-Some.piece) c.loop-piece.from c.args.bytes.now
+      so = among_next g.B.Block.layers g.B.Block.size c.loop-piece.from c.in-Some.piece.count c.args.volume.now c.loop-piece.volume c.write_piece_among.new.volume c.loop-piece.invariant.so c.in-Ok.ensures.kept c.in-Ok.ensures.requests is.some;
+      did = writes_next g.B.Block.contents g.B.Block.layers g.B.Block.size c.args.dev (pieces_of (piece_with c.args.volume.now.merge c.args.volume.now.snaps) (span_of c.args.range)) c.loop-piece.piece-iterator c.next.new.self (span_of c.in-Some.piece) c.loop-piece.from c.args.bytes.now
           (take (c.loop-piece.from + c.in-Some.piece.count * 512 - c.loop-piece.from) (drop c.loop-piece.from c.args.bytes.now)) c.in-Ok.ensures.written.0
           c.args.volume.now c.loop-piece.volume c.write_piece_among.new.volume c.args.ended.now.items c.loop-piece.ended.items c.write_piece_among.new.ended.items c.loop-piece.invariant.did c.in-Some.ensures.steps refl c.in-Ok.ensures.written.1;
     }
 
 pub returns-clause-written : goal.returns-clause-written
 returns-clause-written g c =
-    writes_end g.B.Block.contents g.B.Block.layers g.B.Block.size c.args.dev (pieces_of (piece_of c.args.volume.now.snaps) (span_of c.args.range)) c.loop-piece.piece-iterator c.loop-piece.from c.args.bytes.now c.args.volume.now c.loop-piece.volume c.args.ended.now.items c.loop-piece.ended.items
+    writes_end g.B.Block.contents g.B.Block.layers g.B.Block.size c.args.dev (pieces_of (piece_with c.args.volume.now.merge c.args.volume.now.snaps) (span_of c.args.range)) c.loop-piece.piece-iterator c.loop-piece.from c.args.bytes.now c.args.volume.now c.loop-piece.volume c.args.ended.now.items c.loop-piece.ended.items
     c.loop-piece.invariant.did c.in-None.ensures.steps.0
 
 pub returns-clause-kept : goal.returns-clause-kept
@@ -94,12 +86,4 @@ returns-clause-kept g c = c.loop-piece.invariant.so.kept
 pub returns-clause-requests : goal.returns-clause-requests
 returns-clause-requests g c =
     let end = stands_last _ _ _ _ _ c.loop-piece.invariant.stands c.in-None.ensures.steps.0 (omega arith) in
-    (among_within g.B.Block.layers g.B.Block.size c.loop-piece.from c.args.range.count c.args.volume.now c.loop-piece.volume c.loop-piece.invariant.so (omega arith)).0
-
-pub returns-clause-copies : goal.returns-clause-copies
-returns-clause-copies g c =
-    let end = stands_last _ _ _ _ _ c.loop-piece.invariant.stands c.in-None.ensures.steps.0 (omega arith) in
-    (among_within g.B.Block.layers g.B.Block.size c.loop-piece.from c.args.range.count c.args.volume.now c.loop-piece.volume c.loop-piece.invariant.so (omega arith)).1
-
-pub returns-clause-alone : goal.returns-clause-alone
-returns-clause-alone g c = c.loop-piece.invariant.so.alone
+    (among_within g.B.Block.layers g.B.Block.size c.loop-piece.from c.args.range.count c.args.volume.now c.loop-piece.volume c.loop-piece.invariant.so (omega arith))

@@ -1,8 +1,7 @@
 -- A snapshot was taken, or the store is given back.
 use Rattle.std.proofs.Common.{◌+◌, sym, ◌∙◌}
 use Rattle.resting.proofs.Seen.{loud_same}
-use Rattle.resting.proofs.Quiet.{settled_quiet}
-use Rattle.resting.proofs.Takes.{taken_alone, taken_quiet, taken_settles, taken_as, attached_seen, refused_seen}
+use Rattle.resting.proofs.Takes.{taken_alone, taken_quiet, taken_settles, taken_as, attached_seen, back_seen}
 use Rattle.resting.proofs.changing.take.Goals as goal
 
 pub returns-in-Ok-clause-quiet : goal.returns-in-Ok-clause-quiet
@@ -13,12 +12,12 @@ returns-in-Ok-clause-quiet g c =
 pub returns-in-Ok-clause-alone : goal.returns-in-Ok-clause-alone
 returns-in-Ok-clause-alone g c =
     taken_alone g.B.Block.contents g.B.Block.layers g.B.Block.size c.in-Ok.number c.args.chunk c.args.store c.args.volume.now c.attach.new.self
-    c.in-Ok.ensures.gained c.requires.alone
+    c.in-Ok.ensures.gained c.in-Ok.ensures.admitted
 
 pub returns-in-Ok-clause-settled : goal.returns-in-Ok-clause-settled
 returns-in-Ok-clause-settled g c =
     taken_settles g.B.Block.contents g.B.Block.layers g.B.Block.size c.in-Ok.number c.args.chunk c.args.store c.args.volume.now c.attach.new.self
-    c.in-Ok.ensures.gained c.in-Ok.ensures.exact c.in-Ok.ensures.loud
+    c.in-Ok.ensures.gained c.in-Ok.ensures.admitted c.in-Ok.ensures.loud
 
 pub returns-in-Ok-clause-taken : goal.returns-in-Ok-clause-taken
 returns-in-Ok-clause-taken g c =
@@ -31,6 +30,7 @@ returns-in-Ok-clause-exact g c = λ settled given.
     (c.in-Ok.ensures.exact (sym (loud_same g.B.Block.contents g.B.Block.layers c.args.volume.now) ∙ settled.loud) given)
 
 pub returns-in-Err-clause-back : goal.returns-in-Err-clause-back
-returns-in-Err-clause-back g c = λ other settled given.
-    refused_seen g.B.Block.contents g.B.Block.layers (c.args.volume.now.attached + 1) c.args.chunk c.in-Err.refused.0 c.args.store c.in-Err.refused.1 c.args.volume.now
-    (c.in-Err.ensures.back other c.requires.alone (settled_quiet g.B.Block.contents g.B.Block.layers g.B.Block.size c.args.volume.now settled) (sym (loud_same g.B.Block.contents g.B.Block.layers c.args.volume.now) ∙ settled.loud) given)
+returns-in-Err-clause-back g c = λ starved other settled given.
+    back_seen g.B.Block.contents g.B.Block.layers (c.args.volume.now.attached + 1) c.args.chunk c.args.store c.in-Err.refused.1 c.args.volume.now c.in-Err.refused.0
+    (g.B.Block.size c.args.volume.now.origin) (g.B.Block.size c.args.store.device) (g.B.Block.contents c.args.store.device) c.in-Err.ensures.refused c.in-Err.ensures.unread
+    (λ alone. c.in-Err.ensures.back starved alone settled.quiet (sym (loud_same g.B.Block.contents g.B.Block.layers c.args.volume.now) ∙ settled.loud) given) other

@@ -1,55 +1,64 @@
--- One event more is done; and none is left, or room is refused.
-use Rattle.std.proofs.Common.{List, ◌++◌, sym, ◌∙◌, ap}
+-- One event more is done; and none is left.
+use Rattle.std.proofs.Common.{refl, sym, ◌∙◌, arith}
 use Rattle.std.proofs.lemmas.List.{append-nil}
 use Rattle.plain.specs.declared.event.Outcome.TheVariants.{Done, Fault, Reply as Answered}
-use Rattle.plain.specs.declared.request.Replied.{Replied}
-use Rattle.plain.specs.Replies.{reply_in}
-use Rattle.resting.proofs.Alone.{counts_alone, kept_alone}
-use Rattle.resting.proofs.Quiet.{quiet_is}
+use Rattle.resting.proofs.Drained.{drained_merged, quiet_more, quiet_start}
+use Rattle.resting.proofs.Drains.{drains_more, drains_start, step_is}
+use Rattle.resting.proofs.Quiet.{free_quiet, still_free}
 use Rattle.resting.proofs.Seen.{devices_kept}
-use Rattle.resting.proofs.Drains.{done_first, drained_more, counts_more}
 use Rattle.resting.proofs.draining.drain.Goals as goal
 
+pub loop-event-init : goal.loop-event-init
+loop-event-init g c =
+    let long = c.in-Ok.ensures.ok in
+    let few = c.flying.ensures.len in
+    record {
+      so = drains_start g.B.Block.contents g.B.Block.layers g.B.Block.size _ _ c.args.volume.now c.args.ended.now.items c.reserve.new.self.items c.reserve.ensures.items (omega (arith, long, few));
+      quiet = quiet_start g.B.Block.contents g.B.Block.layers g.B.Block.size c.args.volume.now c.args.ended.now.items c.reserve.new.self.items (record {
+        between = λ quiet. c.is_quiet.ensures.between (c.is_quiet.ensures.value ∙ quiet);
+        calm = λ quiet. c.is_quiet.ensures.calm (c.is_quiet.ensures.value ∙ quiet);
+        under = λ quiet. c.is_quiet.ensures.under (c.is_quiet.ensures.value ∙ quiet);
+      }) c.reserve.ensures.items;
+    }
+
 pub loop-event-preserved-in-Ok-Reply : goal.loop-event-preserved-in-Ok-Reply
-loop-event-preserved-in-Ok-Reply g c = record {
-  so = drained_more g.B.Block.contents g.B.Block.layers g.B.Block.size c.args.volume.now c.loop-event.volume c.step.new.self c.in-Some.event (Answered c.in-Ok-Reply.number c.in-Ok-Reply.reply) c.args.ended.now.items c.loop-event.ended.items c.push_reserved.new.self.items c.loop-event.invariant.so
-      (done_first g.B.Block.contents g.B.Block.layers g.B.Block.size c.in-Some.event _ (Answered c.in-Ok-Reply.number c.in-Ok-Reply.reply) c.loop-event.volume c.step.new.self c.in-Some.ensures.event c.in-Ok-Reply.field-0-is c.in-Ok-Reply.ensures.exact c.in-Ok-Reply.ensures.legal)
-      (c.push_reserved.ensures.items ∙ ap (λ (rs : List Replied). rs ++ reply_in (Answered c.in-Ok-Reply.number c.in-Ok-Reply.reply)) c.reserve.ensures.items);
-  counts = counts_more g.B.Block.contents g.B.Block.layers g.B.Block.size c.args.volume.now c.loop-event.volume c.step.new.self c.loop-event.invariant.counts c.in-Ok-Reply.ensures.kept c.in-Ok-Reply.ensures.loud
-      (counts_alone g.B.Block.contents g.B.Block.layers c.loop-event.volume (kept_alone g.B.Block.size c.args.volume.now c.loop-event.volume c.loop-event.invariant.counts.kept c.requires.alone) c.in-Some.event c.step.new.self (sym c.in-Ok-Reply.ensures.due) c.in-Ok-Reply.ensures.counts);
-}
+loop-event-preserved-in-Ok-Reply g c =
+    let step = step_is g.B.Block.contents g.B.Block.layers g.B.Block.size c.in-Some.event _ (Answered c.in-Ok-Reply.number c.in-Ok-Reply.reply) c.loop-event.volume c.step.new.self c.in-Some.ensures.event c.in-Some.ensures.machine c.in-Ok-Reply.field-0-is
+    c.in-Ok-Reply.ensures.exact c.in-Ok-Reply.ensures.legal c.in-Ok-Reply.ensures.kept c.in-Ok-Reply.ensures.loud c.in-Ok-Reply.ensures.counts.0 c.in-Ok-Reply.ensures.flown in
+    record {
+      so = drains_more g.B.Block.contents g.B.Block.layers g.B.Block.size _ _ _ _ c.args.volume.now c.loop-event.volume c.step.new.self c.in-Some.event (Answered c.in-Ok-Reply.number c.in-Ok-Reply.reply) c.args.ended.now.items c.loop-event.ended.items c.push_reserved.new.self.items
+          c.loop-event.invariant.so step c.push_reserved.ensures.items c.push_reserved.ensures.len c.push_reserved.ensures.capacity;
+      quiet = quiet_more g.B.Block.contents g.B.Block.layers g.B.Block.size c.args.volume.now c.loop-event.volume c.step.new.self c.in-Some.event (Answered c.in-Ok-Reply.number c.in-Ok-Reply.reply) c.args.ended.now.items c.loop-event.ended.items c.push_reserved.new.self.items
+          c.loop-event.invariant.quiet step c.push_reserved.ensures.items;
+    }
 
 pub loop-event-preserved-in-Ok-Done : goal.loop-event-preserved-in-Ok-Done
-loop-event-preserved-in-Ok-Done g c = record {
-  so = drained_more g.B.Block.contents g.B.Block.layers g.B.Block.size c.args.volume.now c.loop-event.volume c.step.new.self c.in-Some.event Done c.args.ended.now.items c.loop-event.ended.items c.reserve.new.self.items c.loop-event.invariant.so
-      (done_first g.B.Block.contents g.B.Block.layers g.B.Block.size c.in-Some.event _ Done c.loop-event.volume c.step.new.self c.in-Some.ensures.event c.in-Ok-Done.field-0-is c.in-Ok-Done.ensures.exact c.in-Ok-Done.ensures.legal)
-      (c.reserve.ensures.items ∙ sym (append-nil c.loop-event.ended.items));
-  counts = counts_more g.B.Block.contents g.B.Block.layers g.B.Block.size c.args.volume.now c.loop-event.volume c.step.new.self c.loop-event.invariant.counts c.in-Ok-Done.ensures.kept c.in-Ok-Done.ensures.loud
-      (counts_alone g.B.Block.contents g.B.Block.layers c.loop-event.volume (kept_alone g.B.Block.size c.args.volume.now c.loop-event.volume c.loop-event.invariant.counts.kept c.requires.alone) c.in-Some.event c.step.new.self (sym c.in-Ok-Done.ensures.due) c.in-Ok-Done.ensures.counts);
-}
+loop-event-preserved-in-Ok-Done g c =
+    let step = step_is g.B.Block.contents g.B.Block.layers g.B.Block.size c.in-Some.event _ Done c.loop-event.volume c.step.new.self c.in-Some.ensures.event c.in-Some.ensures.machine c.in-Ok-Done.field-0-is
+    c.in-Ok-Done.ensures.exact c.in-Ok-Done.ensures.legal c.in-Ok-Done.ensures.kept c.in-Ok-Done.ensures.loud c.in-Ok-Done.ensures.counts.0 c.in-Ok-Done.ensures.flown in
+    record {
+      so = drains_more g.B.Block.contents g.B.Block.layers g.B.Block.size _ _ _ _ c.args.volume.now c.loop-event.volume c.step.new.self c.in-Some.event Done c.args.ended.now.items c.loop-event.ended.items c.loop-event.ended.items
+          c.loop-event.invariant.so step (sym (append-nil c.loop-event.ended.items)) (omega arith) refl;
+      quiet = quiet_more g.B.Block.contents g.B.Block.layers g.B.Block.size c.args.volume.now c.loop-event.volume c.step.new.self c.in-Some.event Done c.args.ended.now.items c.loop-event.ended.items c.loop-event.ended.items
+          c.loop-event.invariant.quiet step (sym (append-nil c.loop-event.ended.items));
+    }
 
 pub loop-event-preserved : goal.loop-event-preserved
-loop-event-preserved g c = record {
-  so = drained_more g.B.Block.contents g.B.Block.layers g.B.Block.size c.args.volume.now c.loop-event.volume c.step.new.self c.in-Some.event Fault c.args.ended.now.items c.loop-event.ended.items c.reserve.new.self.items c.loop-event.invariant.so
-      (done_first g.B.Block.contents g.B.Block.layers g.B.Block.size c.in-Some.event _ Fault c.loop-event.volume c.step.new.self c.in-Some.ensures.event c.in-Ok-Fault.field-0-is c.in-Ok-Fault.ensures.exact c.in-Ok-Fault.ensures.legal)
-      (c.reserve.ensures.items ∙ sym (append-nil c.loop-event.ended.items));
-  counts = counts_more g.B.Block.contents g.B.Block.layers g.B.Block.size c.args.volume.now c.loop-event.volume c.step.new.self c.loop-event.invariant.counts c.in-Ok-Fault.ensures.kept c.in-Ok-Fault.ensures.loud
-      (counts_alone g.B.Block.contents g.B.Block.layers c.loop-event.volume (kept_alone g.B.Block.size c.args.volume.now c.loop-event.volume c.loop-event.invariant.counts.kept c.requires.alone) c.in-Some.event c.step.new.self (sym c.in-Ok-Fault.ensures.due) c.in-Ok-Fault.ensures.counts);
-}
+loop-event-preserved g c =
+    let step = step_is g.B.Block.contents g.B.Block.layers g.B.Block.size c.in-Some.event _ Fault c.loop-event.volume c.step.new.self c.in-Some.ensures.event c.in-Some.ensures.machine c.in-Ok-Fault.field-0-is
+    c.in-Ok-Fault.ensures.exact c.in-Ok-Fault.ensures.legal c.in-Ok-Fault.ensures.kept c.in-Ok-Fault.ensures.loud c.in-Ok-Fault.ensures.counts.0 c.in-Ok-Fault.ensures.flown in
+    record {
+      so = drains_more g.B.Block.contents g.B.Block.layers g.B.Block.size _ _ _ _ c.args.volume.now c.loop-event.volume c.step.new.self c.in-Some.event Fault c.args.ended.now.items c.loop-event.ended.items c.loop-event.ended.items
+          c.loop-event.invariant.so step (sym (append-nil c.loop-event.ended.items)) (omega arith) refl;
+      quiet = quiet_more g.B.Block.contents g.B.Block.layers g.B.Block.size c.args.volume.now c.loop-event.volume c.step.new.self c.in-Some.event Fault c.args.ended.now.items c.loop-event.ended.items c.loop-event.ended.items
+          c.loop-event.invariant.quiet step (sym (append-nil c.loop-event.ended.items));
+    }
 
 pub returns-clause-quiet : goal.returns-clause-quiet
-returns-clause-quiet g c =
-    let alone = kept_alone g.B.Block.size c.args.volume.now c.loop-event.volume c.loop-event.invariant.counts.kept c.requires.alone in
-    quiet_is g.B.Block.contents g.B.Block.layers g.B.Block.size c.loop-event.volume alone c.in_default.ensures.quiet.0
+returns-clause-quiet g c = free_quiet g.B.Block.contents g.B.Block.layers g.B.Block.size c.loop-event.volume (still_free c.loop-event.volume.merge c.in_default-due.ensures.quiet.1) c.in_default-due.ensures.quiet.0
 
-pub returns-clause-alone : goal.returns-clause-alone
-returns-clause-alone g c = kept_alone g.B.Block.size c.args.volume.now c.loop-event.volume c.loop-event.invariant.counts.kept c.requires.alone
-
-pub returns-in_default-reserve-clause-alone : goal.returns-in_default-reserve-clause-alone
-returns-in_default-reserve-clause-alone g c = kept_alone g.B.Block.size c.args.volume.now c.loop-event.volume c.loop-event.invariant.counts.kept c.requires.alone
+pub returns-clause-merged : goal.returns-clause-merged
+returns-clause-merged g c = λ settled. drained_merged g.B.Block.contents g.B.Block.layers g.B.Block.size c.args.volume.now c.loop-event.volume c.args.ended.now.items c.loop-event.ended.items c.loop-event.invariant.quiet c.in_default-due.ensures.machine settled
 
 pub returns-clause-kept : goal.returns-clause-kept
-returns-clause-kept g c = devices_kept g.B.Block.size g.B.Block.layers c.args.volume.now c.loop-event.volume c.loop-event.invariant.counts.kept c.loop-event.invariant.counts.loud
-
-pub returns-in_default-reserve-clause-kept : goal.returns-in_default-reserve-clause-kept
-returns-in_default-reserve-clause-kept g c = devices_kept g.B.Block.size g.B.Block.layers c.args.volume.now c.loop-event.volume c.loop-event.invariant.counts.kept c.loop-event.invariant.counts.loud
+returns-clause-kept g c = devices_kept g.B.Block.size g.B.Block.layers c.args.volume.now c.loop-event.volume c.loop-event.invariant.so.counts.kept c.loop-event.invariant.so.counts.loud

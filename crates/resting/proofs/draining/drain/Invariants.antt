@@ -1,13 +1,14 @@
 -- The events so far.
+use Rattle.std.proofs.Common.{vec_len, vec_capacity}
 use Rattle.volume.specs.Volumed.{left_in_all}
-use Rattle.resting.specs.Draining.{IsDrained}
-use Rattle.resting.proofs.Drains.{KeepsCounts}
+use Rattle.resting.proofs.Drained.{RunsQuiet}
+use Rattle.resting.proofs.Drains.{DrainsSo}
 use Rattle.resting.proofs.draining.drain.Given as goal
 
 abbrev pub invariant-loop-event : goal.invariant-loop-event
 invariant-loop-event g l = record {
-  so : IsDrained g.B.Block.contents g.B.Block.layers l.fn.volume l.volume l.fn.ended.items l.ended.items;
-  counts : KeepsCounts g.B.Block.contents g.B.Block.layers g.B.Block.size l.fn.volume l.volume;
+  so : DrainsSo g.B.Block.contents g.B.Block.layers g.B.Block.size (vec_len l.ended) (vec_capacity l.ended) l.fn.volume l.volume l.fn.ended.items l.ended.items;
+  quiet : RunsQuiet g.B.Block.contents g.B.Block.layers g.B.Block.size l.fn.volume l.volume l.fn.ended.items l.ended.items;
 }
 
 abbrev pub decreases-loop-event : goal.decreases-loop-event

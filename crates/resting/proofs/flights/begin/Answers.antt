@@ -1,20 +1,15 @@
 -- A request keeps the devices; one that is refused changes nothing, or spoils its snapshot.
-use Rattle.std.proofs.Common.{◌∙◌, None}
-use Rattle.resting.proofs.Seen.{devices_kept}
-use Rattle.resting.proofs.Started.{copies_by}
-use Rattle.resting.proofs.Between.{starved_settled}
+use Rattle.std.proofs.Common.{None}
+use Rattle.resting.proofs.Seen.{devices_kept, merged_still}
 use Rattle.resting.proofs.Refusing.{refused_loud, refused_quiet}
 use Rattle.resting.proofs.flights.begin.Goals as goal
 
 pub returns-in-Ok-clause-kept : goal.returns-in-Ok-clause-kept
 returns-in-Ok-clause-kept g c = devices_kept g.B.Block.size g.B.Block.layers c.args.volume.now c.submit.new.self c.in-Ok.ensures.kept c.in-Ok.ensures.ok.loud
 
-pub returns-in-Ok-clause-copies : goal.returns-in-Ok-clause-copies
-returns-in-Ok-clause-copies g c = copies_by g.B.Block.contents g.B.Block.layers c.args.request c.in-Ok.number None None c.args.volume.now c.submit.new.self c.look.ensures (c.in-Ok.ensures.exact None)
-
 pub returns-in-Err-clause-same : goal.returns-in-Err-clause-same
 returns-in-Err-clause-same g c = λ other. (
-  starved_settled g.B.Block.contents g.B.Block.layers g.B.Block.size c.args.volume.now c.submit.new.self (c.in-Err.ensures.starved other None),
+  merged_still g.B.Block.contents g.B.Block.layers c.args.volume.now c.submit.new.self (c.in-Err.ensures.starved other None),
   refused_quiet g.B.Block.contents g.B.Block.layers g.B.Block.size c.args.request c.in-Err.refusal c.args.volume.now c.submit.new.self c.in-Err.ensures.refused other,
 )
 
@@ -22,9 +17,3 @@ pub returns-in-Err-clause-kept : goal.returns-in-Err-clause-kept
 returns-in-Err-clause-kept g c =
     devices_kept g.B.Block.size g.B.Block.layers c.args.volume.now c.submit.new.self c.in-Err.ensures.kept
     (refused_loud g.B.Block.contents g.B.Block.layers g.B.Block.size c.args.request c.in-Err.refusal c.args.volume.now c.submit.new.self c.in-Err.ensures.refused)
-
-pub returns-in-Ok-clause-alone : goal.returns-in-Ok-clause-alone
-returns-in-Ok-clause-alone g c = c.in-Ok.ensures.untouched.merge ∙ c.requires.alone
-
-pub returns-in-Err-clause-alone : goal.returns-in-Err-clause-alone
-returns-in-Err-clause-alone g c = c.in-Err.ensures.untouched.merge ∙ c.requires.alone

@@ -3,8 +3,7 @@ use Rattle.layers.specs.Ticks.{layers_ticked}
 use Rattle.std.specs.Prelude.{None}
 use Rattle.volume.specs.Layering.{Measures}
 use Rattle.volume.proofs.Relayered.{ticked_alike}
-use Rattle.resting.proofs.Alone.{moving_alone}
-use Rattle.resting.proofs.Alike.{quiet_alike, alike_alone, alike_kept, alike_settles, all_moved}
+use Rattle.resting.proofs.Alike.{quiet_alike, alike_kept, alike_settles, all_moved}
 use Rattle.resting.proofs.Flying.{moving_stays}
 use Rattle.resting.proofs.layering.pass.Goals as goal
 
@@ -27,9 +26,4 @@ returns-clause-kept g c =
     alike_kept g.B.Block.contents g.B.Block.layers g.B.Block.size c.args.volume.now c.tick.new.self (ticked_alike m g.B.Block.layers c.args.seconds c.args.volume.now c.tick.new.self c.tick.ensures.ticked)
 
 pub returns-clause-flying : goal.returns-clause-flying
-returns-clause-flying g c = moving_stays (layers_ticked c.args.seconds) _ _ (moving_alone g.B.Block.contents g.B.Block.layers c.args.volume.now c.requires.alone None) (c.tick.ensures.moving None)
-
-pub returns-clause-alone : goal.returns-clause-alone
-returns-clause-alone g c =
-    let m : Measures g.row.B.Denot = record { contents = g.B.Block.contents; durable = g.B.Block.durable; size = g.B.Block.size; faults = g.B.Block.fault_count; done = g.B.Block.done_count } in
-    alike_alone g.B.Block.contents g.B.Block.layers g.B.Block.size c.args.volume.now c.tick.new.self (ticked_alike m g.B.Block.layers c.args.seconds c.args.volume.now c.tick.new.self c.tick.ensures.ticked) c.requires.alone
+returns-clause-flying g c = moving_stays (layers_ticked c.args.seconds) _ _ (c.tick.ensures.moving None)

@@ -2,15 +2,15 @@
 use Rattle.std.proofs.Common.{◌++◌, List, ℕ, ◌∙◌, ap}
 use Rattle.chunk.specs.Pieces.{span_of}
 use Rattle.plain.specs.declared.request.Reply.TheVariants.{Data}
-use Rattle.resting.specs.Rested.{rested_of, settled_of}
+use Rattle.resting.specs.Rested.{rested_of, merged_of}
 use Rattle.resting.proofs.WriteRuns.{answer}
 use Rattle.resting.proofs.Reading.{whole_taken}
 use Rattle.resting.proofs.pieces.read_piece.Goals as goal
 
 pub returns-in-Ok-clause-done : goal.returns-in-Ok-clause-done
 returns-in-Ok-clause-done g c =
-    let old = settled_of g.B.Block.contents g.B.Block.layers (rested_of c.args.volume.now) in
-    let new = settled_of g.B.Block.contents g.B.Block.layers (rested_of c.serve.new.volume) in (
+    let old = merged_of g.B.Block.contents g.B.Block.layers (rested_of c.args.volume.now) in
+    let new = merged_of g.B.Block.contents g.B.Block.layers (rested_of c.serve.new.volume) in (
       Data c.in-Ok-Data.bytes,
       tt,
       λ loud. c.in-Ok-Data.ensures.answer loud ∙ ap (answer new) c.in-Ok-Data.field-0-is,

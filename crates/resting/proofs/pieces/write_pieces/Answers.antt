@@ -1,13 +1,14 @@
 -- One piece more is written, and where the write ends.
-use Rattle.std.proofs.Common.{◌+◌, ◌-◌, ◌*◌, take, drop, ◌∙◌, ap, subst, arith}
+use Rattle.std.proofs.Common.{None, ◌+◌, ◌-◌, ◌*◌, take, drop, sym, ◌∙◌, ap, subst, arith}
 use Rattle.chunk.specs.Pieces.{span_of, pieces_of}
 use Rattle.chunk.proofs.Limits.{is_chunk-some, is_chunk-small}
 use Rattle.plain.specs.declared.request.Op.TheVariants.{Write}
 use Rattle.chunk.proofs.Runs.{StandsAt, first_piece, stands_first, stands_next, stands_last}
-use Rattle.volume.specs.Volumed.{piece_of}
-use Rattle.resting.specs.Rested.{rested_of, settled_of}
-use Rattle.resting.proofs.Alone.{piece_alone}
-use Rattle.resting.proofs.Going.{chunks_by, goes_none, goes_can, goes_more, goes_within, piece_least}
+use Rattle.volume.specs.Volumed.{piece_with}
+use Rattle.resting.specs.Rested.{rested_of, merged_of}
+use Rattle.resting.proofs.Between.{loud_in_all}
+use Rattle.resting.proofs.WithoutMerge.{chunk_alone}
+use Rattle.resting.proofs.Going.{chunks_by, goes_none, goes_can, goes_more, goes_within, chunk_least}
 use Rattle.resting.proofs.WriteRuns.{writes_none}
 use Rattle.resting.proofs.Writing.{part_is, part_fits, wrote_more, wrote_refused, wrote_all}
 use Rattle.resting.proofs.PlainWrites.{plain_write, plain_write_lost}
@@ -22,11 +23,11 @@ pub loop-piece-init : goal.loop-piece-init
 loop-piece-init g c = record {
   can = tt;
   finite = tt;
-  stands = subst (λ n. StandsAt n c.args.range.first (c.args.range.first + c.args.range.count) 0 c.into_iter-piece-iterator.result) (piece_alone c.args.volume.now c.piece.result c.requires.between.alone c.piece.ensures.piece)
+  stands = subst (λ n. StandsAt n c.args.range.first (c.args.range.first + c.args.range.count) 0 c.into_iter-piece-iterator.result) c.piece.ensures.piece
       (stands_first c.piece.result (span_of c.args.range) _ _ c.pieces-piece-items.ensures.cut c.into_iter-piece-iterator.ensures.into_iter_gives);
   so = goes_none g.B.Block.contents g.B.Block.layers g.B.Block.size c.args.volume.now c.requires.between;
-  did = writes_none c.args.dev _ (pieces_of (piece_of c.args.volume.now.snaps) (span_of c.args.range)) c.into_iter-piece-iterator.result c.args.bytes.now (settled_of g.B.Block.contents g.B.Block.layers (rested_of c.args.volume.now))
-      (c.into_iter-piece-iterator.ensures.into_iter_gives ∙ c.pieces-piece-items.ensures.pieces ∙ ap (λ n. pieces_of n (span_of c.args.range)) (piece_alone c.args.volume.now c.piece.result c.requires.between.alone c.piece.ensures.piece));
+  did = writes_none c.args.dev _ (pieces_of (piece_with c.args.volume.now.merge c.args.volume.now.snaps) (span_of c.args.range)) c.into_iter-piece-iterator.result c.args.bytes.now (merged_of g.B.Block.contents g.B.Block.layers (rested_of c.args.volume.now))
+      (c.into_iter-piece-iterator.ensures.into_iter_gives ∙ c.pieces-piece-items.ensures.pieces ∙ ap (λ n. pieces_of n (span_of c.args.range)) c.piece.ensures.piece);
 }
 
 pub overflow_add-to : goal.overflow_add-to
@@ -50,18 +51,18 @@ pub write_piece-requires-clause-can : goal.write_piece-requires-clause-can
 write_piece-requires-clause-can g c =
     let is = first_piece _ _ _ _ _ _ _ c.loop-piece.invariant.stands c.in-Some.ensures.steps in
     let bytes = is.bytes in
-    let chunk = chunks_by c.args.volume.now c.piece.result (piece_alone c.args.volume.now c.piece.result c.requires.between.alone c.piece.ensures.piece) c.piece.ensures.same c.piece.ensures.allowed in
+    let chunk = chunks_by c.args.volume.now c.piece.result c.piece.ensures.piece c.piece.ensures.same c.piece.ensures.allowed in
     goes_can g.B.Block.contents g.B.Block.layers g.B.Block.size c.args.dev (Write (take (c.loop-piece.from + c.in-Some.piece.count * 512 - c.loop-piece.from) (drop c.loop-piece.from c.args.bytes.now))) c.args.range c.in-Some.piece c.loop-piece.from
     c.args.volume.now c.loop-piece.volume c.requires.can c.loop-piece.invariant.so chunk.1 chunk.0 is
     (part_fits c.loop-piece.from c.in-Some.piece.count c.args.range.count c.args.bytes.now c.requires.room (omega arith))
 
 pub returns-in-Err-clause-refused : goal.returns-in-Err-clause-refused
 returns-in-Err-clause-refused g c =
-    let chunk = chunks_by c.args.volume.now c.piece.result (piece_alone c.args.volume.now c.piece.result c.requires.between.alone c.piece.ensures.piece) c.piece.ensures.same c.piece.ensures.allowed in
-    wrote_refused g.B.Block.contents g.B.Block.layers g.B.Block.size c.args.dev c.args.range (piece_of c.args.volume.now.snaps) c.args.bytes.now c.loop-piece.from c.loop-piece.piece-iterator c.next.new.self c.in-Some.piece
+    let chunk = chunks_by c.args.volume.now c.piece.result c.piece.ensures.piece c.piece.ensures.same c.piece.ensures.allowed in
+    wrote_refused g.B.Block.contents g.B.Block.layers g.B.Block.size c.args.dev c.args.range (piece_with c.args.volume.now.merge c.args.volume.now.snaps) c.args.bytes.now c.loop-piece.from c.loop-piece.piece-iterator c.next.new.self c.in-Some.piece
     c.args.volume.now c.loop-piece.volume c.write_piece.new.volume c.loop-piece.invariant.did c.in-Some.ensures.steps c.loop-piece.invariant.so.settled
     (take (c.loop-piece.from + c.in-Some.piece.count * 512 - c.loop-piece.from) (drop c.loop-piece.from c.args.bytes.now)) c.in-Err.refusal (part_is c.loop-piece.from c.in-Some.piece.count c.args.bytes.now)
-    c.requires.can.there (piece_least g.B.Block.contents g.B.Block.layers c.args.volume.now chunk.1 chunk.0) c.in-Err.ensures.refused
+    c.requires.can.there (chunk_least g.B.Block.contents g.B.Block.layers c.args.volume.now chunk.1 chunk.0) c.in-Err.ensures.refused
 
 pub returns-in-Err-clause-settled : goal.returns-in-Err-clause-settled
 returns-in-Err-clause-settled g c = λ settled. c.in-Err.ensures.settled (c.loop-piece.invariant.so.settled settled)
@@ -70,23 +71,15 @@ pub returns-in-Err-clause-kept : goal.returns-in-Err-clause-kept
 returns-in-Err-clause-kept g c =
     let is = first_piece _ _ _ _ _ _ _ c.loop-piece.invariant.stands c.in-Some.ensures.steps in
     (goes_more g.B.Block.contents g.B.Block.layers g.B.Block.size c.loop-piece.from c.in-Some.piece.count c.args.volume.now c.loop-piece.volume c.write_piece.new.volume c.loop-piece.invariant.so
-    c.in-Err.ensures.between c.in-Err.ensures.kept c.in-Err.ensures.settled c.in-Err.ensures.requests c.in-Err.ensures.copies is.some).kept
+    c.in-Err.ensures.between c.in-Err.ensures.kept c.in-Err.ensures.settled c.in-Err.ensures.piece c.in-Err.ensures.requests is.some).kept
 
 pub returns-in-Err-clause-requests : goal.returns-in-Err-clause-requests
 returns-in-Err-clause-requests g c =
     let is = first_piece _ _ _ _ _ _ _ c.loop-piece.invariant.stands c.in-Some.ensures.steps in
     let bytes = is.bytes in
     let more = goes_more g.B.Block.contents g.B.Block.layers g.B.Block.size c.loop-piece.from c.in-Some.piece.count c.args.volume.now c.loop-piece.volume c.write_piece.new.volume c.loop-piece.invariant.so
-    c.in-Err.ensures.between c.in-Err.ensures.kept c.in-Err.ensures.settled c.in-Err.ensures.requests c.in-Err.ensures.copies is.some in
-    (goes_within g.B.Block.contents g.B.Block.layers g.B.Block.size (c.loop-piece.from + c.in-Some.piece.count * 512) c.args.range.count c.args.volume.now c.write_piece.new.volume more (omega arith)).0
-
-pub returns-in-Err-clause-copies : goal.returns-in-Err-clause-copies
-returns-in-Err-clause-copies g c =
-    let is = first_piece _ _ _ _ _ _ _ c.loop-piece.invariant.stands c.in-Some.ensures.steps in
-    let bytes = is.bytes in
-    let more = goes_more g.B.Block.contents g.B.Block.layers g.B.Block.size c.loop-piece.from c.in-Some.piece.count c.args.volume.now c.loop-piece.volume c.write_piece.new.volume c.loop-piece.invariant.so
-    c.in-Err.ensures.between c.in-Err.ensures.kept c.in-Err.ensures.settled c.in-Err.ensures.requests c.in-Err.ensures.copies is.some in
-    (goes_within g.B.Block.contents g.B.Block.layers g.B.Block.size (c.loop-piece.from + c.in-Some.piece.count * 512) c.args.range.count c.args.volume.now c.write_piece.new.volume more (omega arith)).1
+    c.in-Err.ensures.between c.in-Err.ensures.kept c.in-Err.ensures.settled c.in-Err.ensures.piece c.in-Err.ensures.requests is.some in
+    goes_within g.B.Block.contents g.B.Block.layers g.B.Block.size (c.loop-piece.from + c.in-Some.piece.count * 512) c.args.range.count c.args.volume.now c.write_piece.new.volume more (omega arith)
 
 pub loop-piece-preserved : goal.loop-piece-preserved
 loop-piece-preserved g c =
@@ -96,8 +89,8 @@ loop-piece-preserved g c =
       finite = tt;
       stands = stands_next _ _ _ _ _ _ _ c.loop-piece.invariant.stands c.in-Some.ensures.steps;
       so = goes_more g.B.Block.contents g.B.Block.layers g.B.Block.size c.loop-piece.from c.in-Some.piece.count c.args.volume.now c.loop-piece.volume c.write_piece.new.volume c.loop-piece.invariant.so
-          c.in-Ok.ensures.between c.in-Ok.ensures.kept c.in-Ok.ensures.settled c.in-Ok.ensures.requests c.in-Ok.ensures.copies is.some;
-      did = wrote_more g.B.Block.contents g.B.Block.layers g.B.Block.size c.args.dev c.args.range (piece_of c.args.volume.now.snaps) c.args.bytes.now c.loop-piece.from c.loop-piece.piece-iterator c.next.new.self c.in-Some.piece
+          c.in-Ok.ensures.between c.in-Ok.ensures.kept c.in-Ok.ensures.settled c.in-Ok.ensures.piece c.in-Ok.ensures.requests is.some;
+      did = wrote_more g.B.Block.contents g.B.Block.layers g.B.Block.size c.args.dev c.args.range (piece_with c.args.volume.now.merge c.args.volume.now.snaps) c.args.bytes.now c.loop-piece.from c.loop-piece.piece-iterator c.next.new.self c.in-Some.piece
           c.args.volume.now c.loop-piece.volume c.write_piece.new.volume c.loop-piece.invariant.did c.in-Some.ensures.steps c.loop-piece.invariant.so.settled
           (take (c.loop-piece.from + c.in-Some.piece.count * 512 - c.loop-piece.from) (drop c.loop-piece.from c.args.bytes.now)) (part_is c.loop-piece.from c.in-Some.piece.count c.args.bytes.now) c.in-Ok.ensures.done;
     }
@@ -107,9 +100,9 @@ returns-clause-between g c = c.loop-piece.invariant.so.between
 
 pub returns-clause-done : goal.returns-clause-done
 returns-clause-done g c =
-    let chunk = chunks_by c.args.volume.now c.piece.result (piece_alone c.args.volume.now c.piece.result c.requires.between.alone c.piece.ensures.piece) c.piece.ensures.same c.piece.ensures.allowed in
-    wrote_all g.B.Block.contents g.B.Block.layers g.B.Block.size c.args.dev c.args.range (piece_of c.args.volume.now.snaps) c.args.bytes.now c.loop-piece.from c.loop-piece.piece-iterator c.loop-piece.piece-iterator c.args.range
-    c.args.volume.now c.loop-piece.volume c.loop-piece.volume c.loop-piece.invariant.did c.in-None.ensures.steps.0 (piece_least g.B.Block.contents g.B.Block.layers c.args.volume.now chunk.1 chunk.0)
+    let chunk = chunks_by c.args.volume.now c.piece.result c.piece.ensures.piece c.piece.ensures.same c.piece.ensures.allowed in
+    wrote_all g.B.Block.contents g.B.Block.layers g.B.Block.size c.args.dev c.args.range (piece_with c.args.volume.now.merge c.args.volume.now.snaps) c.args.bytes.now c.loop-piece.from c.loop-piece.piece-iterator c.loop-piece.piece-iterator c.args.range
+    c.args.volume.now c.loop-piece.volume c.loop-piece.volume c.loop-piece.invariant.did c.in-None.ensures.steps.0 (chunk_least g.B.Block.contents g.B.Block.layers c.args.volume.now chunk.1 chunk.0)
 
 pub returns-clause-settled : goal.returns-clause-settled
 returns-clause-settled g c = c.loop-piece.invariant.so.settled
@@ -120,21 +113,22 @@ returns-clause-kept g c = c.loop-piece.invariant.so.kept
 pub returns-clause-requests : goal.returns-clause-requests
 returns-clause-requests g c =
     let end = stands_last _ _ _ _ _ c.loop-piece.invariant.stands c.in-None.ensures.steps.0 (omega arith) in
-    (goes_within g.B.Block.contents g.B.Block.layers g.B.Block.size c.loop-piece.from c.args.range.count c.args.volume.now c.loop-piece.volume c.loop-piece.invariant.so (omega arith)).0
-
-pub returns-clause-copies : goal.returns-clause-copies
-returns-clause-copies g c =
-    let end = stands_last _ _ _ _ _ c.loop-piece.invariant.stands c.in-None.ensures.steps.0 (omega arith) in
-    (goes_within g.B.Block.contents g.B.Block.layers g.B.Block.size c.loop-piece.from c.args.range.count c.args.volume.now c.loop-piece.volume c.loop-piece.invariant.so (omega arith)).1
+    goes_within g.B.Block.contents g.B.Block.layers g.B.Block.size c.loop-piece.from c.args.range.count c.args.volume.now c.loop-piece.volume c.loop-piece.invariant.so (omega arith)
 
 pub returns-clause-shows : goal.returns-clause-shows
-returns-clause-shows g c =
-    let chunk = chunks_by c.args.volume.now c.piece.result (piece_alone c.args.volume.now c.piece.result c.requires.between.alone c.piece.ensures.piece) c.piece.ensures.same c.piece.ensures.allowed in
-    plain_write g.B.Block.contents g.B.Block.layers g.B.Block.size c.args.dev c.args.range (piece_of c.args.volume.now.snaps) c.args.bytes.now c.args.volume.now c.loop-piece.volume (is_chunk-some (piece_of c.args.volume.now.snaps) chunk.1) c.requires.can.some c.requires.can.inside
-    c.requires.room chunk.0 (piece_least g.B.Block.contents g.B.Block.layers c.args.volume.now chunk.1 chunk.0) (returns-clause-done g c)
+returns-clause-shows g c = λ settled alone.
+    let chunk = chunks_by c.args.volume.now c.piece.result c.piece.ensures.piece c.piece.ensures.same c.piece.ensures.allowed in
+    let loud = loud_in_all g.B.Block.contents g.B.Block.layers g.B.Block.size c.args.volume.now settled in
+    let rest = c.is_quiet.ensures.rest (c.is_quiet.ensures.value ∙ c.requires.between.quiet) loud alone None in
+    let size = piece_with c.args.volume.now.merge c.args.volume.now.snaps in
+    plain_write g.B.Block.contents g.B.Block.layers g.B.Block.size c.args.dev c.args.range size c.args.bytes.now c.args.volume.now c.loop-piece.volume (is_chunk-some size chunk.1) c.requires.can.some c.requires.can.inside c.requires.room chunk.0
+    (sym (chunk_alone g.B.Block.contents g.B.Block.layers c.args.volume.now alone) ∙ chunk_least g.B.Block.contents g.B.Block.layers c.args.volume.now chunk.1 chunk.0) alone rest (returns-clause-done g c) settled
 
 pub returns-in-Err-clause-loses : goal.returns-in-Err-clause-loses
-returns-in-Err-clause-loses g c =
-    let chunk = chunks_by c.args.volume.now c.piece.result (piece_alone c.args.volume.now c.piece.result c.requires.between.alone c.piece.ensures.piece) c.piece.ensures.same c.piece.ensures.allowed in
-    plain_write_lost g.B.Block.contents g.B.Block.layers g.B.Block.size c.args.dev c.args.range (piece_of c.args.volume.now.snaps) c.args.bytes.now c.args.volume.now c.write_piece.new.volume (is_chunk-some (piece_of c.args.volume.now.snaps) chunk.1) c.requires.can.some c.requires.can.inside
-    c.requires.room chunk.0 (piece_least g.B.Block.contents g.B.Block.layers c.args.volume.now chunk.1 chunk.0) c.in-Err.refusal (returns-in-Err-clause-refused g c)
+returns-in-Err-clause-loses g c = λ settled alone.
+    let chunk = chunks_by c.args.volume.now c.piece.result c.piece.ensures.piece c.piece.ensures.same c.piece.ensures.allowed in
+    let loud = loud_in_all g.B.Block.contents g.B.Block.layers g.B.Block.size c.args.volume.now settled in
+    let rest = c.is_quiet.ensures.rest (c.is_quiet.ensures.value ∙ c.requires.between.quiet) loud alone None in
+    let size = piece_with c.args.volume.now.merge c.args.volume.now.snaps in
+    plain_write_lost g.B.Block.contents g.B.Block.layers g.B.Block.size c.args.dev c.args.range size c.args.bytes.now c.args.volume.now c.write_piece.new.volume (is_chunk-some size chunk.1) c.requires.can.some c.requires.can.inside c.requires.room chunk.0
+    (sym (chunk_alone g.B.Block.contents g.B.Block.layers c.args.volume.now alone) ∙ chunk_least g.B.Block.contents g.B.Block.layers c.args.volume.now chunk.1 chunk.0) alone rest c.in-Err.refusal (returns-in-Err-clause-refused g c) settled

@@ -2,10 +2,11 @@
 use Rattle.plain.specs.declared.request.Dev.TheVariants.{Origin}
 use Rattle.volume.specs.Layering.{Measures}
 use Rattle.volume.proofs.Told.{told_alike, untold_alike}
-use Rattle.resting.proofs.Alone.{moving_alone}
-use Rattle.resting.proofs.Alike.{quiet_alike, alike_alone, alike_kept, alike_settles, alike_requests, alike_copies}
+use Rattle.resting.proofs.Alike.{quiet_alike, alike_kept, alike_settles, alike_requests}
 use Rattle.resting.proofs.Tells.{origin_told, origin_untold}
 use Rattle.std.proofs.Common.{ap}
+use Rattle.event_machine.specs.Held.{Moving}
+use Rattle.event_machine.specs.MergeRest.{merge_in}
 use Rattle.std.specs.Prelude.{None}
 use Rattle.volume.specs.Moved.{moving_of}
 use Rattle.volume.specs.Telling.{layers_told}
@@ -43,11 +44,6 @@ returns-in-Ok-clause-requests g c =
     let m : Measures g.row.B.Denot = record { contents = g.B.Block.contents; durable = g.B.Block.durable; size = g.B.Block.size; faults = g.B.Block.fault_count; done = g.B.Block.done_count } in
     alike_requests g.B.Block.contents g.B.Block.layers g.B.Block.size c.args.volume.now c.message.new.self (told_alike m g.B.Block.layers Origin c.args.depth c.args.message.now c.args.volume.now c.message.new.self c.in-Ok.answer c.in-Ok.ensures.ok)
 
-pub returns-in-Ok-clause-copies : goal.returns-in-Ok-clause-copies
-returns-in-Ok-clause-copies g c =
-    let m : Measures g.row.B.Denot = record { contents = g.B.Block.contents; durable = g.B.Block.durable; size = g.B.Block.size; faults = g.B.Block.fault_count; done = g.B.Block.done_count } in
-    alike_copies g.B.Block.contents g.B.Block.layers g.B.Block.size c.args.volume.now c.message.new.self (told_alike m g.B.Block.layers Origin c.args.depth c.args.message.now c.args.volume.now c.message.new.self c.in-Ok.answer c.in-Ok.ensures.ok)
-
 pub returns-in-Err-clause-quiet : goal.returns-in-Err-clause-quiet
 returns-in-Err-clause-quiet g c =
     let m : Measures g.row.B.Denot = record { contents = g.B.Block.contents; durable = g.B.Block.durable; size = g.B.Block.size; faults = g.B.Block.fault_count; done = g.B.Block.done_count } in
@@ -68,23 +64,14 @@ returns-in-Err-clause-requests g c =
     let m : Measures g.row.B.Denot = record { contents = g.B.Block.contents; durable = g.B.Block.durable; size = g.B.Block.size; faults = g.B.Block.fault_count; done = g.B.Block.done_count } in
     alike_requests g.B.Block.contents g.B.Block.layers g.B.Block.size c.args.volume.now c.message.new.self (untold_alike m g.B.Block.layers Origin c.args.depth c.args.message.now c.args.volume.now c.message.new.self c.in-Err.refusal c.in-Err.ensures.err)
 
-pub returns-in-Err-clause-copies : goal.returns-in-Err-clause-copies
-returns-in-Err-clause-copies g c =
-    let m : Measures g.row.B.Denot = record { contents = g.B.Block.contents; durable = g.B.Block.durable; size = g.B.Block.size; faults = g.B.Block.fault_count; done = g.B.Block.done_count } in
-    alike_copies g.B.Block.contents g.B.Block.layers g.B.Block.size c.args.volume.now c.message.new.self (untold_alike m g.B.Block.layers Origin c.args.depth c.args.message.now c.args.volume.now c.message.new.self c.in-Err.refusal c.in-Err.ensures.err)
-
 pub returns-in-Ok-clause-flying : goal.returns-in-Ok-clause-flying
-returns-in-Ok-clause-flying g c = dev_stays Origin (layers_told c.args.depth c.args.message.now) (moving_of g.B.Block.contents g.B.Block.layers None c.args.volume.now) (moving_of g.B.Block.contents g.B.Block.layers None c.message.new.self) (moving_alone g.B.Block.contents g.B.Block.layers c.args.volume.now c.requires.alone None) (c.in-Ok.ensures.moving None)
+returns-in-Ok-clause-flying g c = dev_stays Origin (layers_told c.args.depth c.args.message.now) (moving_of g.B.Block.contents g.B.Block.layers None c.args.volume.now) (moving_of g.B.Block.contents g.B.Block.layers None c.message.new.self) (c.in-Ok.ensures.moving None)
 
 pub returns-in-Err-clause-flying : goal.returns-in-Err-clause-flying
 returns-in-Err-clause-flying g c = ap without_devices (c.in-Err.ensures.still None)
 
-pub returns-in-Ok-clause-alone : goal.returns-in-Ok-clause-alone
-returns-in-Ok-clause-alone g c =
-    let m : Measures g.row.B.Denot = record { contents = g.B.Block.contents; durable = g.B.Block.durable; size = g.B.Block.size; faults = g.B.Block.fault_count; done = g.B.Block.done_count } in
-    alike_alone g.B.Block.contents g.B.Block.layers g.B.Block.size c.args.volume.now c.message.new.self (told_alike m g.B.Block.layers Origin c.args.depth c.args.message.now c.args.volume.now c.message.new.self c.in-Ok.answer c.in-Ok.ensures.ok) c.requires.alone
+pub returns-in-Ok-clause-merging : goal.returns-in-Ok-clause-merging
+returns-in-Ok-clause-merging g c = ap (λ (m : Moving). merge_in m.merge) (c.in-Ok.ensures.moving None)
 
-pub returns-in-Err-clause-alone : goal.returns-in-Err-clause-alone
-returns-in-Err-clause-alone g c =
-    let m : Measures g.row.B.Denot = record { contents = g.B.Block.contents; durable = g.B.Block.durable; size = g.B.Block.size; faults = g.B.Block.fault_count; done = g.B.Block.done_count } in
-    alike_alone g.B.Block.contents g.B.Block.layers g.B.Block.size c.args.volume.now c.message.new.self (untold_alike m g.B.Block.layers Origin c.args.depth c.args.message.now c.args.volume.now c.message.new.self c.in-Err.refusal c.in-Err.ensures.err) c.requires.alone
+pub returns-in-Err-clause-merging : goal.returns-in-Err-clause-merging
+returns-in-Err-clause-merging g c = ap (λ (m : Moving). merge_in m.merge) (c.in-Err.ensures.still None)

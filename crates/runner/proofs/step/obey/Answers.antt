@@ -1,20 +1,32 @@
-use Rattle.std.proofs.Common.{◌≡◌, true, Some, Ok, refl, sym, subst}
-use Rattle.std.specs.Prelude.{IfSome}
+use Rattle.std.proofs.Common.{◌≡◌, ◌≢◌, true, Some, Ok, Err, refl, sym, subst}
+use Rattle.std.specs.Prelude.{IfOk, IfSome}
+use Rattle.sector.specs.declared.refusal.Refusal.{Refusal}
+use Rattle.sector.specs.declared.refusal.Refusal.TheVariants.{NoMemory}
 use Rattle.reply.specs.declared.Reply.TheVariants.{Data, Done}
 use Rattle.command.specs.declared.grammar.Command.{Command}
 use Rattle.devices.specs.Devices.{table_of}
+use Rattle.devices.specs.Flights.{IsDoneFor}
+use Rattle.devices.specs.Merging.{IsBegunIn, IsFinishedIn, IsUnfinishedIn}
+use Rattle.devices.specs.Ruled.{volume_for}
+use Rattle.named_volume.specs.Flights.{IsSettledBy}
 use Rattle.named.specs.Naming.{AreNamed}
 use Rattle.named.specs.Sound.{is_sound}
 use Rattle.named.specs.State.{Table}
 use Rattle.named.proofs.NamedRules.{ticked_named}
 use Rattle.named.proofs.SoundRules.{ticked_sound}
-use Rattle.named.specs.Events.{origin_by, rested}
+use Rattle.named.specs.Changes.{Does}
+use Rattle.named.specs.Events.{is_merge_event, origin_by, rested}
+use Rattle.named.specs.Merging.{merge_begun}
+use Rattle.named.specs.Places.{volume_at}
 use Rattle.named.specs.Starting.{read_asked, write_asked}
 use Rattle.runner.specs.Asking.{IsFirst, first_refusal}
-use Rattle.runner.specs.Output.{told}
-use Rattle.runner.specs.Steps.{reworded}
+use Rattle.runner.specs.Output.{IsPartDone, told}
+use Rattle.runner.specs.Ruled.{is_ruled}
+use Rattle.runner.specs.Sound.{is_sound_command}
+use Rattle.runner.specs.Steps.{reworded, step}
+use Rattle.runner.proofs.RuledLemmas.{not_true, quiet_too, step_ruled}
 use Rattle.runner.proofs.AskingLemmas.{numbered_first}
-use Rattle.runner.proofs.LeftLemmas.{asked_both, asked_still, on_worded, worded_asked}
+use Rattle.runner.proofs.LeftLemmas.{asked_both, asked_still, err_worded, on_worded, refused_stays, refused_worded, worded_asked}
 use Rattle.runner.specs.Left.{IsLeft}
 use Rattle.runner.proofs.step.obey.Goals as goal
 
@@ -98,4 +110,78 @@ returns-in-Settle-clause-still c =
 pub returns-in-Settle-clause-left : goal.returns-in-Settle-clause-left
 returns-in-Settle-clause-left c =
     let P : Command → Type 0 = λ command. IsLeft command c.did-in-Settle.result (table_of c.args.held.now) (table_of c.settle_device.new.held) c.args.ended.now.items c.settle_device.new.ended.items in
-    subst P (sym c.in-Settle.is) (record { others = c.settle_device.ensures.one; rested = on_worded (λ _. Done) c.settle_device.result c.did-in-Settle.result (rested c.in-Settle.volume (table_of c.args.held.now) (table_of c.settle_device.new.held) ≡ Ok tt) c.did-in-Settle.ensures c.settle_device.ensures.rested; drained = c.settle_device.ensures.drained })
+    let old = table_of c.args.held.now in
+    let new = table_of c.settle_device.new.held in
+    let before = c.args.ended.now.items in
+    let after = c.settle_device.new.ended.items in
+    let call = c.settle_device.result in
+    let answer = c.did-in-Settle.result in
+    let is = c.did-in-Settle.ensures in
+    subst P (sym c.in-Settle.is) (record {
+      others = c.settle_device.ensures.one;
+      rested = on_worded (λ _. Done) call answer (rested c.in-Settle.volume old new ≡ Ok tt) is c.settle_device.ensures.rested;
+      drained = on_worded (λ _. Done) call answer (IsDoneFor c.in-Settle.volume (IsSettledBy before after) old new) is c.settle_device.ensures.drained;
+      stays = err_worded (λ _. Done) call answer ((new ≡ old) × (after ≡ before)) is c.settle_device.ensures.err;
+      alone = c.settle_device.ensures.alone;
+    })
+
+pub returns-in-Settle-clause-told : goal.returns-in-Settle-clause-told
+returns-in-Settle-clause-told c =
+    let P : Command → Type 0 = λ command. is_ruled command (table_of c.args.held.now) ≡ true → c.settle_device.new.ended.items ≡ c.args.ended.now.items in
+    subst P (sym c.in-Settle.is) (λ ruled. c.settle_device.ensures.told (quiet_too (volume_for c.in-Settle.volume (table_of c.args.held.now)) ruled))
+
+pub returns-in-Finish-clause-asks : goal.returns-in-Finish-clause-asks
+returns-in-Finish-clause-asks c =
+    let P : Command → Type 0 = λ command. IsFirst (first_refusal command (table_of c.args.held.now)) (told (reworded Some c.did-in-Finish.result)) in
+    subst P (sym c.in-Finish.is) (worded_asked (λ _. Done) (origin_by c.in-Finish.volume (table_of c.args.held.now)) c.finish_device.result c.did-in-Finish.result c.finish_device.ensures.asks c.did-in-Finish.ensures)
+
+pub returns-in-Finish-clause-still : goal.returns-in-Finish-clause-still
+returns-in-Finish-clause-still c =
+    let P : Command → Type 0 = λ command. IfSome (first_refusal command (table_of c.args.held.now)) (λ _. (table_of c.finish_device.new.held ≡ table_of c.args.held.now) × (c.args.ended.now.items ≡ c.args.ended.now.items)) in
+    let asks = origin_by c.in-Finish.volume (table_of c.args.held.now) in
+    subst P (sym c.in-Finish.is) (asked_both _ _ asks (refused_stays asks c.finish_device.result _ c.finish_device.ensures.asks c.finish_device.ensures.err) refl)
+
+pub returns-in-Finish-clause-left : goal.returns-in-Finish-clause-left
+returns-in-Finish-clause-left c =
+    let P : Command → Type 0 = λ command. IsLeft command c.did-in-Finish.result (table_of c.args.held.now) (table_of c.finish_device.new.held) c.args.ended.now.items c.args.ended.now.items in
+    let old = table_of c.args.held.now in
+    let new = table_of c.finish_device.new.held in
+    let asks = origin_by c.in-Finish.volume old in
+    let call = c.finish_device.result in
+    let answer = c.did-in-Finish.result in
+    let is = c.did-in-Finish.ensures in
+    let U : Refusal → Type 0 = λ e. IfOk asks (λ v. e ≢ NoMemory → IsUnfinishedIn e (volume_at v old)) in
+    subst P (sym c.in-Finish.is) (record {
+      finished = on_worded (λ _. Done) call answer (IfOk asks (λ v. IsFinishedIn v old new (volume_at v old))) is c.finish_device.ensures.finished;
+      unfinished = refused_worded (λ _. Done) call answer U is c.finish_device.ensures.unfinished;
+      stays = err_worded (λ _. Done) call answer (new ≡ old) is c.finish_device.ensures.err;
+      alone = refl;
+    })
+
+pub returns-in-Merge-clause-left : goal.returns-in-Merge-clause-left
+returns-in-Merge-clause-left c =
+    let P : Command → Type 0 = λ command. IsLeft command c.did-in-Merge.result (table_of c.args.held.now) (table_of c.merge_device.new.held) c.args.ended.now.items c.args.ended.now.items in
+    let old = table_of c.args.held.now in
+    let new = table_of c.merge_device.new.held in
+    let R : Refusal → Type 0 = λ e. (new ≡ old) × (e ≢ NoMemory → merge_begun c.in-Merge.name old ≡ Err e) in
+    subst P (sym c.in-Merge.is) (record {
+      begun = on_worded (λ _. Done) c.merge_device.result c.did-in-Merge.result (IsDoneFor c.in-Merge.name IsBegunIn old new) c.did-in-Merge.ensures c.merge_device.ensures.begun;
+      refused = refused_worded (λ _. Done) c.merge_device.result c.did-in-Merge.result R c.did-in-Merge.ensures c.merge_device.ensures.refused;
+      alone = refl;
+    })
+
+pub returns-in-Step-clause-done : goal.returns-in-Step-clause-done
+unfolding step
+returns-in-Step-clause-done c =
+    let P : Command → Type 0 = λ command. is_ruled command (table_of c.args.held.now) ≡ true → Does c.step_volume.result (table_of c.step_volume.new.held) (IsPartDone command (table_of c.args.held.now)) (step command (table_of c.args.held.now)) in
+    subst P (sym c.in-Step.is) (λ ruled. let both = step_ruled c.in-Step.event _ ruled in c.step_volume.ensures.done both.0 both.1)
+
+pub returns-in-Step-clause-told : goal.returns-in-Step-clause-told
+returns-in-Step-clause-told c =
+    let P : Command → Type 0 = λ command. is_ruled command (table_of c.args.held.now) ≡ true → c.step_volume.new.ended.items ≡ c.args.ended.now.items in
+    subst P (sym c.in-Step.is) (λ ruled. let both = step_ruled c.in-Step.event _ ruled in c.step_volume.ensures.told both.0 both.1)
+
+pub returns-in-Step-clause-sound : goal.returns-in-Step-clause-sound
+returns-in-Step-clause-sound c =
+    let P : Command → Type 0 = λ command. is_sound (table_of c.args.held.now) ≡ true → is_sound_command command ≡ true → is_sound (table_of c.step_volume.new.held) ≡ true in
+    subst P (sym c.in-Step.is) (λ sound makes. c.step_volume.ensures.sound (not_true (is_merge_event c.in-Step.event) makes) sound)

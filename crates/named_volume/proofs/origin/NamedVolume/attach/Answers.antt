@@ -1,9 +1,12 @@
-use Rattle.std.proofs.Common.{◌≡◌, ◌∙◌, ◌++◌, ◌∷◌, [], ap, refl}
-use Rattle.std.specs.Prelude.{◌&&◌}
+use Rattle.std.proofs.Common.{◌≡◌, ◌∙◌, ◌++◌, ◌∷◌, [], ap, refl, sym, subst, true, false}
+use Rattle.std.specs.Prelude.{◌&&◌, Option, is_some}
 use Rattle.device.specs.Layers.{is_loud}
 use Rattle.named.specs.Stacks.{device_of}
 use Rattle.named.specs.State.{Stacked}
-use Rattle.named_volume.specs.Held.{settled_in}
+use Rattle.layers.specs.declared.stack.Stack.{Stack}
+use Rattle.merge.specs.Merging.{Merging}
+use Rattle.named_volume.specs.Held.{merged_inside, merging_with, settled_in}
+use Rattle.named_volume.proofs.Merges.{begun_too, merge_by, merging_as_before}
 use Rattle.named_volume.proofs.Meets.{met, unmet, busy_back, read_same}
 use Rattle.named_volume.proofs.origin.NamedVolume.attach.Goals.{then-self, else-self}
 use Rattle.named_volume.proofs.origin.NamedVolume.attach.Goals as goal
@@ -15,16 +18,21 @@ returns-after-self-clause-ok c =
     let same : c.is_loud-loud.result ≡ is_loud here.device.layers = c.is_loud-loud.ensures ∙ ap (λ (s : Stacked). is_loud s.device.layers) c.into_parts-names.ensures in
     let both : c.if-self.self ≡ (c.self.inside.sound && is_loud here.device.layers) =
     elim c.if-self.branch [ then-self w ↦ rw sound (w.self-is ∙ same) | else-self w ↦ absurd (cc) ] in
-    met c.args.name c.args.chunk here _ c.push_reserved.new.self.items (settled_in c.attach.new.self) c.attach.new.self.attached c.in-Ok-attach.field-0 c.if-self.self
+    let alone = c.in-Ok-attach.ensures.alone in
+    let unmerged : (merged_inside c.attach.new.self).merge ≡ (merged_inside c.self.inside.volume).merge = ap (λ (o : Option (Merging Stack)). merge_by o) (alone.1 ∙ sym alone.0) in
+    let none : is_some (merging_with c.self.inside.merging c.self.inside.volume) ≡ false = begun_too _ c.self.inside.volume c.self.invariant.begun ∙ c.self.invariant.begun ∙ ap (λ (o : Option (Merging Stack)). is_some o) alone.0 in
+    rw (merging_as_before c.self.inside.merging c.self.inside.volume c.attach.new.self unmerged) (
+    met c.args.name c.args.chunk here _ c.push_reserved.new.self.items (settled_in c.attach.new.self) c.attach.new.self.attached c.in-Ok-attach.field-0 c.if-self.self none
     c.in-Ok-attach.ensures.number (c.in-Ok-attach.ensures.exact (c.look.ensures c.in-Ok-attach.ensures.quiet.0 (c.self.invariant.loud sound)) loud)
-    (c.push_reserved.ensures.items ∙ ap (λ names. names ++ (record { snapshot = c.args.name; store = here.names }) ∷ []) c.reserve.ensures.items) c.in-Ok-attach.ensures.taken.attached both))))
+    (c.push_reserved.ensures.items ∙ ap (λ names. names ++ (record { snapshot = c.args.name; store = here.names }) ∷ []) c.reserve.ensures.items) c.in-Ok-attach.ensures.taken.attached both)))))
 
 pub returns-in-Err-attach-clause-err : goal.returns-in-Err-attach-clause-err
 returns-in-Err-attach-clause-err c =
-    rw (← c.self.view_is) (rw c.into_parts-names.ensures (λ other sound quiet loud.
-    unmet c.args.name c.args.chunk _ c.of_parts.result _ c.in-Err-attach.refusal (record { device = device_of c.in-Err-attach.store.device; stale = c.in-Err-attach.store.stale })
-    (c.in-Err-attach.ensures.back other (c.look.ensures quiet (c.self.invariant.loud sound)) loud)
-    (c.of_parts.ensures ∙ ap (λ stale. record { names = c.into_parts-names.result.0.items; device = device_of c.in-Err-attach.store.device; stale = stale }) c.in-Err-attach.ensures.stale)))
+    rw (← c.self.view_is) (λ other sound quiet loud.
+    unmet c.args.chunk _ _ _ c.into_parts-names.result.0.items c.into_parts-names.result.1 c.into_parts-names.result.2 c.in-Err-attach.store c.args.stack c.of_parts.result c.self.inside.volume.events c.in-Err-attach.refusal
+    c.in-Err-attach.ensures.refused c.in-Err-attach.ensures.unread c.into_parts-names.ensures c.of_parts.ensures c.args.name _
+    (begun_too _ c.self.inside.volume c.self.invariant.begun ∙ c.self.invariant.begun) c.in-Err-attach.ensures.stale
+    (λ fresh. c.in-Err-attach.ensures.back other fresh (c.look.ensures quiet (c.self.invariant.loud sound)) (subst (λ (s : Stacked). is_loud s.device.layers ≡ true) c.into_parts-names.ensures loud)))
 
 pub returns-in-Err-attach-clause-starved : goal.returns-in-Err-attach-clause-starved
 returns-in-Err-attach-clause-starved c = λ none.
@@ -35,4 +43,4 @@ pub returns-in-Err-attach-clause-busy : goal.returns-in-Err-attach-clause-busy
 returns-in-Err-attach-clause-busy c =
     rw (← c.self.view_is) (λ busy.
     busy_back c.args.chunk _ _ _ c.into_parts-names.result.0.items c.into_parts-names.result.1 c.into_parts-names.result.2 c.in-Err-attach.store c.args.stack c.of_parts.result c.self.inside.volume.events c.in-Err-attach.refusal
-    c.in-Err-attach.ensures.alone busy c.in-Err-attach.ensures.refused c.in-Err-attach.ensures.unread c.into_parts-names.ensures c.of_parts.ensures)
+    c.in-Err-attach.ensures.refused c.in-Err-attach.ensures.unread c.into_parts-names.ensures c.of_parts.ensures _ (begun_too _ c.self.inside.volume c.self.invariant.begun ∙ c.self.invariant.begun) busy)

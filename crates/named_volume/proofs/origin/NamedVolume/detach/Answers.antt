@@ -3,6 +3,7 @@ use Rattle.std.specs.List.{remove}
 use Rattle.std.proofs.lemmas.List.Edits.{length-remove}
 use Rattle.named.specs.State.{Names, Stacked}
 use Rattle.named.specs.Stacks.{device_of}
+use Rattle.named_volume.proofs.Merges.{begun_as_before, merging_as_before}
 use Rattle.named_volume.proofs.Places.{at_place, dev_there}
 use Rattle.named_volume.proofs.Parts.{no_both, parted_is, parted_not, given_loud}
 use Rattle.named_volume.proofs.origin.NamedVolume.detach.Goals as goal
@@ -15,7 +16,10 @@ unreachable-requires c =
     let there = dev_there c.number-number.result c.self.inside.volume.snaps (get_or c.self.inside.volume.snaps c.args.k at.0) (c.number-number.ensures.first at.0) in
     elim c.in-Err.ensures.err.0 [
       | inl none ↦ no_both _ there none.1
-      | inr busy ↦ no_both _ (sym c.is_quiet.ensures.value ∙ c.if-not-is_quiet.false) busy.1
+      | inr more ↦ elim more [
+        | inl mine ↦ no_both _ mine.1 (rw c.number-number.ensures.apart refl)
+        | inr busy ↦ no_both _ (sym c.is_quiet.ensures.value ∙ c.if-not-is_quiet.false) busy.1
+      ]
     ]
 
 pub returns-then-not-is_quiet-clause-busy : goal.returns-then-not-is_quiet-clause-busy
@@ -36,6 +40,7 @@ invariant_of-self c =
     let gone : length c.detach.new.self.snaps ≡ length (remove c.self.inside.volume.snaps c.args.k) = ap length (out.snaps ∙ c.number-number.ensures.rest) in
     record {
       many = omega (arith, many, names, snaps, left, gone);
+      begun = old.begun ∙ begun_as_before c.self.inside.volume c.detach.new.self out.merge;
       requests = rw out.requests old.requests;
       few = old.few;
       loud = λ sound. (c.detach.ensures.settled (c.is_quiet.ensures.rest c.if-not-is_quiet.false (old.loud sound))).loud;
@@ -47,7 +52,7 @@ returns-clause-parted c =
     let many = c.self.invariant.many in
     rw (← c.self.view_is)
     (parted_is c.args.k _ c.self.inside.volume c.detach.new.self c.number-number.result c.remove.result c.in-Ok.given refl lt (sym c.is_quiet.ensures.value ∙ c.if-not-is_quiet.false) c.remove.ensures.value (omega (arith, lt, many)) c.number-number.ensures.value c.in-Ok.ensures.left
-    c.of_parts.result _ (c.of_parts.ensures ∙ ap (λ (n : Names). let s : Stacked = record { names = n.store; device = device_of c.in-Ok.given.device; stale = c.in-Ok.given.stale } in s) c.store.view_is) (rw c.remove.ensures.items (rw c.in-Ok.ensures.left.attached (rw c.in-Ok.ensures.quiet.1 (rw c.in-Ok.ensures.quiet.0 refl)))))
+    c.of_parts.result _ (c.of_parts.ensures ∙ ap (λ (n : Names). let s : Stacked = record { names = n.store; device = device_of c.in-Ok.given.device; stale = c.in-Ok.given.stale } in s) c.store.view_is) (rw (merging_as_before _ c.self.inside.volume c.detach.new.self c.in-Ok.ensures.left.merge) (rw c.remove.ensures.items (rw c.in-Ok.ensures.left.attached (rw c.in-Ok.ensures.quiet.1 (rw c.in-Ok.ensures.quiet.0 refl))))))
 
 pub returns-clause-loud : goal.returns-clause-loud
 returns-clause-loud c =

@@ -2,8 +2,10 @@ use Rattle.std.proofs.Common.{◌≡◌, sym, ap, ◌∙◌, refl, arith}
 use Rattle.layers.specs.declared.stack.Stack.{Stack}
 use Rattle.settled.specs.Devices.{sectors_of}
 use Rattle.named.specs.Stacks.{device_of}
-use Rattle.named_volume.proofs.Uses.{origin_says, snapshot_says}
-use Rattle.named_volume.proofs.origin.NamedVolume.status.Goals.{in-Origin, in-Snapshot}
+use Rattle.named.specs.Status.{merge_state}
+use Rattle.named_volume.proofs.Merges.{no_names, some_names}
+use Rattle.named_volume.proofs.Uses.{merge_says, merging_says, origin_says, snapshot_says}
+use Rattle.named_volume.proofs.origin.NamedVolume.status.Goals.{in-Origin+in-None, in-Origin+in-Some, in-Merging, in-Snapshot}
 use Rattle.named_volume.proofs.origin.NamedVolume.status.Goals as goal
 
 pub returns-in-Ok : goal.returns-in-Ok
@@ -12,7 +14,11 @@ returns-in-Ok c =
     let needs = rw (← c.self.view_is) at c.requires in
     let many = c.self.invariant.many in
     rw (← c.self.view_is) (λ sound quiet. elim c.match-role.branch [
-      | in-Origin w ↦ rw w.in-Origin.is (origin_says c.from-sectors.result c.in-Ok.text _ w.origin_line-text.result (sym w.text-is ∙ c.in-Ok.is) w.origin_line-text.ensures size)
+      | in-Origin+in-None w ↦ rw w.in-Origin.is (origin_says c.from-sectors.result c.in-Ok.text _ w.origin_line.result (no_names c.self.inside.merging c.self.inside.volume (rw w.in-None.is at w.merging_state.ensures.none)) (sym w.text-is ∙ c.in-Ok.is) w.origin_line.ensures size)
+      | in-Origin+in-Some w ↦ (let g = w.in-Some.ensures.some in
+          let h = some_names c.self.inside.merging c.self.inside.volume g.0 c.self.invariant.begun g.1 in
+          rw w.in-Origin.is (merge_says c.from-sectors.result w.in-Some.state c.in-Ok.text _ w.merge_line.result h.0 h.1 (g.2 ∙ ap merge_state (sym h.2)) (sym w.text-is ∙ c.in-Ok.is) w.merge_line.ensures size))
+      | in-Merging w ↦ rw w.in-Merging.is (merging_says c.from-sectors.result c.in-Ok.text _ w.snapshot_line-text.result (sym w.text-is ∙ c.in-Ok.is) w.snapshot_line-text.ensures size)
       | in-Snapshot w ↦ (let lt = rw w.in-Snapshot.is at needs in
-          rw w.in-Snapshot.is (snapshot_says w.in-Snapshot.k c.from-sectors.result w.state_at.result c.in-Ok.text _ c.self.inside.volume w.snapshot_line-text.result refl (omega (arith, lt, many)) (w.state_at.ensures (c.look.ensures quiet (c.self.invariant.loud sound))) (sym w.text-is ∙ c.in-Ok.is) w.snapshot_line-text.ensures size))
+          rw w.in-Snapshot.is (snapshot_says w.in-Snapshot.k c.from-sectors.result w.state_at.result c.in-Ok.text _ c.self.inside.volume w.snapshot_line-text-in-Snapshot.result refl (omega (arith, lt, many)) (w.state_at.ensures (c.look.ensures quiet (c.self.invariant.loud sound))) (sym w.text-is ∙ c.in-Ok.is) w.snapshot_line-text-in-Snapshot.ensures size))
     ])

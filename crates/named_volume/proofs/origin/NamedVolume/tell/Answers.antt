@@ -1,15 +1,23 @@
-use Rattle.std.proofs.Common.{refl}
-use Rattle.named_volume.specs.Held.{settled_in}
+use Rattle.std.proofs.Common.{refl, sym, ◌∙◌, subst}
+use Rattle.settled.specs.Merges.{Merged}
+use Rattle.named.specs.Changes.{Steps}
+use Rattle.named.specs.Messages.{told_role}
+use Rattle.named_volume.specs.Held.{merged_inside}
 use Rattle.named_volume.proofs.Holds.{stays_held}
+use Rattle.named_volume.proofs.Merges.{goes_on, inside_is, still_begun}
 use Rattle.named_volume.proofs.Tells.{mounted}
 use Rattle.named_volume.proofs.origin.NamedVolume.tell.Goals as goal
 
 pub invariant_of-self : goal.invariant_of-self
 invariant_of-self c =
     let told = c.tell_role.ensures in
-    stays_held _ c.self.inside.volume c.tell_role.new.volume _ _ c.self.invariant told.kept told.requests
+    stays_held _ _ c.self.inside.volume c.tell_role.new.volume _ _ c.self.invariant told.kept told.requests
 
 pub returns : goal.returns
 returns c =
+    let told = c.tell_role.ensures in
+    let begun = c.self.invariant.begun in
+    let after = begun ∙ still_begun c.self.inside.volume c.tell_role.new.volume told.kept.merging in
     rw (← c.self.view_is)
-    (mounted c.args.role c.args.message.now c.tell_role.result _ _ (settled_in c.tell_role.new.volume) (rw c.tell_role.ensures.kept.attached (rw c.tell_role.ensures.quiet (rw c.tell_role.ensures.flying refl))) c.tell_role.ensures.steps)
+    (mounted c.args.role c.args.message.now c.tell_role.result _ _ (merged_inside c.tell_role.new.volume) (rw (goes_on _ c.self.inside.volume c.tell_role.new.volume begun after) (rw told.kept.attached (rw told.quiet (rw told.flying refl))))
+    (subst (λ (m : Merged). Steps c.tell_role.result m (merged_inside c.tell_role.new.volume) (told_role c.args.role c.args.message.now m)) (sym (inside_is _ c.self.inside.volume begun)) told.steps))

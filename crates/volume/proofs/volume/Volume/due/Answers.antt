@@ -5,9 +5,10 @@ use Rattle.std.proofs.lemmas.Bool.{false≢true}
 use Rattle.std.specs.Prelude.{IfNone, IfSome, Option}
 use Rattle.plain.specs.declared.event.Event.{Event}
 use Rattle.volume_laws.specs.Due.{due_of}
-use Rattle.volume_laws.specs.MergeDue.{merge_due as due_of_merge}
+use Rattle.volume_laws.specs.MergeDue.{has_group, merge_due as due_of_merge}
 use Rattle.snapshot.specs.Kept.{Kept, due_of_kept, books_of as snap_books}
-use Rattle.merge.specs.Merging.{due_of as merging_due}
+use Rattle.merge.specs.Due.{has_group_of}
+use Rattle.merge.specs.Merging.{Merging, due_of as merging_due, books_of as merging_books}
 use Rattle.volume.specs.Volumed.{Volumed, dues_of, next_of}
 use Rattle.volume.proofs.MergeDue.{next_first, next_merge, next_none, due_all_is, full_begins, quiet_alone, quiet_merging}
 use Rattle.volume.specs.EventKinds.{is_of_merge}
@@ -127,6 +128,27 @@ returns-in-Some-merge-clause-calm g c =
     ∙ ap (due_of (map (due_of_kept g.B.Block.contents g.B.Block.layers) c.self.inside.snaps.items)) c.deref-2.ensures.value in
     rw (← c.self.view_is) (some_by c.merge_due.result (λ event. is_of_merge event ≡ true → has_group_in v.merge ≡ false → is_quiet_of v ≡ true)
     (λ event merges free. quiet_unmerged g.B.Block.contents g.B.Block.layers g.B.Block.size v c.self.invariant c.in-Some-merge.merge c.in-Some-merge.is (c.has_group.ensures.looks true) free (sym first ∙ c.in-None.is)))
+  where
+    some_by : (found : Option Event) (P : Event → Type 0) → ((e : Event) → P e) → IfSome found P
+    some_by None P h = tt
+    some_by (Some e) P h = h e
+
+pub returns-in-Some-clause-seen : goal.returns-in-Some-clause-seen
+returns-in-Some-clause-seen g c = λ merges m is.
+    let v : Volumed g.row.B.Denot = record { origin = c.self.inside.origin; snaps = c.self.inside.snaps.items; merge = c.self.inside.merge; flights = c.self.inside.flights.items; requests = c.self.inside.requests; copies = c.self.inside.copies; attached = c.self.inside.attached } in
+    let first : c.first_due.result ≡ due_of (dues_of g.B.Block.contents g.B.Block.layers v) v.flights =
+    c.first_due.ensures ∙ ap (λ xs. due_of (map (due_of_kept g.B.Block.contents g.B.Block.layers) xs) c.deref-2.result.now) c.deref.ensures.value
+    ∙ ap (due_of (map (due_of_kept g.B.Block.contents g.B.Block.layers) c.self.inside.snaps.items)) c.deref-2.ensures.value in
+    absurd (false≢true (sym (due_own (dues_of g.B.Block.contents g.B.Block.layers v) v.flights c.in-Some.event (sym first ∙ c.in-Some.is)) ∙ merges))
+
+pub returns-in-Some-merge-clause-seen : goal.returns-in-Some-merge-clause-seen
+returns-in-Some-merge-clause-seen g c =
+    let v : Volumed g.row.B.Denot = record { origin = c.self.inside.origin; snaps = c.self.inside.snaps.items; merge = c.self.inside.merge; flights = c.self.inside.flights.items; requests = c.self.inside.requests; copies = c.self.inside.copies; attached = c.self.inside.attached } in
+    rw (← c.self.view_is) (some_by c.merge_due.result (λ event. is_of_merge event ≡ true → (m : Merging g.row.B.Denot) → v.merge ≡ Some m → has_group_of m.group ≡ has_group (merging_books g.B.Block.contents true m))
+    (λ event merges m is.
+    (let two : Some c.in-Some-merge.merge ≡ Some m = sym c.in-Some-merge.is ∙ is in
+    let same : c.in-Some-merge.merge ≡ m = cc in
+    subst (λ (x : Merging g.row.B.Denot). has_group_of x.group ≡ has_group (merging_books g.B.Block.contents true x)) same (c.has_group.ensures.looks true).present)))
   where
     some_by : (found : Option Event) (P : Event → Type 0) → ((e : Event) → P e) → IfSome found P
     some_by None P h = tt

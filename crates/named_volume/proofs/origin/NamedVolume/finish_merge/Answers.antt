@@ -1,0 +1,41 @@
+use Rattle.std.proofs.Common.{◌≡◌, Some, refl, sym, ap, ◌∙◌}
+use Rattle.std.specs.Prelude.{Option}
+use Rattle.named.specs.State.{Names, Stacked, names_in}
+use Rattle.named_volume.specs.Held.{merging_with}
+use Rattle.named_volume.proofs.Finishes.{finished_is, same_state, unfinished_is}
+use Rattle.named_volume.proofs.Merges.{names_are}
+use Rattle.named_volume.proofs.origin.NamedVolume.finish_merge.Goals as goal
+
+pub returns-in-Err-clause-refused : goal.returns-in-Err-clause-refused
+returns-in-Err-clause-refused c =
+    rw (← c.self.view_is) (λ sound quiet.
+    unfinished_is _ c.self.inside.volume c.self.inside.merging c.in-Err.refusal refl (c.in-Err.ensures.unfinished (c.look.ensures quiet (c.self.invariant.loud sound))))
+
+pub returns-clause-parted : goal.returns-clause-parted
+returns-clause-parted c =
+    let out = c.in-Ok.ensures.taken in
+    let quiet = c.in-Ok.ensures.quiet in
+    let names : Names = record { snapshot = c.in-Some.field-0.snapshot; store = c.in-Some.field-0.store.items } in
+    let was : c.self.inside.merging ≡ Some names = sym c.take.ensures.value ∙ (rw (← c.take-2.view_is) (rw c.in-Some.is refl)) in
+    let merging = ap (λ (o : Option Names). merging_with o c.self.inside.volume) was in
+    rw (← c.self.view_is) (λ sound.
+    finished_is _ c.self.inside.volume c.finish_merge.new.self names c.in-Ok.given refl merging out quiet.0 (c.in-Ok.ensures.merged (c.look.ensures quiet.0 (c.self.invariant.loud sound)))
+    c.of_parts.result _ c.of_parts.ensures
+    (rw c.take.ensures.after (rw (same_state c.in-Ok.given c.self.inside.volume c.finish_merge.new.self out) (rw out.attached (rw quiet.1 (rw quiet.0 refl))))))
+
+pub returns-clause-named : goal.returns-clause-named
+returns-clause-named c =
+    let out = c.in-Ok.ensures.taken in
+    let names : Names = record { snapshot = c.in-Some.field-0.snapshot; store = c.in-Some.field-0.store.items } in
+    let was : c.self.inside.merging ≡ Some names = sym c.take.ensures.value ∙ (rw (← c.take-2.view_is) (rw c.in-Some.is refl)) in
+    rw (← c.self.view_is) (record {
+      origin = refl;
+      under = refl;
+      stale = refl;
+      snaps = refl;
+      names = names;
+      was = names_are c.self.inside.merging c.self.inside.volume c.self.invariant.begun ∙ was;
+      store = ap (λ (s : Stacked). s.names) c.of_parts.ensures;
+      merging = ap (λ (o : Option Names). names_in (merging_with o c.finish_merge.new.self)) c.take.ensures.after;
+      given = out.attached;
+    })
