@@ -26,14 +26,16 @@ pub mod Unread
 pub mod Tells
 pub mod Rests
 pub mod ShownReads
+pub mod BesideReads
 pub mod PlainReads
 pub mod Parts
 pub mod SnapWrites
 pub mod PlainWrites
+pub mod BesideWrites
 pub mod Flying
 pub mod Others
 pub mod Rooms
 pub mod Drained
-pub mod WithoutMerge
 pub mod Freed
 pub mod Runs
+pub mod Shown

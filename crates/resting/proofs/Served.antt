@@ -45,7 +45,7 @@ module _ {B : Type 0} (contents : B → List ℕ) (layers : B → List Layer) wh
       (in_chunks range chunk xs high (All-tail (λ (s : Kept B). s.state.chunk ≡ chunk) x xs all))
 
   -- pieces are as large as the merge's chunks
-  held_chunk : (m : Option (MergingKept B)) (snaps : List (Kept B)) (h : MergeHeld) → held_in (merge_seen contents layers m) ≡ Some h → h.merge.chunk ≡ piece_with m snaps
+  pub held_chunk : (m : Option (MergingKept B)) (snaps : List (Kept B)) (h : MergeHeld) → held_in (merge_seen contents layers m) ≡ Some h → h.merge.chunk ≡ piece_with m snaps
   held_chunk None snaps h e = absurd (cc)
   held_chunk (Some m) snaps h e = ap chunk_in (sym e)
     where

@@ -1,17 +1,19 @@
 -- What a settled volume shows, in words of saved arrays alone, and what reads and writes of many sectors do to that. This
 -- project's own; the kernel's admin-guide page on snapshots says in words what a snapshot keeps, and where reads and writes go.
-use Rattle.std.specs.Prelude.{◌≡◌, ◌⊎◌, ◌==◌, ℕ, ◌+◌, ◌*◌, ◌<◌, List, [], ◌∷◌, length, map, take, if◌then◌else◌}
+use Rattle.std.specs.Prelude.{◌≡◌, ◌⊎◌, ◌==◌, ℕ, ◌+◌, ◌*◌, ◌<◌, List, [], ◌∷◌, length, map, take, Option, Some, None, if◌then◌else◌}
 use Rattle.sector.specs.Bytes.{sectors_at, with_sectors}
 use Rattle.sector.specs.declared.refusal.Refusal.{Refusal}
 use Rattle.sector.specs.declared.refusal.Refusal.TheVariants.{NoSuchDevice, NoMemory, Invalid as InvalidRefusal, Io as IoRefusal}
-use Rattle.chunk.specs.Pieces.{Span, pieces_of}
+use Rattle.chunk.specs.Pieces.{Span}
 use Rattle.plain.specs.Plain.{Saved, Live, Invalid, Entry}
 use Rattle.plain.specs.declared.request.Dev.{Dev}
 use Rattle.plain.specs.declared.request.Dev.TheVariants.{Origin, Snap as ToSnap}
 use Rattle.device.specs.Layers.{Layer}
 use Rattle.settled.specs.Snaps.{Snap, Volume, shown}
-use Rattle.settled.specs.Commands.{piece_of}
-use Rattle.resting.specs.Rested.{Rested, settled_of}
+use Rattle.served.specs.Beside.{pieces_beside}
+use Rattle.merge.specs.Merging.{Merging}
+use Rattle.model.specs.Picture.{picture}
+use Rattle.resting.specs.Rested.{Rested, merged_of, settled_of}
 
 -- the origin's array, and what each snapshot shows, in order of attaching
 pub record Arrays : Type 0 where
@@ -25,8 +27,15 @@ entry_of origin s = record { number = s.number; saved = shown origin s }
 abbrev pub arrays_of : Volume → Arrays
 arrays_of v = record { origin = v.origin.bytes; saved = map (entry_of v.origin.bytes) v.snaps }
 
+-- While a merge is begun the origin's array is the origin disk with the chunks of the merging store in place: what the merged
+-- snapshot showed, with what was written since.
+abbrev pub origin_with : {B : Type 0} → (B → List ℕ) → Option (Merging B) → List ℕ → List ℕ
+origin_with contents None disk = disk
+origin_with contents (Some m) disk = picture m.state.chunk disk (contents m.device)
+
+-- the other snapshots show what they do without a merge
 abbrev pub arrays_in : {B : Type 0} → (B → List ℕ) → (B → List Layer) → Rested B → Arrays
-arrays_in contents layers v = arrays_of (settled_of contents layers v)
+arrays_in contents layers v = record { origin = origin_with contents v.events.merge (contents v.origin); saved = (arrays_of (settled_of contents layers v)).saved }
 
 -- what the first snapshot with a number shows
 abbrev pub saved_at : ℕ → List Entry → Saved
@@ -94,9 +103,9 @@ IsLost (ToSnap number) old new = (new.origin ≡ old.origin) × (new.saved ≡ c
 abbrev pub IsPlainWrite : Dev → Span → List ℕ → Arrays → Arrays → Type 0
 IsPlainWrite dev span bytes old new = IsLive dev old × IsWritten dev span.first bytes old new
 
--- the pieces of a range, by the snapshots' chunks
+-- the pieces of a range, by the chunks of the snapshots and the merge
 abbrev pub pieces_for : {B : Type 0} → (B → List ℕ) → (B → List Layer) → Span → Rested B → List Span
-pieces_for contents layers span v = pieces_of (piece_of (settled_of contents layers v).snaps) span
+pieces_for contents layers span v = pieces_beside span (merged_of contents layers v)
 
 -- the sectors of these pieces
 abbrev pub sectors_in : List Span → ℕ

@@ -112,8 +112,8 @@ pub(crate) fn write_pieces<B: Block>(
     ensures settled { IsSettled B.layers (rested_of volume.old) → IsSettled B.layers (rested_of volume.new) }
     ensures done { OnOk result (IsDoneBy B.contents B.layers (written_beside dev (span_of range) bytes.now) Written (rested_of volume.old) (rested_of volume.new)) }
     ensures refused { IfErr result (λ refusal. IsWriteRefused B.contents B.layers dev (span_of range) bytes.now refusal (rested_of volume.old) (rested_of volume.new)) }
-    ensures shows { OnOk result (IsSettled B.layers (rested_of volume.old) → volume.old.merge ≡ None → IsPlainWrite dev (span_of range) bytes.now (arrays_in B.contents B.layers (rested_of volume.old)) (arrays_in B.contents B.layers (rested_of volume.new))) }
-    ensures loses { IfErr result (λ refusal. IsSettled B.layers (rested_of volume.old) → volume.old.merge ≡ None → IsPlainWriteRefused dev (span_of range) (pieces_for B.contents B.layers (span_of range) (rested_of volume.old)) bytes.now refusal (arrays_in B.contents B.layers (rested_of volume.old)) (arrays_in B.contents B.layers (rested_of volume.new))) }
+    ensures shows { OnOk result (IsSettled B.layers (rested_of volume.old) → IsPlainWrite dev (span_of range) bytes.now (arrays_in B.contents B.layers (rested_of volume.old)) (arrays_in B.contents B.layers (rested_of volume.new))) }
+    ensures loses { IfErr result (λ refusal. IsSettled B.layers (rested_of volume.old) → IsPlainWriteRefused dev (span_of range) (pieces_for B.contents B.layers (span_of range) (rested_of volume.old)) bytes.now refusal (arrays_in B.contents B.layers (rested_of volume.old)) (arrays_in B.contents B.layers (rested_of volume.new))) }
     ensures kept { KeepsDevices B.layers B.size (rested_of volume.old) (rested_of volume.new) }
     ensures requests { volume.new.requests ≤ volume.old.requests + range.count }
 {
@@ -148,8 +148,8 @@ pub(crate) fn read_pieces<B: Block>(
     ensures settled { IsSettled B.layers (rested_of volume.old) → IsSettled B.layers (rested_of volume.new) }
     ensures done { IfOk result (λ bytes. IsDoneBy B.contents B.layers (read_beside dev (span_of range)) (Data bytes) (rested_of volume.old) (rested_of volume.new)) }
     ensures refused { IfErr result (λ refusal. IsReadRefused B.contents B.layers dev (span_of range) refusal (rested_of volume.old) (rested_of volume.new)) }
-    ensures shows { IfOk result (λ bytes. IsSettled B.layers (rested_of volume.old) → volume.old.merge ≡ None → IsPlainRead dev (span_of range) bytes (arrays_in B.contents B.layers (rested_of volume.old)) (arrays_in B.contents B.layers (rested_of volume.new))) }
-    ensures loses { IfErr result (λ refusal. IsSettled B.layers (rested_of volume.old) → volume.old.merge ≡ None → IsPlainReadRefused dev refusal (arrays_in B.contents B.layers (rested_of volume.old)) (arrays_in B.contents B.layers (rested_of volume.new))) }
+    ensures shows { IfOk result (λ bytes. IsSettled B.layers (rested_of volume.old) → IsPlainRead dev (span_of range) bytes (arrays_in B.contents B.layers (rested_of volume.old)) (arrays_in B.contents B.layers (rested_of volume.new))) }
+    ensures loses { IfErr result (λ refusal. IsSettled B.layers (rested_of volume.old) → IsPlainReadRefused dev refusal (arrays_in B.contents B.layers (rested_of volume.old)) (arrays_in B.contents B.layers (rested_of volume.new))) }
     ensures kept { KeepsDevices B.layers B.size (rested_of volume.old) (rested_of volume.new) }
     ensures requests { volume.new.requests ≤ volume.old.requests + range.count }
 {

@@ -65,7 +65,8 @@ impl<B: Block> Resting<B> {
 
     /// Reads sectors of the origin or of a snapshot of a quiet volume. The range is cut into pieces of the snapshots' chunk
     /// size, which are read in order. Where the volume is settled, it is the settled machine's read: it gives the bytes of
-    /// the array that the device shows, and changes nothing that the origin or a snapshot shows, answered or refused.
+    /// the array that the device shows, and changes nothing that the origin or a snapshot shows, answered or refused. While a
+    /// merge is begun the origin's array is what it shows through the merge.
     ///
     /// Refused: there is no such snapshot (`NoSuchDevice`), and then nothing changed; the snapshot is spoiled (`Invalid`), or
     /// the device of a piece failed (`Io`), after the pieces before it were read; or memory is refused (`NoMemory`), after
@@ -80,8 +81,8 @@ impl<B: Block> Resting<B> {
         ensures done { IfOk result (λ bytes. IsDoneBy B.contents B.layers (read_beside dev (span_of range)) (Data bytes) self.old self.new) }
         ensures there { OnOk result (has_dev dev self.old ≡ true) }
         ensures refused { IfErr result (λ refusal. IsReadRefused B.contents B.layers dev (span_of range) refusal self.old self.new) }
-        ensures shows { IfOk result (λ bytes. IsSettled B.layers self.old → self.old.events.merge ≡ None → IsPlainRead dev (span_of range) bytes (arrays_in B.contents B.layers self.old) (arrays_in B.contents B.layers self.new)) }
-        ensures loses { IfErr result (λ refusal. IsSettled B.layers self.old → self.old.events.merge ≡ None → IsPlainReadRefused dev refusal (arrays_in B.contents B.layers self.old) (arrays_in B.contents B.layers self.new)) }
+        ensures shows { IfOk result (λ bytes. IsSettled B.layers self.old → IsPlainRead dev (span_of range) bytes (arrays_in B.contents B.layers self.old) (arrays_in B.contents B.layers self.new)) }
+        ensures loses { IfErr result (λ refusal. IsSettled B.layers self.old → IsPlainReadRefused dev refusal (arrays_in B.contents B.layers self.old) (arrays_in B.contents B.layers self.new)) }
         ensures kept { KeepsDevices B.layers B.size self.old self.new }
         ensures requests { self.new.requests ≤ self.old.requests + range.count }
     {
@@ -93,9 +94,9 @@ impl<B: Block> Resting<B> {
     }
 
     /// Writes sectors of the origin or of a snapshot of a quiet volume. The range is cut into pieces of the snapshots' chunk
-    /// size, which are written in order. Where the volume is settled, it is the settled machine's write: the bytes stand in the array of its
-    /// device. Of a write to the origin, each snapshot shows what it showed, or is spoiled; one to a snapshot changes what
-    /// that shows alone.
+    /// size, which are written in order. Where the volume is settled, it is the settled machine's write: the bytes stand in
+    /// the array of its device, also while a merge is begun. Of a write to the origin, each snapshot shows what it showed, or
+    /// is spoiled; one to a snapshot changes what that shows alone.
     ///
     /// Refused: there is no such snapshot (`NoSuchDevice`), and then nothing changed; the snapshot is spoiled (`Invalid`), or
     /// the device of a piece failed (`Io`), and the pieces before it stand; or memory is refused (`NoMemory`), and some first
@@ -117,8 +118,8 @@ impl<B: Block> Resting<B> {
         ensures done { OnOk result (IsDoneBy B.contents B.layers (written_beside dev (span_of range) bytes.now) Written self.old self.new) }
         ensures there { OnOk result (has_dev dev self.old ≡ true) }
         ensures refused { IfErr result (λ refusal. IsWriteRefused B.contents B.layers dev (span_of range) bytes.now refusal self.old self.new) }
-        ensures shows { OnOk result (IsSettled B.layers self.old → self.old.events.merge ≡ None → IsPlainWrite dev (span_of range) bytes.now (arrays_in B.contents B.layers self.old) (arrays_in B.contents B.layers self.new)) }
-        ensures loses { IfErr result (λ refusal. IsSettled B.layers self.old → self.old.events.merge ≡ None → IsPlainWriteRefused dev (span_of range) (pieces_for B.contents B.layers (span_of range) self.old) bytes.now refusal (arrays_in B.contents B.layers self.old) (arrays_in B.contents B.layers self.new)) }
+        ensures shows { OnOk result (IsSettled B.layers self.old → IsPlainWrite dev (span_of range) bytes.now (arrays_in B.contents B.layers self.old) (arrays_in B.contents B.layers self.new)) }
+        ensures loses { IfErr result (λ refusal. IsSettled B.layers self.old → IsPlainWriteRefused dev (span_of range) (pieces_for B.contents B.layers (span_of range) self.old) bytes.now refusal (arrays_in B.contents B.layers self.old) (arrays_in B.contents B.layers self.new)) }
         ensures kept { KeepsDevices B.layers B.size self.old self.new }
         ensures requests { self.new.requests ≤ self.old.requests + range.count }
     {

@@ -8,7 +8,6 @@ use Rattle.chunk.proofs.Runs.{StandsAt, first_piece, stands_first, stands_next, 
 use Rattle.volume.specs.Volumed.{piece_with}
 use Rattle.resting.specs.Rested.{rested_of, merged_of, IsSettled}
 use Rattle.resting.proofs.Between.{loud_in_all}
-use Rattle.resting.proofs.WithoutMerge.{chunk_alone}
 use Rattle.resting.proofs.Going.{chunks_by, goes_none, goes_can, goes_more, goes_within, chunk_least}
 use Rattle.resting.proofs.WriteRuns.{answer}
 use Rattle.resting.proofs.ReadRuns.{ReadsTo, reads_none}
@@ -131,22 +130,20 @@ returns-clause-requests g c =
     goes_within g.B.Block.contents g.B.Block.layers g.B.Block.size c.loop-piece.invariant.place.from c.args.range.count c.args.volume.now c.loop-piece.volume c.loop-piece.invariant.place.so (omega (arith, end))
 
 pub returns-clause-shows : goal.returns-clause-shows
-returns-clause-shows g c = λ settled alone.
+returns-clause-shows g c = λ settled.
     let chunk = chunks_by c.args.volume.now c.piece.result c.piece.ensures.piece c.piece.ensures.same c.piece.ensures.allowed in
     let loud = loud_in_all g.B.Block.contents g.B.Block.layers g.B.Block.size c.args.volume.now settled in
-    let rest = c.is_quiet.ensures.rest (c.is_quiet.ensures.value ∙ c.requires.between.quiet) loud alone None in
-    let size = piece_with c.args.volume.now.merge c.args.volume.now.snaps in
-    plain_read g.B.Block.contents g.B.Block.layers g.B.Block.size c.args.dev c.args.range size c.args.volume.now c.loop-piece.volume (is_chunk-some size chunk.1) c.requires.can.some c.requires.can.inside chunk.0
-    (sym (chunk_alone g.B.Block.contents g.B.Block.layers c.args.volume.now alone) ∙ chunk_least g.B.Block.contents g.B.Block.layers c.args.volume.now chunk.1 chunk.0) alone rest c.from_vec.result (returns-clause-done g c) settled
+    let quiet = c.is_quiet.ensures.value ∙ c.requires.between.quiet in
+    plain_read g.B.Block.contents g.B.Block.layers g.B.Block.size c.args.dev c.args.range c.args.volume.now c.loop-piece.volume (is_chunk-some (piece_with c.args.volume.now.merge c.args.volume.now.snaps) chunk.1) c.requires.can.some c.requires.can.inside chunk.0
+    (chunk_least g.B.Block.contents g.B.Block.layers c.args.volume.now chunk.1 chunk.0) (c.is_quiet.ensures.between quiet loud None) (c.is_quiet.ensures.under quiet loud None) c.from_vec.result (returns-clause-done g c) settled
 
 pub returns-in-Err-clause-loses : goal.returns-in-Err-clause-loses
-returns-in-Err-clause-loses g c = λ settled alone.
+returns-in-Err-clause-loses g c = λ settled.
     let chunk = chunks_by c.args.volume.now c.piece.result c.piece.ensures.piece c.piece.ensures.same c.piece.ensures.allowed in
     let loud = loud_in_all g.B.Block.contents g.B.Block.layers g.B.Block.size c.args.volume.now settled in
-    let rest = c.is_quiet.ensures.rest (c.is_quiet.ensures.value ∙ c.requires.between.quiet) loud alone None in
-    let size = piece_with c.args.volume.now.merge c.args.volume.now.snaps in
-    plain_read_refused g.B.Block.contents g.B.Block.layers g.B.Block.size c.args.dev c.args.range size c.args.volume.now c.read_piece.new.volume (is_chunk-some size chunk.1) c.requires.can.some c.requires.can.inside chunk.0
-    (sym (chunk_alone g.B.Block.contents g.B.Block.layers c.args.volume.now alone) ∙ chunk_least g.B.Block.contents g.B.Block.layers c.args.volume.now chunk.1 chunk.0) alone rest c.in-Err.refusal (returns-in-Err-clause-refused g c) settled
+    let quiet = c.is_quiet.ensures.value ∙ c.requires.between.quiet in
+    plain_read_refused g.B.Block.contents g.B.Block.layers g.B.Block.size c.args.dev c.args.range c.args.volume.now c.read_piece.new.volume (is_chunk-some (piece_with c.args.volume.now.merge c.args.volume.now.snaps) chunk.1) c.requires.can.some c.requires.can.inside chunk.0
+    (chunk_least g.B.Block.contents g.B.Block.layers c.args.volume.now chunk.1 chunk.0) (c.is_quiet.ensures.between quiet loud None) (c.is_quiet.ensures.under quiet loud None) c.in-Err.refusal (returns-in-Err-clause-refused g c) settled
 
 pub returns-in_default-clause-loses : goal.returns-in_default-clause-loses
-returns-in_default-clause-loses g c = λ settled alone. (tt, refl)
+returns-in_default-clause-loses g c = λ settled. (tt, refl)

@@ -1,5 +1,5 @@
 -- One piece more is written, and where the write ends.
-use Rattle.std.proofs.Common.{None, ◌+◌, ◌-◌, ◌*◌, take, drop, sym, ◌∙◌, ap, subst, arith}
+use Rattle.std.proofs.Common.{None, ◌+◌, ◌-◌, ◌*◌, take, drop, refl, ◌∙◌, ap, subst, arith}
 use Rattle.chunk.specs.Pieces.{span_of, pieces_of}
 use Rattle.chunk.proofs.Limits.{is_chunk-some, is_chunk-small}
 use Rattle.plain.specs.declared.request.Op.TheVariants.{Write}
@@ -7,11 +7,10 @@ use Rattle.chunk.proofs.Runs.{StandsAt, first_piece, stands_first, stands_next, 
 use Rattle.volume.specs.Volumed.{piece_with}
 use Rattle.resting.specs.Rested.{rested_of, merged_of}
 use Rattle.resting.proofs.Between.{loud_in_all}
-use Rattle.resting.proofs.WithoutMerge.{chunk_alone}
 use Rattle.resting.proofs.Going.{chunks_by, goes_none, goes_can, goes_more, goes_within, chunk_least}
 use Rattle.resting.proofs.WriteRuns.{writes_none}
 use Rattle.resting.proofs.Writing.{part_is, part_fits, wrote_more, wrote_refused, wrote_all}
-use Rattle.resting.proofs.PlainWrites.{plain_write, plain_write_lost}
+use Rattle.resting.proofs.BesideWrites.{plain_write, plain_write_lost}
 use Rattle.resting.proofs.pieces.write_pieces.Goals as goal
 
 pub invariant_of-geometry : goal.invariant_of-geometry
@@ -116,19 +115,19 @@ returns-clause-requests g c =
     goes_within g.B.Block.contents g.B.Block.layers g.B.Block.size c.loop-piece.from c.args.range.count c.args.volume.now c.loop-piece.volume c.loop-piece.invariant.so (omega arith)
 
 pub returns-clause-shows : goal.returns-clause-shows
-returns-clause-shows g c = λ settled alone.
+returns-clause-shows g c = λ settled.
     let chunk = chunks_by c.args.volume.now c.piece.result c.piece.ensures.piece c.piece.ensures.same c.piece.ensures.allowed in
     let loud = loud_in_all g.B.Block.contents g.B.Block.layers g.B.Block.size c.args.volume.now settled in
-    let rest = c.is_quiet.ensures.rest (c.is_quiet.ensures.value ∙ c.requires.between.quiet) loud alone None in
+    let quiet = c.is_quiet.ensures.value ∙ c.requires.between.quiet in
     let size = piece_with c.args.volume.now.merge c.args.volume.now.snaps in
     plain_write g.B.Block.contents g.B.Block.layers g.B.Block.size c.args.dev c.args.range size c.args.bytes.now c.args.volume.now c.loop-piece.volume (is_chunk-some size chunk.1) c.requires.can.some c.requires.can.inside c.requires.room chunk.0
-    (sym (chunk_alone g.B.Block.contents g.B.Block.layers c.args.volume.now alone) ∙ chunk_least g.B.Block.contents g.B.Block.layers c.args.volume.now chunk.1 chunk.0) alone rest (returns-clause-done g c) settled
+    (chunk_least g.B.Block.contents g.B.Block.layers c.args.volume.now chunk.1 chunk.0) refl (c.is_quiet.ensures.between quiet loud None) (c.is_quiet.ensures.under quiet loud None) (returns-clause-done g c) settled
 
 pub returns-in-Err-clause-loses : goal.returns-in-Err-clause-loses
-returns-in-Err-clause-loses g c = λ settled alone.
+returns-in-Err-clause-loses g c = λ settled.
     let chunk = chunks_by c.args.volume.now c.piece.result c.piece.ensures.piece c.piece.ensures.same c.piece.ensures.allowed in
     let loud = loud_in_all g.B.Block.contents g.B.Block.layers g.B.Block.size c.args.volume.now settled in
-    let rest = c.is_quiet.ensures.rest (c.is_quiet.ensures.value ∙ c.requires.between.quiet) loud alone None in
+    let quiet = c.is_quiet.ensures.value ∙ c.requires.between.quiet in
     let size = piece_with c.args.volume.now.merge c.args.volume.now.snaps in
     plain_write_lost g.B.Block.contents g.B.Block.layers g.B.Block.size c.args.dev c.args.range size c.args.bytes.now c.args.volume.now c.write_piece.new.volume (is_chunk-some size chunk.1) c.requires.can.some c.requires.can.inside c.requires.room chunk.0
-    (sym (chunk_alone g.B.Block.contents g.B.Block.layers c.args.volume.now alone) ∙ chunk_least g.B.Block.contents g.B.Block.layers c.args.volume.now chunk.1 chunk.0) alone rest c.in-Err.refusal (returns-in-Err-clause-refused g c) settled
+    (chunk_least g.B.Block.contents g.B.Block.layers c.args.volume.now chunk.1 chunk.0) refl (c.is_quiet.ensures.between quiet loud None) (c.is_quiet.ensures.under quiet loud None) c.in-Err.refusal (returns-in-Err-clause-refused g c) settled
