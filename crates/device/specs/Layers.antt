@@ -4,6 +4,7 @@
 -- list only where it succeeded, is this project's own choice.
 use Rattle.std.specs.Prelude.{zero, suc, ℕ, ◌+◌, ◌*◌, Bool, true, false, ◌||◌, ◌&&◌, not, if◌then◌else◌, nat_lt, Option, Some, None, List, [], ◌∷◌, filter}
 use Rattle.std.specs.List.{list_any}
+use Rattle.std.specs.Option.{is_some}
 use Rattle.device.specs.declared.operation.Operation.{Operation}
 use Rattle.device.specs.declared.operation.Operation.TheVariants.{Reads, Writes, Flushes}
 use Rattle.device.specs.declared.operation.Fate.{Fate}
@@ -30,6 +31,8 @@ pub data Layer : Type 0 where
   Broken : Layer
   -- the operations that pass before one fails; none fails where there is no number
   Counted : Option ℕ → Layer
+  -- a fuse: the writes that pass before it is blown; None: it is blown, and every operation fails, counted
+  Fused : Option ℕ → Layer
   -- no layer of its own: what lies beside the bytes that the layer above shows of the device below. It passes everything
   Window : Beside → Layer
 
@@ -59,6 +62,12 @@ counted_after (Some zero) = None
 counted_after (Some (suc k)) = Some k
 counted_after None = None
 
+-- whether a fuse that so many writes pass lets one pass
+abbrev pub fuse_passes : Option ℕ → Bool
+fuse_passes (Some zero) = false
+fuse_passes (Some (suc k)) = true
+fuse_passes None = false
+
 -- what one layer does
 abbrev pub layer_fate : Layer → Operation → Fate
 layer_fate (Flaky moment up down features offset) op = if nat_lt moment up then Pass else unreliable_fate features op
@@ -67,6 +76,9 @@ layer_fate (Dusty sectors size enabled bad) (Writes first count) = Pass
 layer_fate (Dusty sectors size enabled bad) Flushes = Pass
 layer_fate Broken op = Fail
 layer_fate (Counted left) op = if counted_passes left then Pass else Fail
+layer_fate (Fused left) (Reads first count) = if is_some left then Pass else Fail
+layer_fate (Fused left) (Writes first count) = if fuse_passes left then Pass else Fail
+layer_fate (Fused left) Flushes = if is_some left then Pass else Fail
 layer_fate (Window aside) op = Pass
 
 -- the operation as it is passed on
@@ -102,6 +114,7 @@ is_passed Drop = false
 abbrev pub layer_after : Layer → Operation → Bool → Layer
 layer_after (Dusty sectors size enabled bad) (Writes first count) done = Dusty sectors size enabled (if enabled && done then filter (λ block. not (touches size first count block)) bad else bad)
 layer_after (Counted left) op done = Counted (counted_after left)
+layer_after (Fused left) (Writes first count) done = Fused (counted_after left)
 layer_after l op done = l
 
 -- the layers after an operation

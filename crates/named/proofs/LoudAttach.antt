@@ -5,7 +5,7 @@ use Rattle.sector.specs.Bytes.{with_part, sector_at}
 use Rattle.sector.specs.declared.refusal.Refusal.{Refusal}
 use Rattle.device.specs.declared.operation.Operation.{Operation}
 use Rattle.device.specs.declared.operation.Operation.TheVariants.{Reads, Writes, Flushes}
-use Rattle.device.specs.Layers.{Layer, Flaky, Dusty, Broken, Counted, Window, layer_after, layer_fate, layers_after, passed_on, fate, is_answered, is_passed, is_loud, is_loud_layer}
+use Rattle.device.specs.Layers.{Layer, Flaky, Dusty, Broken, Counted, Fused, Window, layer_after, layer_fate, layers_after, passed_on, fate, is_answered, is_passed, is_loud, is_loud_layer}
 use Rattle.sector.specs.declared.refusal.Refusal.TheVariants.{TooMany, BadChunk, StoreTooSmall, Damaged, Stale, ChunkMismatch}
 use Rattle.chunk.specs.Sizes.{is_chunk}
 use Rattle.model.specs.Places.{area_place}
@@ -28,6 +28,9 @@ loud_layer_after (Dusty sectors size enabled bad) (Writes first count) done = re
 loud_layer_after (Dusty sectors size enabled bad) Flushes done = refl
 loud_layer_after Broken op done = refl
 loud_layer_after (Counted left) op done = refl
+loud_layer_after (Fused left) (Reads first count) done = refl
+loud_layer_after (Fused left) (Writes first count) done = refl
+loud_layer_after (Fused left) Flushes done = refl
 loud_layer_after (Window aside) op done = refl
 
 either_loud : (b : Bool) (xs ys : List Layer) → is_loud xs ≡ is_loud ys → is_loud (if b then xs else ys) ≡ is_loud ys
