@@ -1,4 +1,5 @@
 pub mod Beneath
+pub mod Counts
 pub mod Disk
 pub mod Layer
 pub mod Loudness

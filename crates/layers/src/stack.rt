@@ -21,6 +21,12 @@ pub enum Stack {
 impl Block for Stack {
     ghost use Rattle.layers.specs.Stack.{stack_size, stack_contents, stack_durable, stack_layers, stack_faults, stack_done, stack_may_hold};
     ghost use Rattle.layers.specs.Whole.{stack_whole, stack_small, stack_holds_now, stack_holds_durable};
+    ghost use Rattle.std.specs.Prelude.{◌≡◌, ◌⊎◌, ℕ, ◌+◌, ◌*◌, ◌-◌, ◌<◌, ◌≤◌, List, length, slice_index, if◌then◌else◌, is_ok, OnOk, OnErr, IsTrue};
+    ghost use Rattle.sector.specs.Bytes.{sectors_at, with_sectors, sector_at, next_count};
+    ghost use Rattle.device.specs.declared.operation.Operation.TheVariants.{Reads, Writes, Flushes};
+    ghost use Rattle.device.specs.declared.operation.Fate.TheVariants.{Pass, Drop};
+    ghost use Rattle.device.specs.Layers.{fate, is_answered, is_passed, layers_after, is_loud};
+    ghost use Rattle.layers.specs.Counts.{counts_of, counts_after};
 
     ghost size = { stack_size };
 
@@ -65,7 +71,23 @@ impl Block for Stack {
         }
     }
 
-    fn read(&mut self, range: Range, out: &mut [u8]) -> Result<(), Io> {
+    fn read(&mut self, range: Range, out: &mut [u8]) -> Result<(), Io>
+        requires some { 0 < range.count }
+        requires inside { range.first + range.count ≤ stack_size self.old }
+        requires room { length out.old ≡ 512 * range.count }
+        ensures answer { is_ok result ≡ is_answered (fate (stack_layers self.old) (Reads range.first range.count)) }
+        ensures layers { stack_layers self.new ≡ layers_after (stack_layers self.old) (Reads range.first range.count) }
+        ensures loud { is_loud (stack_layers self.new) ≡ is_loud (stack_layers self.old) }
+        ensures data { OnOk result (out.new ≡ sectors_at (stack_contents self.old) range.first range.count) }
+        ensures data_err { OnErr result (out.new ≡ out.old) }
+        ensures contents { stack_contents self.new ≡ stack_contents self.old }
+        ensures durable { stack_durable self.new ≡ stack_durable self.old }
+        ensures size { stack_size self.new ≡ stack_size self.old }
+        ensures faults { stack_faults self.new ≡ (if is_ok result then stack_faults self.old else next_count (stack_faults self.old)) }
+        ensures done { stack_done self.new ≡ next_count (stack_done self.old) }
+        ensures stop { (s : ℕ) (v : List ℕ) → stack_may_hold self.new s v → stack_may_hold self.old s v }
+        ensures counts { counts_of self.new ≡ counts_after self.old (Reads range.first range.count) }
+    {
         match self {
             Stack::Disk(disk) => disk.read(range, out),
             Stack::Flakey(flakey, below) => {
@@ -96,7 +118,26 @@ impl Block for Stack {
         }
     }
 
-    fn write(&mut self, range: Range, bytes: &[u8]) -> Result<(), Io> {
+    fn write(&mut self, range: Range, bytes: &[u8]) -> Result<(), Io>
+        requires some { 0 < range.count }
+        requires inside { range.first + range.count ≤ stack_size self.old }
+        requires room { length bytes.now ≡ 512 * range.count }
+        ensures answer { is_ok result ≡ is_answered (fate (stack_layers self.old) (Writes range.first range.count)) }
+        ensures layers { stack_layers self.new ≡ layers_after (stack_layers self.old) (Writes range.first range.count) }
+        ensures loud { is_loud (stack_layers self.new) ≡ is_loud (stack_layers self.old) }
+        ensures passed { fate (stack_layers self.old) (Writes range.first range.count) ≡ Pass → stack_contents self.new ≡ with_sectors (stack_contents self.old) range.first bytes.now }
+        ensures written { OnOk result (IsTrue (is_loud (stack_layers self.old)) → stack_contents self.new ≡ with_sectors (stack_contents self.old) range.first bytes.now) }
+        ensures dropped { fate (stack_layers self.old) (Writes range.first range.count) ≡ Drop → stack_contents self.new ≡ stack_contents self.old }
+        ensures err { OnErr result (stack_contents self.new ≡ stack_contents self.old) }
+        ensures rest { (i : ℕ) → (i < 512 * range.first) ⊎ (512 * (range.first + range.count) ≤ i) → slice_index (stack_contents self.new) i ≡ slice_index (stack_contents self.old) i }
+        ensures durable { stack_durable self.new ≡ stack_durable self.old }
+        ensures size { stack_size self.new ≡ stack_size self.old }
+        ensures faults { stack_faults self.new ≡ (if is_ok result then stack_faults self.old else next_count (stack_faults self.old)) }
+        ensures done { stack_done self.new ≡ next_count (stack_done self.old) }
+        ensures stop { (s : ℕ) (v : List ℕ) → stack_may_hold self.new s v → stack_may_hold self.old s v ⊎ ((range.first ≤ s) × (s < range.first + range.count) × (v ≡ sector_at bytes.now (s - range.first))) }
+        ensures stop_err { OnErr result ((s : ℕ) (v : List ℕ) → stack_may_hold self.new s v → stack_may_hold self.old s v) }
+        ensures counts { counts_of self.new ≡ counts_after self.old (Writes range.first range.count) }
+    {
         match self {
             Stack::Disk(disk) => disk.write(range, bytes),
             Stack::Flakey(flakey, below) => {
@@ -130,7 +171,19 @@ impl Block for Stack {
         }
     }
 
-    fn flush(&mut self) -> Result<(), Io> {
+    fn flush(&mut self) -> Result<(), Io>
+        ensures answer { is_ok result ≡ is_answered (fate (stack_layers self.old) Flushes) }
+        ensures layers { stack_layers self.new ≡ layers_after (stack_layers self.old) Flushes }
+        ensures loud { is_loud (stack_layers self.new) ≡ is_loud (stack_layers self.old) }
+        ensures contents { stack_contents self.new ≡ stack_contents self.old }
+        ensures durable { stack_durable self.new ≡ (if is_passed (fate (stack_layers self.old) Flushes) then stack_contents self.old else stack_durable self.old) }
+        ensures size { stack_size self.new ≡ stack_size self.old }
+        ensures faults { stack_faults self.new ≡ (if is_ok result then stack_faults self.old else next_count (stack_faults self.old)) }
+        ensures done { stack_done self.new ≡ next_count (stack_done self.old) }
+        ensures stop { (s : ℕ) (v : List ℕ) → stack_may_hold self.new s v → stack_may_hold self.old s v }
+        ensures flushed { OnOk result (IsTrue (is_loud (stack_layers self.old)) → (s : ℕ) (v : List ℕ) → s < stack_size self.new → stack_may_hold self.new s v → v ≡ sector_at (stack_contents self.new) s) }
+        ensures counts { counts_of self.new ≡ counts_after self.old Flushes }
+    {
         match self {
             Stack::Disk(disk) => match disk.flush() {
                 Ok(()) => Ok(()),
