@@ -9,6 +9,7 @@ pub mod Operations
 pub mod Reading
 pub mod Shown
 pub mod Slots
+pub mod Starved
 pub mod Stopping
 pub mod Stored
 pub mod Layering

@@ -3,6 +3,7 @@ ghost use Rattle.std.specs.Prelude.{◌≡◌, ◌⊎◌, ℕ, ◌+◌, ◌*◌,
 ghost use Rattle.sector.specs.declared.refusal.Refusal.TheVariants.{NoMemory, Io as IoRefusal, Damaged};
 ghost use Rattle.device.specs.Layers.{is_loud};
 ghost use Rattle.store.specs.Reading.{all_read, read_pairs, IsEnded};
+ghost use Rattle.store.specs.Starved.{ArePartRead};
 ghost use Rattle.model.specs.Places.{area_place, chunk_at};
 ghost use Rattle.model.specs.Pairs.{pairs_of};
 ghost use Rattle.exception_arena.specs.Pending.{begun_under};
@@ -33,6 +34,7 @@ pub fn read_areas<B: Block>(
     ensures durable { B.durable device.new ≡ B.durable device.old }
     ensures size { B.size device.new ≡ B.size device.old }
     ensures loud { is_loud (B.layers device.new) ≡ is_loud (B.layers device.old) }
+    ensures starved { IfErr result (λ e. e ≡ NoMemory → ArePartRead area.old.chunk (B.size device.old) (B.contents device.old) (B.layers device.old) (B.layers device.new)) }
     ensures layers { MatchResult result (λ _. read_pairs area.old.chunk (B.size device.old) (B.contents device.old) (B.layers device.old) ≡ all_read (B.layers device.new)) (λ e. IsEnded (read_pairs area.old.chunk (B.size device.old) (B.contents device.old) (B.layers device.old)) e (B.layers device.old) (B.layers device.new)) }
     ensures faults { MatchResult result (λ _. B.fault_count device.new ≡ B.fault_count device.old) (λ e. B.fault_count device.new ≡ faults_after e (B.fault_count device.old)) }
 {

@@ -4,7 +4,7 @@ ghost use Rattle.sector.specs.Bytes.{sector_at};
 ghost use Rattle.sector.specs.declared.refusal.Refusal.TheVariants.{NoMemory, Io as IoRefusal, StoreTooSmall, Damaged};
 ghost use Rattle.std.specs.List.{All};
 ghost use Rattle.chunk.specs.Sizes.{is_chunk};
-ghost use Rattle.device.specs.Layers.{layers_after, is_loud};
+ghost use Rattle.device.specs.Layers.{fate, is_answered, layers_after, is_loud};
 ghost use Rattle.device.specs.declared.operation.Operation.TheVariants.{Reads};
 ghost use Rattle.model.specs.Places.{chunk_at, area_place};
 ghost use Rattle.model.specs.Pairs.{pairs_of, IsApart, IsInside, AreWellFormed};
@@ -16,6 +16,7 @@ ghost use Rattle.store.specs.Loaded.{IsCleared};
 ghost use Rattle.store.specs.Opening.{IsRefused, IsOpenedFresh, IsOpenedWritten, IsFirstRefusal, faults_after};
 ghost use Rattle.store.specs.Opened.{MatchLoaded};
 ghost use Rattle.store.specs.Reading.{ended, all_read, read_found, read_pairs, reading, IsEnded};
+ghost use Rattle.store.specs.Starved.{ArePartRead, IsStarved};
 
 use crate::judging::{are_formed, greatest_new};
 use crate::loading::{hold_pairs, read_areas};
@@ -38,6 +39,8 @@ fn read_header<B: Block>(device: &mut B) -> Result<Found, Refusal>
     ensures size { B.size device.new ≡ B.size device.old }
     ensures loud { is_loud (B.layers device.new) ≡ is_loud (B.layers device.old) }
     ensures one { OnOk result (B.layers device.new ≡ layers_after (B.layers device.old) (Reads 0 1)) }
+    ensures answered { OnOk result (is_answered (fate (B.layers device.old) (Reads 0 1)) ≡ true) }
+    ensures fed { IfErr result (λ e. e ≡ NoMemory → ⊥) }
     ensures says { IfOk result (λ found. (line : ℕ) → reading line (B.size device.old) (B.contents device.old) (B.layers device.old) ≡ read_found line (B.size device.old) (B.contents device.old) (Ok found) (B.layers device.new)) }
     ensures unread { IfErr result (λ e. (line : ℕ) → reading line (B.size device.old) (B.contents device.old) (B.layers device.old) ≡ ended e (B.layers device.new)) }
     ensures faults { MatchResult result (λ _. B.fault_count device.new ≡ B.fault_count device.old) (λ e. B.fault_count device.new ≡ faults_after e (B.fault_count device.old)) }
@@ -93,6 +96,7 @@ pub fn open<B: Block>(
     ensures durable { MatchResult result (λ opened. B.durable opened.0.device ≡ B.durable device) (λ refused. B.durable refused.1 ≡ B.durable device) }
     ensures size { MatchResult result (λ opened. B.size opened.0.device ≡ B.size device) (λ refused. B.size refused.1 ≡ B.size device) }
     ensures loud { MatchResult result (λ opened. is_loud (B.layers opened.0.device) ≡ is_loud (B.layers device)) (λ refused. is_loud (B.layers refused.1) ≡ is_loud (B.layers device)) }
+    ensures starved { IfErr result (λ refused. refused.0 ≡ NoMemory → IsStarved chunk (B.size device) (B.contents device) (B.layers device) (B.layers refused.1)) }
     ensures layers { MatchResult result (λ opened. reading chunk (B.size device) (B.contents device) (B.layers device) ≡ all_read (B.layers opened.0.device)) (λ refused. IsEnded (reading chunk (B.size device) (B.contents device) (B.layers device)) refused.0 (B.layers device) (B.layers refused.1)) }
     ensures faults { MatchResult result (λ opened. B.fault_count opened.0.device ≡ B.fault_count device) (λ refused. B.fault_count refused.1 ≡ faults_after refused.0 (B.fault_count device)) }
 {
@@ -198,6 +202,7 @@ fn open_written<B: Block>(
     ensures durable { MatchResult result (λ store. B.durable store.device ≡ B.durable device) (λ refused. B.durable refused.1 ≡ B.durable device) }
     ensures size { MatchResult result (λ store. B.size store.device ≡ B.size device) (λ refused. B.size refused.1 ≡ B.size device) }
     ensures loud { MatchResult result (λ store. is_loud (B.layers store.device) ≡ is_loud (B.layers device)) (λ refused. is_loud (B.layers refused.1) ≡ is_loud (B.layers device)) }
+    ensures starved { IfErr result (λ refused. refused.0 ≡ NoMemory → ArePartRead chunk (B.size device) (B.contents device) (B.layers device) (B.layers refused.1)) }
     ensures layers { MatchResult result (λ store. read_pairs chunk (B.size device) (B.contents device) (B.layers device) ≡ all_read (B.layers store.device)) (λ refused. IsEnded (read_pairs chunk (B.size device) (B.contents device) (B.layers device)) refused.0 (B.layers device) (B.layers refused.1)) }
     ensures faults { MatchResult result (λ store. B.fault_count store.device ≡ B.fault_count device) (λ refused. B.fault_count refused.1 ≡ faults_after refused.0 (B.fault_count device)) }
 {

@@ -1,7 +1,7 @@
 use Rattle.std.proofs.Common.{inl, inr, ◌<◌, ◌≤◌, ◌+◌, ◌*◌, ◌∙◌, arith, ap}
 use Rattle.std.proofs.lemmas.Result.{err_from_is_err_and}
 use Rattle.model.specs.Places.{area_place, chunk_at}
-use Rattle.store.proofs.Loads.{prefix_more, pairs-loaded, prefix_lacks, area_far}
+use Rattle.store.proofs.Loads.{prefix_more, pairs-loaded, prefix_lacks, prefix_low, area_far}
 use Rattle.store.proofs.AreaReads.{area_read, area_fails, area_lacks, pairs_read, areas_are_read}
 use Rattle.store.proofs.loading.read_areas.Goals as goal
 
@@ -89,6 +89,22 @@ returns-in_err-take_slots-clause-layers g c =
       areas_are_read a.chunk (g.B.Block.size c.args.device.now) 0 (current + 1) (g.B.Block.layers c.args.device.now) (g.B.Block.layers c.read_area.new.device)
           (area_read a.chunk (g.B.Block.size c.args.device.now) current (g.B.Block.layers c.args.device.now) (g.B.Block.layers c.loop-current.device) (g.B.Block.layers c.read_area.new.device) i.layers inside operation.answer operation.layers),
     ))
+
+pub returns-in_err-take_slots-clause-starved : goal.returns-in_err-take_slots-clause-starved
+returns-in_err-take_slots-clause-starved g c =
+    let a = c.args.area.now in
+    let i = c.loop-current.invariant in
+    let current = c.loop-current.current in
+    let bytes = g.B.Block.contents c.args.device.now in
+    let inside : a.chunk * (area_place a.chunk current + 1) ≤ g.B.Block.size c.args.device.now = let h = c.if-size-chunk.false in let is = c.sectors-size.ensures in omega arith in
+    let operation = rw i.chunk at c.in-Ok.ensures.operation in
+    let p = err_from_is_err_and c.from_residual.result c.from_residual.ensures.1 in
+    let low = prefix_low a.chunk current bytes c.loop-current.pairs.items a.some i.prefix in
+    rw p.1 (λ _. record {
+      areas = current + 1;
+      few = omega arith;
+      reads = area_read a.chunk (g.B.Block.size c.args.device.now) current (g.B.Block.layers c.args.device.now) (g.B.Block.layers c.loop-current.device) (g.B.Block.layers c.read_area.new.device) i.layers inside operation.answer operation.layers;
+    })
 
 pub returns-then-branch-chunk-clause-layers : goal.returns-then-branch-chunk-clause-layers
 returns-then-branch-chunk-clause-layers g c =
