@@ -64,6 +64,7 @@ pub mod Declines
 pub mod Refusals
 pub mod Relayered
 pub mod Ranks
+pub mod Taken
 pub mod Told
 pub mod Ran
 pub mod Peeked

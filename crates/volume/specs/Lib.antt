@@ -19,4 +19,5 @@ pub mod Peeking
 pub mod Layering
 pub mod Telling
 pub mod Running
+pub mod Stopped
 pub mod Stopping

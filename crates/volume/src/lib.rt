@@ -35,10 +35,12 @@ mod refusing;
 mod requests;
 mod snap_requests;
 mod status;
+mod stopping;
 mod stores;
 mod time;
 mod volume;
 
 pub use calls::{Call, Returned};
 pub use event_kinds::is_of_merge;
+pub use stopping::Stopped;
 pub use volume::{LARGEST_PIECE, MAX_SNAPSHOTS, Volume};
