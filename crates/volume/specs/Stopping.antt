@@ -3,6 +3,7 @@
 -- those of dm-snap-persistent.c.
 use Rattle.std.specs.Prelude.{◌≡◌, ◌⊎◌, not, ℕ, ◌-◌, ◌<◌, Bool, true, List, Option, Some, None, length, take, slice_index_or}
 use Rattle.sector.specs.declared.range.Range.{Range}
+use Rattle.device.specs.Layers.{Layer}
 use Rattle.plain.specs.declared.event.Event.{Event}
 use Rattle.plain.specs.declared.event.Event.TheVariants.{Issue, WriteArea, WriteInvalid, MergeCommit}
 use Rattle.plain.specs.declared.request.Dev.{Dev}
@@ -17,7 +18,7 @@ use Rattle.store.specs.Shown.{StopsBetween, StopsInvalid}
 use Rattle.snapshot.specs.Kept.{Kept, batch_of}
 use Rattle.merge.specs.Lists.{copied_count, copied_of}
 use Rattle.merge.specs.Merging.{Merging}
-use Rattle.volume.specs.Volumed.{Volumed}
+use Rattle.volume.specs.Volumed.{Volumed, is_loud_in_all}
 
 -- the array that a request is of: a snapshot's, or the origin's
 abbrev pub array_of : Dev → Option ℕ
@@ -98,3 +99,11 @@ StopsOwn contents (WriteArea number) old new = WritesOne contents (CommitsWithin
 StopsOwn contents (WriteInvalid number) old new = WritesOne contents (MarksWithin contents) old new
 StopsOwn contents MergeCommit old new = CommitsMerge contents old new
 StopsOwn contents event old new = Unit {0}
+
+-- The same where no device drops writes, of a moment between two operations; and of the moments before and after a call that
+-- writes to no device of the volume.
+abbrev pub StopsNow : {B : Type 0} → (B → List ℕ) → (B → List Layer) → (B → ℕ) → Volumed B → Type 0
+StopsNow contents layers size v = is_loud_in_all layers v ≡ true → StopsVolume contents size of_all None v v
+
+abbrev pub StopsAround : {B : Type 0} → (B → List ℕ) → (B → List Layer) → (B → ℕ) → Volumed B → Volumed B → Type 0
+StopsAround contents layers size old new = StopsNow contents layers size old × StopsNow contents layers size new

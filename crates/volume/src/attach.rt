@@ -1,5 +1,5 @@
 // A snapshot is taken.
-ghost use Rattle.std.specs.Prelude.{◌≡◌, ◌≢◌, ◌⊎◌, ◌&&◌, MatchResult, ℕ, ◌+◌, ◌*◌, List, [], ◌∷◌, ◌++◌, length, Option, Some, None, IfOk, IfErr, OnErr, Ok, Err, true, false, IsTrue};
+ghost use Rattle.std.specs.Prelude.{◌≡◌, ◌≢◌, ◌⊎◌, ◌&&◌, MatchResult, ℕ, ◌+◌, ◌*◌, List, [], ◌∷◌, ◌++◌, length, Option, Some, None, IfOk, IfErr, OnErr, OnOk, Ok, Err, true, false, IsTrue};
 ghost use Rattle.sector.specs.declared.refusal.Refusal.TheVariants.{Io as IoRefusal, NoMemory};
 ghost use Rattle.device.specs.Layers.{is_loud};
 ghost use Rattle.plain.specs.Legal.{IsTaken};
@@ -10,6 +10,7 @@ ghost use Rattle.volume.specs.Volumed.{Volumed, plain_of, is_loud_in_all};
 ghost use Rattle.volume.specs.Taking.{attach_refusal, wanted_of, IsNotTaken};
 ghost use Rattle.volume.specs.Attached.{store_of, volume_in, IsAttachedAs, IsGained};
 ghost use Rattle.volume.specs.Leaving.{is_quiet_of};
+ghost use Rattle.volume.specs.Stopping.{StopsAround};
 ghost use Rattle.settled.specs.Attaching.{attached as attached_by, refused_attach};
 ghost use Rattle.store.specs.Reading.{AreRead};
 
@@ -77,9 +78,11 @@ impl<B: Block> Volume<B> {
         ensures starved { IfErr result (λ e. e.0 ≡ NoMemory → (B.contents e.1.device ≡ B.contents store.device) × AreRead (B.layers store.device) (B.layers e.1.device)) }
         ensures size { IfErr result (λ e. B.size e.1.device ≡ B.size store.device) }
         ensures loud { MatchResult result (λ _. is_loud_in_all B.layers self.new ≡ (is_loud_in_all B.layers self.old && is_loud (B.layers store.device))) (λ e. is_loud (B.layers e.1.device) ≡ is_loud (B.layers store.device)) }
+        ensures stops { OnOk result (StopsAround B.contents B.layers B.size self.old self.new) }
         ensures same { OnErr result (self.new ≡ self.old) }
         ensures stale { IfErr result (λ e. e.1.stale ≡ store.stale) }
     {
+        self.look_at_stores();
         match self.attach_refused(store.stale, chunk) {
             Some(refusal) => return Err((refusal, store)),
             None => {}
@@ -100,6 +103,7 @@ impl<B: Block> Volume<B> {
             Ok(snap) => {
                 self.snaps.push_reserved(snap);
                 self.attached = number;
+                self.look_at_stores();
                 Ok(number)
             }
             Err(refused) => Err(refused),

@@ -1,5 +1,5 @@
 // A merge that came to its end is taken out of its volume.
-ghost use Rattle.std.specs.Prelude.{◌≡◌, ◌&&◌, IfErr, IfOk, None, Option, Some, true};
+ghost use Rattle.std.specs.Prelude.{◌≡◌, ◌&&◌, IfErr, IfOk, None, OnOk, Option, Some, true};
 ghost use Rattle.device.specs.Layers.{is_loud};
 ghost use Rattle.plain.specs.Legal.{IsFinished};
 ghost use Rattle.plain.specs.declared.request.Reply.{Reply};
@@ -7,6 +7,7 @@ ghost use Rattle.event_machine.specs.Merging.{finished};
 ghost use Rattle.volume.specs.Volumed.{is_loud_in_all, plain_of};
 ghost use Rattle.volume.specs.Moved.{moving_of};
 ghost use Rattle.volume.specs.Finishing.{IsTakenOut, finish_refusal};
+ghost use Rattle.volume.specs.Stopping.{StopsAround};
 
 use crate::Volume;
 use device::Block;
@@ -27,8 +28,10 @@ impl<B: Block> Volume<B> {
         ensures disk { IfOk result (λ store. is_loud_in_all B.layers self.old ≡ true → (plain_of B.contents B.layers self.old).origin ≡ B.contents self.new.origin) }
         ensures exact { IfOk result (λ store. (replied : Option Reply) → finished (moving_of B.contents B.layers replied self.old) ≡ moving_of B.contents B.layers replied self.new) }
         ensures loud { IfOk result (λ store. is_loud_in_all B.layers self.old ≡ (is_loud_in_all B.layers self.new && is_loud (B.layers store.device))) }
+        ensures stops { OnOk result (StopsAround B.contents B.layers B.size self.old self.new) }
         ensures err { IfErr result (λ refusal. (finish_refusal self.old ≡ Some refusal) × (self.new ≡ self.old)) }
     {
+        self.look_at_stores();
         match self.finish_refused() {
             Some(refusal) => return Err(refusal),
             None => {}
@@ -37,6 +40,7 @@ impl<B: Block> Volume<B> {
             return Err(Refusal::NotFinished);
         };
         let_go_all(self.snaps.as_mut_slice());
+        self.look_at_stores();
         Ok(StoreDev {
             device: merge.into_device(),
             stale: false,

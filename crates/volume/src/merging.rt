@@ -7,6 +7,7 @@ ghost use Rattle.event_machine.specs.Merging.{begun, resumed};
 ghost use Rattle.snapshots.specs.Finding.{place_of_snap};
 ghost use Rattle.volume.specs.Volumed.{is_loud_in_all, plain_of};
 ghost use Rattle.volume.specs.Moved.{moving_of};
+ghost use Rattle.volume.specs.Stopping.{StopsAround};
 ghost use Rattle.volume.specs.Beginning.{IsMergeBegun, IsNotBegun, IsResumed, begin_refusal, beside_refusal};
 
 use crate::Volume;
@@ -31,9 +32,11 @@ impl<B: Block> Volume<B> {
         ensures legal { OnOk result (is_loud_in_all B.layers self.old ≡ true → IsBegun (plain_of B.contents B.layers self.old) number (plain_of B.contents B.layers self.new)) }
         ensures exact { OnOk result ((replied : Option Reply) → begun number (moving_of B.contents B.layers replied self.old) ≡ moving_of B.contents B.layers replied self.new) }
         ensures loud { is_loud_in_all B.layers self.new ≡ is_loud_in_all B.layers self.old }
+        ensures stops { OnOk result (StopsAround B.contents B.layers B.size self.old self.new) }
         ensures refused { IfErr result (λ refusal. IsNotBegun number refusal self.old self.new) }
         ensures starved { OnErr result ((replied : Option Reply) → moving_of B.contents B.layers replied self.new ≡ moving_of B.contents B.layers replied self.old) }
     {
+        self.look_at_stores();
         let k = match self.place_to_merge(number) {
             Ok(k) => k,
             Err(refusal) => return Err(refusal),
@@ -50,9 +53,11 @@ impl<B: Block> Volume<B> {
         let snap = self.snaps.remove(k);
         let begun = Merge::begin(number, snap.into_store(), buffer);
         match self.merge.replace(begun) {
-            None => Ok(()),
+            None => {}
             Some(_) => unreachable!(),
         }
+        self.look_at_stores();
+        Ok(())
     }
 
     /// The place of the snapshot that is to be merged, or why it may not be, memory aside.

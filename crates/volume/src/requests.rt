@@ -15,6 +15,7 @@ ghost use Rattle.snapshots.specs.Starting.{starts};
 ghost use Rattle.merge_beside.specs.Routing.{is_merged_at as is_merged_in};
 ghost use Rattle.volume.specs.Moved.{moving_of};
 ghost use Rattle.volume.specs.Stepping.{KeepsAll, KeepsDevices};
+ghost use Rattle.volume.specs.Stopping.{StopsNow};
 ghost use Rattle.volume.specs.Submitting.{IsAcceptedAs, IsAsked, IsEntered, IsRefusedAs, SameButRoom, entered_of, starting, submit_refusal};
 ghost use Rattle.volume.specs.Volumed.{books_of, piece_with};
 ghost use Rattle.volume.specs.Whole.{IsWhole};
@@ -47,6 +48,7 @@ impl<B: Block> Volume<B> {
         ensures ok { IfOk result (λ number. IsAcceptedAs B.contents B.layers request number self.old self.new) }
         ensures kept { KeepsAll B.size self.old self.new }
         ensures untouched { KeepsDevices self.old self.new }
+        ensures stops { StopsNow B.contents B.layers B.size self.old }
         ensures admitted { IfOk result (λ _. submit_refusal B.size request self.old ≡ None) }
         ensures exact { IfOk result (λ number. (replied : Option Reply) → submitted number request (moving_of B.contents B.layers replied self.old) ≡ moving_of B.contents B.layers replied self.new) }
         ensures refused { IfErr result (λ refusal. IsRefusedAs B.contents B.layers B.size request refusal self.old self.new) }
@@ -55,6 +57,7 @@ impl<B: Block> Volume<B> {
     {
         // A look at a field: what the type keeps is known from here on.
         let _ = &self.flights;
+        self.look_at_stores();
         match self.submit_refused(&request) {
             Some(refusal) => return Err(refusal),
             None => {}
