@@ -18,3 +18,4 @@ pub mod Merging
 pub mod Status
 pub mod Sound
 pub mod Naming
+pub mod Stopping
