@@ -1,5 +1,5 @@
 // All that is due is done while requests of several commands are in flight.
-ghost use Rattle.std.specs.Prelude.{◌≡◌, ◌+◌, ◌≤◌, length, vec_capacity, vec_len, IfErr, OnOk, true, None};
+ghost use Rattle.std.specs.Prelude.{◌≡◌, ◌+◌, ◌≤◌, length, vec_capacity, vec_len, is_ok, IfErr, OnOk, true, None};
 ghost use Rattle.sector.specs.declared.refusal.Refusal.TheVariants.{NoMemory};
 ghost use Rattle.volume.specs.Leaving.{is_quiet_of};
 ghost use Rattle.settled.specs.Merges.{merged};
@@ -14,12 +14,29 @@ use plain::{Failure, NotDue, Outcome, Reply, ReqId};
 use sector::Refusal;
 use volume::{Volume, is_of_merge};
 
+/// Takes room for so many replies more. For none, no memory is asked for.
+fn make_room(ended: &mut Vec<Replied>, replies: usize) -> Result<(), Refusal>
+    ensures ok { OnOk result (vec_len ended.new + replies ≤ vec_capacity ended.new) }
+    ensures none { replies ≡ 0 → is_ok result ≡ true }
+    ensures items { ended.new.items ≡ ended.old.items }
+    ensures err { IfErr result (λ refusal. refusal ≡ NoMemory) }
+{
+    if replies == 0 {
+        return Ok(());
+    }
+    match ended.reserve(replies) {
+        Ok(()) => Ok(()),
+        Err(_) => Err(Refusal::NoMemory),
+    }
+}
+
 /// Does the events that are due, each time the one that is due first, until none is. Each reply is put at the end of `ended`,
 /// where room for one of each request in flight is taken first: where that is refused, nothing is done.
 fn drain<B: Block>(volume: &mut Volume<B>, ended: &mut Vec<Replied>) -> Result<(), Refusal>
     ensures drained { OnOk result (IsDrained B.contents B.layers volume.old volume.new ended.old.items ended.new.items) }
     ensures quiet { OnOk result (is_quiet_of volume.new ≡ true) }
     ensures merged { OnOk result (IsSettled B.layers (rested_of volume.old) → merged (merged_of B.contents B.layers (rested_of volume.old)) ≡ merged_of B.contents B.layers (rested_of volume.new)) }
+    ensures idle { is_quiet_of volume.old ≡ true → is_ok result ≡ true }
     ensures still { is_quiet_of volume.old ≡ true → ended.new.items ≡ ended.old.items }
     ensures alone { is_quiet_of volume.old ≡ true → volume.old.merge ≡ None → volume.new ≡ volume.old }
     ensures err { IfErr result (λ refusal. (refusal ≡ NoMemory) × (volume.new ≡ volume.old) × (ended.new.items ≡ ended.old.items)) }
@@ -27,9 +44,7 @@ fn drain<B: Block>(volume: &mut Volume<B>, ended: &mut Vec<Replied>) -> Result<(
     ensures requests { volume.new.requests ≡ volume.old.requests }
 {
     let _ = volume.is_quiet();
-    let Ok(()) = ended.reserve(volume.flying()) else {
-        return Err(Refusal::NoMemory);
-    };
+    make_room(ended, volume.flying())?;
     while let Some(event) = volume.due() {
         match volume.step(event) {
             Ok(Outcome::Reply(number, reply)) => ended.push_reserved(Replied { number, reply }),
@@ -102,12 +117,13 @@ pub(crate) fn drain_for<B: Block>(
 impl<B: Block> Resting<B> {
     /// Does the events that are due, those of a merge among them, each time the one that is due first, until none is. Each
     /// reply is put at the end of `ended`. Room for one of each request in flight is taken once, before the first event:
-    /// where that is refused (`NoMemory`), nothing is done. A settled volume is left as the settled machine's whole merge
+    /// where that is refused (`NoMemory`), nothing is done. Where the volume is quiet no memory is asked for. A settled volume is left as the settled machine's whole merge
     /// leaves it, and as it was where no merge is begun.
     pub fn settle(&mut self, ended: &mut Vec<Replied>) -> Result<(), Refusal>
         ensures drained { OnOk result (IsDrained B.contents B.layers self.old.events self.new.events ended.old.items ended.new.items) }
         ensures quiet { OnOk result (is_quiet_of self.new.events ≡ true) }
         ensures merged { OnOk result (IsSettled B.layers self.old → merged (merged_of B.contents B.layers self.old) ≡ merged_of B.contents B.layers self.new) }
+        ensures idle { is_quiet_of self.old.events ≡ true → is_ok result ≡ true }
         ensures still { is_quiet_of self.old.events ≡ true → ended.new.items ≡ ended.old.items }
         ensures alone { is_quiet_of self.old.events ≡ true → self.old.events.merge ≡ None → self.new ≡ self.old }
         ensures err { IfErr result (λ refusal. (refusal ≡ NoMemory) × (self.new ≡ self.old) × (ended.new.items ≡ ended.old.items)) }

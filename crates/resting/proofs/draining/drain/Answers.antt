@@ -10,15 +10,15 @@ use Rattle.resting.proofs.draining.drain.Goals as goal
 
 pub loop-event-init : goal.loop-event-init
 loop-event-init g c =
-    let long = c.in-Ok.ensures.ok in
+    let long = c.in_ok-make_room.ensures.ok in
     let few = c.flying.ensures.len in
     record {
-      so = drains_start g.B.Block.contents g.B.Block.layers g.B.Block.size _ _ c.args.volume.now c.args.ended.now.items c.reserve.new.self.items c.reserve.ensures.items (omega (arith, long, few));
-      quiet = quiet_start g.B.Block.contents g.B.Block.layers g.B.Block.size c.args.volume.now c.args.ended.now.items c.reserve.new.self.items (record {
+      so = drains_start g.B.Block.contents g.B.Block.layers g.B.Block.size _ _ c.args.volume.now c.args.ended.now.items c.make_room.new.ended.items c.make_room.ensures.items (omega (arith, long, few));
+      quiet = quiet_start g.B.Block.contents g.B.Block.layers g.B.Block.size c.args.volume.now c.args.ended.now.items c.make_room.new.ended.items (record {
         between = λ quiet. c.is_quiet.ensures.between (c.is_quiet.ensures.value ∙ quiet);
         calm = λ quiet. c.is_quiet.ensures.calm (c.is_quiet.ensures.value ∙ quiet);
         under = λ quiet. c.is_quiet.ensures.under (c.is_quiet.ensures.value ∙ quiet);
-      }) c.reserve.ensures.items;
+      }) c.make_room.ensures.items;
     }
 
 pub loop-event-preserved-in-Ok-Reply : goal.loop-event-preserved-in-Ok-Reply
@@ -55,10 +55,10 @@ loop-event-preserved g c =
     }
 
 pub returns-clause-quiet : goal.returns-clause-quiet
-returns-clause-quiet g c = free_quiet g.B.Block.contents g.B.Block.layers g.B.Block.size c.loop-event.volume (still_free c.loop-event.volume.merge c.in_default-due.ensures.quiet.1) c.in_default-due.ensures.quiet.0
+returns-clause-quiet g c = free_quiet g.B.Block.contents g.B.Block.layers g.B.Block.size c.loop-event.volume (still_free c.loop-event.volume.merge c.in_default.ensures.quiet.1) c.in_default.ensures.quiet.0
 
 pub returns-clause-merged : goal.returns-clause-merged
-returns-clause-merged g c = λ settled. drained_merged g.B.Block.contents g.B.Block.layers g.B.Block.size c.args.volume.now c.loop-event.volume c.args.ended.now.items c.loop-event.ended.items c.loop-event.invariant.quiet c.in_default-due.ensures.machine settled
+returns-clause-merged g c = λ settled. drained_merged g.B.Block.contents g.B.Block.layers g.B.Block.size c.args.volume.now c.loop-event.volume c.args.ended.now.items c.loop-event.ended.items c.loop-event.invariant.quiet c.in_default.ensures.machine settled
 
 pub returns-clause-kept : goal.returns-clause-kept
 returns-clause-kept g c = devices_kept g.B.Block.size g.B.Block.layers c.args.volume.now c.loop-event.volume c.loop-event.invariant.so.counts.kept c.loop-event.invariant.so.counts.loud
