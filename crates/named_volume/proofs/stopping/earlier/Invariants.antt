@@ -1,0 +1,13 @@
+-- The first k of the snapshots were attached before.
+use Rattle.std.proofs.Common.{◌≡◌, ◌+◌, ◌-◌, ◌≤◌, drop, length}
+use Rattle.named_volume.specs.Stopping.{earlier}
+use Rattle.named_volume.proofs.stopping.earlier.Given as goal
+
+abbrev pub invariant-loop-k : goal.invariant-loop-k
+invariant-loop-k l = record {
+  so : earlier l.number (drop l.k l.volume.snaps) + l.k ≡ earlier l.number l.volume.snaps;
+  most : l.k ≤ length l.volume.snaps;
+}
+
+abbrev pub decreases-loop-k : goal.decreases-loop-k
+decreases-loop-k l = length l.volume.snaps - l.k
