@@ -51,6 +51,9 @@ fn refuses_words_names_and_numbers_of_another_form(rt: HostRuntime) {
         "finish",
         "finish vol snap",
         "finish 1",
+        "stop",
+        "stop vol lose",
+        "stop Vol",
         "table",
         "table Vol",
         "table a b",
@@ -273,6 +276,7 @@ fn reads_each_command(rt: HostRuntime) -> Result<(), Fail> {
         ("merge snap", "merge"),
         ("resume vol", "resume"),
         ("finish vol", "finish"),
+        ("stop vol", "stop"),
         ("status snap", "status"),
         ("table snap", "table"),
     ];
@@ -301,6 +305,7 @@ fn kind_of(command: &Command) -> &'static str {
         Command::Merge { .. } => "merge",
         Command::Resume { .. } => "resume",
         Command::Finish { .. } => "finish",
+        Command::Stop { .. } => "stop",
         Command::Status { .. } => "status",
         Command::Table { .. } => "table",
     }
