@@ -10,4 +10,5 @@ pub mod NamedRules
 pub mod LoudAttach
 pub mod SoundRules
 pub mod MergingRules
+pub mod StoppingRules
 pub mod Starving

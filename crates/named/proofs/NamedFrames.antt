@@ -74,7 +74,7 @@ sum_with_stack f stacked table = let more = sum_by_push (stack_sum f) table.stac
 stack_was : (f : List ℕ → ℕ) (stacks : List Stacked) (i : ℕ) (old : Stacked) → old ≡ get_or stacks i old → stack_sum f (get_or stacks i old) ≡ stack_sum f old
 stack_was f stacks i old at = ap (stack_sum f) (sym at)
 
-volume_was : (f : List ℕ → ℕ) (volumes : List Volume) (v : ℕ) (old : Volume) → old ≡ get_or volumes v old → volume_sum f (get_or volumes v old) ≡ volume_sum f old
+pub volume_was : (f : List ℕ → ℕ) (volumes : List Volume) (v : ℕ) (old : Volume) → old ≡ get_or volumes v old → volume_sum f (get_or volumes v old) ≡ volume_sum f old
 volume_was f volumes v old at = ap (volume_sum f) (sym at)
 
 pub sum_put : (f : List ℕ → ℕ) (table : Table) (i : ℕ) (old new : Stacked) → i < length table.stacks → old ≡ get_or table.stacks i old → table_sum f (put i new table) + stack_sum f old ≡ table_sum f table + stack_sum f new
