@@ -1,5 +1,5 @@
 -- A run, line by line.
-use Rattle.std.proofs.Common.{◌≡◌, ℕ, true, false, List, [], ◌∷◌, ◌++◌, Option, Some, None, refl, sym, ap, ◌∙◌, arith, inl, inr, subst, append_assoc}
+use Rattle.std.proofs.Common.{◌≡◌, ℕ, suc, ◌+◌, length, true, false, List, [], ◌∷◌, ◌++◌, Option, Some, None, refl, sym, ap, ◌∙◌, arith, inl, inr, subst, append_assoc}
 use Rattle.std.specs.Prelude.{IfSome, IfErr, Result, Ok, Err}
 use Rattle.std.specs.List.{count_by}
 use Rattle.std.specs.Io.KnownBytes.{Appends}
@@ -201,3 +201,20 @@ at_error (Err e) P p = λ other. p
 pub at_writers : {A : Type 0} (result : Result A RunError) (P : Type 0) → IfErr result IsWriters → IfErr result (λ e. (IsWriters e → ⊥) → P)
 at_writers (Ok x) P writers = tt
 at_writers (Err e) P writers = λ other. absurd (other writers)
+
+-- so many lines were taken from the text
+abbrev pub HasTaken : Option (List ℕ) → Option (List ℕ) → ℕ → Type 0
+HasTaken None left n = Unit {0}
+HasTaken (Some text) None n = ⊥
+HasTaken (Some text) (Some left) n = length (lines_of text) ≡ n + length (lines_of left)
+
+pub none_taken : (text : Option (List ℕ)) (n : ℕ) → n ≡ 0 → HasTaken text text n
+none_taken None n e = tt
+none_taken (Some text) n e = omega arith
+
+pub line_taken : (text left left' : Option (List ℕ)) (kept : List ℕ) (n : ℕ) → HasTaken text left n → ReadsLine 65536 left left' true kept → HasTaken text left' (n + 1)
+line_taken None left left' kept n taken read = tt
+line_taken (Some text) None left' kept n taken read = absurd taken
+line_taken (Some text) (Some left) None kept n taken read = absurd read
+line_taken (Some text) (Some left) (Some left') kept n taken read =
+    let cut : length (lines_of left) ≡ suc (length (lines_of left')) = ap length read.1 in omega arith

@@ -1,5 +1,9 @@
 -- How a run ended. It is this project's own.
-use Rattle.std.specs.Prelude.{◌==◌, ℕ, if◌then◌else◌, ⊤, Result, Ok, Err}
+use Rattle.std.specs.Prelude.{◌==◌, ◌≢◌, ◌≤◌, ◌^◌, ◌-◌, ℕ, List, length, if◌then◌else◌, ⊤, Option, Result, Ok, Err, IfSome}
+use Rattle.std.specs.IoError.{error_kind}
+use Rattle.std.specs.Io.KnownBytes.{Keeps}
+use Rattle.std.specs.declared.io.ErrorKind.TheVariants.{Interrupted}
+use Rattle.lines.specs.Lines.{lines_of}
 use Rattle.runner.specs.declared.error.RunError.{RunError}
 use Rattle.runner.specs.declared.error.RunError.TheVariants.{Memory, Read, Write, Endless}
 use Rattle.runner.specs.declared.summary.Summary.{Summary}
@@ -22,3 +26,11 @@ IsMemory Memory = ⊤
 IsMemory (Read error) = ⊥
 IsMemory (Write error) = ⊥
 IsMemory Endless = ⊥
+
+-- Why a run ended early, by what the reader had and has left and what the writer held and holds. Where memory was refused
+-- nothing was read or printed. The reader's error is no interruption. No run is too long but one of more lines than 2^64 - 2.
+abbrev pub IsEarly : Option (List ℕ) → Option (List ℕ) → Option (List ℕ) → Option (List ℕ) → RunError → Type 0
+IsEarly text left before now Memory = Keeps text left × Keeps before now
+IsEarly text left before now (Read error) = error_kind error ≢ Interrupted
+IsEarly text left before now (Write error) = ⊤
+IsEarly text left before now Endless = IfSome text (λ bytes. 2 ^ 64 - 1 ≤ length (lines_of bytes))

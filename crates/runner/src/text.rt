@@ -4,7 +4,7 @@ ghost use Rattle.std.specs.Io.KnownBytes.{Appends};
 ghost use Rattle.lines.specs.Lines.{lines_of};
 ghost use Rattle.reply.specs.declared.Reply.{Reply};
 ghost use Rattle.runner.specs.Counts.{summary_of};
-ghost use Rattle.runner.specs.Exit.{IsWriters};
+ghost use Rattle.runner.specs.Exit.{IsEarly, IsWriters};
 ghost use Rattle.runner.specs.Output.{output_of, replies_of, printed, MayAnswer, empty};
 ghost use Rattle.runner.specs.Sound.{is_sound_text};
 
@@ -41,10 +41,12 @@ pub fn run<R: Read, W: Write>(
         × Appends (W.contents writer.old) (W.contents writer.new) (printed replies)
         × IfSome (R.remaining reader.old) (λ text. is_sound_text text ≡ true
         → (rest : List Reply) × MayAnswer empty (lines_of text) (replies ++ rest))) }
+    // It ended early for want of memory before the first line alone, and for the number of lines where there are so many.
+    ensures cause { IfErr result (IsEarly (R.remaining reader.old) (R.remaining reader.new) (W.contents writer.old) (W.contents writer.new)) }
 {
     let mut line = Vec::with_capacity(alloc, LINE_LIMIT + 1).map_err(|_| RunError::Memory)?;
     let mut desk = Desk::new(alloc, workers)?;
-    for _ in 0..u64::MAX {
+    for _lines in 0..u64::MAX {
         if !read_line(reader, &mut line, LINE_LIMIT).map_err(RunError::Read)? {
             return Ok(desk.summary());
         }

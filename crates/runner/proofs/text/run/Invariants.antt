@@ -1,9 +1,10 @@
 use Rattle.std.proofs.Common.{◌<◌, vec_capacity}
-use Rattle.runner.proofs.RunLemmas.{Follows}
+use Rattle.runner.proofs.RunLemmas.{Follows, HasTaken}
 use Rattle.runner.proofs.text.run.Given as goal
 
-abbrev pub invariant-loop : goal.invariant-loop
-invariant-loop g l = record {
+abbrev pub invariant-loop-lines : goal.invariant-loop-lines
+invariant-loop-lines g l = record {
   room : 65536 < vec_capacity l.line;
   follows : Follows (g.R.Read.remaining l.fn.reader) (g.R.Read.remaining l.reader) (g.W.Write.contents l.fn.writer) (g.W.Write.contents l.writer) l.desk;
+  taken : HasTaken (g.R.Read.remaining l.fn.reader) (g.R.Read.remaining l.reader) l._lines;
 }
