@@ -100,4 +100,28 @@ mod tests {
         );
         Ok(())
     }
+
+    // Two million bytes, of each value but the line feed's.
+    #[test]
+    fn takes_a_long_line_of_any_bytes(rt: HostRuntime) -> Result<(), Fail> {
+        let mut text = Vec::new(rt.alloc());
+        for _ in 0..8192 {
+            for byte in 0..=255u8 {
+                if byte != b'\n' {
+                    text.push(byte)?;
+                }
+            }
+        }
+        text.push(b'\n')?;
+        text.push(b'x')?;
+        let mut text = text.as_slice();
+        let mut line = Vec::with_capacity(rt.alloc(), 5)?;
+        assert!(rt; line.capacity() > 4);
+        assert!(rt; read_line(&mut text, &mut line, 4)?);
+        assert_eq!(rt; line.as_slice(), [0, 1, 2, 3, 4].as_slice());
+        assert!(rt; line.capacity() > 4);
+        assert!(rt; read_line(&mut text, &mut line, 4)?);
+        assert_eq!(rt; line.as_slice(), b"x".as_slice());
+        Ok(())
+    }
 }
