@@ -122,7 +122,7 @@ snap_written number first pieces bytes g old new (Refused Io) law = (law.0, (law
 
 -- pieces that are written, whether a merge is begun or not
 module _ (sectors chunk : ℕ) (pos : 0 < chunk) (first b : ℕ) (pieces : List Span) (bytes : List ℕ) (fits : Each (IsInside sectors chunk) pieces) (join : Join first b pieces) (room : 512 * sectors_in pieces ≤ length bytes) where
-  parts_shown : (dev : Dev) (o : Option Merge) (v : Volume) → IsWell sectors chunk v → ((g : Merge) → o ≡ Some g → (let m : Merging = record { volume = v; merge = g } in IsMerging sectors m) × (g.chunk ≡ chunk))
+  pub parts_shown : (dev : Dev) (o : Option Merge) (v : Volume) → IsWell sectors chunk v → ((g : Merge) → o ≡ Some g → (let m : Merging = record { volume = v; merge = g } in IsMerging sectors m) × (g.chunk ≡ chunk))
       → (let m : Merged = record { volume = v; merge = o } in AreWritten dev first pieces bytes (arrays_with m) (arrays_with (parts_written dev pieces bytes m).state) (parts_written dev pieces bytes m).reply)
   parts_shown dev None v well under =
       let m : Merged = record { volume = v; merge = None } in
@@ -140,17 +140,17 @@ module _ (sectors chunk : ℕ) (pos : 0 < chunk) (first b : ℕ) (pieces : List 
       (snap_written number first pieces bytes g (arrays_of v) (arrays_of a.volume) a.reply (pieces_written sectors chunk pos (ToSnap number) first b pieces bytes v well fits join room)))
 
 -- some first pieces
-join_take : (a b count : ℕ) (pieces : List Span) → Join a b pieces → (c : ℕ) × Join a c (take count pieces)
+pub join_take : (a b count : ℕ) (pieces : List Span) → Join a b pieces → (c : ℕ) × Join a c (take count pieces)
 join_take a b zero pieces join = (a, refl)
 join_take a b (suc count) [] join = (a, refl)
 join_take a b (suc count) (p ∷ pieces) join = let more = join_take (a + p.count) b count pieces join.1 in (more.0, (join.0, more.1))
 
-each_take : {X : Type 0} (P : X → Type 0) (count : ℕ) (xs : List X) → Each P xs → Each P (take count xs)
+pub each_take : {X : Type 0} (P : X → Type 0) (count : ℕ) (xs : List X) → Each P xs → Each P (take count xs)
 each_take P zero xs all = tt
 each_take P (suc count) [] all = tt
 each_take P (suc count) (x ∷ xs) all = (all.0, each_take P count xs all.1)
 
-fewer_in : (count : ℕ) (pieces : List Span) → sectors_in (take count pieces) ≤ sectors_in pieces
+pub fewer_in : (count : ℕ) (pieces : List Span) → sectors_in (take count pieces) ≤ sectors_in pieces
 fewer_in zero pieces = omega arith
 fewer_in (suc count) [] = omega arith
 fewer_in (suc count) (p ∷ pieces) = let h = fewer_in count pieces in omega (arith, h)

@@ -1,0 +1,4 @@
+pub mod Settles
+pub mod Lists
+pub mod Resting
+pub mod Writes
