@@ -39,3 +39,4 @@ pub mod Drained
 pub mod Freed
 pub mod Runs
 pub mod Shown
+pub mod Ordered

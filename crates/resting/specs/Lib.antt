@@ -13,3 +13,4 @@ pub mod Draining
 pub mod Among
 pub mod Flying
 pub mod Merging
+pub mod Ordered

@@ -16,6 +16,7 @@ ghost use Rattle.volume.specs.Submitting.{submit_refusal, IsAcceptedAs, IsRefuse
 ghost use Rattle.resting.specs.Rested.{rested_of, merged_of, is_loud_in, IsSettled};
 ghost use Rattle.resting.specs.Flying.{IsWhole};
 ghost use Rattle.resting.specs.Kept.{KeepsDevices};
+ghost use Rattle.resting.specs.Ordered.{IsOrdered};
 
 use crate::Resting;
 use crate::serving::look;
@@ -30,7 +31,10 @@ fn is_still<B: Block>(volume: &Volume<B>) -> bool
     ensures value { result ≡ is_quiet_of volume.now }
     ensures rest { result ≡ true → is_loud_in B.layers (rested_of volume.now) ≡ true → IsSettled B.layers (rested_of volume.now) }
     ensures still { IsSettled B.layers (rested_of volume.now) → result ≡ true }
+    ensures ordered { result ≡ true → is_loud_in B.layers (rested_of volume.now) ≡ true → IsOrdered (merged_of B.contents B.layers (rested_of volume.now)) }
 {
+    // A look: the chunks of all snapshots are as large.
+    let _ = volume.piece();
     volume.is_quiet()
 }
 
@@ -78,11 +82,13 @@ fn advance<B: Block>(volume: &mut Volume<B>, event: Event) -> Result<Outcome, No
 
 impl<B: Block> Resting<B> {
     /// Whether the volume is quiet: no request is in flight, no copy is pending, and no mark of a spoiled store is untried.
-    /// A settled volume is; and one that is, and of which no device drops writes, is settled, whatever was done to it.
+    /// A settled volume is; and one that is, and of which no device drops writes, is settled, whatever was done to it, and the
+    /// stores of its live snapshots are in order.
     pub fn is_quiet(&self) -> bool
         ensures value { result ≡ is_quiet_of self.now.events }
         ensures rest { result ≡ true → is_loud_in B.layers self.now ≡ true → IsSettled B.layers self.now }
         ensures still { IsSettled B.layers self.now → result ≡ true }
+        ensures ordered { result ≡ true → is_loud_in B.layers self.now ≡ true → IsOrdered (merged_of B.contents B.layers self.now) }
     {
         is_still(&self.volume)
     }

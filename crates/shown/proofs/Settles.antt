@@ -43,4 +43,4 @@ module _ (sectors : ℕ) (name : List ℕ) (names : List Names) where
       record { name = refl; array = unseen.origin; snaps = kept_named state.origin.bytes (merge_all m).volume.origin.bytes names state.snaps (merge_all m).volume.snaps unseen.snaps }
 
 pub merge_goes_on : (volume : Volume) → IsWell volume → IsGoneOn (arrays_of volume) (arrays_of (merge_done volume))
-merge_goes_on volume well = gone_on well.sectors volume.origin volume.snaps volume.merging volume.state (λ merge is. (well.merge merge is).1)
+merge_goes_on volume well = gone_on well.ordered.sectors volume.origin volume.snaps volume.merging volume.state (λ merge is. (well.ordered.merge merge is).1)

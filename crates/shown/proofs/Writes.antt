@@ -131,11 +131,11 @@ module _ (volume : Volume) (well : IsWell volume) (first count : ℕ) (bytes : L
   abbrev range : Range
   range = record { first = first; count = count; size = sectors_of volume.state.origin; inside = fits }
 
-  inside : first + count ≤ well.sectors
-  inside = let whole = well.is.whole in omega (arith, whole, fits)
+  inside : first + count ≤ well.ordered.sectors
+  inside = let whole = well.ordered.is.whole in omega (arith, whole, fits)
 
   cut : AreCutFrom chunk span pieces
-  cut = cut_pieces chunk span pieces refl well.some
+  cut = cut_pieces chunk span pieces refl well.ordered.some
 
   count_all : sectors_in pieces ≡ count
   count_all = let h = sectors_joined first (first + count) pieces cut.join in omega (arith, h)
@@ -143,8 +143,8 @@ module _ (volume : Volume) (well : IsWell volume) (first count : ℕ) (bytes : L
   many : 0 < length pieces
   many = has_pieces first (first + count) pieces cut.join (omega (arith, some))
 
-  each_inside : Each (IsInside well.sectors chunk) pieces
-  each_inside = span_inside well.sectors chunk range well.some inside
+  each_inside : Each (IsInside well.ordered.sectors chunk) pieces
+  each_inside = span_inside well.ordered.sectors chunk range well.ordered.some inside
 
   -- the first pieces
   first_written : (dev : Dev) (n : ℕ) → AreWritten dev first (take n pieces) bytes (arrays_with m) (arrays_with (parts_written dev (take n pieces) bytes m).state) (parts_written dev (take n pieces) bytes m).reply
@@ -152,8 +152,8 @@ module _ (volume : Volume) (well : IsWell volume) (first count : ℕ) (bytes : L
       let few = fewer_in n pieces in
       let whole = count_all in
       let (end, join) = join_take first (first + count) n pieces cut.join in
-      parts_shown well.sectors chunk well.some first end (take n pieces) bytes (each_take (IsInside well.sectors chunk) n pieces each_inside) join (omega (arith, few, whole, len))
-      dev m.merge m.volume (rests well.sectors chunk m.volume well.is) (λ g is. let h = well.merge g is in (h.1, h.0))
+      parts_shown well.ordered.sectors chunk well.ordered.some first end (take n pieces) bytes (each_take (IsInside well.ordered.sectors chunk) n pieces each_inside) join (omega (arith, few, whole, len))
+      dev m.merge m.volume (rests well.ordered.sectors chunk m.volume well.ordered.is) (λ g is. let h = well.ordered.merge g is in (h.1, h.0))
 
   whole_written : (dev : Dev) → AreWritten dev first pieces bytes (arrays_with m) (arrays_with (written_beside dev span bytes m).state) (written_beside dev span bytes m).reply
   whole_written dev =
@@ -172,7 +172,7 @@ module _ (volume : Volume) (well : IsWell volume) (first count : ℕ) (bytes : L
   whole_bytes = let sum = count_all in take_all (512 * sectors_in pieces) bytes (omega (arith, sum, len))
 
   fewer_bytes : (n : ℕ) → n < length pieces → 512 * sectors_in (take n pieces) < length bytes
-  fewer_bytes n lt = let h = fewer_sectors well.sectors chunk n pieces each_inside lt in let sum = count_all in omega (arith, h, sum, len)
+  fewer_bytes n lt = let h = fewer_sectors well.ordered.sectors chunk n pieces each_inside lt in let sum = count_all in omega (arith, h, sum, len)
 
   -- a write of the origin
   origin_done : (reply : Reply) (after : Merged) → AreWritten devs.Origin first pieces bytes (arrays_with m) (arrays_with after) reply → IsWriteDone Origin first bytes (write_answer reply) before (seen_after after)
@@ -185,10 +185,10 @@ module _ (volume : Volume) (well : IsWell volume) (first count : ℕ) (bytes : L
   snapshot_done : (k : ℕ) (s : Snap) → slice_get volume.state.snaps k ≡ Some s → (reply : Reply) (after : Merged) → AreWritten (devs.Snap s.number) first pieces bytes (arrays_with m) (arrays_with after) reply → IsWriteDone (Snapshot k) first bytes (write_answer reply) before (seen_after after)
   snapshot_done k s at (Data all) after law = absurd law
   snapshot_done k s at Written after law =
-      snapshot_named volume.origin volume.snaps m after k s well.named well.numbers at first bytes (law.0 many) (subst (λ (b : List ℕ). IsWritten (devs.Snap s.number) first b (arrays_with m) (arrays_with after)) whole_bytes law.1)
-  snapshot_done k s at (Refused Declined) after law = inr (inl (refl, snapshot_lost volume.origin volume.snaps m after k s well.named well.numbers at law))
+      snapshot_named volume.origin volume.snaps m after k s well.numbered.named well.numbered.numbers at first bytes (law.0 many) (subst (λ (b : List ℕ). IsWritten (devs.Snap s.number) first b (arrays_with m) (arrays_with after)) whole_bytes law.1)
+  snapshot_done k s at (Refused Declined) after law = inr (inl (refl, snapshot_lost volume.origin volume.snaps m after k s well.numbered.named well.numbered.numbers at law))
   snapshot_done k s at (Refused Io) after law =
-      inr (inr (inl refl, (sectors_in (take law.1.0 pieces), fewer_bytes law.1.0 law.1.1, snapshot_named volume.origin volume.snaps m after k s well.named well.numbers at first (take (512 * sectors_in (take law.1.0 pieces)) bytes) law.0 law.1.2)))
+      inr (inr (inl refl, (sectors_in (take law.1.0 pieces), fewer_bytes law.1.0 law.1.1, snapshot_named volume.origin volume.snaps m after k s well.numbered.named well.numbered.numbers at first (take (512 * sectors_in (take law.1.0 pieces)) bytes) law.0 law.1.2)))
 
   -- by the role of the device
   role_done : (role : Role) (dev : Dev) → dev_of role volume.state ≡ Ok dev → (reply : Reply) (after : Merged) → AreWritten dev first pieces bytes (arrays_with m) (arrays_with after) reply → IsWriteDone role first bytes (write_answer reply) before (seen_after after)

@@ -1,3 +1,4 @@
 pub mod Arrays
 pub mod Shown
+pub mod Commands
 pub mod Well

@@ -1,5 +1,5 @@
 // What callers may ask of a volume and of its snapshots: whether it is quiet, a snapshot by its place, its store, its usage.
-ghost use Rattle.std.specs.Prelude.{◌≡◌, ◌*◌, ◌<◌, ◌≤◌, IfErr, IfNone, IfOk, IfSome, None, Option, Some, false, length, slice_index_or, true};
+ghost use Rattle.std.specs.Prelude.{◌≡◌, ◌*◌, ◌<◌, ◌≤◌, AllPairs, IfErr, IfNone, IfOk, IfSome, None, Option, Some, false, length, map, slice_index_or, true};
 ghost use Rattle.std.specs.List.{All, list_all};
 ghost use Rattle.sector.specs.declared.refusal.Refusal.TheVariants.{NoSuchDevice};
 ghost use Rattle.plain.specs.declared.request.Reply.{Reply};
@@ -12,6 +12,7 @@ ghost use Rattle.merge.specs.Merging.{Merging};
 ghost use Rattle.settled.specs.MergeShown.{IsMerging};
 ghost use Rattle.snapshot.specs.Kept.{Kept};
 ghost use Rattle.snapshots.specs.Finding.{place_of_snap};
+ghost use Rattle.snapshots.specs.Numbers.{number_of_snap};
 ghost use Rattle.volume.specs.Asking.{HasNone, HoldsOf, is_finished_in, merging_number, merging_usage};
 ghost use Rattle.volume.specs.Leaving.{IsStillOn, has_group_in, is_done_of, is_quiet_of, usage_of};
 ghost use Rattle.volume.specs.Moved.{moving_of};
@@ -128,6 +129,7 @@ impl<B: Block> Volume<B> {
         ensures calm { result ≡ true → (replied : Option Reply) → due (moving_of B.contents B.layers replied self.now) ≡ None }
         ensures under { result ≡ true → is_loud_in_all B.layers self.now ≡ true → (replied : Option Reply) → (h : MergeHeld) → (moving_of B.contents B.layers replied self.now).merge ≡ Some h → IsMerging (B.size self.now.origin) (in_big_steps h (moving_of B.contents B.layers replied self.now)) }
         ensures few { length self.now.snaps ≤ 8 }
+        ensures numbers { AllPairs (λ m n. m < n) (map number_of_snap self.now.snaps) }
     {
         // A look: what the stores say is known from here on.
         self.look_at_stores();

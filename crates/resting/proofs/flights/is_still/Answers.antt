@@ -1,6 +1,17 @@
 -- A settled volume is quiet, and a quiet one with no device that drops writes is settled.
-use Rattle.std.proofs.Common.{◌∙◌}
+use Rattle.std.proofs.Common.{◌∙◌, sym}
+use Rattle.std.specs.Prelude.{None}
+use Rattle.resting.proofs.Seen.{loud_same}
+use Rattle.resting.proofs.Going.{chunks_by}
+use Rattle.resting.proofs.Ordered.{ordered_by}
 use Rattle.resting.proofs.flights.is_still.Goals as goal
 
 pub returns-clause-still : goal.returns-clause-still
 returns-clause-still g c = λ settled. c.is_quiet.ensures.value ∙ settled.quiet
+
+pub returns-clause-ordered : goal.returns-clause-ordered
+returns-clause-ordered g c = λ quiet loud.
+    let v = c.args.volume.now in
+    let all = sym (loud_same g.B.Block.contents g.B.Block.layers v) ∙ loud in
+    ordered_by g.B.Block.contents g.B.Block.layers g.B.Block.size v c.is_quiet.ensures.numbers (chunks_by v c.piece.result c.piece.ensures.piece c.piece.ensures.same c.piece.ensures.allowed)
+    (c.is_quiet.ensures.between quiet all None) (c.is_quiet.ensures.under quiet all None)

@@ -52,3 +52,9 @@ returns-clause-under g c = λ quiet loud replied.
     let free : has_group_in v.merge ≡ false = ap (λ (x : Volumed g.row.B.Denot). has_group_in x.merge) c.self.view_is ∙ sym c.has_group.ensures ∙ c.if-has_group.false in
     let step : IsMergeInStep g.B.Block.contents g.B.Block.layers g.B.Block.size v.merge = subst (λ (x : Volumed g.row.B.Denot). IsMergeInStep g.B.Block.contents g.B.Block.layers g.B.Block.size x.merge) (sym c.self.view_is) c.look_at_stores.ensures.merge in
     rw (← c.self.view_is) (under_way g.B.Block.contents g.B.Block.layers g.B.Block.size v c.self.invariant loud' replied (between g.B.Block.contents g.B.Block.layers g.B.Block.size v replied c.self.invariant (g.met.B.Block.small v.origin) none done still loud' free) step)
+
+pub returns-then-has_group-clause-numbers : goal.returns-then-has_group-clause-numbers
+returns-then-has_group-clause-numbers g c = rw (← c.self.view_is) c.self.invariant.numbers.ascending
+
+pub returns-clause-numbers : goal.returns-clause-numbers
+returns-clause-numbers g c = rw (← c.self.view_is) c.self.invariant.numbers.ascending
