@@ -203,7 +203,7 @@ module _ (volume : Volume) (well : IsWell volume) (first count : ℕ) (bytes : L
   role_done (MergingStore depth) dev is reply after law = absurd (not_ok _ dev is)
 
 -- the arrays of a volume after a command
-after_arrays : (volume : Volume) (count : ℕ) (s : Merged) → is_some s.merge ≡ is_some (merge_in volume.merging) → arrays_of (after_asking count s volume) ≡ arrays_at volume.origin volume.snaps s
+pub after_arrays : (volume : Volume) (count : ℕ) (s : Merged) → is_some s.merge ≡ is_some (merge_in volume.merging) → arrays_of (after_asking count s volume) ≡ arrays_at volume.origin volume.snaps s
 after_arrays volume count s same = ap (λ (x : Merged). let a : Arrays = record { name = volume.origin; array = origin_shown x; snaps = named_by s.volume.origin.bytes volume.snaps s.volume.snaps } in a) (merged_is s volume (same ∙ begun volume.merging))
   where
     begun : (g : Option Begun) → is_some (merge_in g) ≡ is_some g
