@@ -1,6 +1,9 @@
 -- The pairs of a store, in lines.
 use Rattle.std.specs.Prelude.{ℕ, ◌+◌, ◌/◌, ◌%◌, ◌==◌, ◌&&◌, Bool, List, [], ◌∷◌, ◌++◌, codes, decimal, if◌then◌else◌}
 use Rattle.sector.specs.declared.pair.Pair.{Pair}
+use Rattle.cow_map.specs.declared.reading.Listed.{Listed}
+use Rattle.cow_map.specs.declared.reading.Listed.TheVariants.{Ends, Lacks}
+use Rattle.cow_words.specs.Shows.{line_text}
 
 -- whether both chunks of a pair come right after those of another
 abbrev pub follows : Pair → Pair → Bool
@@ -32,3 +35,8 @@ slot_line slots slot pair = two_text (slot / slots) (slot % slots) ++ (codes " "
 abbrev pub slots_text : ℕ → ℕ → List Pair → List ℕ
 slots_text slots slot [] = []
 slots_text slots slot (pair ∷ pairs) = slot_line slots slot pair ++ slots_text slots (slot + 1) pairs
+
+-- how the areas of a store end: the area of the first empty slot, or the one that is not there
+abbrev pub listed_text : Listed → List ℕ
+listed_text (Ends area) = line_text (codes "ends") area
+listed_text (Lacks area) = line_text (codes "lacks") area

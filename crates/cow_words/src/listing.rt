@@ -1,6 +1,6 @@
 // The pairs of a store, in lines.
-ghost use Rattle.std.specs.Prelude.{◌≡◌, ◌<◌, ◌++◌, OnOk};
-ghost use Rattle.cow_words.specs.Lines.{follows as follows_in, run_text, runs_text, slot_line, slots_text, two_text};
+ghost use Rattle.std.specs.Prelude.{◌≡◌, ◌<◌, ◌++◌, OnOk, codes, decimal};
+ghost use Rattle.cow_words.specs.Lines.{follows as follows_in, run_text, runs_text, listed_text, slot_line, slots_text, two_text};
 
 use crate::text::{push_line, push_number};
 use cow_map::Listed;
@@ -96,7 +96,9 @@ fn push_two(text: &mut Vec<u8>, first: u64, second: u64) -> Result<(), AllocErro
 }
 
 /// Adds how the areas of a store end.
-pub fn push_listed(text: &mut Vec<u8>, listed: Listed) -> Result<(), AllocError> {
+pub fn push_listed(text: &mut Vec<u8>, listed: Listed) -> Result<(), AllocError>
+    ensures { OnOk result (text.new.items ≡ text.old.items ++ listed_text listed) }
+{
     match listed {
         Listed::Ends(area) => push_line(text, b"ends", area),
         Listed::Lacks(area) => push_line(text, b"lacks", area),

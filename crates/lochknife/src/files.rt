@@ -1,48 +1,61 @@
-// Files are opened, made and made to last.
+// A file is made, and made to last.
 
-use crate::trouble::Trouble;
-use image::{FileImage, FileSink};
-use std::fs::{File, TryLockError};
+use crate::trouble::{Trouble, Why, about, held};
+use image::FileSink;
+use std::fs::File;
+use std::io::ErrorKind;
 use std::{fs, io};
 
-/// Opens an input for reading only, and locks it against programs that ask for a lock to write.
-pub fn opened(rt: &HostRuntime, name: &str) -> Result<FileImage, Trouble> {
-    let file = fs::open(rt, name)?;
-    match file.try_lock_shared() {
-        Ok(()) => Ok(FileImage::new(file)),
-        Err(TryLockError::WouldBlock) => Err(Trouble::Locked),
-        Err(TryLockError::Error(error)) => Err(Trouble::File(error)),
+/// Sees that no file has this name.
+pub fn is_free<'a>(rt: &HostRuntime, name: &'a str) -> Result<(), Trouble<'a>> {
+    if about(name, fs::exists(rt, name))? {
+        let why = Why::Exists;
+        return Err(Trouble { name, why });
     }
+    Ok(())
 }
 
 /// The name that a file has until it is whole.
-pub fn partial_name(rt: &HostRuntime, out: &str) -> Result<String, Trouble> {
-    Ok(format!(in rt.alloc(); "{out}.partial")?)
+pub fn partial_name<'a>(rt: &HostRuntime, out: &'a str) -> Result<String, Trouble<'a>> {
+    held(out, format!(in rt.alloc(); "{out}.partial"))
 }
 
-/// Makes a file, which must not be there, under the name that it has until it is whole.
-pub fn made(rt: &HostRuntime, out: &str, partial: &str) -> Result<FileSink, Trouble> {
-    if fs::exists(rt, out)? {
-        return Err(Trouble::Exists);
-    }
-    let file = File::create_new(rt, partial)?;
-    Ok(FileSink::new(file))
+/// Makes a file, which must not be there, under the name that it has until it is whole, and locks it.
+pub fn made<'a>(rt: &HostRuntime, out: &'a str, partial: &str) -> Result<FileSink, Trouble<'a>> {
+    is_free(rt, out)?;
+    let why = match File::create_new(rt, partial) {
+        Ok(file) => {
+            let _ = file.try_lock();
+            return Ok(FileSink::new(file));
+        }
+        Err(error) => why_not_made(error),
+    };
+    Err(Trouble { name: out, why })
 }
 
-/// Makes a whole file last, and gives it its name.
-pub fn kept(
-    rt: &HostRuntime,
-    sink: &mut FileSink,
-    partial: &str,
-    out: &str,
-) -> Result<(), Trouble> {
-    sink.finish()?;
-    if fs::exists(rt, out)? {
-        return Err(Trouble::Exists);
+/// Why a file was not made under the name that it has until it is whole.
+fn why_not_made(error: io::Error) -> Why {
+    match error.kind() {
+        ErrorKind::AlreadyExists => Why::PartialExists,
+        _ => Why::File(error),
     }
-    fs::rename(rt, partial, out)?;
-    folder_synced(rt, out)?;
-    Ok(())
+}
+
+/// Gives a whole file its name, and makes the name last. A file that has this name already stays as it is.
+pub fn named<'a>(rt: &HostRuntime, partial: &str, out: &'a str) -> Result<(), Trouble<'a>> {
+    match fs::hard_link(rt, partial, out) {
+        Ok(()) => about(out, fs::remove_file(rt, partial))?,
+        Err(error) if error.kind() == ErrorKind::AlreadyExists => {
+            let why = Why::Exists;
+            return Err(Trouble { name: out, why });
+        }
+        // Where the files have one name each.
+        Err(_) => {
+            is_free(rt, out)?;
+            about(out, fs::rename(rt, partial, out))?;
+        }
+    }
+    about(out, folder_synced(rt, out))
 }
 
 /// Makes a file's name last.

@@ -6,13 +6,20 @@
 //! refused, 2 where something could not be read or written).
 #![tactic(auto)]
 
-mod files;
-mod looking;
-mod progress;
-mod rolling;
-mod trouble;
+ghost use Rattle.std.specs.Prelude.{◌≡◌, MatchResult, MatchBool};
 
-use crate::looking::{check, map, raw_map, show, show_json};
+mod answers;
+mod array;
+mod commands;
+mod files;
+mod input;
+mod looking;
+mod rolling;
+mod teller;
+mod trouble;
+mod watched;
+
+use crate::commands::{check, map, printed, raw_map, show, show_json};
 use crate::rolling::{export, salvage};
 use crate::trouble::Trouble;
 use std::io;
@@ -21,6 +28,8 @@ use std::process::ExitCode;
 /// What is asked for.
 #[derive(Clone, Copy, Debug, PartialEq, Eq)]
 enum Asked<'a> {
+    /// The words that are taken.
+    Help,
     /// A store's header, its numbers, and whether it is good.
     Show(&'a str),
     /// The same, as a JSON object.
@@ -40,6 +49,9 @@ enum Asked<'a> {
 /// What the words of the command line say. `None` where they are wrong.
 fn words_ask(words: &[String]) -> Option<Asked<'_>> {
     let command = words.get(1)?.as_str();
+    if words.len() == 2 && (command == "--help" || command == "help") {
+        return Some(Asked::Help);
+    }
     let first = words.get(2)?.as_str();
     if words.len() == 3 && command == "show" {
         return Some(Asked::Show(first));
@@ -68,9 +80,21 @@ fn words_ask(words: &[String]) -> Option<Asked<'_>> {
     None
 }
 
+/// The words that are taken.
+const USAGE: &[u8] = b"usage: lochknife show COW [--json]
+       lochknife map COW [--raw]
+       lochknife check ORIGIN COW
+       lochknife export ORIGIN COW OUT [--salvage]
+       lochknife rollback ORIGIN COW OUT
+";
+
 /// Does what is asked for, and tells whether the store is good.
-fn done(rt: &HostRuntime, asked: Asked<'_>) -> Result<bool, Trouble> {
+fn done<'a>(rt: &'a HostRuntime, asked: Asked<'a>) -> Result<bool, Trouble<'a>> {
     match asked {
+        Asked::Help => {
+            printed(rt, USAGE)?;
+            Ok(true)
+        }
         Asked::Show(cow) => show(rt, cow),
         Asked::ShowJson(cow) => show_json(rt, cow),
         Asked::Map(cow) => map(rt, cow),
@@ -81,20 +105,26 @@ fn done(rt: &HostRuntime, asked: Asked<'_>) -> Result<bool, Trouble> {
     }
 }
 
+/// The exit status: 0 for a store that is good, 1 for one that is refused, 2 where something could not be read or written.
+fn status_of(done: &Result<bool, Trouble<'_>>) -> u8
+    ensures { MatchResult done.now (λ good. MatchBool good (result ≡ 0) (result ≡ 1)) (λ _. result ≡ 2) }
+{
+    match done {
+        Ok(true) => 0,
+        Ok(false) => 1,
+        Err(_) => 2,
+    }
+}
+
 fn main(rt: HostRuntime) -> io::Result<ExitCode> {
     let words: Vec<String> = std::env::args(&rt)?.collect(rt.alloc())?;
     let Some(asked) = words_ask(&words) else {
-        eprintln!(rt;
-            "lochknife: usage: lochknife show COW [--json] | map COW [--raw] | check ORIGIN COW | export ORIGIN COW OUT [--salvage] | rollback ORIGIN COW OUT"
-        )?;
+        let _ = eprintln!(rt; "lochknife: wrong words: lochknife --help tells which are taken");
         return Ok(ExitCode::from(2));
     };
-    match done(&rt, asked) {
-        Ok(true) => Ok(ExitCode::from(0)),
-        Ok(false) => Ok(ExitCode::from(1)),
-        Err(trouble) => {
-            eprintln!(rt; "lochknife: {trouble}")?;
-            Ok(ExitCode::from(2))
-        }
+    let done = done(&rt, asked);
+    if let Err(trouble) = &done {
+        let _ = eprintln!(rt; "lochknife: {trouble}");
     }
+    Ok(ExitCode::from(status_of(&done)))
 }

@@ -1,70 +1,116 @@
-// Why nothing is told of a store.
+// Why nothing is told of a store, or nothing is written.
 
 use cow_map::Failure;
 use cow_shown::Stopped;
 use std::alloc::AllocError;
 use std::{fmt, io};
 
-/// Why something could not be read or written.
+/// What went wrong, and with what.
 #[derive(Debug, Drop)]
-pub enum Trouble {
-    /// A file could not be opened, made or renamed, or standard output not be written.
+pub struct Trouble<'a> {
+    /// The name of a file, as it was given; of standard output its own.
+    pub name: &'a str,
+    pub why: Why,
+}
+
+/// What went wrong with a file.
+#[derive(Debug, Drop)]
+pub enum Why {
+    /// It could not be opened, made, renamed or asked.
     File(io::Error),
-    /// An image could not be read.
-    Image(Failure),
-    /// The export came to no end.
-    Export(Stopped),
-    /// Another program has locked an input.
+    /// A read of it failed: the byte where that begins, where it is one.
+    Unreadable(Option<u64>, io::Error),
+    /// A write failed.
+    Unwritable(io::Error),
+    /// Memory is refused.
+    NoMemory,
+    /// It has so many bytes, which are no whole number of sectors.
+    PartOfSector(u64),
+    /// It has so many sectors, which are too many.
+    TooLarge(u64),
+    /// It is not as it was when it was read first.
+    Changed,
+    /// It is neither a file nor a block device.
+    NoImage,
+    /// The store is the origin's file.
+    SameFile,
+    /// Another program has locked it.
     Locked,
     /// The file that is to be made is there already.
     Exists,
-    /// The store is not as it was when it was read first.
-    Changed,
+    /// So is the file that it is to be until it is whole.
+    PartialExists,
 }
 
-impl From<io::Error> for Trouble {
-    fn from(error: io::Error) -> Trouble {
-        Trouble::File(error)
+/// Says with which file something went wrong.
+pub fn about<'a, T: Drop>(name: &'a str, asked: io::Result<T>) -> Result<T, Trouble<'a>> {
+    match asked {
+        Ok(value) => Ok(value),
+        Err(error) => {
+            let why = Why::File(error);
+            Err(Trouble { name, why })
+        }
     }
 }
 
-impl From<Failure> for Trouble {
-    fn from(failure: Failure) -> Trouble {
-        Trouble::Image(failure)
+/// Says for which file there was no memory.
+pub fn held<'a, T: Drop>(name: &'a str, asked: Result<T, AllocError>) -> Result<T, Trouble<'a>> {
+    match asked {
+        Ok(value) => Ok(value),
+        Err(_) => {
+            let why = Why::NoMemory;
+            Err(Trouble { name, why })
+        }
     }
 }
 
-impl From<Stopped> for Trouble {
-    fn from(stopped: Stopped) -> Trouble {
-        Trouble::Export(stopped)
+impl Why {
+    /// Why an image told nothing, a read of which failed at this byte.
+    pub fn of_failure(failure: Failure, at: Option<u64>) -> Why {
+        match failure {
+            Failure::Unreadable(error) => Why::Unreadable(at, error),
+            Failure::NoMemory => Why::NoMemory,
+            Failure::PartOfSector(bytes) => Why::PartOfSector(bytes),
+            Failure::TooLarge(sectors) => Why::TooLarge(sectors),
+            Failure::Changed => Why::Changed,
+        }
+    }
+
+    /// Why an export stopped, where a read failed at this byte.
+    pub fn of_stopped(stopped: Stopped, at: Option<u64>) -> Why {
+        match stopped {
+            Stopped::Unreadable(error) => Why::Unreadable(at, error),
+            Stopped::Unwritable(error) => Why::Unwritable(error),
+            Stopped::NoMemory => Why::NoMemory,
+        }
     }
 }
 
-impl From<AllocError> for Trouble {
-    fn from(_: AllocError) -> Trouble {
-        Trouble::Image(Failure::NoMemory)
+impl fmt::Display for Trouble<'_> {
+    fn fmt<W: fmt::Write>(&self, f: &mut fmt::Formatter<W>) -> fmt::Result {
+        write!(f, "{}: {}", self.name, self.why)
     }
 }
 
-impl fmt::Display for Trouble {
+impl fmt::Display for Why {
     fn fmt<W: fmt::Write>(&self, f: &mut fmt::Formatter<W>) -> fmt::Result {
         match self {
-            Trouble::File(error) => write!(f, "{error}"),
-            Trouble::Image(Failure::Unreadable(error)) => write!(f, "cannot read: {error}"),
-            Trouble::Image(Failure::NoMemory) => write!(f, "no memory"),
-            Trouble::Image(Failure::PartOfSector(bytes)) => {
-                write!(f, "{bytes} bytes are no whole number of sectors")
-            }
-            Trouble::Image(Failure::TooLarge(sectors)) => {
-                write!(f, "{sectors} sectors are more than this program takes")
-            }
-            Trouble::Image(Failure::Changed) => write!(f, "the store changed while it was read"),
-            Trouble::Export(Stopped::Unreadable(error)) => write!(f, "cannot read: {error}"),
-            Trouble::Export(Stopped::Unwritable(error)) => write!(f, "cannot write: {error}"),
-            Trouble::Export(Stopped::NoMemory) => write!(f, "no memory"),
-            Trouble::Locked => write!(f, "another program has locked the input"),
-            Trouble::Exists => write!(f, "the file to be made is there already"),
-            Trouble::Changed => write!(f, "the store changed while it was read"),
+            Why::File(error) => write!(f, "{error}"),
+            Why::Unreadable(Some(at), error) => write!(f, "cannot read at byte {at}: {error}"),
+            Why::Unreadable(None, error) => write!(f, "cannot read: {error}"),
+            Why::Unwritable(error) => write!(f, "cannot write: {error}"),
+            Why::NoMemory => write!(f, "no memory"),
+            Why::PartOfSector(bytes) => write!(f, "{bytes} bytes are no whole number of sectors"),
+            Why::TooLarge(sectors) => write!(f, "{sectors} sectors are more than 2^36"),
+            Why::Changed => write!(f, "changed while it was read"),
+            Why::NoImage => write!(f, "neither a file nor a block device"),
+            Why::SameFile => write!(f, "is the origin's file too"),
+            Why::Locked => write!(f, "another program has locked it"),
+            Why::Exists => write!(f, "is there already"),
+            Why::PartialExists => write!(
+                f,
+                "the file of this name and .partial is there already: remove it if no export runs"
+            ),
         }
     }
 }

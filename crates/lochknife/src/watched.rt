@@ -1,0 +1,49 @@
+// A file that is being made is watched.
+ghost use Rattle.std.specs.Prelude.{None};
+
+use crate::teller::Teller;
+use image::{FileSink, Sink};
+use std::io;
+
+/// A file that is being made, of which it is told how much is written.
+#[derive(Drop)]
+pub struct Watched<'a> {
+    sink: FileSink,
+    teller: Teller<'a>,
+    /// The bytes of the whole file, and those that are written.
+    size: u64,
+    written: u64,
+}
+
+impl<'a> Watched<'a> {
+    /// A file of so many bytes, of which none is written.
+    pub fn new(rt: &'a HostRuntime, sink: FileSink, size: u64) -> Watched<'a> {
+        Watched {
+            sink,
+            teller: Teller::new(rt),
+            size,
+            written: 0,
+        }
+    }
+
+    /// Gives the file its length, and makes it last through a stop.
+    pub fn finish(&mut self) -> io::Result<()> {
+        self.sink.finish()
+    }
+
+    /// Tells no more.
+    pub fn hush(&mut self) {
+        self.teller.hush();
+    }
+}
+
+impl Sink for Watched<'_> {
+    ghost contents = { λ _. None };
+
+    fn put(&mut self, bytes: &[u8]) -> io::Result<()> {
+        self.sink.put(bytes)?;
+        self.written = self.written.saturating_add(bytes.len() as u64);
+        self.teller.tell_written(self.written, self.size);
+        Ok(())
+    }
+}
