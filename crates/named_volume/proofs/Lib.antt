@@ -13,3 +13,4 @@ pub mod Begins
 pub mod Finishes
 pub mod Resumes
 pub mod Closes
+pub mod Stops

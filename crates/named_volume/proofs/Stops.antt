@@ -8,19 +8,23 @@ use Rattle.resting.specs.Flying.{IsWhole}
 use Rattle.named_volume.proofs.Places.{here}
 use Rattle.layers.specs.declared.stack.Stack.{Stack}
 use Rattle.settled.specs.Snaps.{Snap, Volume as Settled}
-use Rattle.resting.specs.Rested.{Attached, Rested, attached_of, snap_of}
+use Rattle.resting.specs.Rested.{Attached, Rested, attached_of, snap_of, is_loud_in}
 use Rattle.layers.specs.Stack.{stack_contents, stack_layers}
 use Rattle.event_machine.specs.MergeSeen.{merge_held_of}
 use Rattle.snapshot.specs.Kept.{Kept}
 use Rattle.merge.specs.Merging.{Merging, due_of as merging_due}
 use Rattle.volume.specs.Asking.{merging_number}
+use Rattle.device.specs.Layers.{is_loud}
+use Rattle.volume.specs.Volumed.{is_loud_with}
+use Rattle.volume.proofs.Shown.{and_left, and_right}
+use Rattle.named.specs.Sound.{is_sound_stack}
 use Rattle.named.specs.Stacks.{device_of}
 use Rattle.named.specs.Stopping.{freed, store_freed, merging_freed, snap_stores, stores_among, stores_left, stopped}
-use Rattle.named_volume.specs.Stub.{stores_by, devices_of}
+use Rattle.volume.specs.Stopped.{stores_by, devices_of}
 use Rattle.named_volume.specs.Held.{merging_with, with_names, settled_in}
-use Rattle.named_volume.proofs.Merges.{merge_by}
+use Rattle.named_volume.proofs.Merges.{merge_by, begun_too}
 use Rattle.named.specs.State.{Stacked, Names, Merging as Begun, Volume}
-use Rattle.named_volume.specs.Stopping.{earlier, earlier_than, freed_by, names_among, names_left, names_with, store_names}
+use Rattle.named_volume.specs.Stopping.{earlier, earlier_than, freed_by, names_among, names_with, store_names}
 
 -- the names of the merge come first where it stands after none, or no other is left
 pub merging_next : (before : ℕ) (o p : Option Names) (merging : Names) (store : List (List ℕ)) (snaps : List Names) → o ≡ Some merging → p ≡ None → merging.store ≡ store → (before ≡ 0) ⊎ (snaps ≡ [])
@@ -128,3 +132,77 @@ stopped_is volume names merging v whole many some names_are merging_is state =
     ∙ ap (λ g. stores_left volume.snaps volume.state.snaps g) (sym merging_is) in
     ap (λ (xs : List Stacked). freed volume.under (device_of v.events.origin) ∷ xs) left
     ∙ ap (λ d. freed volume.under d ∷ stores_left volume.snaps volume.state.snaps volume.merging) origin
+
+-- there are as many names as devices
+names_among_count : (before : ℕ) (merging : List (List ℕ)) (names : List Names) → length (names_among before merging names) ≡ suc (length names)
+names_among_count before merging [] = refl
+names_among_count zero merging (n ∷ names) = ap (λ k. suc (suc k)) (length-map names store_names)
+names_among_count (suc before) merging (n ∷ names) = ap suc (names_among_count before merging names)
+
+stores_by_count : (snaps : List (Kept Stack)) (m : Merging Stack) → length (stores_by snaps (Some m)) ≡ suc (length snaps)
+stores_by_count [] m = refl
+stores_by_count (s ∷ snaps) m = elim (cases_Bool (nat_lt m.number s.number)) [
+  | inl first ↦ ap (λ (xs : List Stack). length xs) (cond-true _ _ _ first) ∙ ap (λ k. suc (suc k)) (length-map snaps (λ (s : Kept Stack). s.device))
+  | inr later ↦ ap (λ (xs : List Stack). length xs) (cond-false _ _ _ later) ∙ ap suc (stores_by_count snaps m)
+]
+
+both_count : (before : ℕ) (names : List Names) (merging : Option Names) (snaps : List (Kept Stack)) (o : Option (Merging Stack)) → length names ≡ length snaps → is_some merging ≡ is_some o → length (names_with before merging names) ≡ length (stores_by snaps o)
+both_count before names None snaps None many some = length-map names store_names ∙ many ∙ sym (length-map snaps (λ (s : Kept Stack). s.device))
+both_count before names None snaps (Some m) many some = absurd (cc)
+both_count before names (Some merging) snaps None many some = absurd (cc)
+both_count before names (Some merging) snaps (Some m) many some = names_among_count before merging.store names ∙ ap suc many ∙ sym (stores_by_count snaps m)
+
+pub stopped_count : (before : ℕ) (names : List Names) (merging : Option Names) (v : Rested Stack) (devices : List Stack) → IsWhole v → length names ≡ length v.snaps → is_some merging ≡ is_some v.events.merge → devices ≡ devices_of v.events
+    → suc (length (names_with before merging names)) ≡ length devices
+stopped_count before names merging v devices whole many some is =
+    let count : length v.snaps ≡ length v.events.snaps = ap (λ (w : Rested Stack). length w.snaps) whole ∙ length-map v.events.snaps attached_of in
+    ap suc (both_count before names merging v.events.snaps v.events.merge (many ∙ count) some) ∙ sym (ap (λ (xs : List Stack). length xs) is)
+
+-- how many stacks a volume leaves
+pub left_count : (names : List Names) (merging : Option Names) (v : Rested Stack) → length names ≡ length v.snaps → is_some merging ≡ is_some v.events.merge
+    → length (stores_left names (settled_in v).snaps (merging_with merging v)) ≡ (if is_some merging then suc (length names) else length names)
+left_count names merging v many some = by (merging_with merging v) ∙ ap (λ b. if b then suc (length names) else length names) (begun_too merging v some)
+  where
+    seen : length (settled_in v).snaps ≡ length names
+    seen = length-map v.snaps (snap_of stack_contents stack_layers) ∙ sym many
+
+    by : (g : Option Begun) → length (stores_left names (settled_in v).snaps g) ≡ (if is_some g then suc (length names) else length names)
+    by None = stores_count names (settled_in v).snaps (sym seen) ∙ seen
+    by (Some g) = among_count names (settled_in v).snaps g (sym seen) ∙ ap suc seen
+
+-- none of the stacks drops writes where no device does
+abbrev is_loud_stack : Stack → Bool
+is_loud_stack d = is_loud (stack_layers d)
+
+freed_loud : (names : List (List (List ℕ))) (devices : List Stack) → list_all is_loud_stack devices ≡ true → list_all is_sound_stack (freed_by names devices) ≡ true
+freed_loud [] devices loud = refl
+freed_loud (n ∷ names) [] loud = refl
+freed_loud (n ∷ names) (d ∷ devices) loud =
+    ap (λ b. b && list_all is_sound_stack (freed_by names devices)) (and_left (is_loud_stack d) (list_all is_loud_stack devices) loud) ∙ freed_loud names devices (and_right (is_loud_stack d) (list_all is_loud_stack devices) loud)
+
+snaps_loud : (snaps : List (Kept Stack)) → list_all (λ (s : Attached Stack). is_loud (stack_layers s.store)) (map attached_of snaps) ≡ list_all is_loud_stack (devices_in snaps)
+snaps_loud [] = refl
+snaps_loud (s ∷ snaps) = ap (λ b. is_loud_stack s.device && b) (snaps_loud snaps)
+
+merge_loud : (snaps : List (Kept Stack)) (m : Merging Stack) → list_all is_loud_stack (devices_in snaps) ≡ true → is_loud_stack m.device ≡ true → list_all is_loud_stack (stores_by snaps (Some m)) ≡ true
+merge_loud [] m all loud = ap (λ b. b && true) loud
+merge_loud (s ∷ snaps) m all loud = elim (cases_Bool (nat_lt m.number s.number)) [
+  | inl first ↦ ap (λ (xs : List Stack). list_all is_loud_stack xs) (cond-true _ _ _ first) ∙ ap (λ b. b && list_all is_loud_stack (devices_in (s ∷ snaps))) loud ∙ all
+  | inr later ↦ ap (λ (xs : List Stack). list_all is_loud_stack xs) (cond-false _ _ _ later)
+      ∙ ap (λ b. b && list_all is_loud_stack (stores_by snaps (Some m))) (and_left (is_loud_stack s.device) (list_all is_loud_stack (devices_in snaps)) all)
+      ∙ merge_loud snaps m (and_right (is_loud_stack s.device) (list_all is_loud_stack (devices_in snaps)) all) loud
+]
+
+devices_loud : (origin : Stack) (snaps : List (Kept Stack)) (o : Option (Merging Stack)) → is_loud_with stack_layers o (is_loud_stack origin && list_all is_loud_stack (devices_in snaps)) ≡ true → list_all is_loud_stack (origin ∷ stores_by snaps o) ≡ true
+devices_loud origin snaps None loud = loud
+devices_loud origin snaps (Some m) loud =
+    let others = and_left (is_loud_stack origin && list_all is_loud_stack (devices_in snaps)) (is_loud_stack m.device) loud in
+    ap (λ b. b && list_all is_loud_stack (stores_by snaps (Some m))) (and_left (is_loud_stack origin) (list_all is_loud_stack (devices_in snaps)) others)
+    ∙ merge_loud snaps m (and_right (is_loud_stack origin) (list_all is_loud_stack (devices_in snaps)) others) (and_right (is_loud_stack origin && list_all is_loud_stack (devices_in snaps)) (is_loud_stack m.device) loud)
+
+pub stopped_loud : (names : List (List (List ℕ))) (v : Rested Stack) (devices : List Stack) → IsWhole v → devices ≡ devices_of v.events → is_loud_in stack_layers v ≡ true → list_all is_sound_stack (freed_by names devices) ≡ true
+stopped_loud names v devices whole is loud =
+    let all : is_loud_in stack_layers v ≡ is_loud_with stack_layers v.events.merge (is_loud_stack v.events.origin && list_all is_loud_stack (devices_in v.events.snaps)) =
+    ap (λ (w : Rested Stack). is_loud_with stack_layers v.events.merge (is_loud (stack_layers w.origin) && list_all (λ (s : Attached Stack). is_loud (stack_layers s.store)) w.snaps)) whole
+    ∙ ap (λ b. is_loud_with stack_layers v.events.merge (is_loud_stack v.events.origin && b)) (snaps_loud v.events.snaps) in
+    freed_loud names devices (ap (λ (xs : List Stack). list_all is_loud_stack xs) is ∙ devices_loud v.events.origin v.events.snaps v.events.merge (sym all ∙ loud))

@@ -1,3 +1,4 @@
 pub mod Names
 pub mod Held
 pub mod Flights
+pub mod Stopping

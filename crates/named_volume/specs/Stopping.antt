@@ -1,5 +1,5 @@
 -- A volume that was stopped, as far as its stacks are not taken yet. This project's own.
-use Rattle.std.specs.Prelude.{ℕ, zero, suc, nat_lt, List, [], ◌∷◌, ◌++◌, map, Option, Some, None, if◌then◌else◌}
+use Rattle.std.specs.Prelude.{ℕ, zero, suc, nat_lt, List, [], ◌∷◌, map, Option, Some, None, if◌then◌else◌}
 use Rattle.layers.specs.declared.stack.Stack.{Stack}
 use Rattle.resting.specs.Rested.{Attached}
 use Rattle.named.specs.Stacks.{device_of}

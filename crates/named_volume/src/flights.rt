@@ -85,11 +85,12 @@ impl NamedVolume {
 
     /// Does the events that are due, each time the one that is due first, until none is. Each request that ends is told at the
     /// end of `ended`. `NoMemory` where the allocator refuses room for that, and then nothing is done. Where nothing is in flight, this is the
-    /// whole merge, or up to the first of its operations that fails.
+    /// whole merge, or up to the first of its operations that fails, and no memory is asked for.
     pub fn settle(&mut self, ended: &mut Vec<Replied>) -> Result<(), Refusal>
         ensures quiet { OnOk result (self.new.quiet ≡ true) }
         ensures drained { OnOk result (IsSettledBy ended.old.items ended.new.items self.old self.new) }
         ensures done { self.old.sound ≡ true → self.old.quiet ≡ true → OnOk result (self.new ≡ merge_done self.old) }
+        ensures idle { self.old.quiet ≡ true → is_ok result ≡ true }
         ensures still { self.old.quiet ≡ true → ended.new.items ≡ ended.old.items }
         ensures alone { self.old.quiet ≡ true → self.old.merging ≡ None → self.new ≡ self.old }
         ensures kept { KeepsNames self.old self.new }

@@ -12,7 +12,10 @@ mod names;
 mod origin;
 mod reporting;
 mod sectors;
+mod stack_names;
+mod stopping;
 mod stored;
 mod telling;
 
 pub use origin::NamedVolume;
+pub use stopping::StoppedVolume;

@@ -8,12 +8,11 @@ ghost use Rattle.volume.specs.Asking.{merging_number};
 
 use crate::origin::NamedVolume;
 use crate::stack_names::StackNames;
-use crate::stub::{Stopped, stop_of};
 use layers::Stack;
 use named_stack::NamedStack;
 use resting::Resting;
-use std::alloc::Global;
 use std::marker::Model;
+use volume::Stopped;
 
 /// The stacks of a volume that was stopped, which are left to take: the one under the origin, then those of the stores in
 /// order of attaching, that of a snapshot that was being merged among them.
@@ -68,7 +67,7 @@ impl StoppedVolume {
 impl NamedVolume {
     /// Ends without a further event, whatever is in flight, and gives its stacks back one by one, without a mark and with the
     /// layers and bytes that they have. No memory is taken.
-    pub fn stop(self, alloc: Global) -> StoppedVolume
+    pub fn stop(self) -> StoppedVolume
         ensures left { result ≡ stopped self }
         ensures sound { self.sound ≡ true → list_all is_sound_stack result ≡ true }
     {
@@ -90,7 +89,7 @@ impl NamedVolume {
                 merging,
                 snaps,
             },
-            devices: stop_of(alloc, volume),
+            devices: volume.stop(),
         }
     }
 

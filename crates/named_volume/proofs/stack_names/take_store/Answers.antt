@@ -2,7 +2,6 @@
 use Rattle.std.proofs.Common.{inl, inr, sym, ap, ◌∙◌, vec_len, arith}
 use Rattle.std.proofs.lemmas.Bool.{eqb-true}
 use Rattle.std.proofs.lemmas.List.{nil_from_length}
-use Rattle.named_volume.specs.declared.names.SnapNames.{SnapNames}
 use Rattle.named_volume.proofs.Stops.{merging_next}
 use Rattle.named_volume.proofs.stack_names.take_store.Goals as goal
 use Rattle.named_volume.proofs.stack_names.take_store.Goals.{then-before-eq0-via-then-before-eq0, then-before-eq0-via-else-before-eq0+then-is_empty}
