@@ -7,3 +7,4 @@ pub mod Ruled
 pub mod Begins
 pub mod Finishes
 pub mod Settles
+pub mod Stops

@@ -3,3 +3,4 @@ pub mod Busy
 pub mod Ruled
 pub mod Flights
 pub mod Merging
+pub mod Stopping

@@ -247,6 +247,7 @@ fn settle_at(held: &mut Held, v: usize, ended: &mut Vec<Replied>) -> Result<(), 
     requires { v < length held.old.volumes.items }
     ensures done { is_sound_in (volume_at v (table_of held.old)) ≡ true → Changes result (table_of held.old) (table_of held.new) (settled_at v (table_of held.old)) }
     ensures told { is_quiet_in (volume_at v (table_of held.old)) ≡ true → ended.new.items ≡ ended.old.items }
+    ensures idle { is_quiet_in (volume_at v (table_of held.old)) ≡ true → is_ok result ≡ true }
     ensures alone { is_alone_in (volume_at v (table_of held.old)) ≡ true → table_of held.new ≡ table_of held.old }
     ensures drained { OnOk result (IsInVolume (IsSettledBy ended.old.items ended.new.items) v (table_of held.old) (table_of held.new) (volume_at v (table_of held.old))) }
     ensures err { IfErr result (λ e. (e ≡ NoMemory) × (table_of held.new ≡ table_of held.old) × (ended.new.items ≡ ended.old.items)) }
@@ -260,14 +261,15 @@ fn settle_at(held: &mut Held, v: usize, ended: &mut Vec<Replied>) -> Result<(), 
 
 /// `settle VOL`: does all events of an origin's volume that are left to do: its merge, if one is begun, goes on up to its end,
 /// or to the first operation of it that fails. The replies to requests that end in it go to the end of `ended`. In this order:
-/// `NoSuchDevice` for a name that no device has, `BadTable` for a device that is no origin, `NoMemory` where the allocator
-/// refuses room for the replies. A refusal changes nothing.
+/// `NoSuchDevice` for a name that no device has, `BadTable` for a device that is no origin, `NoMemory` where something is in flight
+/// and the allocator refuses room for the replies. A refusal changes nothing.
 #[tactic(auto, unfolding(named::specs::Events::origin_by, named::specs::Events::rested, named::specs::Events::settle, crate::specs::Devices::KeepsOthers))]
 pub fn settle_device(held: &mut Held, name: &Name, ended: &mut Vec<Replied>) -> Result<(), Refusal>
     ensures asks { IfErr (origin_by name.now (table_of held.old)) (λ e. result ≡ Err e) }
     ensures stays { IfErr (origin_by name.now (table_of held.old)) (λ _. (table_of held.new ≡ table_of held.old) × (ended.new.items ≡ ended.old.items)) }
     ensures done { is_sound_in (volume_for name.now (table_of held.old)) ≡ true → Changes result (table_of held.old) (table_of held.new) (settle name.now (table_of held.old)) }
     ensures told { is_quiet_in (volume_for name.now (table_of held.old)) ≡ true → ended.new.items ≡ ended.old.items }
+    ensures idle { IfOk (origin_by name.now (table_of held.old)) (λ v. is_quiet_in (volume_at v (table_of held.old)) ≡ true → is_ok result ≡ true) }
     ensures alone { is_alone_in (volume_for name.now (table_of held.old)) ≡ true → table_of held.new ≡ table_of held.old }
     ensures drained { OnOk result (IsDoneFor name.now (IsSettledBy ended.old.items ended.new.items) (table_of held.old) (table_of held.new)) }
     ensures err { OnErr result ((table_of held.new ≡ table_of held.old) × (ended.new.items ≡ ended.old.items)) }

@@ -26,6 +26,7 @@ mod raw;
 mod remove;
 mod sectors;
 mod shown;
+mod stopping;
 
 pub use create::create_device;
 pub use disks::make_disk;
@@ -40,3 +41,4 @@ pub use raw::{load_disk, save_disk};
 pub use remove::remove_device;
 pub use sectors::{read_device, write_device};
 pub use shown::status_text;
+pub use stopping::stop_device;

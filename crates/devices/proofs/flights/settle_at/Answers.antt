@@ -21,6 +21,7 @@ returns c =
       done = λ sound.
           let h = sound_here table c.args.v old sound lt at in settles c.settle.result told c.args.v table old new lt at (c.settle.ensures.done h.0 h.1) c.settle.ensures.err;
       told = λ quiet. c.settle.ensures.still (quiet_here table c.args.v old quiet lt at);
+      idle = λ quiet. c.settle.ensures.idle (quiet_here table c.args.v old quiet lt at);
       alone = alone_in c.args.v table old new lt at c.settle.ensures.alone;
       drained = drained_in (IsSettledBy c.args.ended.now.items c.settle.new.ended.items) c.settle.result c.args.v table old new lt at c.settle.ensures.drained;
       err = starved_as c.settle.result told c.args.v table old new at c.settle.ensures.err;
