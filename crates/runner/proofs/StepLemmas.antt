@@ -45,6 +45,7 @@ none_done (commands.Settle volume) table = refl
 none_done (commands.Merge name) table = refl
 none_done (commands.Resume volume) table = refl
 none_done (commands.Finish volume) table = refl
+none_done (commands.Stop volume) table = refl
 none_done (commands.Status device) table = refl
 none_done (commands.Table device) table = refl
 
@@ -100,6 +101,7 @@ sound_starts (commands.Settle volume) sound = refl
 sound_starts (commands.Merge name) sound = refl
 sound_starts (commands.Resume volume) sound = refl
 sound_starts (commands.Finish volume) sound = refl
+sound_starts (commands.Stop volume) sound = refl
 sound_starts (commands.Status device) sound = refl
 sound_starts (commands.Table device) sound = refl
 

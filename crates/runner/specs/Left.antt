@@ -112,6 +112,7 @@ IsLeft (commands.Load disk first bytes) answer old new before after = after ≡ 
 IsLeft (commands.Message device message) answer old new before after = after ≡ before
 IsLeft (commands.Tick seconds) answer old new before after = after ≡ before
 IsLeft (commands.Resume volume) answer old new before after = after ≡ before
+IsLeft (commands.Stop volume) answer old new before after = after ≡ before
 
 -- the same of what a line says
 abbrev pub IsLeftSaid : Result (Option Command) Refusal → Result (Option Reply) Refusal → Table → Table → List Replied → List Replied → Type 0

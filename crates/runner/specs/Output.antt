@@ -79,6 +79,7 @@ IsPartDone (commands.Settle volume) old new = new ≡ old
 IsPartDone (commands.Merge name) old new = new ≡ old
 IsPartDone (commands.Resume volume) old new = new ≡ old
 IsPartDone (commands.Finish volume) old new = new ≡ old
+IsPartDone (commands.Stop volume) old new = new ≡ old
 IsPartDone (commands.Status device) old new = new ≡ old
 IsPartDone (commands.Table device) old new = new ≡ old
 

@@ -21,13 +21,13 @@ ghost use Rattle.runner.specs.Steps.{reworded, told_as, step, answer_of};
 use crate::events::step_volume;
 use command::Command::{
     Create, Disk, Finish, Load, Merge, Read, Remove, Resume, Save, Settle, StartRead, StartWrite,
-    Status, Step, Table, Tick, Write,
+    Status, Step, Stop, Table, Tick, Write,
 };
 use command::{Command, LINE_LIMIT, said};
 use devices::{
     Held, create_device, finish_device, line_text, load_disk, make_disk, merge_device, read_device,
     remove_device, resume_device, save_disk, settle_device, start_read, start_write, status_text,
-    tell, tick, write_device,
+    stop_device, tell, tick, write_device,
 };
 use layers::{Answer, Message};
 use plain::{Replied, ReqId};
@@ -137,6 +137,7 @@ fn obey(
         Merge { name } => did(merge_device(alloc, held, &name)),
         Resume { volume } => did(resume_device(held, &volume)),
         Finish { volume } => did(finish_device(held, &volume)),
+        Stop { volume } => did(stop_device(alloc, held, &volume)),
         Status { name } => text(status_text(alloc, held, &name)),
         Table { name } => text(line_text(alloc, held, &name)),
     }
