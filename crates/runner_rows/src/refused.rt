@@ -111,6 +111,23 @@ const MERGES: [(&str, &str); 17] = [
     ("remove vol", "ok\n"),
 ];
 
+/// Lines about a volume that is stopped with a request in flight, and what each answers.
+const STOPS: [(&str, &str); 13] = [
+    ("disk base 128", "ok\n"),
+    ("disk cow 64", "ok\n"),
+    ("create vol 0 128 snapshot-origin base", "ok\n"),
+    ("create snap 0 128 snapshot base cow P 1", "ok\n"),
+    ("start vol write 5 512*aa", "ok 1\n"),
+    ("start snap read 9 1", "ok 2\n"),
+    ("step vol copy-read 1", "ok\n"),
+    ("stop vol", "ok\n"),
+    ("stop vol", "err 1 NoSuchDevice\n"),
+    ("load base 0 512*77", "ok\n"),
+    ("create vol 0 128 snapshot-origin base", "ok\n"),
+    ("create snap 0 128 snapshot base cow P 1", "ok\n"),
+    ("read snap 0 1", "ok 512*77\n"),
+];
+
 /// A desk; the second try meets no refusal where the first did.
 fn new_desk(alloc: Global) -> Result<Desk, RunError> {
     match Desk::new(alloc, 1) {
@@ -185,6 +202,11 @@ fn says_so_and_changes_no_device(rt: HostRuntime) -> Result<(), Fail> {
 #[test]
 fn says_so_and_leaves_a_merge_as_it_was(rt: HostRuntime) -> Result<(), Fail> {
     Ok(done(&rt, &MERGES, &QUERIES)?)
+}
+
+#[test]
+fn says_so_and_stops_no_volume(rt: HostRuntime) -> Result<(), Fail> {
+    Ok(done(&rt, &STOPS, &STILL)?)
 }
 
 #[test]
