@@ -6,7 +6,7 @@ use Rattle.std.proofs.lemmas.List.{take_all}
 use Rattle.sector.specs.Bytes.{with_sectors}
 use Rattle.sector.specs.declared.range.Range.{Range}
 use Rattle.sector.specs.declared.refusal.Refusal.{Refusal}
-use Rattle.sector.specs.declared.refusal.Refusal.TheVariants.{OutOfRange}
+use Rattle.sector.specs.declared.refusal.Refusal.TheVariants.{OutOfRange, NoMemory}
 use Rattle.chunk.specs.Pieces.{Span, span_of, Join, AreCutFrom, pieces_of}
 use Rattle.chunk.proofs.Whole.{cut_pieces}
 use Rattle.plain.specs.Plain.{Saved, Live, Invalid, Entry}
@@ -24,7 +24,7 @@ use Rattle.served.specs.Beside.{Served, chunk_beside, written_beside, written_fi
 use Rattle.named.specs.Changes.{Did}
 use Rattle.named.specs.Raw.{fits}
 use Rattle.named.specs.Messages.{snap_at}
-use Rattle.named.specs.Sectors.{Asked, asked_of, serves, dev_of, takes, after_asking, write_answer, write_by, written_in}
+use Rattle.named.specs.Sectors.{Asked, asked_of, serves, dev_of, takes, after_asking, write_answer, write_by, written_in, IsPartWritten, IsPartWrittenBy}
 use Rattle.named.proofs.Begun.{merged_is}
 use Rattle.named.proofs.Keeping.{came_by, same_ok, not_ok}
 use Rattle.named.specs.State.{Names, Merging as Begun, Volume, merge_in, merged_in, with_merge, with_merged}
@@ -39,7 +39,7 @@ use Rattle.resting.proofs.BesideWrites.{parts_shown, join_take, each_take, fewer
 use Rattle.resting.proofs.WriteRuns.{parts_written}
 use Rattle.resting.proofs.Writing.{write_whole, write_first}
 use Rattle.shown.specs.Arrays.{Named, Arrays, named_by, arrays_of}
-use Rattle.shown.specs.Shown.{AreKept, IsOriginWritten, IsSnapshotChanged, IsSavedWritten, IsWrittenTo, IsPartWrittenTo, IsLostBy, IsWriteDone}
+use Rattle.shown.specs.Shown.{AreKept, IsOriginWritten, IsSnapshotChanged, IsSavedWritten, IsWrittenTo, IsPartWrittenTo, IsLostBy, IsWriteDone, IsWriteRefused}
 use Rattle.shown.specs.Well.{IsWell}
 use Rattle.shown.proofs.Lists.{Rise, named_with, named_is, numbers_are, entry_at, entries_kept, IsHere, is_here, snap_there}
 use Rattle.shown.proofs.Resting.{rests}
@@ -202,6 +202,20 @@ module _ (volume : Volume) (well : IsWell volume) (first count : ℕ) (bytes : L
   role_done InMerging dev is reply after law = absurd (not_ok _ dev is)
   role_done (MergingStore depth) dev is reply after law = absurd (not_ok _ dev is)
 
+  -- bytes that stand, by the role of the device
+  role_first : (role : Role) (dev : Dev) → dev_of role volume.state ≡ Ok dev → (part : List ℕ) → IsLive dev (arrays_with m) → (after : Merged) → IsWritten dev first part (arrays_with m) (arrays_with after) → IsWrittenTo role first part before (seen_after after)
+  unfolding dev_of
+  role_first Origin dev is part live after law = origin_named volume.origin volume.snaps m after first part (subst (λ (d : Dev). IsWritten d first part (arrays_with m) (arrays_with after)) (sym (same_ok devs.Origin dev is)) law)
+  role_first (Under depth) dev is part live after law = absurd (not_ok _ dev is)
+  role_first (Snapshot k) dev is part live after law =
+      let got = came_by (snap_at k volume.state) _ dev is in
+      let same = sym (same_ok _ dev got.2) in
+      snapshot_named volume.origin volume.snaps m after k got.0 well.numbered.named well.numbered.numbers (snap_there k volume.state got.0 got.1) first part
+      (subst (λ (d : Dev). IsLive d (arrays_with m)) same live) (subst (λ (d : Dev). IsWritten d first part (arrays_with m) (arrays_with after)) same law)
+  role_first (Store k depth) dev is part live after law = absurd (not_ok _ dev is)
+  role_first InMerging dev is part live after law = absurd (not_ok _ dev is)
+  role_first (MergingStore depth) dev is part live after law = absurd (not_ok _ dev is)
+
 -- the arrays of a volume after a command
 pub after_arrays : (volume : Volume) (count : ℕ) (s : Merged) → is_some s.merge ≡ is_some (merge_in volume.merging) → arrays_of (after_asking count s volume) ≡ arrays_at volume.origin volume.snaps s
 after_arrays volume count s same = ap (λ (x : Merged). let a : Arrays = record { name = volume.origin; array = origin_shown x; snaps = named_by s.volume.origin.bytes volume.snaps s.volume.snaps } in a) (merged_is s volume (same ∙ begun volume.merging))
@@ -247,3 +261,65 @@ write_shows role first count bytes volume well len some = by (asked_of role firs
         (whole_written volume well first count bytes len some fits asks.dev) in
         subst (IsWriteDone role first bytes (write_answer r.reply) (arrays_of volume)) (sym (after_arrays volume count r.state (served_begun asks.dev asks.span bytes (merged_in volume))))
         (role_done volume well first count bytes len some fits role asks.dev dev r.reply r.state (subst (λ (sp : Span). AreWritten asks.dev first (pieces_of (chunk_beside (merged_in volume)) sp) bytes (arrays_with (merged_in volume)) (arrays_with r.state) r.reply) span law))
+
+-- a merge is begun after some first pieces where it was before
+first_begun : (n : ℕ) (dev : Dev) (span : Span) (bytes : List ℕ) (m : Merged) → is_some (written_first_beside n dev span bytes m).state.merge ≡ is_some m.merge
+first_begun n dev span bytes m = by m.merge
+  where
+    by : (o : Option Merge) → (let k : Merged = record { volume = m.volume; merge = o } in is_some (written_first_beside n dev span bytes k).state.merge ≡ is_some o)
+    by None = refl
+    by (Some g) = refl
+
+module _ (volume : Volume) (well : IsWell volume) (first count : ℕ) (bytes : List ℕ) (len : length bytes ≡ 512 * count) (some : 0 < count) (fits : first + count ≤ sectors_of volume.state.origin) (role : Role) (dev : Dev) (is : dev_of role volume.state ≡ Ok dev) where
+  abbrev Pieces : List Span
+  Pieces = pieces_of (chunk_beside (merged_in volume)) (record { first = first; count = count; size = sectors_of volume.state.origin })
+
+  abbrev done_first : ℕ → Served
+  done_first n = written_first_beside n dev (record { first = first; count = count; size = sectors_of volume.state.origin }) bytes (merged_in volume)
+
+  -- none of them
+  none_done : (done_first 0).state ≡ merged_in volume
+  none_done = by volume.merging
+    where
+      by : (g : Option Begun) → (let k : Merged = record { volume = volume.state; merge = merge_in g } in (written_first_beside 0 dev (record { first = first; count = count; size = sectors_of volume.state.origin }) bytes k).state ≡ k)
+      by None = refl
+      by (Some g) = refl
+
+  pub first_shows : (n : ℕ) → n < length Pieces → (done_first n).reply ≡ Written → (new : Volume) → new ≡ after_asking count (done_first n).state volume → IsWriteRefused role first bytes NoMemory (arrays_of volume) (arrays_of new)
+  first_shows n lt wrote new left =
+      let after : Merged = (done_first n).state in
+      let shows : arrays_of new ≡ arrays_at volume.origin volume.snaps after = ap arrays_of left ∙ after_arrays volume count after (first_begun n dev (record { first = first; count = count; size = sectors_of volume.state.origin }) bytes (merged_in volume)) in
+      subst (IsWriteRefused role first bytes NoMemory (arrays_of volume)) (sym shows) (by n lt wrote)
+    where
+      law : (n : ℕ) → (done_first n).reply ≡ Written → AreWritten dev first (take n Pieces) bytes (arrays_with (merged_in volume)) (arrays_with (done_first n).state) Written
+      law n wrote = subst (AreWritten dev first (take n Pieces) bytes (arrays_with (merged_in volume)) (arrays_with (done_first n).state)) wrote
+          (subst (λ (r : Served). AreWritten dev first (take n Pieces) bytes (arrays_with (merged_in volume)) (arrays_with r.state) r.reply) (sym (write_first n dev (record { first = first; count = count; size = sectors_of volume.state.origin }) bytes (merged_in volume)))
+          (first_written volume well first count bytes len some fits dev n))
+
+      by : (n : ℕ) → n < length Pieces → (done_first n).reply ≡ Written → IsWriteRefused role first bytes NoMemory (arrays_of volume) (arrays_at volume.origin volume.snaps (done_first n).state)
+      by zero lt wrote = inl (ap (arrays_at volume.origin volume.snaps) none_done)
+      by (suc n) lt wrote =
+          let a = law (suc n) wrote in
+          let sum : ℕ = sectors_in (take (suc n) Pieces) in
+          inr (inr (inr refl, (sum, fewer_bytes volume well first count bytes len some fits (suc n) lt, role_first volume well first count bytes len some fits role dev is (take (512 * sum) bytes) (a.0 (many_first n Pieces lt)) (done_first (suc n)).state a.1)))
+        where
+          many_first : (n : ℕ) (ps : List Span) → suc n < length ps → 0 < length (take (suc n) ps)
+          many_first n [] lt = absurd (omega (arith, lt))
+          many_first n (p ∷ ps) lt = omega arith
+
+-- some first pieces of a write, where memory ran out
+pub part_shows : (role : Role) (first count : ℕ) (bytes : List ℕ) (volume new : Volume) → IsWell volume → length bytes ≡ 512 * count → 0 < count → IsPartWritten role first count bytes volume new → IsWriteRefused role first bytes NoMemory (arrays_of volume) (arrays_of new)
+unfolding IsPartWritten
+part_shows role first count bytes volume new well len some = by (asked_of role first count volume) refl
+  where
+    m : Merged
+    m = merged_in volume
+
+    by : (asks : Result Asked Refusal) → asked_of role first count volume ≡ asks → IsPartWrittenBy count bytes volume new asks → IsWriteRefused role first bytes NoMemory (arrays_of volume) (arrays_of new)
+    by (Err refusal) is part = absurd part
+    by (Ok asks) is part =
+        let (dev, fits, span) = asked_there role first count volume asks is in
+        first_shows volume well first count bytes len some fits role asks.dev dev part.pieces
+        (subst (λ (sp : Span). part.pieces < length (pieces_of (chunk_beside (merged_in volume)) sp)) span part.fewer)
+        (subst (λ (sp : Span). (written_first_beside part.pieces asks.dev sp bytes (merged_in volume)).reply ≡ Written) span part.done)
+        new (part.left ∙ ap (λ (sp : Span). after_asking count (written_first_beside part.pieces asks.dev sp bytes (merged_in volume)).state volume) span)
