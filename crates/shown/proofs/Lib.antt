@@ -6,3 +6,4 @@ pub mod Tables
 pub mod Rules
 pub mod Layers
 pub mod Making
+pub mod Lines
