@@ -7,3 +7,4 @@ pub mod Rules
 pub mod Layers
 pub mod Making
 pub mod Lines
+pub mod Devices
