@@ -1,9 +1,10 @@
 -- What is shown where devices are made and taken away.
-use Rattle.std.proofs.Common.{◌≡◌, ℕ, Bool, true, false, List, [], ◌∷◌, ◌++◌, length, map, refl, ap, ◌∙◌, sym, subst}
+use Rattle.std.proofs.Common.{◌≡◌, ℕ, zero, suc, Bool, true, false, List, [], ◌∷◌, ◌++◌, length, map, refl, ap, ◌∙◌, sym, subst}
 use Rattle.std.specs.Prelude.{if◌then◌else◌, Option, Some, None, Result, Ok, Err, is_some, nat_le, not}
 use Rattle.sector.specs.declared.refusal.Refusal.{Refusal}
-use Rattle.sector.specs.declared.refusal.Refusal.TheVariants.{BadTable, OutOfRange, Busy, TooMany, MergeInProgress}
-use Rattle.device.specs.Layers.{Layer}
+use Rattle.sector.specs.declared.refusal.Refusal.TheVariants.{BadTable, OutOfRange, Busy, TooMany, MergeInProgress, NoSuchDevice}
+use Rattle.device.specs.Layers.{Layer, Flaky, Dusty}
+use Rattle.settled.specs.Devices.{sectors_of}
 use Rattle.words.specs.Given.{◌>>=◌}
 use Rattle.command.specs.declared.grammar.Command.TheVariants as commands
 use Rattle.table.specs.declared.lines.Line.{Line}
@@ -15,8 +16,8 @@ use Rattle.named.specs.declared.place.Place.TheVariants.{Free, In}
 use Rattle.named.specs.State.{Stacked, Volume, Table}
 use Rattle.named.specs.Changes.{Did, refused, changed}
 use Rattle.named.specs.Places.{place_of, found, stack_at, volume_at}
-use Rattle.named.specs.Disks.{make, device_count, is_size, with_stack, alone, blank}
-use Rattle.named.specs.Layers.{top, top_of, layered, laid, broken, put}
+use Rattle.named.specs.Disks.{make, device_count, is_size, with_stack, alone, blank, failing}
+use Rattle.named.specs.Layers.{top, top_of, layered, laid, broken, put, flakey_over, dust_over, features_of}
 use Rattle.named.specs.Origins.{same_size, origin_made, closed}
 use Rattle.named.specs.Snapshots.{Met, Named as Line_names, over, meet, named_in, snapshot_left, snapshot_met, snapshot_by, snapshot_made, parted, left_by}
 use Rattle.named.specs.Removing.{lowered_to, with_left, lowered, removed_at, take_away}
@@ -25,7 +26,7 @@ use Rattle.named.proofs.Keeping.{came_by, same_ok, not_ok}
 use Rattle.shown.specs.Arrays.{Arrays, arrays_of, arrays_in}
 use Rattle.shown.specs.Shown.{IsChangedAt}
 use Rattle.shown.specs.Commands.{IsTakenAway, IsSnapshotMade, IsRemoved, IsMade, IsShown}
-use Rattle.shown.specs.Well.{IsWell, IsWellFor}
+use Rattle.shown.specs.Well.{IsWell, IsWellFor, IsWellTarget}
 use Rattle.shown.proofs.Tables.{changed_in}
 use Rattle.shown.proofs.Rules.{parted_shows}
 use Rattle.shown.proofs.Making.{origin_shows, closed_shows, met_shows}
@@ -99,3 +100,88 @@ laid_same name layer first count below table = by (laid name layer first count b
         let b = came_by (stack_at a.0 table) _ new a.2 in
         let c = came_by (layered name layer first count b.0) _ new b.2 in
         ap arrays_in (sym (same_ok _ new c.2))
+
+-- an error layer is made
+broken_same : (name : List ℕ) (sectors : ℕ) (table : Table) → arrays_in (changed table (broken name sectors table)).left ≡ arrays_in table
+broken_same name sectors table = by (is_size sectors)
+  where
+    by : (b : Bool) → arrays_in (changed table (if b then Ok (with_stack (alone name (failing sectors)) table) else Err BadTable)).left ≡ arrays_in table
+    by true = refl
+    by false = refl
+
+-- the volume of a snapshot's line
+over_there : (o : Option Place) (v : ℕ) → over o ≡ Ok v → o ≡ Some (In v (Under zero))
+over_there None v is = absurd (not_ok NoSuchDevice v is)
+over_there (Some (Free i depth)) v is = absurd (not_ok NoSuchDevice v is)
+over_there (Some (In w Origin)) v is = absurd (not_ok NoSuchDevice v is)
+over_there (Some (In w (Under zero))) v is = ap (λ x. Some (In x (Under zero))) (same_ok w v is)
+over_there (Some (In w (Under (suc depth)))) v is = absurd (not_ok NoSuchDevice v is)
+over_there (Some (In w (Snapshot k))) v is = absurd (not_ok NoSuchDevice v is)
+over_there (Some (In w (Store k depth))) v is = absurd (not_ok NoSuchDevice v is)
+over_there (Some (In w Merging)) v is = absurd (not_ok NoSuchDevice v is)
+over_there (Some (In w (MergingStore depth))) v is = absurd (not_ok NoSuchDevice v is)
+
+-- what a snapshot's line names
+pub record AreNames (sectors : ℕ) (device : List ℕ) (table : Table) (n : Line_names) : Type 0 where
+  pub over : over (place_of device table) ≡ Ok n.v
+  pub volume : volume_at n.v table ≡ Ok n.volume
+
+are_names : (sectors : ℕ) (device store : List ℕ) (table : Table) (n : Line_names) → named_in sectors device store table ≡ Ok n → AreNames sectors device table n
+unfolding named_in
+are_names sectors device store table n is =
+    let a = came_by (over (place_of device table)) _ n is in
+    let b = came_by (top store table) _ n a.2 in
+    let c = came_by (stack_at b.0 table) _ n b.2 in
+    let d = came_by (volume_at a.0 table) _ n c.2 in
+    let e = came_by (same_size sectors (sectors_of d.0.state.origin)) _ n d.2 in
+    subst (AreNames sectors device table) (same_ok _ n e.2) (record { over = a.1; volume = d.1 })
+
+module _ (name : List ℕ) (sectors : ℕ) (table : Table) where
+  -- by its answer
+  abbrev Makes : Target → Did (Unit {0}) Table → Type 0
+  Makes target done = let line : Line = record { sectors = sectors; target = target } in IsShown (commands.Create name line) table done.answer (arrays_in table) (arrays_in done.left)
+
+  by_rule : (target : Target) (rule : Result Table Refusal) → ((new : Table) → rule ≡ Ok new → IsMade name target table (arrays_in table) (arrays_in new)) → Makes target (changed table rule)
+  by_rule target (Ok new) f = f new refl
+  by_rule target (Err e) f = refl
+
+  kept_same : (rule : Result Table Refusal) → arrays_in (changed table rule).left ≡ arrays_in table → (new : Table) → rule ≡ Ok new → arrays_in new ≡ arrays_in table
+  kept_same rule same new is = ap (λ (r : Result Table Refusal). arrays_in (changed table r).left) (sym is) ∙ same
+
+  snapshot_makes : (device store : List ℕ) (chunk : ℕ) → IsWellFor device table → Makes (targets.Snapshot device store chunk) (snapshot_made name sectors device store chunk table)
+  unfolding snapshot_made
+  snapshot_makes device store chunk well = by (named_in sectors device store table) refl
+    where
+      by_met : (n : Line_names) → AreNames sectors device table n → (o : Option Refusal) → (meet name chunk n.stacked n.volume).refused ≡ o → Makes (targets.Snapshot device store chunk) (snapshot_left n.i n.v o (meet name chunk n.stacked n.volume).stacked (meet name chunk n.stacked n.volume).volume table)
+      by_met n are (Some refusal) is = refl
+      by_met n are None is =
+          let place = over_there (place_of device table) n.v are.over in
+          let numbered = (well n.v (Under zero) n.volume place are.volume).numbered in
+          (n.v, are.over, changed_in n.v table n.volume (meet name chunk n.stacked n.volume).volume (IsSnapshotMade name) are.volume (met_shows name chunk n.stacked n.volume numbered.named is))
+
+      by : (r : Result Line_names Refusal) → named_in sectors device store table ≡ r → Makes (targets.Snapshot device store chunk) (snapshot_by name chunk table r)
+      by (Err e) is = refl
+      by (Ok n) is = by_met n (are_names sectors device store table n is) (meet name chunk n.stacked n.volume).refused refl
+
+  made_makes : (target : Target) → is_merge target ≡ false → IsWellTarget target table → Makes target (made name sectors target table)
+  unfolding made
+  made_makes (targets.Origin device) other well = by_rule (targets.Origin device) (origin_made name sectors device table) (λ new is. origin_shows name sectors device table new is)
+  made_makes (targets.Snapshot device store chunk) other well = snapshot_makes device store chunk well
+  made_makes (targets.Merge device store chunk) other well = absurd (cc)
+  made_makes (targets.Flakey device offset up down features) other well =
+      by_rule (targets.Flakey device offset up down features) (flakey_over name sectors device offset up down features table) (kept_same (flakey_over name sectors device offset up down features table) (laid_same name (Flaky 0 up down (features_of features) offset) offset sectors device table))
+  made_makes (targets.Dust device block) other well =
+      by_rule (targets.Dust device block) (dust_over name sectors device block table) (kept_same (dust_over name sectors device block table) (laid_same name (Dusty sectors block false []) 0 sectors device table))
+  made_makes targets.Error other well = by_rule targets.Error (broken name sectors table) (kept_same (broken name sectors table) (broken_same name sectors table))
+
+-- `create NAME LINE`
+pub create_line : (name : List ℕ) (line : Line) (table : Table) → IsWellTarget line.target table → (let done : Did (Unit {0}) Table = create name line table in IsShown (commands.Create name line) table done.answer (arrays_in table) (arrays_in done.left))
+unfolding create
+create_line name line table well = by (is_merge line.target) refl (is_some (place_of name table)) (nat_le 64 (device_count table))
+  where
+    by : (a : Bool) → is_merge line.target ≡ a → (b c : Bool)
+        → (let done : Did (Unit {0}) Table = if a then refused table BadTable else if b then refused table Busy else if c then refused table TooMany else made name line.sectors line.target table in IsShown (commands.Create name line) table done.answer (arrays_in table) (arrays_in done.left))
+    by true is b c = refl
+    by false is true c = refl
+    by false is false true = refl
+    by false is false false = made_makes name line.sectors table line.target is well
