@@ -14,7 +14,6 @@ use crate::held::Held;
 use named_stack::NamedStack;
 use named_volume::StoppedVolume;
 use sector::Refusal;
-use std::alloc::Global;
 use words::Name;
 
 /// The stacks that a stopped volume leaves come behind those that nothing uses. There are `count` at most, and there is room for
@@ -33,7 +32,7 @@ fn free_all(stacks: &mut Vec<NamedStack>, stopped: &mut StoppedVolume, count: us
 }
 
 /// The volume at a place is stopped.
-fn stop_at(alloc: Global, held: &mut Held, v: usize) -> Result<(), Refusal>
+fn stop_at(held: &mut Held, v: usize) -> Result<(), Refusal>
     requires { v < length held.old.volumes.items }
     ensures done { Changes result (table_of held.old) (table_of held.new) (stopped_at v (table_of held.old)) }
     ensures sound { is_sound (table_of held.old) ≡ true → is_sound (table_of held.new) ≡ true }
@@ -41,7 +40,7 @@ fn stop_at(alloc: Global, held: &mut Held, v: usize) -> Result<(), Refusal>
 {
     let count = held.volumes[v].devices();
     held.stacks.reserve(count).map_err(|_| Refusal::NoMemory)?;
-    let mut stopped = held.volumes.remove(v).stop(alloc);
+    let mut stopped = held.volumes.remove(v).stop();
     free_all(&mut held.stacks, &mut stopped, count);
     Ok(())
 }
@@ -51,7 +50,7 @@ fn stop_at(alloc: Global, held: &mut Held, v: usize) -> Result<(), Refusal>
 /// and the stale marks of these disks are forgotten. In this order: `NoSuchDevice` for a name that no device has, `BadTable` for
 /// a device that is no origin, `NoMemory` where the allocator refuses room for what is left. A refusal changes nothing.
 #[tactic(auto, unfolding(named::specs::Events::origin_by, named::specs::Stopping::volume_stopped))]
-pub fn stop_device(alloc: Global, held: &mut Held, name: &Name) -> Result<(), Refusal>
+pub fn stop_device(held: &mut Held, name: &Name) -> Result<(), Refusal>
     ensures asks { IfErr (origin_by name.now (table_of held.old)) (λ e. result ≡ Err e) }
     ensures done { Changes result (table_of held.old) (table_of held.new) (volume_stopped name.now (table_of held.old)) }
     ensures sound { is_sound (table_of held.old) ≡ true → is_sound (table_of held.new) ≡ true }
@@ -59,5 +58,5 @@ pub fn stop_device(alloc: Global, held: &mut Held, name: &Name) -> Result<(), Re
 {
     let place = find_device(held, name)?;
     let v = origin_at(place)?;
-    stop_at(alloc, held, v)
+    stop_at(held, v)
 }

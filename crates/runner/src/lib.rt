@@ -12,10 +12,10 @@
 //!
 //! All that is said of texts in which no line makes a layer that drops writes, starts a request, or steps an event of a
 //! merge; a merge that `settle` does is among them. Of every text it is promised that whole replies are printed and counted;
-//! and of every line that it answers its outcome where its command asks nothing of a volume, or only of one of which no
-//! device drops writes and in which nothing is in flight, and no group of a merge is formed; in what order it is refused
-//! before a volume is asked, which changes nothing; and else what it does to that volume's events, which replies stand before
-//! its own, and that it changes no other device.
+//! and of every line that it answers its outcome where its command asks nothing of a volume, stops one, or asks only one of
+//! which no device drops writes and in which nothing is in flight, and no group of a merge is formed; in what order it is
+//! refused before a volume is asked, which changes nothing; and else what it does to that volume's events, which replies stand
+//! before its own, and that it changes no other device.
 #![tactic(auto)]
 
 mod desk;

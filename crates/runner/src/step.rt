@@ -137,7 +137,7 @@ fn obey(
         Merge { name } => did(merge_device(alloc, held, &name)),
         Resume { volume } => did(resume_device(held, &volume)),
         Finish { volume } => did(finish_device(held, &volume)),
-        Stop { volume } => did(stop_device(alloc, held, &volume)),
+        Stop { volume } => did(stop_device(held, &volume)),
         Status { name } => text(status_text(alloc, held, &name)),
         Table { name } => text(line_text(alloc, held, &name)),
     }
