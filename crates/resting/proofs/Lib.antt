@@ -40,3 +40,4 @@ pub mod Freed
 pub mod Runs
 pub mod Shown
 pub mod Ordered
+pub mod MergeArrays

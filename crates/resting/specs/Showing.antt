@@ -125,3 +125,14 @@ IsPlainWriteRefused dev span pieces bytes IoRefusal old new = IsLive dev old × 
 IsPlainWriteRefused dev span pieces bytes NoMemory old new = IsWrittenInPart dev span pieces bytes old new
 IsPlainWriteRefused dev span pieces bytes NoSuchDevice old new = (saved_of dev old ≡ Invalid) × (new ≡ old)
 IsPlainWriteRefused dev span pieces bytes other old new = ⊥
+
+-- all but the first with a number
+abbrev pub entries_without : ℕ → List Entry → List Entry
+entries_without number [] = []
+entries_without number (entry ∷ entries) = if entry.number == number then entries else entry ∷ entries_without number entries
+
+-- The origin's array becomes what the snapshot with a number showed, which is none of the saved ones any more; the others keep
+-- theirs.
+pub record IsRolledBack (number : ℕ) (old new : Arrays) : Type 0 where
+  pub origin : Live new.origin ≡ saved_at number old.saved
+  pub saved : new.saved ≡ entries_without number old.saved

@@ -15,6 +15,7 @@ ghost use Rattle.volume.specs.Stepping.{has_failed};
 ghost use Rattle.resting.specs.Rested.{merged_of, rested_of, IsSettled};
 ghost use Rattle.resting.specs.Flying.{flying_of, IsWhole};
 ghost use Rattle.resting.specs.Kept.{KeepsDevices};
+ghost use Rattle.resting.specs.Showing.{arrays_in, IsRolledBack};
 ghost use Rattle.resting.specs.Merging.{IsBegunAs, IsNotBegun, IsTakenOutAs, IsUnfinished};
 
 use crate::Resting;
@@ -30,6 +31,7 @@ use volume::Volume;
 fn begin<B: Block>(volume: &mut Volume<B>, alloc: Global, number: SnapId) -> Result<(), Refusal>
     ensures admitted { OnOk result (begin_refusal number volume.old ≡ None) }
     ensures begun { OnOk result (IsBegunAs number (rested_of volume.old) (rested_of volume.new)) }
+    ensures shows { OnOk result (IsRolledBack number (arrays_in B.contents B.layers (rested_of volume.old)) (arrays_in B.contents B.layers (rested_of volume.new))) }
     ensures merged { OnOk result (IsSettled B.layers (rested_of volume.old) → begun number (merged_of B.contents B.layers (rested_of volume.old)) ≡ merged_of B.contents B.layers (rested_of volume.new)) }
     ensures settled { IsSettled B.layers (rested_of volume.old) → IsSettled B.layers (rested_of volume.new) }
     ensures quiet { OnOk result ((is_quiet_of volume.old ≡ true) × (is_quiet_of volume.new ≡ true)) }
@@ -46,6 +48,7 @@ fn begin<B: Block>(volume: &mut Volume<B>, alloc: Global, number: SnapId) -> Res
 /// Lets a merge of a volume of events go on.
 fn resume<B: Block>(volume: &mut Volume<B>) -> Result<(), Refusal>
     ensures merged { OnOk result (resumed (merged_of B.contents B.layers (rested_of volume.old)) ≡ merged_of B.contents B.layers (rested_of volume.new)) }
+    ensures shows { OnOk result (arrays_in B.contents B.layers (rested_of volume.new) ≡ arrays_in B.contents B.layers (rested_of volume.old)) }
     ensures flying { OnOk result (machine_resumed (flying_of B.contents B.layers volume.old) ≡ flying_of B.contents B.layers volume.new) }
     ensures begun { OnOk result ((m : Merging B) × (volume.old.merge ≡ Some m)) }
     ensures settled { IsSettled B.layers (rested_of volume.old) → IsSettled B.layers (rested_of volume.new) }
@@ -66,6 +69,7 @@ fn finish<B: Block>(volume: &mut Volume<B>) -> Result<StoreDev<B>, Refusal>
     ensures taken { IfOk result (λ store. IsTakenOutAs store (rested_of volume.old) (rested_of volume.new)) }
     ensures merged { IfOk result (λ store. IsSettled B.layers (rested_of volume.old) → finished (merged_of B.contents B.layers (rested_of volume.old)) ≡ record { state = merged_of B.contents B.layers (rested_of volume.new); back = Some (store_of B.contents B.layers store) }) }
     ensures disk { IfOk result (λ store. IsSettled B.layers (rested_of volume.old) → origin_shown (merged_of B.contents B.layers (rested_of volume.old)) ≡ B.contents volume.new.origin) }
+    ensures shows { IfOk result (λ store. IsSettled B.layers (rested_of volume.old) → (arrays_in B.contents B.layers (rested_of volume.new) ≡ arrays_in B.contents B.layers (rested_of volume.old)) × ((arrays_in B.contents B.layers (rested_of volume.old)).origin ≡ B.contents volume.new.origin)) }
     ensures settled { IsSettled B.layers (rested_of volume.old) → IsSettled B.layers (rested_of volume.new) }
     ensures quiet { IfOk result (λ store. (is_quiet_of volume.old ≡ true) × (is_quiet_of volume.new ≡ true)) }
     ensures refused { IfErr result (λ refusal. (finish_refusal volume.old ≡ Some refusal) × (volume.new ≡ volume.old)) }
@@ -89,6 +93,7 @@ impl<B: Block> Resting<B> {
     pub fn begin_merge(&mut self, alloc: Global, number: SnapId) -> Result<(), Refusal>
         ensures admitted { OnOk result (begin_refusal number self.old.events ≡ None) }
         ensures begun { OnOk result (IsBegunAs number self.old self.new) }
+        ensures shows { OnOk result (IsRolledBack number (arrays_in B.contents B.layers self.old) (arrays_in B.contents B.layers self.new)) }
         ensures merged { OnOk result (IsSettled B.layers self.old → begun number (merged_of B.contents B.layers self.old) ≡ merged_of B.contents B.layers self.new) }
         ensures settled { IsSettled B.layers self.old → IsSettled B.layers self.new }
         ensures quiet { OnOk result ((is_quiet_of self.old.events ≡ true) × (is_quiet_of self.new.events ≡ true)) }
@@ -101,6 +106,7 @@ impl<B: Block> Resting<B> {
     /// Lets a merge that failed go on, and changes nothing of one that did not. `NotMerging` where none is begun.
     pub fn resume_merge(&mut self) -> Result<(), Refusal>
         ensures merged { OnOk result (resumed (merged_of B.contents B.layers self.old) ≡ merged_of B.contents B.layers self.new) }
+        ensures shows { OnOk result (arrays_in B.contents B.layers self.new ≡ arrays_in B.contents B.layers self.old) }
         ensures flying { OnOk result (machine_resumed (flying_of B.contents B.layers self.old.events) ≡ flying_of B.contents B.layers self.new.events) }
         ensures begun { OnOk result ((m : Merging B) × (self.old.events.merge ≡ Some m)) }
         ensures settled { IsSettled B.layers self.old → IsSettled B.layers self.new }
@@ -122,6 +128,7 @@ impl<B: Block> Resting<B> {
         ensures taken { IfOk result (λ store. IsTakenOutAs store self.old self.new) }
         ensures merged { IfOk result (λ store. IsSettled B.layers self.old → finished (merged_of B.contents B.layers self.old) ≡ record { state = merged_of B.contents B.layers self.new; back = Some (store_of B.contents B.layers store) }) }
         ensures disk { IfOk result (λ store. IsSettled B.layers self.old → origin_shown (merged_of B.contents B.layers self.old) ≡ B.contents self.new.origin) }
+        ensures shows { IfOk result (λ store. IsSettled B.layers self.old → (arrays_in B.contents B.layers self.new ≡ arrays_in B.contents B.layers self.old) × ((arrays_in B.contents B.layers self.old).origin ≡ B.contents self.new.origin)) }
         ensures settled { IsSettled B.layers self.old → IsSettled B.layers self.new }
         ensures quiet { IfOk result (λ store. (is_quiet_of self.old.events ≡ true) × (is_quiet_of self.new.events ≡ true)) }
         ensures refused { IfErr result (λ refusal. (finish_refusal self.old.events ≡ Some refusal) × (self.new ≡ self.old)) }

@@ -1,6 +1,8 @@
 -- The merge is begun, or nothing that is seen changed.
 use Rattle.std.proofs.Common.{None, sym, ◌∙◌}
 use Rattle.resting.proofs.MergeBegun.{begun_as, begun_merged, begun_quiet, not_begun_as, not_begun_quiet}
+use Rattle.resting.specs.Rested.{rested_of}
+use Rattle.resting.proofs.MergeArrays.{begun_shows}
 use Rattle.resting.proofs.Seen.{loud_same}
 use Rattle.resting.proofs.merging.begin.Goals as goal
 
@@ -30,3 +32,6 @@ returns-in-Err-clause-settled g c = λ settled. record {
 
 pub returns-in-Err-clause-refused : goal.returns-in-Err-clause-refused
 returns-in-Err-clause-refused g c = not_begun_as g.B.Block.contents g.B.Block.layers c.args.number c.args.volume.now c.begin_merge.new.self c.in-Err.refusal c.in-Err.ensures.refused (c.in-Err.ensures.starved None)
+
+pub returns-in-Ok-clause-shows : goal.returns-in-Ok-clause-shows
+returns-in-Ok-clause-shows g c = begun_shows g.B.Block.contents g.B.Block.layers c.args.number (rested_of c.args.volume.now) (rested_of c.begin_merge.new.self) (begun_as c.args.number c.args.volume.now c.begin_merge.new.self c.in-Ok.ensures.begun c.in-Ok.ensures.admitted)

@@ -1,6 +1,8 @@
 -- The merge is taken out, or nothing changed.
 use Rattle.std.proofs.Common.{None, sym, ◌∙◌}
 use Rattle.resting.proofs.MergeFinished.{taken_out_as, taken_out_disk, taken_out_merged, taken_out_quiet, taken_out_settles, unfinished_as}
+use Rattle.resting.specs.Rested.{rested_of}
+use Rattle.resting.proofs.MergeArrays.{finished_shows}
 use Rattle.resting.proofs.Seen.{loud_same}
 use Rattle.resting.proofs.merging.finish.Goals as goal
 
@@ -31,3 +33,9 @@ returns-in-Err-clause-unfinished g c = λ settled.
     unfinished_as g.B.Block.contents g.B.Block.layers c.args.volume.now (g.B.Block.size c.args.volume.now.origin)
     (c.is_quiet.ensures.between (c.is_quiet.ensures.value ∙ settled.quiet) (sym (loud_same g.B.Block.contents g.B.Block.layers c.args.volume.now) ∙ settled.loud) None)
     settled.quiet c.in-Err.refusal c.in-Err.ensures.err.0
+
+pub returns-in-Ok-clause-shows : goal.returns-in-Ok-clause-shows
+returns-in-Ok-clause-shows g c = λ settled.
+    finished_shows g.B.Block.contents g.B.Block.layers c.in-Ok.store (rested_of c.args.volume.now) (rested_of c.finish_merge.new.self) (taken_out_as c.args.volume.now c.finish_merge.new.self c.in-Ok.store c.in-Ok.ensures.taken c.in-Ok.ensures.ok)
+    (taken_out_disk c.args.volume.now c.finish_merge.new.self c.in-Ok.store c.in-Ok.ensures.taken c.in-Ok.ensures.ok g.B.Block.contents g.B.Block.layers (g.B.Block.size c.args.volume.now.origin)
+    (c.is_quiet.ensures.between (c.is_quiet.ensures.value ∙ settled.quiet) (sym (loud_same g.B.Block.contents g.B.Block.layers c.args.volume.now) ∙ settled.loud) None))

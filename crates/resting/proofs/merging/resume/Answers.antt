@@ -3,6 +3,7 @@ use Rattle.std.proofs.Common.{None, ap, sym, ◌∙◌}
 use Rattle.resting.specs.Rested.{rested_of}
 use Rattle.volume.specs.Leaving.{is_quiet_of}
 use Rattle.resting.proofs.MergeResumed.{resumed_merged, resumed_flying, resumed_quiet, resumed_kept, resumed_requests}
+use Rattle.resting.proofs.MergeArrays.{resumed_shows}
 use Rattle.resting.proofs.Seen.{loud_same, devices_none}
 use Rattle.resting.proofs.merging.resume.Goals as goal
 
@@ -41,3 +42,6 @@ returns-in-Err-clause-kept g c = rw c.in-Err.ensures.err.2 (devices_none g.B.Blo
 
 pub returns-in-Err-clause-requests : goal.returns-in-Err-clause-requests
 returns-in-Err-clause-requests g c = ap (λ v. v.requests) c.in-Err.ensures.err.2
+
+pub returns-in-Ok-clause-shows : goal.returns-in-Ok-clause-shows
+returns-in-Ok-clause-shows g c = resumed_shows g.B.Block.contents g.B.Block.layers (rested_of c.args.volume.now) (rested_of c.resume_merge.new.self) (resumed_merged g.B.Block.contents g.B.Block.layers c.args.volume.now c.resume_merge.new.self (c.in-Ok.ensures.exact None))
