@@ -1,12 +1,11 @@
 -- What changes a volume between requests keeps what is true of an audit.
-use Rattle.std.proofs.Common.{◌≡◌, ◌≢◌, ℕ, ◌+◌, ◌<◌, ◌≤◌, Bool, true, false, List, [], ◌∷◌, ◌++◌, length, get_or, map, Option, Some, None, refl, sym, ◌∙◌, ap, subst, arith, length-append}
+use Rattle.std.proofs.Common.{◌≡◌, ℕ, ◌+◌, ◌≤◌, Bool, true, false, List, [], ◌∷◌, ◌++◌, length, map, refl, sym, ◌∙◌, ap, subst, arith, length-append}
 use Rattle.std.specs.Prelude.{◌&&◌}
 use Rattle.std.proofs.lemmas.Bool.{false≢true}
 use Rattle.std.proofs.lemmas.List.{length-map}
 use Rattle.device.specs.Layers.{Layer}
 use Rattle.plain.specs.Plain.{Plain}
 use Rattle.plain.specs.Legal.{IsFinished}
-use Rattle.snapshot.specs.Kept.{Kept}
 use Rattle.snapshot.specs.declared.opening.StoreDev.{StoreDev}
 use Rattle.merge_beside.specs.Keeping.{unkept}
 use Rattle.pending.specs.Kinds.{in_flight}
@@ -15,10 +14,10 @@ use Rattle.volume.specs.Finishing.{IsTakenOut}
 use Rattle.journal.specs.declared.entry.Answered.{Answered as AnsweredEntry}
 use Rattle.journal.specs.declared.entry.Entry.{Entry}
 use Rattle.journal.specs.declared.entry.Entry.TheVariants.{Finished}
-use Rattle.journal.specs.Replay.{Saves, saves_of, after, replay, IsLawful, AllLawful}
+use Rattle.journal.specs.Replay.{Saves, saves_of, after, IsLawful}
 use Rattle.journal.specs.Entries.{entries_by}
 use Rattle.journal.specs.Noted.{is_live, live_count}
-use Rattle.journal.specs.Books.{Books, Counted, Replays, IsAudit}
+use Rattle.journal.specs.Books.{Books, IsAudit}
 use Rattle.journal.proofs.Replaying.{replay_then, lawful_then, entries_by_silent}
 use Rattle.journal.proofs.Receipts.{saved_count}
 

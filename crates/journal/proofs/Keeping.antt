@@ -1,5 +1,5 @@
 -- The events and the requests keep what is true of an audit.
-use Rattle.std.proofs.Common.{◌≡◌, ◌≢◌, ◌⊎◌, inl, inr, ℕ, zero, suc, ◌+◌, ◌*◌, ◌<◌, ◌≤◌, Bool, true, false, List, [], ◌∷◌, ◌++◌, length, get_or, set, map, take, drop, Option, Some, None, refl, sym, ◌∙◌, ap, subst, arith, length-append}
+use Rattle.std.proofs.Common.{◌≡◌, ◌≢◌, inl, inr, ℕ, zero, suc, ◌+◌, ◌<◌, ◌≤◌, Bool, true, false, List, [], ◌∷◌, ◌++◌, length, get_or, set, map, take, drop, Option, Some, None, refl, sym, ◌∙◌, ap, subst, arith, length-append}
 use Rattle.std.specs.List.{All, list_all, remove}
 use Rattle.std.specs.Prelude.{◌&&◌, replicate}
 use Rattle.std.proofs.lemmas.Bool.{cases_eq}
@@ -15,7 +15,7 @@ use Rattle.plain.specs.declared.request.Op.TheVariants.{Read, Write}
 use Rattle.plain.specs.declared.request.Request.{Request}
 use Rattle.plain.specs.declared.request.Reply.{Reply}
 use Rattle.plain.specs.declared.request.Reply.TheVariants.{Data, Written, Refused}
-use Rattle.plain.specs.Plain.{Plain, InFlight, Entry as Shown, spoiled_entry, spoiled, asked_under, without}
+use Rattle.plain.specs.Plain.{Plain, InFlight, Entry as Shown, spoiled_entry, asked_under, without}
 use Rattle.plain.specs.Replies.{FitsReply}
 use Rattle.plain.specs.Legal.{Spoils, IsAnswered, IsLegalStep, IsSubmitted, IsDeclined}
 use Rattle.plain.specs.Serves.{Serves}
@@ -32,7 +32,7 @@ use Rattle.journal.specs.declared.entry.Answered.{Answered as AnsweredEntry}
 use Rattle.journal.specs.declared.entry.Entry.{Entry}
 use Rattle.journal.specs.declared.entry.Entry.TheVariants.{Answered, Spoiled}
 use Rattle.journal.specs.declared.entry.Held.{Held}
-use Rattle.journal.specs.Replay.{Saves, saves_of, plain_in, served, after, replay, IsLawful, AllLawful}
+use Rattle.journal.specs.Replay.{Saves, saves_of, plain_in, served, replay, IsLawful, AllLawful}
 use Rattle.journal.specs.Entries.{entries_by}
 use Rattle.journal.specs.Noted.{Noted, is_live, live_count}
 use Rattle.journal.specs.Books.{Books, Counted, Replays, IsAudit, HeldFits, in_flight}

@@ -1,5 +1,5 @@
 -- What a call noted, as callers see it.
-use Rattle.std.proofs.Common.{◌≡◌, ◌≢◌, ◌⊎◌, inl, inr, ℕ, ◌+◌, ◌<◌, Bool, true, false, List, [], ◌∷◌, ◌++◌, length, get_or, map, Option, Some, None, refl, sym, ◌∙◌, ap, subst, arith}
+use Rattle.std.proofs.Common.{◌≡◌, ◌≢◌, inl, inr, ℕ, ◌+◌, ◌<◌, Bool, true, false, List, [], ◌∷◌, ◌++◌, length, get_or, map, Some, None, refl, sym, ◌∙◌, ap, subst}
 use Rattle.std.specs.Prelude.{◌&&◌, ◌==◌}
 use Rattle.std.specs.List.{remove}
 use Rattle.std.proofs.Common.{eq-eqb}
@@ -26,7 +26,7 @@ use Rattle.journal.specs.declared.entry.Entry.TheVariants.{Answered, Spoiled}
 use Rattle.journal.specs.declared.entry.Held.{Held}
 use Rattle.journal.specs.Books.{AuditShape}
 use Rattle.journal.specs.Entries.{entries_by}
-use Rattle.journal.specs.Journaled.{HasReceipt, IsHeld, IsNoted, IsSilent, OnlySpoils}
+use Rattle.journal.specs.Journaled.{HasReceipt, IsNoted, IsSilent, OnlySpoils}
 use Rattle.journal.specs.Noted.{Noted}
 use Rattle.journal.specs.Seats.{Seated, is_of, seated, seated_under, without_seated}
 use Rattle.journal.proofs.Replaying.{IsFirst, seated_first, seated_none, unseated_first}

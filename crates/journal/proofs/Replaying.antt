@@ -1,25 +1,24 @@
 -- Entries that are replayed one after another.
-use Rattle.std.proofs.Common.{◌≡◌, ◌≢◌, ◌⊎◌, inl, inr, ℕ, zero, suc, ◌+◌, ◌<◌, ◌≤◌, Bool, true, false, List, [], ◌∷◌, ◌++◌, length, get_or, map, Option, Some, None, refl, sym, ◌∙◌, ap, subst, arith, eq-eqb, length-append}
-use Rattle.std.specs.Prelude.{◌==◌, ◌||◌, if◌then◌else◌}
+use Rattle.std.proofs.Common.{◌≡◌, ◌≢◌, ℕ, zero, suc, ◌<◌, ◌≤◌, Bool, true, false, List, [], ◌∷◌, ◌++◌, length, get_or, map, Some, None, refl, sym, ◌∙◌, ap, arith, eq-eqb}
+use Rattle.std.specs.Prelude.{◌==◌, if◌then◌else◌}
 use Rattle.std.specs.List.{remove}
-use Rattle.std.proofs.lemmas.Bool.{ne_eqb, cases_eq, false≢true}
+use Rattle.std.proofs.lemmas.Bool.{ne_eqb}
 use Rattle.sector.specs.declared.range.Range.{Range}
 use Rattle.plain.specs.declared.request.Dev.{Dev}
 use Rattle.plain.specs.declared.request.Dev.TheVariants.{Origin, Snap}
 use Rattle.plain.specs.declared.request.Op.{Op}
 use Rattle.plain.specs.declared.request.Op.TheVariants.{Read, Write}
-use Rattle.plain.specs.declared.request.Request.{Request}
 use Rattle.plain.specs.declared.request.Reply.{Reply}
 use Rattle.plain.specs.declared.request.Reply.TheVariants.{Data, Written, Refused}
 use Rattle.plain.specs.declared.request.Failure.TheVariants.{Invalid as IsInvalid, Io}
-use Rattle.plain.specs.Plain.{Plain, InFlight, Entry as Shown, Saved, Live, Invalid, is_in, spoiled_entry, saved_under, with_saved, asked_under, without}
+use Rattle.plain.specs.Plain.{Plain, Entry as Shown, Live, Invalid, is_in, spoiled_entry, saved_under, with_saved, asked_under, without}
 use Rattle.plain.specs.Serves.{Serves, SameArrays, Shows, Assigns, IsSpoilt}
 use Rattle.sector.specs.Bytes.{with_sectors}
 use Rattle.journal.specs.declared.entry.Answered.{Answered as AnsweredEntry}
 use Rattle.journal.specs.declared.entry.Entry.{Entry}
 use Rattle.journal.specs.declared.entry.Entry.TheVariants.{Answered, Spoiled, Attached, Detached, Begun, Finished}
 use Rattle.journal.specs.declared.entry.Held.{Held}
-use Rattle.journal.specs.Replay.{Saves, saves_of, plain_in, served, put, put_op, array_in, after, replay, IsLawful, AllLawful}
+use Rattle.journal.specs.Replay.{Saves, saves_of, plain_in, served, array_in, after, replay, AllLawful}
 use Rattle.journal.specs.Entries.{entries_by}
 use Rattle.journal.specs.Books.{in_flight}
 use Rattle.journal.specs.Noted.{is_live, is_live_state}

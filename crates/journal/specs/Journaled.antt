@@ -1,13 +1,16 @@
 -- What a call notes in the journal. This project's own.
 use Rattle.std.specs.Prelude.{◌≡◌, ◌⊎◌, nat_lt, ℕ, ◌+◌, Bool, true, false, List, [], ◌∷◌, ◌++◌, length, map, Option, Some, None}
 use Rattle.plain.specs.declared.event.Outcome.{Outcome}
-use Rattle.plain.specs.declared.event.Outcome.TheVariants.{Done, Fault, Reply as Replied}
+use Rattle.plain.specs.declared.event.Outcome.TheVariants.{Reply as Replied}
 use Rattle.plain.specs.declared.request.Reply.{Reply}
 use Rattle.plain.specs.declared.request.Request.{Request}
+use Rattle.std.specs.List.{remove}
 use Rattle.sector.specs.declared.refusal.Refusal.{Refusal}
 use Rattle.sector.specs.declared.refusal.Refusal.TheVariants.{JournalFull, NoMemory}
+use Rattle.snapshots.specs.Finding.{place_of_snap}
+use Rattle.volume.specs.Beginning.{IsNotBegun}
 use Rattle.journal.specs.declared.entry.Entry.{Entry}
-use Rattle.journal.specs.declared.entry.Entry.TheVariants.{Answered, Spoiled}
+use Rattle.journal.specs.declared.entry.Entry.TheVariants.{Answered, Attached, Spoiled}
 use Rattle.journal.specs.declared.entry.Receipt.{Receipt}
 use Rattle.journal.specs.Books.{AuditShape}
 use Rattle.journal.specs.Entries.{answered_of, entries_by}
@@ -67,3 +70,26 @@ pub record KeepsJournal {B : Type 0} (old new : AuditShape B) : Type 0 where
 -- why a call is refused that takes no memory: the journal is full, which comes first, or the volume refuses
 abbrev pub IsUnchanged : Bool → Option Refusal → Refusal → Type 0
 IsUnchanged full others refusal = ((full ≡ true) × (refusal ≡ JournalFull)) ⊎ ((full ≡ false) × (others ≡ Some refusal))
+
+-- The snapshot with a number is none of those that are looked at any more, and this is noted.
+pub record HasLeft {B : Type 0} (number : ℕ) (entry : Entry) (old new : AuditShape B) : Type 0 where
+  pub place : ℕ
+  pub found : place_of_snap number old.volume.snaps ≡ Some place
+  pub becomes : new ≡ record old { volume = new.volume; entries = old.entries ++ entry ∷ []; lives = remove old.lives place }
+
+-- A merge does not begin: the journal is full, which comes first, and nothing changed; or as the volume says.
+abbrev pub IsNotMerged : {B : Type 0} → ℕ → Refusal → AuditShape B → AuditShape B → Type 0
+IsNotMerged number refusal old new =
+    ((is_full_by 1 old ≡ true) × (refusal ≡ JournalFull) × (new ≡ old))
+    ⊎ ((is_full_by 1 old ≡ false) × IsNotBegun number refusal old.volume new.volume × KeepsJournal old new)
+
+-- One snapshot more is looked at, and what it shows is noted.
+pub record HasTaken {B : Type 0} (number : ℕ) (old new : AuditShape B) : Type 0 where
+  pub array : List ℕ
+  pub becomes : new ≡ record old { volume = new.volume; entries = old.entries ++ Attached number array ∷ []; lives = old.lives ++ true ∷ []; loud = new.loud }
+
+-- No snapshot is taken: the journal is full, which comes first, or there is no memory for the entry, and the store is as it was;
+-- or as the volume says.
+abbrev pub IsNotAttached : Bool → Refusal → Type 0 → Type 0 → Type 0
+IsNotAttached full refusal same others =
+    ((full ≡ true) × (refusal ≡ JournalFull) × same) ⊎ ((full ≡ false) × (((refusal ≡ NoMemory) × same) ⊎ others))

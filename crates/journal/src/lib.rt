@@ -8,11 +8,13 @@
 #![tactic(auto)]
 
 mod applying;
+mod attaching;
 mod audit;
 mod bases;
 mod changing;
 mod entry;
 mod holding;
+mod leaving;
 mod noting;
 mod submitting;
 mod verdict;

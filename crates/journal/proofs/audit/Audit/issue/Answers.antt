@@ -1,4 +1,4 @@
-use Rattle.std.proofs.Common.{rules, ◌≡◌, ◌≢◌, ◌<◌, ◌+◌, ◌++◌, ◌∷◌, [], sym, ap, ◌∙◌, arith, true, false, refl, length, map}
+use Rattle.std.proofs.Common.{rules, ◌≡◌, ◌≢◌, ◌+◌, ◌++◌, ◌∷◌, [], sym, ap, ◌∙◌, arith, length, map}
 use Rattle.journal.specs.Seats.{seated}
 use Rattle.journal.specs.declared.entry.Entry.TheVariants.{Answered}
 use Rattle.std.proofs.lemmas.List.{get_or_default}

@@ -1,7 +1,5 @@
-use Rattle.std.proofs.Common.{rules, ◌≡◌, refl, sym, ap, ◌∙◌, true, map}
-use Rattle.std.specs.Prelude.{◌&&◌}
-use Rattle.std.specs.List.{list_all}
-use Rattle.volume.specs.Volumed.{plain_of, is_loud_in_all}
+use Rattle.std.proofs.Common.{rules, refl, sym, ap, ◌∙◌, map}
+use Rattle.volume.specs.Volumed.{plain_of}
 use Rattle.pending.specs.Kinds.{in_flight}
 use Rattle.journal.specs.Seats.{seated}
 use Rattle.journal.proofs.Keeping.{new_keeps, bare_saved, loud_alone}

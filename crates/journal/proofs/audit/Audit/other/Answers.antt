@@ -1,4 +1,4 @@
-use Rattle.std.proofs.Common.{◌≡◌, ◌∙◌, ap, sym, true, refl}
+use Rattle.std.proofs.Common.{◌∙◌, ap, sym, refl}
 use Rattle.volume.specs.Volumed.{plain_of}
 use Rattle.journal.specs.Books.{AuditShape}
 use Rattle.journal.proofs.Keeping.{spoilt_keeps, spoils_of, flown_other}

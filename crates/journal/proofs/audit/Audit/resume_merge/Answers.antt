@@ -1,4 +1,3 @@
-use Rattle.std.proofs.Common.{◌≡◌}
 use Rattle.journal.proofs.Keeping.{quiet_keeps}
 use Rattle.journal.proofs.audit.Audit.resume_merge.Goals as goal
 

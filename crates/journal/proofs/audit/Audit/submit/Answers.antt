@@ -1,4 +1,4 @@
-use Rattle.std.proofs.Common.{rules, ◌≡◌, ◌+◌, ◌≤◌, length, refl, sym, ap, ◌∙◌, arith, map}
+use Rattle.std.proofs.Common.{refl, sym, ap, ◌∙◌, arith, map}
 use Rattle.std.proofs.lemmas.Bool.{ltb-false}
 use Rattle.pending.specs.Kinds.{room_of}
 use Rattle.volume.specs.Volumed.{plain_of}
@@ -7,7 +7,7 @@ use Rattle.journal.specs.Noted.{live_count}
 use Rattle.journal.specs.Seats.{seated}
 use Rattle.volume.proofs.Declines.{refused_declined, refused_loud}
 use Rattle.journal.proofs.Keeping.{submitted_keeps, spoilt_keeps, declined_spoils}
-use Rattle.journal.proofs.Receipts.{saved_count, saved_same, snaps_same, noted_all, only_spoils, held_more, refused_requests}
+use Rattle.journal.proofs.Receipts.{saved_count, saved_same, snaps_same, noted_all, only_spoils, refused_requests}
 use Rattle.journal.proofs.audit.Audit.submit.Goals as goal
 
 pub note_spoils-requires-clause-lives : goal.note_spoils-requires-clause-lives

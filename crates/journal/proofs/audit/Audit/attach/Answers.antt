@@ -1,0 +1,48 @@
+use Rattle.std.proofs.Common.{rules, ◌≡◌, ◌*◌, length, sym, ap, ◌∙◌, arith, inr}
+use Rattle.std.specs.Prelude.{◌&&◌, is_some}
+use Rattle.std.proofs.lemmas.Bool.{ltb-false}
+use Rattle.volume.specs.Leaving.{is_quiet_of}
+use Rattle.std.proofs.lemmas.List.{length-map}
+use Rattle.volume.proofs.Finishes.{back}
+use Rattle.volume.proofs.Attaches.{taking_none, none_begun}
+use Rattle.device.specs.Layers.{is_loud}
+use Rattle.snapshot.specs.Opening.{shown_array}
+use Rattle.volume.specs.Volumed.{Volumed, is_loud_in_all}
+use Rattle.journal.specs.Books.{AuditShape}
+use Rattle.journal.specs.Noted.{live_count}
+use Rattle.journal.proofs.Gained.{attached_keeps, taken_there, shows_last, shown_long}
+use Rattle.journal.proofs.audit.Audit.attach.Goals as goal
+use Rattle.journal.proofs.audit.Audit.attach.Goals.{then-self, else-self}
+
+pub fill-requires-clause-there : goal.fill-requires-clause-there
+fill-requires-clause-there g c =
+    let w = c.self.inside.volume in
+    let admitted = taking_none c.args.store.stale (is_some w.merge) (is_quiet_of w) (length w.snaps) w.attached c.args.chunk c.in-Ok-attach.ensures.admitted in
+    taken_there g.B.Block.layers g.B.Block.size c.in-Ok-attach.number c.args.store w c.attach.new.self c.in-Ok-attach.ensures.gained (none_begun w.merge admitted.2)
+
+pub invariant_of-self-in-Ok-attach : goal.invariant_of-self-in-Ok-attach
+invariant_of-self-in-Ok-attach g c =
+    let tells : c.if-self.self ≡ (c.self.inside.loud && c.is_loud-loud.result) = elim c.if-self.branch [
+      | then-self x ↦ search rules
+      | else-self x ↦ search rules
+    ] in
+    let w = c.self.inside.volume in
+    let shown = shown_array (g.B.Block.contents w.origin) (g.B.Block.contents c.args.store.device) in
+    rw (c.push_reserved-in-Ok-attach.ensures.items, c.push_reserved.ensures.items, c.reserve.ensures.items)
+    (attached_keeps g.B.Block.contents g.B.Block.layers g.B.Block.size c.in-Ok-attach.number c.args.store w c.attach.new.self c.in-Ok-attach.ensures.gained _ _ c.is_loud-loud.result c.self.inside.loud c.if-self.self _ _ c.self.invariant
+    (c.in-Ok-attach.ensures.loud ∙ ap (λ b. is_loud_in_all g.B.Block.layers w && b) (sym c.is_loud-loud.ensures)) tells
+    (omega (arith, ltb-false 65_536 _ (sym c.is_full.ensures ∙ c.if-is_full.false), c.len.ensures, c.len-2.ensures, ap live_count c.as_slice.ensures.value)) c.push_reserved-in-Ok-attach.ensures.capacity c.from_vec-array.result shown
+    (λ loud more.
+    let taken = c.in-Ok-attach.ensures.taken loud (sym c.is_loud-loud.ensures ∙ more) in
+    let all = c.in-Ok-attach.ensures.loud ∙ ap (λ b. b && is_loud (g.B.Block.layers c.args.store.device)) loud ∙ sym c.is_loud-loud.ensures ∙ more in
+    let shows = shows_last g.B.Block.contents g.B.Block.layers g.B.Block.size c.in-Ok-attach.number c.args.store w c.attach.new.self c.in-Ok-attach.ensures.gained shown taken in
+    (c.from_vec-array.ensures ∙ back c.in-Ok.array.len c.fill.new.out c.in-Ok.array.items (c.fill.auto.out ∙ c.as_mut_slice.ensures.len) ∙ c.fill.ensures all shown shows (shown_long (g.B.Block.contents w.origin) (g.B.Block.contents c.args.store.device) ∙ g.met.B.Block.whole w.origin ∙ ap (λ (x : Volumed _). 512 * g.B.Block.size x.origin) (sym c.in-Ok-attach.ensures.gained.becomes)), taken)))
+
+pub returns-after-self-clause-exact : goal.returns-after-self-clause-exact
+returns-after-self-clause-exact g c = λ loud more. rw (← c.self.view_is) (c.in-Ok-attach.ensures.exact (ap (λ (a : AuditShape _). is_loud_in_all g.B.Block.layers a.volume) c.self.view_is ∙ loud) more)
+
+pub returns-in-Err-clause-refused : goal.returns-in-Err-clause-refused
+returns-in-Err-clause-refused g c = inr (search (rules, length-map), inr (rw (← c.self.view_is) c.in-Err.ensures.refused))
+
+pub returns-in-Err-clause-back : goal.returns-in-Err-clause-back
+returns-in-Err-clause-back g c = inr (rw (← c.self.view_is) c.in-Err.ensures.back)

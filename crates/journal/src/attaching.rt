@@ -1,0 +1,101 @@
+// A snapshot is taken, and what it shows then stands in the journal.
+ghost use Rattle.std.specs.Prelude.{◌≡◌, ◌≢◌, ◌⊎◌, ◌&&◌, ◌+◌, ◌*◌, MatchResult, Err, IfErr, IfOk, List, None, Ok, OnErr, OnOk, Some, false, length, true, ℕ};
+ghost use Rattle.device.specs.Layers.{is_loud};
+ghost use Rattle.plain.specs.Legal.{IsTaken};
+ghost use Rattle.plain.specs.Serves.{Shows};
+ghost use Rattle.plain.specs.declared.request.Dev.TheVariants.{Snap};
+ghost use Rattle.sector.specs.declared.refusal.Refusal.TheVariants.{NoMemory};
+ghost use Rattle.settled.specs.Attaching.{attached as attached_by, refused_attach};
+ghost use Rattle.snapshot.specs.Opening.{shown_array};
+ghost use Rattle.store.specs.Reading.{AreRead};
+ghost use Rattle.volume.specs.Attached.{IsAttachedAs, IsGained, store_of, volume_in};
+ghost use Rattle.volume.specs.Leaving.{is_quiet_of};
+ghost use Rattle.volume.specs.Submitting.{dev_refusal};
+ghost use Rattle.volume.specs.Taking.{IsNotTaken, attach_refusal};
+ghost use Rattle.volume.specs.Volumed.{is_loud_in_all, plain_of};
+ghost use Rattle.journal.specs.Journaled.{HasTaken, IsNotAttached, is_full_by};
+
+use crate::Audit;
+use crate::entry::Entry;
+use crate::holding::is_full;
+use layers::Layered;
+use plain::{Dev, SnapId};
+use sector::{Buf, Range, Refusal, SECTOR_BYTES};
+use snapshot::StoreDev;
+use volume::Volume;
+
+/// All that a live snapshot shows.
+fn fill<B: Layered>(volume: &Volume<B>, number: SnapId, out: &mut [u8])
+    requires there { dev_refusal (Snap number) volume.now.merge volume.now.snaps ≡ None }
+    requires room { length out.old ≡ 512 * B.size volume.now.origin }
+    ensures { is_loud_in_all B.layers volume.now ≡ true → (array : List ℕ) → Shows (plain_of B.contents B.layers volume.now) (Snap number) array → length array ≡ 512 * B.size volume.now.origin → out.new ≡ array }
+{
+    let sectors = volume.origin().sectors();
+    if sectors == 0 {
+        return;
+    }
+    let range = Range {
+        first: 0,
+        count: sectors as u32,
+        size: sectors,
+    };
+    match volume.peek(Dev::Snap(number), range, out) {
+        Ok(()) => {}
+        Err(_) => unreachable!(),
+    }
+}
+
+impl<B: Layered> Audit<B> {
+    /// Takes a snapshot over a store, by a table line with this chunk size, and tells its number. `JournalFull` comes first,
+    /// then want of memory for its entry; then the volume's own refusals. The store is given back with a refusal.
+    pub fn attach(
+        &mut self,
+        store: StoreDev<B>,
+        chunk: u32,
+    ) -> Result<SnapId, (Refusal, StoreDev<B>)>
+        ensures noted { IfOk result (λ number. HasTaken number self.old self.new) }
+        ensures told { OnOk result (self.new.loud ≡ (self.old.loud && is_loud (B.layers store.device))) }
+        ensures room { OnOk result (is_full_by 2 self.old ≡ false) }
+        ensures number { IfOk result (λ number. number ≡ self.old.volume.attached + 1) }
+        ensures admitted { OnOk result (attach_refusal store.stale chunk self.old.volume ≡ None) }
+        ensures taken { IfOk result (λ number. is_loud_in_all B.layers self.old.volume ≡ true → is_loud (B.layers store.device) ≡ true → IsTaken (plain_of B.contents B.layers self.old.volume) number (shown_array (B.contents self.old.volume.origin) (B.contents store.device)) (plain_of B.contents B.layers self.new.volume)) }
+        ensures gained { IfOk result (λ number. IsGained B.layers B.size number store self.old.volume self.new.volume) }
+        ensures exact { IfOk result (λ number. is_loud_in_all B.layers self.old.volume ≡ true → is_loud (B.layers store.device) ≡ true → IsAttachedAs B.contents B.layers number chunk store self.old.volume self.new.volume) }
+        ensures refused { IfErr result (λ e. IsNotAttached (is_full_by 2 self.old) e.0 (e.1 ≡ store) (IsNotTaken store.stale chunk (B.size self.old.volume.origin) (B.size store.device) (B.contents store.device) self.old.volume e.0)) }
+        ensures unread { IfErr result (λ e. attach_refusal store.stale chunk self.old.volume ≡ Some e.0 → e.1 ≡ store) }
+        ensures back { IfErr result (λ e. (e.1 ≡ store) ⊎ (e.0 ≢ NoMemory → self.old.volume.merge ≡ None → is_quiet_of self.old.volume ≡ true → is_loud_in_all B.layers self.old.volume ≡ true → is_loud (B.layers store.device) ≡ true → attached_by (self.old.volume.attached + 1) chunk (store_of B.contents B.layers store) (volume_in B.contents B.layers self.old.volume) ≡ refused_attach e.0 (store_of B.contents B.layers e.1) (volume_in B.contents B.layers self.old.volume))) }
+        ensures starved { IfErr result (λ e. (e.1 ≡ store) ⊎ (e.0 ≡ NoMemory → (B.contents e.1.device ≡ B.contents store.device) × AreRead (B.layers store.device) (B.layers e.1.device))) }
+        ensures size { IfErr result (λ e. B.size e.1.device ≡ B.size store.device) }
+        ensures loud { MatchResult result (λ _. is_loud_in_all B.layers self.new.volume ≡ (is_loud_in_all B.layers self.old.volume && is_loud (B.layers store.device))) (λ e. is_loud (B.layers e.1.device) ≡ is_loud (B.layers store.device)) }
+        ensures same { OnErr result (self.new ≡ self.old) }
+        ensures stale { IfErr result (λ e. e.1.stale ≡ store.stale) }
+    {
+        if is_full(
+            self.entries.len(),
+            self.held.len(),
+            self.lives.as_slice(),
+            2,
+        ) {
+            return Err((Refusal::JournalFull, store));
+        }
+        let bytes = self.volume.origin().sectors() as usize * SECTOR_BYTES;
+        let Ok(mut array) = vec![in self.alloc; 0u8; bytes] else {
+            return Err((Refusal::NoMemory, store));
+        };
+        let Ok(()) = self.lives.reserve(1) else {
+            return Err((Refusal::NoMemory, store));
+        };
+        let loud = store.device.is_loud();
+        match self.volume.attach(self.alloc, store, chunk) {
+            Ok(number) => {
+                fill(&self.volume, number, array.as_mut_slice());
+                self.loud = self.loud && loud;
+                self.lives.push_reserved(true);
+                let array = Buf::from_vec(array);
+                self.entries.push_reserved(Entry::Attached(number, array));
+                Ok(number)
+            }
+            Err(refused) => Err(refused),
+        }
+    }
+}
