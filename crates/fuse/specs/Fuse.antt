@@ -1,0 +1,45 @@
+-- What contracts see of a fuse.
+use Rattle.std.specs.Prelude.{◌≡◌, ◌⊎◌, ℕ, Bool, List, [], ◌∷◌, Option, Some, None}
+use Rattle.sector.specs.Bytes.{sector_at}
+use Rattle.device.specs.declared.mem_disk.MemDisk.{MemDisk}
+use Rattle.device.specs.Disk.{disk_size, disk_contents, disk_durable}
+use Rattle.device.specs.Layers.{Layer, Fused}
+use Rattle.fuse.specs.declared.fuse.Fuse.{Fuse}
+
+-- how many writes pass before it is blown; None: it is blown
+abbrev pub writes_left : Fuse → Option ℕ
+writes_left f = f.left
+
+-- which sectors of the torn write are new
+abbrev pub new_sectors : Fuse → List Bool
+new_sectors f = f.reaching.items
+
+-- the disk that is kept aside, by the writes that pass: what a stop within the torn write left
+abbrev pub kept_by : Option ℕ → MemDisk → Option MemDisk
+kept_by None disk = Some disk
+kept_by (Some k) disk = None
+
+abbrev pub kept_aside : Fuse → Option MemDisk
+kept_aside f = kept_by f.left f.disk
+
+-- the bytes that it shows, by the writes that pass: those of the disk, and once it is blown those from before the torn write
+abbrev pub shown_by : Option ℕ → MemDisk → List ℕ → List ℕ
+shown_by None disk before = before
+shown_by (Some k) disk before = disk_contents disk
+
+abbrev pub fuse_contents : Fuse → List ℕ
+fuse_contents f = shown_by f.left f.disk f.before.items
+
+abbrev pub fuse_size : Fuse → ℕ
+fuse_size f = disk_size f.disk
+
+abbrev pub fuse_durable : Fuse → List ℕ
+fuse_durable f = disk_durable f.disk
+
+-- what a stop may leave in a sector: what it shows there, or what was there at the last flush
+abbrev pub fuse_may_hold : Fuse → ℕ → List ℕ → Type 0
+fuse_may_hold f s v = (v ≡ sector_at (fuse_contents f) s) ⊎ (v ≡ sector_at (fuse_durable f) s)
+
+-- it is one layer over a disk
+abbrev pub fuse_layers : Fuse → List Layer
+fuse_layers f = Fused f.left ∷ []

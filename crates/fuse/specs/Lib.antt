@@ -1,0 +1,3 @@
+pub mod Torn
+pub mod Fuse
+pub mod Laws

@@ -1,0 +1,161 @@
+// How a fuse is made, and how it is blown.
+ghost use Rattle.std.specs.Prelude.{◌≡◌, ◌+◌, ◌*◌, ◌≤◌, Some, None, false, is_ok, length, IfOk, IfErr};
+ghost use Rattle.std.specs.Option.{option_copied};
+ghost use Rattle.sector.specs.Bytes.{next_count};
+ghost use Rattle.sector.specs.declared.refusal.Refusal.TheVariants.{NoMemory};
+ghost use Rattle.device.specs.Disk.{disk_size, disk_contents, disk_durable};
+ghost use Rattle.fuse.specs.Fuse.{writes_left, new_sectors, kept_aside, fuse_contents, fuse_size, fuse_durable};
+ghost use Rattle.fuse.specs.Torn.{IsTornBy};
+
+use crate::fuse::Fuse;
+use crate::tear::tear;
+use device::{Block, Io, MemDisk};
+use sector::{Range, Refusal, SECTOR_BYTES};
+use std::alloc::Global;
+
+impl Fuse {
+    /// A fuse that passes so many writes of a disk and tears the next: its i-th sector is new where `new[i]` is true, and
+    /// old elsewhere and past the end of the list. `NoMemory` where the allocator refuses the room for the disk's bytes
+    /// from before that write; the disk is then given back. No later call takes memory.
+    pub fn new(
+        alloc: Global,
+        disk: MemDisk,
+        writes: u64,
+        new: Vec<bool>,
+    ) -> Result<Fuse, (Refusal, MemDisk)>
+        ensures left { IfOk result (λ f. writes_left f ≡ Some writes) }
+        ensures new { IfOk result (λ f. new_sectors f ≡ new.items) }
+        ensures size { IfOk result (λ f. fuse_size f ≡ disk_size disk) }
+        ensures contents { IfOk result (λ f. fuse_contents f ≡ disk_contents disk) }
+        ensures durable { IfOk result (λ f. fuse_durable f ≡ disk_durable disk) }
+        ensures counts { IfOk result (λ f. (f.faults ≡ 0) × (f.done ≡ 0)) }
+        ensures err { IfErr result (λ e. (e.0 ≡ NoMemory) × (e.1 ≡ disk)) }
+    {
+        let len = disk.sectors() as usize * SECTOR_BYTES;
+        let Ok(before) = vec![in alloc; 0u8; len] else {
+            return Err((Refusal::NoMemory, disk));
+        };
+        Ok(Fuse {
+            disk,
+            before,
+            reaching: new,
+            left: Some(writes),
+            faults: 0,
+            done: 0,
+        })
+    }
+
+    /// The disk that a stop within the torn write left, once the fuse is blown; `None` before.
+    pub fn left(&self) -> Option<&MemDisk>
+        ensures { option_copied result ≡ kept_aside self.now }
+    {
+        match self.left {
+            Some(_) => None,
+            None => Some(&self.disk),
+        }
+    }
+
+    // Keeps aside the disk with a write torn, and counts a fault.
+    pub(crate) fn blow(&mut self, range: Range, bytes: &[u8]) -> Result<(), Io>
+        requires inside { range.first + range.count ≤ fuse_size self.old }
+        requires room { length bytes.now ≡ 512 * range.count }
+        requires last { self.old.left ≡ Some 0 }
+        ensures failed { is_ok result ≡ false }
+        ensures blown { self.new.left ≡ None }
+        ensures torn { IsTornBy self.old.reaching.items range.first range.count bytes.now (disk_contents self.old.disk) (disk_contents self.new.disk) }
+        ensures durable { disk_durable self.new.disk ≡ disk_durable self.old.disk }
+        ensures size { disk_size self.new.disk ≡ disk_size self.old.disk }
+        ensures before { self.new.before.items ≡ disk_contents self.old.disk }
+        ensures reaching { self.new.reaching.items ≡ self.old.reaching.items }
+        ensures faults { self.new.faults ≡ next_count self.old.faults }
+        ensures done { self.new.done ≡ self.old.done }
+    {
+        let sectors = self.disk.sectors();
+        let all = Range {
+            first: 0,
+            count: sectors as u32,
+            size: sectors,
+        };
+        self.disk.raw(all, self.before.as_mut_slice());
+        tear(&mut self.disk, range, bytes, &self.reaching);
+        self.left = None;
+        self.fail()
+    }
+
+    // Counts a fault.
+    pub(crate) fn fail(&mut self) -> Result<(), Io>
+        ensures failed { is_ok result ≡ false }
+        ensures counted { self.new ≡ record self.old { faults = next_count self.old.faults } }
+    {
+        self.faults = self.faults.wrapping_add(1);
+        Err(Io)
+    }
+}
+
+#[cfg(test)]
+mod tests {
+    use super::*;
+    use layers::Layered;
+    use std::test::Fail;
+
+    // A disk of four sectors of ones, that fails at the write after the next one.
+    fn fuse_of(alloc: Global, new: &[bool]) -> Result<Fuse, Fail>
+        ensures { IfOk result (λ f. fuse_size f ≡ 4) }
+    {
+        let mut disk = MemDisk::new(alloc, 4)?;
+        disk.write(Range::new(0, 4, 4)?, &[1; 2048])?;
+        match Fuse::new(alloc, disk, 1, Vec::from_slice(alloc, new)?) {
+            Ok(fuse) => Ok(fuse),
+            Err((refusal, _)) => Err(Fail::from(refusal)),
+        }
+    }
+
+    #[test]
+    fn the_disk_kept_aside_has_the_new_sectors_alone(rt: HostRuntime) -> Result<(), Fail> {
+        let mut fuse = fuse_of(rt.alloc(), &[false, true])?;
+        fuse.write(Range::new(0, 1, 4)?, &[2; 512])?;
+        fuse.flush()?;
+        let mut out = [9; 512];
+        fuse.read(Range::new(0, 1, 4)?, &mut out)?;
+        assert_eq!(rt; out.as_slice(), [2; 512].as_slice());
+        assert!(rt; fuse.left().is_none());
+        assert_eq!(rt; fuse.write(Range::new(0, 3, 4)?, &[3; 1536]), Err(Io));
+        let Some(left) = fuse.left() else {
+            return Err(Fail::from("it is blown"));
+        };
+        for (sector, byte) in [(0, 2), (1, 3), (2, 1), (3, 1)] {
+            left.raw(Range::new(sector, 1, 4)?, &mut out);
+            assert_eq!(rt; out.as_slice(), [byte; 512].as_slice(), "sector {sector}");
+        }
+        Ok(())
+    }
+
+    #[test]
+    fn a_blown_fuse_fails_and_changes_nothing(rt: HostRuntime) -> Result<(), Fail> {
+        let mut fuse = fuse_of(rt.alloc(), &[true])?;
+        let one = Range::new(1, 1, 4)?;
+        fuse.write(one, &[2; 512])?;
+        let mut out = [9; 512];
+        assert_eq!(rt; fuse.write(one, &[3; 512]), Err(Io));
+        assert_eq!(rt; fuse.read(one, &mut out), Err(Io));
+        assert_eq!(rt; fuse.flush(), Err(Io));
+        assert_eq!(rt; fuse.write(one, &[4; 512]), Err(Io));
+        assert_eq!(rt; out.as_slice(), [9; 512].as_slice());
+        assert_eq!(rt; (fuse.sectors(), fuse.faults(), fuse.done()), (4, 4, 5));
+        fuse.peek(one, &mut out);
+        assert_eq!(rt;
+            out.as_slice(),
+            [2; 512].as_slice(),
+            "it shows what was there before"
+        );
+        if let Some(left) = fuse.left() {
+            left.raw(one, &mut out);
+        }
+        assert_eq!(rt;
+            out.as_slice(),
+            [3; 512].as_slice(),
+            "the first write after it left is new"
+        );
+        Ok(())
+    }
+}
