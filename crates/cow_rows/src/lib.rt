@@ -1,8 +1,9 @@
 //! Images of stores, read, judged, printed and exported.
 //!
-//! It stands on `cow_shown` and `cow_words` and has tests only, by values from outside: stores and origins as a Linux 6.x
-//! kernel wrote them, with the status line that it printed and the array that its snapshot device showed; each bit of a
-//! header and of its first slots flipped in turn, beside a slow plain judge; and each read that fails.
+//! It stands on `cow_shown` and `cow_words`, beside `store`, and has tests only, by values from outside: stores and origins as
+//! a Linux 6.x kernel wrote them, with the status line that it printed and the array that its snapshot device showed; each bit
+//! of a header and of its first slots flipped in turn, beside a slow plain judge, and one bit of each byte of the header's chunk
+//! and of an area, beside a load of the same bytes from a disk; and each read that fails.
 #![tactic(auto)]
 
 #[cfg(test)]
@@ -11,5 +12,7 @@ mod exports;
 mod flips;
 #[cfg(test)]
 mod images;
+#[cfg(test)]
+mod loads;
 #[cfg(test)]
 mod shows;

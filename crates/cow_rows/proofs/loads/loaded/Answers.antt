@@ -1,0 +1,7 @@
+use Rattle.std.proofs.Common.{refl}
+use Rattle.cow_rows.proofs.loads.loaded.Goals as goal
+
+-- src/loads.rt:24:11
+pub open-requires : goal.open-requires
+unfolding lib.Count.ones
+open-requires c = refl
