@@ -1,0 +1,128 @@
+# Stopped after each event of a write: loaded again, the snapshot shows what it showed.
+# By the admin-guide page on snapshots and the persistent store's format; that a volume is stopped by a command is this project's.
+disk base 128
+disk cow 64
+create vol 0 128 snapshot-origin base
+write vol 0 65536*11
+create snap 0 128 snapshot base cow P 1
+stop vol
+create vol 0 128 snapshot-origin base
+create snap 0 128 snapshot base cow P 1
+status snap
+read snap 0 128
+read vol 0 128
+remove snap
+remove vol
+remove base
+remove cow
+disk base 128
+disk cow 64
+create vol 0 128 snapshot-origin base
+write vol 0 65536*11
+create snap 0 128 snapshot base cow P 1
+start vol write 5 512*aa
+stop vol
+create vol 0 128 snapshot-origin base
+create snap 0 128 snapshot base cow P 1
+status snap
+read snap 0 128
+read vol 0 128
+remove snap
+remove vol
+remove base
+remove cow
+disk base 128
+disk cow 64
+create vol 0 128 snapshot-origin base
+write vol 0 65536*11
+create snap 0 128 snapshot base cow P 1
+start vol write 5 512*aa
+step vol copy-read 1
+stop vol
+create vol 0 128 snapshot-origin base
+create snap 0 128 snapshot base cow P 1
+status snap
+read snap 0 128
+read vol 0 128
+remove snap
+remove vol
+remove base
+remove cow
+disk base 128
+disk cow 64
+create vol 0 128 snapshot-origin base
+write vol 0 65536*11
+create snap 0 128 snapshot base cow P 1
+start vol write 5 512*aa
+step vol copy-read 1
+step vol copy-write 1
+stop vol
+create vol 0 128 snapshot-origin base
+create snap 0 128 snapshot base cow P 1
+status snap
+read snap 0 128
+read vol 0 128
+remove snap
+remove vol
+remove base
+remove cow
+disk base 128
+disk cow 64
+create vol 0 128 snapshot-origin base
+write vol 0 65536*11
+create snap 0 128 snapshot base cow P 1
+start vol write 5 512*aa
+step vol copy-read 1
+step vol copy-write 1
+step vol write-area snap
+stop vol
+create vol 0 128 snapshot-origin base
+create snap 0 128 snapshot base cow P 1
+status snap
+read snap 0 128
+read vol 0 128
+remove snap
+remove vol
+remove base
+remove cow
+disk base 128
+disk cow 64
+create vol 0 128 snapshot-origin base
+write vol 0 65536*11
+create snap 0 128 snapshot base cow P 1
+start vol write 5 512*aa
+step vol copy-read 1
+step vol copy-write 1
+step vol write-area snap
+step vol publish 1
+stop vol
+create vol 0 128 snapshot-origin base
+create snap 0 128 snapshot base cow P 1
+status snap
+read snap 0 128
+read vol 0 128
+remove snap
+remove vol
+remove base
+remove cow
+disk base 128
+disk cow 64
+create vol 0 128 snapshot-origin base
+write vol 0 65536*11
+create snap 0 128 snapshot base cow P 1
+start vol write 5 512*aa
+step vol copy-read 1
+step vol copy-write 1
+step vol write-area snap
+step vol publish 1
+step vol issue 2
+stop vol
+create vol 0 128 snapshot-origin base
+create snap 0 128 snapshot base cow P 1
+status snap
+read snap 0 128
+read vol 0 128
+remove snap
+remove vol
+remove base
+remove cow

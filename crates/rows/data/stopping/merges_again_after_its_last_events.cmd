@@ -1,0 +1,2886 @@
+# Stopped after each event of a merge of two areas, from the middle of its second group on: the snapshot is loaded again,
+# shows what the origin showed, and merged again leaves that on the origin disk.
+# By the admin-guide page on snapshots and the persistent store's format; that a volume is stopped by a command is this project's.
+disk base 128
+disk cow 64
+create vol 0 128 snapshot-origin base
+write vol 0 65536*11
+create snap 0 128 snapshot base cow P 1
+write vol 0 20480*aa
+merge snap
+step vol merge-group
+step vol merge-read
+step vol merge-write
+step vol merge-read
+step vol merge-write
+step vol merge-read
+step vol merge-write
+step vol merge-read
+step vol merge-write
+step vol merge-read
+step vol merge-write
+step vol merge-read
+step vol merge-write
+step vol merge-read
+step vol merge-write
+step vol merge-read
+step vol merge-write
+step vol merge-flush
+step vol merge-commit
+step vol merge-release
+step vol merge-area-read
+step vol merge-group
+step vol merge-read
+step vol merge-write
+step vol merge-read
+step vol merge-write
+step vol merge-read
+step vol merge-write
+step vol merge-read
+step vol merge-write
+step vol merge-read
+step vol merge-write
+step vol merge-read
+step vol merge-write
+step vol merge-read
+step vol merge-write
+step vol merge-read
+step vol merge-write
+step vol merge-read
+step vol merge-write
+step vol merge-read
+step vol merge-write
+step vol merge-read
+step vol merge-write
+step vol merge-read
+step vol merge-write
+step vol merge-read
+step vol merge-write
+step vol merge-read
+step vol merge-write
+step vol merge-read
+step vol merge-write
+step vol merge-read
+step vol merge-write
+step vol merge-read
+step vol merge-write
+step vol merge-read
+step vol merge-write
+step vol merge-read
+stop vol
+create vol 0 128 snapshot-origin base
+create snap 0 128 snapshot base cow P 1
+status snap
+read snap 0 128
+merge snap
+settle vol
+finish vol
+save base 0 128
+remove vol
+remove base
+remove cow
+disk base 128
+disk cow 64
+create vol 0 128 snapshot-origin base
+write vol 0 65536*11
+create snap 0 128 snapshot base cow P 1
+write vol 0 20480*aa
+merge snap
+step vol merge-group
+step vol merge-read
+step vol merge-write
+step vol merge-read
+step vol merge-write
+step vol merge-read
+step vol merge-write
+step vol merge-read
+step vol merge-write
+step vol merge-read
+step vol merge-write
+step vol merge-read
+step vol merge-write
+step vol merge-read
+step vol merge-write
+step vol merge-read
+step vol merge-write
+step vol merge-flush
+step vol merge-commit
+step vol merge-release
+step vol merge-area-read
+step vol merge-group
+step vol merge-read
+step vol merge-write
+step vol merge-read
+step vol merge-write
+step vol merge-read
+step vol merge-write
+step vol merge-read
+step vol merge-write
+step vol merge-read
+step vol merge-write
+step vol merge-read
+step vol merge-write
+step vol merge-read
+step vol merge-write
+step vol merge-read
+step vol merge-write
+step vol merge-read
+step vol merge-write
+step vol merge-read
+step vol merge-write
+step vol merge-read
+step vol merge-write
+step vol merge-read
+step vol merge-write
+step vol merge-read
+step vol merge-write
+step vol merge-read
+step vol merge-write
+step vol merge-read
+step vol merge-write
+step vol merge-read
+step vol merge-write
+step vol merge-read
+step vol merge-write
+step vol merge-read
+step vol merge-write
+step vol merge-read
+step vol merge-write
+stop vol
+create vol 0 128 snapshot-origin base
+create snap 0 128 snapshot base cow P 1
+status snap
+read snap 0 128
+merge snap
+settle vol
+finish vol
+save base 0 128
+remove vol
+remove base
+remove cow
+disk base 128
+disk cow 64
+create vol 0 128 snapshot-origin base
+write vol 0 65536*11
+create snap 0 128 snapshot base cow P 1
+write vol 0 20480*aa
+merge snap
+step vol merge-group
+step vol merge-read
+step vol merge-write
+step vol merge-read
+step vol merge-write
+step vol merge-read
+step vol merge-write
+step vol merge-read
+step vol merge-write
+step vol merge-read
+step vol merge-write
+step vol merge-read
+step vol merge-write
+step vol merge-read
+step vol merge-write
+step vol merge-read
+step vol merge-write
+step vol merge-flush
+step vol merge-commit
+step vol merge-release
+step vol merge-area-read
+step vol merge-group
+step vol merge-read
+step vol merge-write
+step vol merge-read
+step vol merge-write
+step vol merge-read
+step vol merge-write
+step vol merge-read
+step vol merge-write
+step vol merge-read
+step vol merge-write
+step vol merge-read
+step vol merge-write
+step vol merge-read
+step vol merge-write
+step vol merge-read
+step vol merge-write
+step vol merge-read
+step vol merge-write
+step vol merge-read
+step vol merge-write
+step vol merge-read
+step vol merge-write
+step vol merge-read
+step vol merge-write
+step vol merge-read
+step vol merge-write
+step vol merge-read
+step vol merge-write
+step vol merge-read
+step vol merge-write
+step vol merge-read
+step vol merge-write
+step vol merge-read
+step vol merge-write
+step vol merge-read
+step vol merge-write
+step vol merge-read
+step vol merge-write
+step vol merge-read
+stop vol
+create vol 0 128 snapshot-origin base
+create snap 0 128 snapshot base cow P 1
+status snap
+read snap 0 128
+merge snap
+settle vol
+finish vol
+save base 0 128
+remove vol
+remove base
+remove cow
+disk base 128
+disk cow 64
+create vol 0 128 snapshot-origin base
+write vol 0 65536*11
+create snap 0 128 snapshot base cow P 1
+write vol 0 20480*aa
+merge snap
+step vol merge-group
+step vol merge-read
+step vol merge-write
+step vol merge-read
+step vol merge-write
+step vol merge-read
+step vol merge-write
+step vol merge-read
+step vol merge-write
+step vol merge-read
+step vol merge-write
+step vol merge-read
+step vol merge-write
+step vol merge-read
+step vol merge-write
+step vol merge-read
+step vol merge-write
+step vol merge-flush
+step vol merge-commit
+step vol merge-release
+step vol merge-area-read
+step vol merge-group
+step vol merge-read
+step vol merge-write
+step vol merge-read
+step vol merge-write
+step vol merge-read
+step vol merge-write
+step vol merge-read
+step vol merge-write
+step vol merge-read
+step vol merge-write
+step vol merge-read
+step vol merge-write
+step vol merge-read
+step vol merge-write
+step vol merge-read
+step vol merge-write
+step vol merge-read
+step vol merge-write
+step vol merge-read
+step vol merge-write
+step vol merge-read
+step vol merge-write
+step vol merge-read
+step vol merge-write
+step vol merge-read
+step vol merge-write
+step vol merge-read
+step vol merge-write
+step vol merge-read
+step vol merge-write
+step vol merge-read
+step vol merge-write
+step vol merge-read
+step vol merge-write
+step vol merge-read
+step vol merge-write
+step vol merge-read
+step vol merge-write
+step vol merge-read
+step vol merge-write
+stop vol
+create vol 0 128 snapshot-origin base
+create snap 0 128 snapshot base cow P 1
+status snap
+read snap 0 128
+merge snap
+settle vol
+finish vol
+save base 0 128
+remove vol
+remove base
+remove cow
+disk base 128
+disk cow 64
+create vol 0 128 snapshot-origin base
+write vol 0 65536*11
+create snap 0 128 snapshot base cow P 1
+write vol 0 20480*aa
+merge snap
+step vol merge-group
+step vol merge-read
+step vol merge-write
+step vol merge-read
+step vol merge-write
+step vol merge-read
+step vol merge-write
+step vol merge-read
+step vol merge-write
+step vol merge-read
+step vol merge-write
+step vol merge-read
+step vol merge-write
+step vol merge-read
+step vol merge-write
+step vol merge-read
+step vol merge-write
+step vol merge-flush
+step vol merge-commit
+step vol merge-release
+step vol merge-area-read
+step vol merge-group
+step vol merge-read
+step vol merge-write
+step vol merge-read
+step vol merge-write
+step vol merge-read
+step vol merge-write
+step vol merge-read
+step vol merge-write
+step vol merge-read
+step vol merge-write
+step vol merge-read
+step vol merge-write
+step vol merge-read
+step vol merge-write
+step vol merge-read
+step vol merge-write
+step vol merge-read
+step vol merge-write
+step vol merge-read
+step vol merge-write
+step vol merge-read
+step vol merge-write
+step vol merge-read
+step vol merge-write
+step vol merge-read
+step vol merge-write
+step vol merge-read
+step vol merge-write
+step vol merge-read
+step vol merge-write
+step vol merge-read
+step vol merge-write
+step vol merge-read
+step vol merge-write
+step vol merge-read
+step vol merge-write
+step vol merge-read
+step vol merge-write
+step vol merge-read
+step vol merge-write
+step vol merge-read
+stop vol
+create vol 0 128 snapshot-origin base
+create snap 0 128 snapshot base cow P 1
+status snap
+read snap 0 128
+merge snap
+settle vol
+finish vol
+save base 0 128
+remove vol
+remove base
+remove cow
+disk base 128
+disk cow 64
+create vol 0 128 snapshot-origin base
+write vol 0 65536*11
+create snap 0 128 snapshot base cow P 1
+write vol 0 20480*aa
+merge snap
+step vol merge-group
+step vol merge-read
+step vol merge-write
+step vol merge-read
+step vol merge-write
+step vol merge-read
+step vol merge-write
+step vol merge-read
+step vol merge-write
+step vol merge-read
+step vol merge-write
+step vol merge-read
+step vol merge-write
+step vol merge-read
+step vol merge-write
+step vol merge-read
+step vol merge-write
+step vol merge-flush
+step vol merge-commit
+step vol merge-release
+step vol merge-area-read
+step vol merge-group
+step vol merge-read
+step vol merge-write
+step vol merge-read
+step vol merge-write
+step vol merge-read
+step vol merge-write
+step vol merge-read
+step vol merge-write
+step vol merge-read
+step vol merge-write
+step vol merge-read
+step vol merge-write
+step vol merge-read
+step vol merge-write
+step vol merge-read
+step vol merge-write
+step vol merge-read
+step vol merge-write
+step vol merge-read
+step vol merge-write
+step vol merge-read
+step vol merge-write
+step vol merge-read
+step vol merge-write
+step vol merge-read
+step vol merge-write
+step vol merge-read
+step vol merge-write
+step vol merge-read
+step vol merge-write
+step vol merge-read
+step vol merge-write
+step vol merge-read
+step vol merge-write
+step vol merge-read
+step vol merge-write
+step vol merge-read
+step vol merge-write
+step vol merge-read
+step vol merge-write
+step vol merge-read
+step vol merge-write
+stop vol
+create vol 0 128 snapshot-origin base
+create snap 0 128 snapshot base cow P 1
+status snap
+read snap 0 128
+merge snap
+settle vol
+finish vol
+save base 0 128
+remove vol
+remove base
+remove cow
+disk base 128
+disk cow 64
+create vol 0 128 snapshot-origin base
+write vol 0 65536*11
+create snap 0 128 snapshot base cow P 1
+write vol 0 20480*aa
+merge snap
+step vol merge-group
+step vol merge-read
+step vol merge-write
+step vol merge-read
+step vol merge-write
+step vol merge-read
+step vol merge-write
+step vol merge-read
+step vol merge-write
+step vol merge-read
+step vol merge-write
+step vol merge-read
+step vol merge-write
+step vol merge-read
+step vol merge-write
+step vol merge-read
+step vol merge-write
+step vol merge-flush
+step vol merge-commit
+step vol merge-release
+step vol merge-area-read
+step vol merge-group
+step vol merge-read
+step vol merge-write
+step vol merge-read
+step vol merge-write
+step vol merge-read
+step vol merge-write
+step vol merge-read
+step vol merge-write
+step vol merge-read
+step vol merge-write
+step vol merge-read
+step vol merge-write
+step vol merge-read
+step vol merge-write
+step vol merge-read
+step vol merge-write
+step vol merge-read
+step vol merge-write
+step vol merge-read
+step vol merge-write
+step vol merge-read
+step vol merge-write
+step vol merge-read
+step vol merge-write
+step vol merge-read
+step vol merge-write
+step vol merge-read
+step vol merge-write
+step vol merge-read
+step vol merge-write
+step vol merge-read
+step vol merge-write
+step vol merge-read
+step vol merge-write
+step vol merge-read
+step vol merge-write
+step vol merge-read
+step vol merge-write
+step vol merge-read
+step vol merge-write
+step vol merge-read
+step vol merge-write
+step vol merge-read
+stop vol
+create vol 0 128 snapshot-origin base
+create snap 0 128 snapshot base cow P 1
+status snap
+read snap 0 128
+merge snap
+settle vol
+finish vol
+save base 0 128
+remove vol
+remove base
+remove cow
+disk base 128
+disk cow 64
+create vol 0 128 snapshot-origin base
+write vol 0 65536*11
+create snap 0 128 snapshot base cow P 1
+write vol 0 20480*aa
+merge snap
+step vol merge-group
+step vol merge-read
+step vol merge-write
+step vol merge-read
+step vol merge-write
+step vol merge-read
+step vol merge-write
+step vol merge-read
+step vol merge-write
+step vol merge-read
+step vol merge-write
+step vol merge-read
+step vol merge-write
+step vol merge-read
+step vol merge-write
+step vol merge-read
+step vol merge-write
+step vol merge-flush
+step vol merge-commit
+step vol merge-release
+step vol merge-area-read
+step vol merge-group
+step vol merge-read
+step vol merge-write
+step vol merge-read
+step vol merge-write
+step vol merge-read
+step vol merge-write
+step vol merge-read
+step vol merge-write
+step vol merge-read
+step vol merge-write
+step vol merge-read
+step vol merge-write
+step vol merge-read
+step vol merge-write
+step vol merge-read
+step vol merge-write
+step vol merge-read
+step vol merge-write
+step vol merge-read
+step vol merge-write
+step vol merge-read
+step vol merge-write
+step vol merge-read
+step vol merge-write
+step vol merge-read
+step vol merge-write
+step vol merge-read
+step vol merge-write
+step vol merge-read
+step vol merge-write
+step vol merge-read
+step vol merge-write
+step vol merge-read
+step vol merge-write
+step vol merge-read
+step vol merge-write
+step vol merge-read
+step vol merge-write
+step vol merge-read
+step vol merge-write
+step vol merge-read
+step vol merge-write
+step vol merge-read
+step vol merge-write
+stop vol
+create vol 0 128 snapshot-origin base
+create snap 0 128 snapshot base cow P 1
+status snap
+read snap 0 128
+merge snap
+settle vol
+finish vol
+save base 0 128
+remove vol
+remove base
+remove cow
+disk base 128
+disk cow 64
+create vol 0 128 snapshot-origin base
+write vol 0 65536*11
+create snap 0 128 snapshot base cow P 1
+write vol 0 20480*aa
+merge snap
+step vol merge-group
+step vol merge-read
+step vol merge-write
+step vol merge-read
+step vol merge-write
+step vol merge-read
+step vol merge-write
+step vol merge-read
+step vol merge-write
+step vol merge-read
+step vol merge-write
+step vol merge-read
+step vol merge-write
+step vol merge-read
+step vol merge-write
+step vol merge-read
+step vol merge-write
+step vol merge-flush
+step vol merge-commit
+step vol merge-release
+step vol merge-area-read
+step vol merge-group
+step vol merge-read
+step vol merge-write
+step vol merge-read
+step vol merge-write
+step vol merge-read
+step vol merge-write
+step vol merge-read
+step vol merge-write
+step vol merge-read
+step vol merge-write
+step vol merge-read
+step vol merge-write
+step vol merge-read
+step vol merge-write
+step vol merge-read
+step vol merge-write
+step vol merge-read
+step vol merge-write
+step vol merge-read
+step vol merge-write
+step vol merge-read
+step vol merge-write
+step vol merge-read
+step vol merge-write
+step vol merge-read
+step vol merge-write
+step vol merge-read
+step vol merge-write
+step vol merge-read
+step vol merge-write
+step vol merge-read
+step vol merge-write
+step vol merge-read
+step vol merge-write
+step vol merge-read
+step vol merge-write
+step vol merge-read
+step vol merge-write
+step vol merge-read
+step vol merge-write
+step vol merge-read
+step vol merge-write
+step vol merge-read
+step vol merge-write
+step vol merge-read
+stop vol
+create vol 0 128 snapshot-origin base
+create snap 0 128 snapshot base cow P 1
+status snap
+read snap 0 128
+merge snap
+settle vol
+finish vol
+save base 0 128
+remove vol
+remove base
+remove cow
+disk base 128
+disk cow 64
+create vol 0 128 snapshot-origin base
+write vol 0 65536*11
+create snap 0 128 snapshot base cow P 1
+write vol 0 20480*aa
+merge snap
+step vol merge-group
+step vol merge-read
+step vol merge-write
+step vol merge-read
+step vol merge-write
+step vol merge-read
+step vol merge-write
+step vol merge-read
+step vol merge-write
+step vol merge-read
+step vol merge-write
+step vol merge-read
+step vol merge-write
+step vol merge-read
+step vol merge-write
+step vol merge-read
+step vol merge-write
+step vol merge-flush
+step vol merge-commit
+step vol merge-release
+step vol merge-area-read
+step vol merge-group
+step vol merge-read
+step vol merge-write
+step vol merge-read
+step vol merge-write
+step vol merge-read
+step vol merge-write
+step vol merge-read
+step vol merge-write
+step vol merge-read
+step vol merge-write
+step vol merge-read
+step vol merge-write
+step vol merge-read
+step vol merge-write
+step vol merge-read
+step vol merge-write
+step vol merge-read
+step vol merge-write
+step vol merge-read
+step vol merge-write
+step vol merge-read
+step vol merge-write
+step vol merge-read
+step vol merge-write
+step vol merge-read
+step vol merge-write
+step vol merge-read
+step vol merge-write
+step vol merge-read
+step vol merge-write
+step vol merge-read
+step vol merge-write
+step vol merge-read
+step vol merge-write
+step vol merge-read
+step vol merge-write
+step vol merge-read
+step vol merge-write
+step vol merge-read
+step vol merge-write
+step vol merge-read
+step vol merge-write
+step vol merge-read
+step vol merge-write
+step vol merge-read
+step vol merge-write
+stop vol
+create vol 0 128 snapshot-origin base
+create snap 0 128 snapshot base cow P 1
+status snap
+read snap 0 128
+merge snap
+settle vol
+finish vol
+save base 0 128
+remove vol
+remove base
+remove cow
+disk base 128
+disk cow 64
+create vol 0 128 snapshot-origin base
+write vol 0 65536*11
+create snap 0 128 snapshot base cow P 1
+write vol 0 20480*aa
+merge snap
+step vol merge-group
+step vol merge-read
+step vol merge-write
+step vol merge-read
+step vol merge-write
+step vol merge-read
+step vol merge-write
+step vol merge-read
+step vol merge-write
+step vol merge-read
+step vol merge-write
+step vol merge-read
+step vol merge-write
+step vol merge-read
+step vol merge-write
+step vol merge-read
+step vol merge-write
+step vol merge-flush
+step vol merge-commit
+step vol merge-release
+step vol merge-area-read
+step vol merge-group
+step vol merge-read
+step vol merge-write
+step vol merge-read
+step vol merge-write
+step vol merge-read
+step vol merge-write
+step vol merge-read
+step vol merge-write
+step vol merge-read
+step vol merge-write
+step vol merge-read
+step vol merge-write
+step vol merge-read
+step vol merge-write
+step vol merge-read
+step vol merge-write
+step vol merge-read
+step vol merge-write
+step vol merge-read
+step vol merge-write
+step vol merge-read
+step vol merge-write
+step vol merge-read
+step vol merge-write
+step vol merge-read
+step vol merge-write
+step vol merge-read
+step vol merge-write
+step vol merge-read
+step vol merge-write
+step vol merge-read
+step vol merge-write
+step vol merge-read
+step vol merge-write
+step vol merge-read
+step vol merge-write
+step vol merge-read
+step vol merge-write
+step vol merge-read
+step vol merge-write
+step vol merge-read
+step vol merge-write
+step vol merge-read
+step vol merge-write
+step vol merge-read
+step vol merge-write
+step vol merge-read
+stop vol
+create vol 0 128 snapshot-origin base
+create snap 0 128 snapshot base cow P 1
+status snap
+read snap 0 128
+merge snap
+settle vol
+finish vol
+save base 0 128
+remove vol
+remove base
+remove cow
+disk base 128
+disk cow 64
+create vol 0 128 snapshot-origin base
+write vol 0 65536*11
+create snap 0 128 snapshot base cow P 1
+write vol 0 20480*aa
+merge snap
+step vol merge-group
+step vol merge-read
+step vol merge-write
+step vol merge-read
+step vol merge-write
+step vol merge-read
+step vol merge-write
+step vol merge-read
+step vol merge-write
+step vol merge-read
+step vol merge-write
+step vol merge-read
+step vol merge-write
+step vol merge-read
+step vol merge-write
+step vol merge-read
+step vol merge-write
+step vol merge-flush
+step vol merge-commit
+step vol merge-release
+step vol merge-area-read
+step vol merge-group
+step vol merge-read
+step vol merge-write
+step vol merge-read
+step vol merge-write
+step vol merge-read
+step vol merge-write
+step vol merge-read
+step vol merge-write
+step vol merge-read
+step vol merge-write
+step vol merge-read
+step vol merge-write
+step vol merge-read
+step vol merge-write
+step vol merge-read
+step vol merge-write
+step vol merge-read
+step vol merge-write
+step vol merge-read
+step vol merge-write
+step vol merge-read
+step vol merge-write
+step vol merge-read
+step vol merge-write
+step vol merge-read
+step vol merge-write
+step vol merge-read
+step vol merge-write
+step vol merge-read
+step vol merge-write
+step vol merge-read
+step vol merge-write
+step vol merge-read
+step vol merge-write
+step vol merge-read
+step vol merge-write
+step vol merge-read
+step vol merge-write
+step vol merge-read
+step vol merge-write
+step vol merge-read
+step vol merge-write
+step vol merge-read
+step vol merge-write
+step vol merge-read
+step vol merge-write
+step vol merge-read
+step vol merge-write
+stop vol
+create vol 0 128 snapshot-origin base
+create snap 0 128 snapshot base cow P 1
+status snap
+read snap 0 128
+merge snap
+settle vol
+finish vol
+save base 0 128
+remove vol
+remove base
+remove cow
+disk base 128
+disk cow 64
+create vol 0 128 snapshot-origin base
+write vol 0 65536*11
+create snap 0 128 snapshot base cow P 1
+write vol 0 20480*aa
+merge snap
+step vol merge-group
+step vol merge-read
+step vol merge-write
+step vol merge-read
+step vol merge-write
+step vol merge-read
+step vol merge-write
+step vol merge-read
+step vol merge-write
+step vol merge-read
+step vol merge-write
+step vol merge-read
+step vol merge-write
+step vol merge-read
+step vol merge-write
+step vol merge-read
+step vol merge-write
+step vol merge-flush
+step vol merge-commit
+step vol merge-release
+step vol merge-area-read
+step vol merge-group
+step vol merge-read
+step vol merge-write
+step vol merge-read
+step vol merge-write
+step vol merge-read
+step vol merge-write
+step vol merge-read
+step vol merge-write
+step vol merge-read
+step vol merge-write
+step vol merge-read
+step vol merge-write
+step vol merge-read
+step vol merge-write
+step vol merge-read
+step vol merge-write
+step vol merge-read
+step vol merge-write
+step vol merge-read
+step vol merge-write
+step vol merge-read
+step vol merge-write
+step vol merge-read
+step vol merge-write
+step vol merge-read
+step vol merge-write
+step vol merge-read
+step vol merge-write
+step vol merge-read
+step vol merge-write
+step vol merge-read
+step vol merge-write
+step vol merge-read
+step vol merge-write
+step vol merge-read
+step vol merge-write
+step vol merge-read
+step vol merge-write
+step vol merge-read
+step vol merge-write
+step vol merge-read
+step vol merge-write
+step vol merge-read
+step vol merge-write
+step vol merge-read
+step vol merge-write
+step vol merge-read
+step vol merge-write
+step vol merge-read
+stop vol
+create vol 0 128 snapshot-origin base
+create snap 0 128 snapshot base cow P 1
+status snap
+read snap 0 128
+merge snap
+settle vol
+finish vol
+save base 0 128
+remove vol
+remove base
+remove cow
+disk base 128
+disk cow 64
+create vol 0 128 snapshot-origin base
+write vol 0 65536*11
+create snap 0 128 snapshot base cow P 1
+write vol 0 20480*aa
+merge snap
+step vol merge-group
+step vol merge-read
+step vol merge-write
+step vol merge-read
+step vol merge-write
+step vol merge-read
+step vol merge-write
+step vol merge-read
+step vol merge-write
+step vol merge-read
+step vol merge-write
+step vol merge-read
+step vol merge-write
+step vol merge-read
+step vol merge-write
+step vol merge-read
+step vol merge-write
+step vol merge-flush
+step vol merge-commit
+step vol merge-release
+step vol merge-area-read
+step vol merge-group
+step vol merge-read
+step vol merge-write
+step vol merge-read
+step vol merge-write
+step vol merge-read
+step vol merge-write
+step vol merge-read
+step vol merge-write
+step vol merge-read
+step vol merge-write
+step vol merge-read
+step vol merge-write
+step vol merge-read
+step vol merge-write
+step vol merge-read
+step vol merge-write
+step vol merge-read
+step vol merge-write
+step vol merge-read
+step vol merge-write
+step vol merge-read
+step vol merge-write
+step vol merge-read
+step vol merge-write
+step vol merge-read
+step vol merge-write
+step vol merge-read
+step vol merge-write
+step vol merge-read
+step vol merge-write
+step vol merge-read
+step vol merge-write
+step vol merge-read
+step vol merge-write
+step vol merge-read
+step vol merge-write
+step vol merge-read
+step vol merge-write
+step vol merge-read
+step vol merge-write
+step vol merge-read
+step vol merge-write
+step vol merge-read
+step vol merge-write
+step vol merge-read
+step vol merge-write
+step vol merge-read
+step vol merge-write
+step vol merge-read
+step vol merge-write
+stop vol
+create vol 0 128 snapshot-origin base
+create snap 0 128 snapshot base cow P 1
+status snap
+read snap 0 128
+merge snap
+settle vol
+finish vol
+save base 0 128
+remove vol
+remove base
+remove cow
+disk base 128
+disk cow 64
+create vol 0 128 snapshot-origin base
+write vol 0 65536*11
+create snap 0 128 snapshot base cow P 1
+write vol 0 20480*aa
+merge snap
+step vol merge-group
+step vol merge-read
+step vol merge-write
+step vol merge-read
+step vol merge-write
+step vol merge-read
+step vol merge-write
+step vol merge-read
+step vol merge-write
+step vol merge-read
+step vol merge-write
+step vol merge-read
+step vol merge-write
+step vol merge-read
+step vol merge-write
+step vol merge-read
+step vol merge-write
+step vol merge-flush
+step vol merge-commit
+step vol merge-release
+step vol merge-area-read
+step vol merge-group
+step vol merge-read
+step vol merge-write
+step vol merge-read
+step vol merge-write
+step vol merge-read
+step vol merge-write
+step vol merge-read
+step vol merge-write
+step vol merge-read
+step vol merge-write
+step vol merge-read
+step vol merge-write
+step vol merge-read
+step vol merge-write
+step vol merge-read
+step vol merge-write
+step vol merge-read
+step vol merge-write
+step vol merge-read
+step vol merge-write
+step vol merge-read
+step vol merge-write
+step vol merge-read
+step vol merge-write
+step vol merge-read
+step vol merge-write
+step vol merge-read
+step vol merge-write
+step vol merge-read
+step vol merge-write
+step vol merge-read
+step vol merge-write
+step vol merge-read
+step vol merge-write
+step vol merge-read
+step vol merge-write
+step vol merge-read
+step vol merge-write
+step vol merge-read
+step vol merge-write
+step vol merge-read
+step vol merge-write
+step vol merge-read
+step vol merge-write
+step vol merge-read
+step vol merge-write
+step vol merge-read
+step vol merge-write
+step vol merge-read
+step vol merge-write
+step vol merge-read
+stop vol
+create vol 0 128 snapshot-origin base
+create snap 0 128 snapshot base cow P 1
+status snap
+read snap 0 128
+merge snap
+settle vol
+finish vol
+save base 0 128
+remove vol
+remove base
+remove cow
+disk base 128
+disk cow 64
+create vol 0 128 snapshot-origin base
+write vol 0 65536*11
+create snap 0 128 snapshot base cow P 1
+write vol 0 20480*aa
+merge snap
+step vol merge-group
+step vol merge-read
+step vol merge-write
+step vol merge-read
+step vol merge-write
+step vol merge-read
+step vol merge-write
+step vol merge-read
+step vol merge-write
+step vol merge-read
+step vol merge-write
+step vol merge-read
+step vol merge-write
+step vol merge-read
+step vol merge-write
+step vol merge-read
+step vol merge-write
+step vol merge-flush
+step vol merge-commit
+step vol merge-release
+step vol merge-area-read
+step vol merge-group
+step vol merge-read
+step vol merge-write
+step vol merge-read
+step vol merge-write
+step vol merge-read
+step vol merge-write
+step vol merge-read
+step vol merge-write
+step vol merge-read
+step vol merge-write
+step vol merge-read
+step vol merge-write
+step vol merge-read
+step vol merge-write
+step vol merge-read
+step vol merge-write
+step vol merge-read
+step vol merge-write
+step vol merge-read
+step vol merge-write
+step vol merge-read
+step vol merge-write
+step vol merge-read
+step vol merge-write
+step vol merge-read
+step vol merge-write
+step vol merge-read
+step vol merge-write
+step vol merge-read
+step vol merge-write
+step vol merge-read
+step vol merge-write
+step vol merge-read
+step vol merge-write
+step vol merge-read
+step vol merge-write
+step vol merge-read
+step vol merge-write
+step vol merge-read
+step vol merge-write
+step vol merge-read
+step vol merge-write
+step vol merge-read
+step vol merge-write
+step vol merge-read
+step vol merge-write
+step vol merge-read
+step vol merge-write
+step vol merge-read
+step vol merge-write
+step vol merge-read
+step vol merge-write
+stop vol
+create vol 0 128 snapshot-origin base
+create snap 0 128 snapshot base cow P 1
+status snap
+read snap 0 128
+merge snap
+settle vol
+finish vol
+save base 0 128
+remove vol
+remove base
+remove cow
+disk base 128
+disk cow 64
+create vol 0 128 snapshot-origin base
+write vol 0 65536*11
+create snap 0 128 snapshot base cow P 1
+write vol 0 20480*aa
+merge snap
+step vol merge-group
+step vol merge-read
+step vol merge-write
+step vol merge-read
+step vol merge-write
+step vol merge-read
+step vol merge-write
+step vol merge-read
+step vol merge-write
+step vol merge-read
+step vol merge-write
+step vol merge-read
+step vol merge-write
+step vol merge-read
+step vol merge-write
+step vol merge-read
+step vol merge-write
+step vol merge-flush
+step vol merge-commit
+step vol merge-release
+step vol merge-area-read
+step vol merge-group
+step vol merge-read
+step vol merge-write
+step vol merge-read
+step vol merge-write
+step vol merge-read
+step vol merge-write
+step vol merge-read
+step vol merge-write
+step vol merge-read
+step vol merge-write
+step vol merge-read
+step vol merge-write
+step vol merge-read
+step vol merge-write
+step vol merge-read
+step vol merge-write
+step vol merge-read
+step vol merge-write
+step vol merge-read
+step vol merge-write
+step vol merge-read
+step vol merge-write
+step vol merge-read
+step vol merge-write
+step vol merge-read
+step vol merge-write
+step vol merge-read
+step vol merge-write
+step vol merge-read
+step vol merge-write
+step vol merge-read
+step vol merge-write
+step vol merge-read
+step vol merge-write
+step vol merge-read
+step vol merge-write
+step vol merge-read
+step vol merge-write
+step vol merge-read
+step vol merge-write
+step vol merge-read
+step vol merge-write
+step vol merge-read
+step vol merge-write
+step vol merge-read
+step vol merge-write
+step vol merge-read
+step vol merge-write
+step vol merge-read
+step vol merge-write
+step vol merge-read
+step vol merge-write
+step vol merge-read
+stop vol
+create vol 0 128 snapshot-origin base
+create snap 0 128 snapshot base cow P 1
+status snap
+read snap 0 128
+merge snap
+settle vol
+finish vol
+save base 0 128
+remove vol
+remove base
+remove cow
+disk base 128
+disk cow 64
+create vol 0 128 snapshot-origin base
+write vol 0 65536*11
+create snap 0 128 snapshot base cow P 1
+write vol 0 20480*aa
+merge snap
+step vol merge-group
+step vol merge-read
+step vol merge-write
+step vol merge-read
+step vol merge-write
+step vol merge-read
+step vol merge-write
+step vol merge-read
+step vol merge-write
+step vol merge-read
+step vol merge-write
+step vol merge-read
+step vol merge-write
+step vol merge-read
+step vol merge-write
+step vol merge-read
+step vol merge-write
+step vol merge-flush
+step vol merge-commit
+step vol merge-release
+step vol merge-area-read
+step vol merge-group
+step vol merge-read
+step vol merge-write
+step vol merge-read
+step vol merge-write
+step vol merge-read
+step vol merge-write
+step vol merge-read
+step vol merge-write
+step vol merge-read
+step vol merge-write
+step vol merge-read
+step vol merge-write
+step vol merge-read
+step vol merge-write
+step vol merge-read
+step vol merge-write
+step vol merge-read
+step vol merge-write
+step vol merge-read
+step vol merge-write
+step vol merge-read
+step vol merge-write
+step vol merge-read
+step vol merge-write
+step vol merge-read
+step vol merge-write
+step vol merge-read
+step vol merge-write
+step vol merge-read
+step vol merge-write
+step vol merge-read
+step vol merge-write
+step vol merge-read
+step vol merge-write
+step vol merge-read
+step vol merge-write
+step vol merge-read
+step vol merge-write
+step vol merge-read
+step vol merge-write
+step vol merge-read
+step vol merge-write
+step vol merge-read
+step vol merge-write
+step vol merge-read
+step vol merge-write
+step vol merge-read
+step vol merge-write
+step vol merge-read
+step vol merge-write
+step vol merge-read
+step vol merge-write
+step vol merge-read
+step vol merge-write
+stop vol
+create vol 0 128 snapshot-origin base
+create snap 0 128 snapshot base cow P 1
+status snap
+read snap 0 128
+merge snap
+settle vol
+finish vol
+save base 0 128
+remove vol
+remove base
+remove cow
+disk base 128
+disk cow 64
+create vol 0 128 snapshot-origin base
+write vol 0 65536*11
+create snap 0 128 snapshot base cow P 1
+write vol 0 20480*aa
+merge snap
+step vol merge-group
+step vol merge-read
+step vol merge-write
+step vol merge-read
+step vol merge-write
+step vol merge-read
+step vol merge-write
+step vol merge-read
+step vol merge-write
+step vol merge-read
+step vol merge-write
+step vol merge-read
+step vol merge-write
+step vol merge-read
+step vol merge-write
+step vol merge-read
+step vol merge-write
+step vol merge-flush
+step vol merge-commit
+step vol merge-release
+step vol merge-area-read
+step vol merge-group
+step vol merge-read
+step vol merge-write
+step vol merge-read
+step vol merge-write
+step vol merge-read
+step vol merge-write
+step vol merge-read
+step vol merge-write
+step vol merge-read
+step vol merge-write
+step vol merge-read
+step vol merge-write
+step vol merge-read
+step vol merge-write
+step vol merge-read
+step vol merge-write
+step vol merge-read
+step vol merge-write
+step vol merge-read
+step vol merge-write
+step vol merge-read
+step vol merge-write
+step vol merge-read
+step vol merge-write
+step vol merge-read
+step vol merge-write
+step vol merge-read
+step vol merge-write
+step vol merge-read
+step vol merge-write
+step vol merge-read
+step vol merge-write
+step vol merge-read
+step vol merge-write
+step vol merge-read
+step vol merge-write
+step vol merge-read
+step vol merge-write
+step vol merge-read
+step vol merge-write
+step vol merge-read
+step vol merge-write
+step vol merge-read
+step vol merge-write
+step vol merge-read
+step vol merge-write
+step vol merge-read
+step vol merge-write
+step vol merge-read
+step vol merge-write
+step vol merge-read
+step vol merge-write
+step vol merge-read
+step vol merge-write
+step vol merge-read
+stop vol
+create vol 0 128 snapshot-origin base
+create snap 0 128 snapshot base cow P 1
+status snap
+read snap 0 128
+merge snap
+settle vol
+finish vol
+save base 0 128
+remove vol
+remove base
+remove cow
+disk base 128
+disk cow 64
+create vol 0 128 snapshot-origin base
+write vol 0 65536*11
+create snap 0 128 snapshot base cow P 1
+write vol 0 20480*aa
+merge snap
+step vol merge-group
+step vol merge-read
+step vol merge-write
+step vol merge-read
+step vol merge-write
+step vol merge-read
+step vol merge-write
+step vol merge-read
+step vol merge-write
+step vol merge-read
+step vol merge-write
+step vol merge-read
+step vol merge-write
+step vol merge-read
+step vol merge-write
+step vol merge-read
+step vol merge-write
+step vol merge-flush
+step vol merge-commit
+step vol merge-release
+step vol merge-area-read
+step vol merge-group
+step vol merge-read
+step vol merge-write
+step vol merge-read
+step vol merge-write
+step vol merge-read
+step vol merge-write
+step vol merge-read
+step vol merge-write
+step vol merge-read
+step vol merge-write
+step vol merge-read
+step vol merge-write
+step vol merge-read
+step vol merge-write
+step vol merge-read
+step vol merge-write
+step vol merge-read
+step vol merge-write
+step vol merge-read
+step vol merge-write
+step vol merge-read
+step vol merge-write
+step vol merge-read
+step vol merge-write
+step vol merge-read
+step vol merge-write
+step vol merge-read
+step vol merge-write
+step vol merge-read
+step vol merge-write
+step vol merge-read
+step vol merge-write
+step vol merge-read
+step vol merge-write
+step vol merge-read
+step vol merge-write
+step vol merge-read
+step vol merge-write
+step vol merge-read
+step vol merge-write
+step vol merge-read
+step vol merge-write
+step vol merge-read
+step vol merge-write
+step vol merge-read
+step vol merge-write
+step vol merge-read
+step vol merge-write
+step vol merge-read
+step vol merge-write
+step vol merge-read
+step vol merge-write
+step vol merge-read
+step vol merge-write
+step vol merge-read
+step vol merge-write
+stop vol
+create vol 0 128 snapshot-origin base
+create snap 0 128 snapshot base cow P 1
+status snap
+read snap 0 128
+merge snap
+settle vol
+finish vol
+save base 0 128
+remove vol
+remove base
+remove cow
+disk base 128
+disk cow 64
+create vol 0 128 snapshot-origin base
+write vol 0 65536*11
+create snap 0 128 snapshot base cow P 1
+write vol 0 20480*aa
+merge snap
+step vol merge-group
+step vol merge-read
+step vol merge-write
+step vol merge-read
+step vol merge-write
+step vol merge-read
+step vol merge-write
+step vol merge-read
+step vol merge-write
+step vol merge-read
+step vol merge-write
+step vol merge-read
+step vol merge-write
+step vol merge-read
+step vol merge-write
+step vol merge-read
+step vol merge-write
+step vol merge-flush
+step vol merge-commit
+step vol merge-release
+step vol merge-area-read
+step vol merge-group
+step vol merge-read
+step vol merge-write
+step vol merge-read
+step vol merge-write
+step vol merge-read
+step vol merge-write
+step vol merge-read
+step vol merge-write
+step vol merge-read
+step vol merge-write
+step vol merge-read
+step vol merge-write
+step vol merge-read
+step vol merge-write
+step vol merge-read
+step vol merge-write
+step vol merge-read
+step vol merge-write
+step vol merge-read
+step vol merge-write
+step vol merge-read
+step vol merge-write
+step vol merge-read
+step vol merge-write
+step vol merge-read
+step vol merge-write
+step vol merge-read
+step vol merge-write
+step vol merge-read
+step vol merge-write
+step vol merge-read
+step vol merge-write
+step vol merge-read
+step vol merge-write
+step vol merge-read
+step vol merge-write
+step vol merge-read
+step vol merge-write
+step vol merge-read
+step vol merge-write
+step vol merge-read
+step vol merge-write
+step vol merge-read
+step vol merge-write
+step vol merge-read
+step vol merge-write
+step vol merge-read
+step vol merge-write
+step vol merge-read
+step vol merge-write
+step vol merge-read
+step vol merge-write
+step vol merge-read
+step vol merge-write
+step vol merge-read
+step vol merge-write
+step vol merge-read
+stop vol
+create vol 0 128 snapshot-origin base
+create snap 0 128 snapshot base cow P 1
+status snap
+read snap 0 128
+merge snap
+settle vol
+finish vol
+save base 0 128
+remove vol
+remove base
+remove cow
+disk base 128
+disk cow 64
+create vol 0 128 snapshot-origin base
+write vol 0 65536*11
+create snap 0 128 snapshot base cow P 1
+write vol 0 20480*aa
+merge snap
+step vol merge-group
+step vol merge-read
+step vol merge-write
+step vol merge-read
+step vol merge-write
+step vol merge-read
+step vol merge-write
+step vol merge-read
+step vol merge-write
+step vol merge-read
+step vol merge-write
+step vol merge-read
+step vol merge-write
+step vol merge-read
+step vol merge-write
+step vol merge-read
+step vol merge-write
+step vol merge-flush
+step vol merge-commit
+step vol merge-release
+step vol merge-area-read
+step vol merge-group
+step vol merge-read
+step vol merge-write
+step vol merge-read
+step vol merge-write
+step vol merge-read
+step vol merge-write
+step vol merge-read
+step vol merge-write
+step vol merge-read
+step vol merge-write
+step vol merge-read
+step vol merge-write
+step vol merge-read
+step vol merge-write
+step vol merge-read
+step vol merge-write
+step vol merge-read
+step vol merge-write
+step vol merge-read
+step vol merge-write
+step vol merge-read
+step vol merge-write
+step vol merge-read
+step vol merge-write
+step vol merge-read
+step vol merge-write
+step vol merge-read
+step vol merge-write
+step vol merge-read
+step vol merge-write
+step vol merge-read
+step vol merge-write
+step vol merge-read
+step vol merge-write
+step vol merge-read
+step vol merge-write
+step vol merge-read
+step vol merge-write
+step vol merge-read
+step vol merge-write
+step vol merge-read
+step vol merge-write
+step vol merge-read
+step vol merge-write
+step vol merge-read
+step vol merge-write
+step vol merge-read
+step vol merge-write
+step vol merge-read
+step vol merge-write
+step vol merge-read
+step vol merge-write
+step vol merge-read
+step vol merge-write
+step vol merge-read
+step vol merge-write
+step vol merge-read
+step vol merge-write
+stop vol
+create vol 0 128 snapshot-origin base
+create snap 0 128 snapshot base cow P 1
+status snap
+read snap 0 128
+merge snap
+settle vol
+finish vol
+save base 0 128
+remove vol
+remove base
+remove cow
+disk base 128
+disk cow 64
+create vol 0 128 snapshot-origin base
+write vol 0 65536*11
+create snap 0 128 snapshot base cow P 1
+write vol 0 20480*aa
+merge snap
+step vol merge-group
+step vol merge-read
+step vol merge-write
+step vol merge-read
+step vol merge-write
+step vol merge-read
+step vol merge-write
+step vol merge-read
+step vol merge-write
+step vol merge-read
+step vol merge-write
+step vol merge-read
+step vol merge-write
+step vol merge-read
+step vol merge-write
+step vol merge-read
+step vol merge-write
+step vol merge-flush
+step vol merge-commit
+step vol merge-release
+step vol merge-area-read
+step vol merge-group
+step vol merge-read
+step vol merge-write
+step vol merge-read
+step vol merge-write
+step vol merge-read
+step vol merge-write
+step vol merge-read
+step vol merge-write
+step vol merge-read
+step vol merge-write
+step vol merge-read
+step vol merge-write
+step vol merge-read
+step vol merge-write
+step vol merge-read
+step vol merge-write
+step vol merge-read
+step vol merge-write
+step vol merge-read
+step vol merge-write
+step vol merge-read
+step vol merge-write
+step vol merge-read
+step vol merge-write
+step vol merge-read
+step vol merge-write
+step vol merge-read
+step vol merge-write
+step vol merge-read
+step vol merge-write
+step vol merge-read
+step vol merge-write
+step vol merge-read
+step vol merge-write
+step vol merge-read
+step vol merge-write
+step vol merge-read
+step vol merge-write
+step vol merge-read
+step vol merge-write
+step vol merge-read
+step vol merge-write
+step vol merge-read
+step vol merge-write
+step vol merge-read
+step vol merge-write
+step vol merge-read
+step vol merge-write
+step vol merge-read
+step vol merge-write
+step vol merge-read
+step vol merge-write
+step vol merge-read
+step vol merge-write
+step vol merge-read
+step vol merge-write
+step vol merge-read
+step vol merge-write
+step vol merge-read
+stop vol
+create vol 0 128 snapshot-origin base
+create snap 0 128 snapshot base cow P 1
+status snap
+read snap 0 128
+merge snap
+settle vol
+finish vol
+save base 0 128
+remove vol
+remove base
+remove cow
+disk base 128
+disk cow 64
+create vol 0 128 snapshot-origin base
+write vol 0 65536*11
+create snap 0 128 snapshot base cow P 1
+write vol 0 20480*aa
+merge snap
+step vol merge-group
+step vol merge-read
+step vol merge-write
+step vol merge-read
+step vol merge-write
+step vol merge-read
+step vol merge-write
+step vol merge-read
+step vol merge-write
+step vol merge-read
+step vol merge-write
+step vol merge-read
+step vol merge-write
+step vol merge-read
+step vol merge-write
+step vol merge-read
+step vol merge-write
+step vol merge-flush
+step vol merge-commit
+step vol merge-release
+step vol merge-area-read
+step vol merge-group
+step vol merge-read
+step vol merge-write
+step vol merge-read
+step vol merge-write
+step vol merge-read
+step vol merge-write
+step vol merge-read
+step vol merge-write
+step vol merge-read
+step vol merge-write
+step vol merge-read
+step vol merge-write
+step vol merge-read
+step vol merge-write
+step vol merge-read
+step vol merge-write
+step vol merge-read
+step vol merge-write
+step vol merge-read
+step vol merge-write
+step vol merge-read
+step vol merge-write
+step vol merge-read
+step vol merge-write
+step vol merge-read
+step vol merge-write
+step vol merge-read
+step vol merge-write
+step vol merge-read
+step vol merge-write
+step vol merge-read
+step vol merge-write
+step vol merge-read
+step vol merge-write
+step vol merge-read
+step vol merge-write
+step vol merge-read
+step vol merge-write
+step vol merge-read
+step vol merge-write
+step vol merge-read
+step vol merge-write
+step vol merge-read
+step vol merge-write
+step vol merge-read
+step vol merge-write
+step vol merge-read
+step vol merge-write
+step vol merge-read
+step vol merge-write
+step vol merge-read
+step vol merge-write
+step vol merge-read
+step vol merge-write
+step vol merge-read
+step vol merge-write
+step vol merge-read
+step vol merge-write
+step vol merge-read
+step vol merge-write
+stop vol
+create vol 0 128 snapshot-origin base
+create snap 0 128 snapshot base cow P 1
+status snap
+read snap 0 128
+merge snap
+settle vol
+finish vol
+save base 0 128
+remove vol
+remove base
+remove cow
+disk base 128
+disk cow 64
+create vol 0 128 snapshot-origin base
+write vol 0 65536*11
+create snap 0 128 snapshot base cow P 1
+write vol 0 20480*aa
+merge snap
+step vol merge-group
+step vol merge-read
+step vol merge-write
+step vol merge-read
+step vol merge-write
+step vol merge-read
+step vol merge-write
+step vol merge-read
+step vol merge-write
+step vol merge-read
+step vol merge-write
+step vol merge-read
+step vol merge-write
+step vol merge-read
+step vol merge-write
+step vol merge-read
+step vol merge-write
+step vol merge-flush
+step vol merge-commit
+step vol merge-release
+step vol merge-area-read
+step vol merge-group
+step vol merge-read
+step vol merge-write
+step vol merge-read
+step vol merge-write
+step vol merge-read
+step vol merge-write
+step vol merge-read
+step vol merge-write
+step vol merge-read
+step vol merge-write
+step vol merge-read
+step vol merge-write
+step vol merge-read
+step vol merge-write
+step vol merge-read
+step vol merge-write
+step vol merge-read
+step vol merge-write
+step vol merge-read
+step vol merge-write
+step vol merge-read
+step vol merge-write
+step vol merge-read
+step vol merge-write
+step vol merge-read
+step vol merge-write
+step vol merge-read
+step vol merge-write
+step vol merge-read
+step vol merge-write
+step vol merge-read
+step vol merge-write
+step vol merge-read
+step vol merge-write
+step vol merge-read
+step vol merge-write
+step vol merge-read
+step vol merge-write
+step vol merge-read
+step vol merge-write
+step vol merge-read
+step vol merge-write
+step vol merge-read
+step vol merge-write
+step vol merge-read
+step vol merge-write
+step vol merge-read
+step vol merge-write
+step vol merge-read
+step vol merge-write
+step vol merge-read
+step vol merge-write
+step vol merge-read
+step vol merge-write
+step vol merge-read
+step vol merge-write
+step vol merge-read
+step vol merge-write
+step vol merge-read
+step vol merge-write
+step vol merge-read
+stop vol
+create vol 0 128 snapshot-origin base
+create snap 0 128 snapshot base cow P 1
+status snap
+read snap 0 128
+merge snap
+settle vol
+finish vol
+save base 0 128
+remove vol
+remove base
+remove cow
+disk base 128
+disk cow 64
+create vol 0 128 snapshot-origin base
+write vol 0 65536*11
+create snap 0 128 snapshot base cow P 1
+write vol 0 20480*aa
+merge snap
+step vol merge-group
+step vol merge-read
+step vol merge-write
+step vol merge-read
+step vol merge-write
+step vol merge-read
+step vol merge-write
+step vol merge-read
+step vol merge-write
+step vol merge-read
+step vol merge-write
+step vol merge-read
+step vol merge-write
+step vol merge-read
+step vol merge-write
+step vol merge-read
+step vol merge-write
+step vol merge-flush
+step vol merge-commit
+step vol merge-release
+step vol merge-area-read
+step vol merge-group
+step vol merge-read
+step vol merge-write
+step vol merge-read
+step vol merge-write
+step vol merge-read
+step vol merge-write
+step vol merge-read
+step vol merge-write
+step vol merge-read
+step vol merge-write
+step vol merge-read
+step vol merge-write
+step vol merge-read
+step vol merge-write
+step vol merge-read
+step vol merge-write
+step vol merge-read
+step vol merge-write
+step vol merge-read
+step vol merge-write
+step vol merge-read
+step vol merge-write
+step vol merge-read
+step vol merge-write
+step vol merge-read
+step vol merge-write
+step vol merge-read
+step vol merge-write
+step vol merge-read
+step vol merge-write
+step vol merge-read
+step vol merge-write
+step vol merge-read
+step vol merge-write
+step vol merge-read
+step vol merge-write
+step vol merge-read
+step vol merge-write
+step vol merge-read
+step vol merge-write
+step vol merge-read
+step vol merge-write
+step vol merge-read
+step vol merge-write
+step vol merge-read
+step vol merge-write
+step vol merge-read
+step vol merge-write
+step vol merge-read
+step vol merge-write
+step vol merge-read
+step vol merge-write
+step vol merge-read
+step vol merge-write
+step vol merge-read
+step vol merge-write
+step vol merge-read
+step vol merge-write
+step vol merge-read
+step vol merge-write
+step vol merge-read
+step vol merge-write
+stop vol
+create vol 0 128 snapshot-origin base
+create snap 0 128 snapshot base cow P 1
+status snap
+read snap 0 128
+merge snap
+settle vol
+finish vol
+save base 0 128
+remove vol
+remove base
+remove cow
+disk base 128
+disk cow 64
+create vol 0 128 snapshot-origin base
+write vol 0 65536*11
+create snap 0 128 snapshot base cow P 1
+write vol 0 20480*aa
+merge snap
+step vol merge-group
+step vol merge-read
+step vol merge-write
+step vol merge-read
+step vol merge-write
+step vol merge-read
+step vol merge-write
+step vol merge-read
+step vol merge-write
+step vol merge-read
+step vol merge-write
+step vol merge-read
+step vol merge-write
+step vol merge-read
+step vol merge-write
+step vol merge-read
+step vol merge-write
+step vol merge-flush
+step vol merge-commit
+step vol merge-release
+step vol merge-area-read
+step vol merge-group
+step vol merge-read
+step vol merge-write
+step vol merge-read
+step vol merge-write
+step vol merge-read
+step vol merge-write
+step vol merge-read
+step vol merge-write
+step vol merge-read
+step vol merge-write
+step vol merge-read
+step vol merge-write
+step vol merge-read
+step vol merge-write
+step vol merge-read
+step vol merge-write
+step vol merge-read
+step vol merge-write
+step vol merge-read
+step vol merge-write
+step vol merge-read
+step vol merge-write
+step vol merge-read
+step vol merge-write
+step vol merge-read
+step vol merge-write
+step vol merge-read
+step vol merge-write
+step vol merge-read
+step vol merge-write
+step vol merge-read
+step vol merge-write
+step vol merge-read
+step vol merge-write
+step vol merge-read
+step vol merge-write
+step vol merge-read
+step vol merge-write
+step vol merge-read
+step vol merge-write
+step vol merge-read
+step vol merge-write
+step vol merge-read
+step vol merge-write
+step vol merge-read
+step vol merge-write
+step vol merge-read
+step vol merge-write
+step vol merge-read
+step vol merge-write
+step vol merge-read
+step vol merge-write
+step vol merge-read
+step vol merge-write
+step vol merge-read
+step vol merge-write
+step vol merge-read
+step vol merge-write
+step vol merge-read
+step vol merge-write
+step vol merge-read
+step vol merge-write
+step vol merge-read
+stop vol
+create vol 0 128 snapshot-origin base
+create snap 0 128 snapshot base cow P 1
+status snap
+read snap 0 128
+merge snap
+settle vol
+finish vol
+save base 0 128
+remove vol
+remove base
+remove cow
+disk base 128
+disk cow 64
+create vol 0 128 snapshot-origin base
+write vol 0 65536*11
+create snap 0 128 snapshot base cow P 1
+write vol 0 20480*aa
+merge snap
+step vol merge-group
+step vol merge-read
+step vol merge-write
+step vol merge-read
+step vol merge-write
+step vol merge-read
+step vol merge-write
+step vol merge-read
+step vol merge-write
+step vol merge-read
+step vol merge-write
+step vol merge-read
+step vol merge-write
+step vol merge-read
+step vol merge-write
+step vol merge-read
+step vol merge-write
+step vol merge-flush
+step vol merge-commit
+step vol merge-release
+step vol merge-area-read
+step vol merge-group
+step vol merge-read
+step vol merge-write
+step vol merge-read
+step vol merge-write
+step vol merge-read
+step vol merge-write
+step vol merge-read
+step vol merge-write
+step vol merge-read
+step vol merge-write
+step vol merge-read
+step vol merge-write
+step vol merge-read
+step vol merge-write
+step vol merge-read
+step vol merge-write
+step vol merge-read
+step vol merge-write
+step vol merge-read
+step vol merge-write
+step vol merge-read
+step vol merge-write
+step vol merge-read
+step vol merge-write
+step vol merge-read
+step vol merge-write
+step vol merge-read
+step vol merge-write
+step vol merge-read
+step vol merge-write
+step vol merge-read
+step vol merge-write
+step vol merge-read
+step vol merge-write
+step vol merge-read
+step vol merge-write
+step vol merge-read
+step vol merge-write
+step vol merge-read
+step vol merge-write
+step vol merge-read
+step vol merge-write
+step vol merge-read
+step vol merge-write
+step vol merge-read
+step vol merge-write
+step vol merge-read
+step vol merge-write
+step vol merge-read
+step vol merge-write
+step vol merge-read
+step vol merge-write
+step vol merge-read
+step vol merge-write
+step vol merge-read
+step vol merge-write
+step vol merge-read
+step vol merge-write
+step vol merge-read
+step vol merge-write
+step vol merge-read
+step vol merge-write
+step vol merge-read
+step vol merge-write
+stop vol
+create vol 0 128 snapshot-origin base
+create snap 0 128 snapshot base cow P 1
+status snap
+read snap 0 128
+merge snap
+settle vol
+finish vol
+save base 0 128
+remove vol
+remove base
+remove cow
+disk base 128
+disk cow 64
+create vol 0 128 snapshot-origin base
+write vol 0 65536*11
+create snap 0 128 snapshot base cow P 1
+write vol 0 20480*aa
+merge snap
+step vol merge-group
+step vol merge-read
+step vol merge-write
+step vol merge-read
+step vol merge-write
+step vol merge-read
+step vol merge-write
+step vol merge-read
+step vol merge-write
+step vol merge-read
+step vol merge-write
+step vol merge-read
+step vol merge-write
+step vol merge-read
+step vol merge-write
+step vol merge-read
+step vol merge-write
+step vol merge-flush
+step vol merge-commit
+step vol merge-release
+step vol merge-area-read
+step vol merge-group
+step vol merge-read
+step vol merge-write
+step vol merge-read
+step vol merge-write
+step vol merge-read
+step vol merge-write
+step vol merge-read
+step vol merge-write
+step vol merge-read
+step vol merge-write
+step vol merge-read
+step vol merge-write
+step vol merge-read
+step vol merge-write
+step vol merge-read
+step vol merge-write
+step vol merge-read
+step vol merge-write
+step vol merge-read
+step vol merge-write
+step vol merge-read
+step vol merge-write
+step vol merge-read
+step vol merge-write
+step vol merge-read
+step vol merge-write
+step vol merge-read
+step vol merge-write
+step vol merge-read
+step vol merge-write
+step vol merge-read
+step vol merge-write
+step vol merge-read
+step vol merge-write
+step vol merge-read
+step vol merge-write
+step vol merge-read
+step vol merge-write
+step vol merge-read
+step vol merge-write
+step vol merge-read
+step vol merge-write
+step vol merge-read
+step vol merge-write
+step vol merge-read
+step vol merge-write
+step vol merge-read
+step vol merge-write
+step vol merge-read
+step vol merge-write
+step vol merge-read
+step vol merge-write
+step vol merge-read
+step vol merge-write
+step vol merge-read
+step vol merge-write
+step vol merge-read
+step vol merge-write
+step vol merge-read
+step vol merge-write
+step vol merge-read
+step vol merge-write
+step vol merge-read
+step vol merge-write
+step vol merge-flush
+stop vol
+create vol 0 128 snapshot-origin base
+create snap 0 128 snapshot base cow P 1
+status snap
+read snap 0 128
+merge snap
+settle vol
+finish vol
+save base 0 128
+remove vol
+remove base
+remove cow
+disk base 128
+disk cow 64
+create vol 0 128 snapshot-origin base
+write vol 0 65536*11
+create snap 0 128 snapshot base cow P 1
+write vol 0 20480*aa
+merge snap
+step vol merge-group
+step vol merge-read
+step vol merge-write
+step vol merge-read
+step vol merge-write
+step vol merge-read
+step vol merge-write
+step vol merge-read
+step vol merge-write
+step vol merge-read
+step vol merge-write
+step vol merge-read
+step vol merge-write
+step vol merge-read
+step vol merge-write
+step vol merge-read
+step vol merge-write
+step vol merge-flush
+step vol merge-commit
+step vol merge-release
+step vol merge-area-read
+step vol merge-group
+step vol merge-read
+step vol merge-write
+step vol merge-read
+step vol merge-write
+step vol merge-read
+step vol merge-write
+step vol merge-read
+step vol merge-write
+step vol merge-read
+step vol merge-write
+step vol merge-read
+step vol merge-write
+step vol merge-read
+step vol merge-write
+step vol merge-read
+step vol merge-write
+step vol merge-read
+step vol merge-write
+step vol merge-read
+step vol merge-write
+step vol merge-read
+step vol merge-write
+step vol merge-read
+step vol merge-write
+step vol merge-read
+step vol merge-write
+step vol merge-read
+step vol merge-write
+step vol merge-read
+step vol merge-write
+step vol merge-read
+step vol merge-write
+step vol merge-read
+step vol merge-write
+step vol merge-read
+step vol merge-write
+step vol merge-read
+step vol merge-write
+step vol merge-read
+step vol merge-write
+step vol merge-read
+step vol merge-write
+step vol merge-read
+step vol merge-write
+step vol merge-read
+step vol merge-write
+step vol merge-read
+step vol merge-write
+step vol merge-read
+step vol merge-write
+step vol merge-read
+step vol merge-write
+step vol merge-read
+step vol merge-write
+step vol merge-read
+step vol merge-write
+step vol merge-read
+step vol merge-write
+step vol merge-read
+step vol merge-write
+step vol merge-read
+step vol merge-write
+step vol merge-read
+step vol merge-write
+step vol merge-flush
+step vol merge-commit
+stop vol
+create vol 0 128 snapshot-origin base
+create snap 0 128 snapshot base cow P 1
+status snap
+read snap 0 128
+merge snap
+settle vol
+finish vol
+save base 0 128
+remove vol
+remove base
+remove cow
+disk base 128
+disk cow 64
+create vol 0 128 snapshot-origin base
+write vol 0 65536*11
+create snap 0 128 snapshot base cow P 1
+write vol 0 20480*aa
+merge snap
+step vol merge-group
+step vol merge-read
+step vol merge-write
+step vol merge-read
+step vol merge-write
+step vol merge-read
+step vol merge-write
+step vol merge-read
+step vol merge-write
+step vol merge-read
+step vol merge-write
+step vol merge-read
+step vol merge-write
+step vol merge-read
+step vol merge-write
+step vol merge-read
+step vol merge-write
+step vol merge-flush
+step vol merge-commit
+step vol merge-release
+step vol merge-area-read
+step vol merge-group
+step vol merge-read
+step vol merge-write
+step vol merge-read
+step vol merge-write
+step vol merge-read
+step vol merge-write
+step vol merge-read
+step vol merge-write
+step vol merge-read
+step vol merge-write
+step vol merge-read
+step vol merge-write
+step vol merge-read
+step vol merge-write
+step vol merge-read
+step vol merge-write
+step vol merge-read
+step vol merge-write
+step vol merge-read
+step vol merge-write
+step vol merge-read
+step vol merge-write
+step vol merge-read
+step vol merge-write
+step vol merge-read
+step vol merge-write
+step vol merge-read
+step vol merge-write
+step vol merge-read
+step vol merge-write
+step vol merge-read
+step vol merge-write
+step vol merge-read
+step vol merge-write
+step vol merge-read
+step vol merge-write
+step vol merge-read
+step vol merge-write
+step vol merge-read
+step vol merge-write
+step vol merge-read
+step vol merge-write
+step vol merge-read
+step vol merge-write
+step vol merge-read
+step vol merge-write
+step vol merge-read
+step vol merge-write
+step vol merge-read
+step vol merge-write
+step vol merge-read
+step vol merge-write
+step vol merge-read
+step vol merge-write
+step vol merge-read
+step vol merge-write
+step vol merge-read
+step vol merge-write
+step vol merge-read
+step vol merge-write
+step vol merge-read
+step vol merge-write
+step vol merge-read
+step vol merge-write
+step vol merge-flush
+step vol merge-commit
+step vol merge-release
+stop vol
+create vol 0 128 snapshot-origin base
+create snap 0 128 snapshot base cow P 1
+status snap
+read snap 0 128
+merge snap
+settle vol
+finish vol
+save base 0 128
+remove vol
+remove base
+remove cow
