@@ -19,6 +19,7 @@ use Rattle.runner.specs.Ruled.{is_ruled_line}
 use Rattle.runner.specs.Asking.{IsFirst, line_first}
 use Rattle.runner.proofs.EndedLemmas.{all_lines_counted}
 use Rattle.runner.proofs.AskingLemmas.{memory_or_not}
+use Rattle.runner.proofs.ShownLemmas.{line_shown}
 
 -- a line that was done has its outcome
 pub may_ok : (line : List ℕ) (old new : Table) (reply : Option Reply) → Does (Ok reply) new (IsStarved line old) (answer_of line old) → MayBe line old (record { replies = answered reply; table = new })
@@ -52,6 +53,7 @@ line_done line old was table summary now ended own P view may none asks stays nu
     let D : Table → Type 0 = λ t. IsLineDone line t (record { replies = replies; table = table }) in
     let here : D was = record {
       rule = λ ruled. none_ended line was table ended own (none ruled) (may ruled);
+      shows = λ ruled well. line_shown line was (record { replies = replies; table = table }) well (none_ended line was table ended own (none ruled) (may ruled));
       first = asks;
       stays = stays;
       number = number;

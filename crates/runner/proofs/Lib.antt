@@ -6,5 +6,6 @@ pub mod EndedLemmas
 pub mod AskingLemmas
 pub mod RuledLemmas
 pub mod LeftLemmas
+pub mod ShownLemmas
 pub mod DeskLemmas
 pub mod RunLemmas

@@ -10,3 +10,4 @@ pub mod Exit
 pub mod Ruled
 pub mod Left
 pub mod Done
+pub mod Shown

@@ -1,5 +1,5 @@
 -- What is shown where devices are made and taken away.
-use Rattle.std.proofs.Common.{◌≡◌, ℕ, zero, suc, Bool, true, false, List, [], ◌∷◌, ◌++◌, length, map, refl, ap, ◌∙◌, sym, subst}
+use Rattle.std.proofs.Common.{◌≡◌, ℕ, zero, suc, Bool, true, false, List, [], refl, ap, ◌∙◌, sym, subst}
 use Rattle.std.specs.Prelude.{if◌then◌else◌, Option, Some, None, Result, Ok, Err, is_some, nat_le, not}
 use Rattle.sector.specs.declared.refusal.Refusal.{Refusal}
 use Rattle.sector.specs.declared.refusal.Refusal.TheVariants.{BadTable, OutOfRange, Busy, TooMany, MergeInProgress, NoSuchDevice}
@@ -17,13 +17,13 @@ use Rattle.named.specs.State.{Stacked, Volume, Table}
 use Rattle.named.specs.Changes.{Did, refused, changed}
 use Rattle.named.specs.Places.{place_of, found, stack_at, volume_at}
 use Rattle.named.specs.Disks.{make, device_count, is_size, with_stack, alone, blank, failing}
-use Rattle.named.specs.Layers.{top, top_of, layered, laid, broken, put, flakey_over, dust_over, features_of}
-use Rattle.named.specs.Origins.{same_size, origin_made, closed}
-use Rattle.named.specs.Snapshots.{Met, Named as Line_names, over, meet, named_in, snapshot_left, snapshot_met, snapshot_by, snapshot_made, parted, left_by}
+use Rattle.named.specs.Layers.{top, top_of, layered, laid, broken, flakey_over, dust_over, features_of}
+use Rattle.named.specs.Origins.{same_size, origin_made}
+use Rattle.named.specs.Snapshots.{Named as Line_names, over, meet, named_in, snapshot_left, snapshot_by, snapshot_made, parted, left_by}
 use Rattle.named.specs.Removing.{lowered_to, with_left, lowered, removed_at, take_away}
 use Rattle.named.specs.Creating.{made, is_merge, create}
 use Rattle.named.proofs.Keeping.{came_by, same_ok, not_ok}
-use Rattle.shown.specs.Arrays.{Arrays, arrays_of, arrays_in}
+use Rattle.shown.specs.Arrays.{arrays_in}
 use Rattle.shown.specs.Shown.{IsChangedAt}
 use Rattle.shown.specs.Commands.{IsTakenAway, IsSnapshotMade, IsRemoved, IsMade, IsShown}
 use Rattle.shown.specs.Well.{IsWell, IsWellFor, IsWellTarget}

@@ -1,7 +1,6 @@
 -- The time and messages change layers, and nothing that is shown.
 use Rattle.std.proofs.Common.{◌≡◌, ℕ, List, [], ◌∷◌, map, refl, ap, ◌∙◌, sym}
-use Rattle.std.specs.Prelude.{Option, Some, None, Result, Ok, Err, is_some, slice_set}
-use Rattle.sector.specs.declared.refusal.Refusal.{Refusal}
+use Rattle.std.specs.Prelude.{Option, Some, None, Ok}
 use Rattle.sector.specs.declared.refusal.Refusal.TheVariants.{BadTable, NoSuchDevice}
 use Rattle.device.specs.Layers.{Layer}
 use Rattle.layers.specs.declared.message.Message.{Message}
@@ -12,20 +11,19 @@ use Rattle.plain.specs.Plain.{Saved}
 use Rattle.settled.specs.Devices.{Device}
 use Rattle.settled.specs.Snaps.{Snap, Volume as Settled, shown}
 use Rattle.settled.specs.Merges.{Merge, Merged}
-use Rattle.settled.specs.MergeShown.{array_of, origin_shown}
-use Rattle.settled.specs.Moments.{store_relayered, all_relayered}
-use Rattle.served.specs.Moments.{store_relayered as merging_relayered, merged_relayered}
+use Rattle.settled.specs.MergeShown.{array_of}
+use Rattle.settled.specs.Moments.{store_relayered}
+use Rattle.served.specs.Moments.{store_relayered as merging_relayered}
 use Rattle.named.specs.declared.place.Role.{Role}
 use Rattle.named.specs.declared.place.Role.TheVariants.{Origin, Under, Snapshot, Store, Merging, MergingStore}
-use Rattle.named.specs.State.{Names, Merging as Begun, Volume, Table, merge_in, merged_in, with_merge, with_merged}
-use Rattle.named.specs.Messages.{with_layers, told_in, told_snap, told_store, told_under, told_beside, told_merge, told_merging, told_role, snap_at, told_mounted, volume_ticked, ticked, with_store}
+use Rattle.named.specs.State.{Names, Merging as Begun, Volume, Table, merge_in, merged_in, with_merge}
+use Rattle.named.specs.Messages.{with_layers, told_in, told_snap, told_store, told_under, told_merge, told_merging, told_role, snap_at, told_mounted, volume_ticked, ticked, with_store}
 use Rattle.named.proofs.Keeping.{came_by, same_ok, not_ok}
 use Rattle.shown.specs.Arrays.{Named, Arrays, named_by, arrays_of, arrays_in}
 use Rattle.shown.proofs.Lists.{snap_there}
 use Rattle.shown.proofs.Tables.{named_same}
 use Rattle.named.proofs.InTable.{told_count}
 use Rattle.shown.proofs.Writes.{arrays_at, after_arrays}
-use Rattle.shown.proofs.Settles.{arrays_by}
 
 -- snapshots with other layers
 relayered_named : (f : List Layer → List Layer) (disk : List ℕ) (names : List Names) (snaps : List Snap) → named_by disk names (map (store_relayered f) snaps) ≡ named_by disk names snaps

@@ -1,38 +1,35 @@
 -- What each command does to what is shown, by its rule.
-use Rattle.std.proofs.Common.{◌≡◌, inl, inr, ℕ, ◌*◌, ◌/◌, ◌%◌, ◌<◌, ◌≤◌, Bool, true, false, List, [], ◌∷◌, ◌++◌, length, map, arith, refl, ap, ◌∙◌, sym, subst}
-use Rattle.std.specs.Prelude.{◌==◌, ◌&&◌, if◌then◌else◌, Option, Some, None, Result, Ok, Err, is_some, nat_lt, nat_le, not, slice_set}
+use Rattle.std.proofs.Common.{◌≡◌, inl, inr, ℕ, ◌*◌, ◌/◌, ◌%◌, ◌<◌, true, false, List, length, arith, refl, ap, ◌∙◌, sym, subst}
+use Rattle.std.specs.Prelude.{◌==◌, ◌&&◌, Option, Some, None, Result, Ok, Err, nat_lt, nat_le, not}
 use Rattle.std.proofs.lemmas.Bool.{cases_Bool, cond-true, cond-false, eqb-true}
 use Rattle.sector.specs.declared.refusal.Refusal.{Refusal}
-use Rattle.sector.specs.declared.refusal.Refusal.TheVariants.{BadTable, NoSuchDevice, OutOfRange, Busy, TooMany, MergeInProgress, NoMemory}
+use Rattle.sector.specs.declared.refusal.Refusal.TheVariants.{BadTable, NoSuchDevice, OutOfRange, Busy, MergeInProgress, NoMemory}
 use Rattle.layers.specs.declared.message.Message.{Message}
 use Rattle.layers.specs.declared.message.Answer.{Answer}
-use Rattle.words.specs.Given.{◌>>=◌}
 use Rattle.command.specs.Words.{sectors_of}
 use Rattle.command.specs.declared.grammar.Command.{Command}
 use Rattle.command.specs.declared.grammar.Command.TheVariants as commands
-use Rattle.table.specs.declared.lines.Line.{Line}
-use Rattle.table.specs.declared.lines.Target.{Target}
-use Rattle.table.specs.declared.lines.Target.TheVariants as targets
 use Rattle.named.specs.declared.place.Role.{Role}
 use Rattle.named.specs.declared.place.Role.TheVariants.{Origin, Under, Snapshot, Store, Merging, MergingStore}
 use Rattle.named.specs.declared.place.Place.{Place}
 use Rattle.named.specs.declared.place.Place.TheVariants.{Free, In}
-use Rattle.named.specs.State.{Stacked, Volume, Table, merged_in}
-use Rattle.named.specs.Changes.{Did, refused, kept, changed}
+use Rattle.named.specs.State.{Volume, Table, merged_in}
+use Rattle.named.specs.Changes.{Did, kept, changed}
 use Rattle.named.specs.Places.{place_of, found, stack_at, volume_at}
 use Rattle.named.specs.Messages.{put_volume, told_at, told_free, told_mounted, tell}
 use Rattle.named.specs.Raw.{whole, load, loaded_at, loaded_free, in_use, raw_under, fits}
 use Rattle.named.specs.Sectors.{Asked, asked_of, at_role, in_volume, read_by, read_in, read_some, after_asking, read, written_in, write_some, write, IsPartWritten, IsReadAsked, IsReadStarved, IsWriteStarved, IsAtRole, IsInVolume, IsWriteStarvedBy}
 use Rattle.named.specs.Events.{origin_at, origin_by, merge_done, settle}
 use Rattle.named.specs.Merging.{begun, begun_at, merge_begun, resumed, merge_resumed, finished, merge_finished}
+use Rattle.named.specs.Stopping.{volume_stopped}
 use Rattle.named.proofs.Keeping.{came_by, same_ok, not_ok}
-use Rattle.shown.specs.Arrays.{Named, Arrays, arrays_of, arrays_in}
-use Rattle.shown.specs.Shown.{IsChangedAt, IsGoneOn, IsMergedBack, IsWrittenTo, IsWriteRefused, IsWriteDone}
+use Rattle.shown.specs.Arrays.{arrays_of, arrays_in}
+use Rattle.shown.specs.Shown.{IsGoneOn, IsMergedBack, IsWrittenTo, IsWriteRefused, IsWriteDone}
 use Rattle.shown.specs.Commands.{IsAnswered, IsRefused, IsShown}
-use Rattle.shown.specs.Well.{IsWell, IsWellFor}
-use Rattle.shown.proofs.Tables.{changed_in, same_in}
+use Rattle.shown.specs.Well.{IsWellFor}
+use Rattle.shown.proofs.Tables.{changed_in, same_in, one_less}
 use Rattle.shown.proofs.Settles.{merge_goes_on}
-use Rattle.shown.proofs.Rules.{begun_shows, resumed_shows, finished_shows, parted_shows}
+use Rattle.shown.proofs.Rules.{begun_shows, resumed_shows, finished_shows}
 use Rattle.shown.proofs.Writes.{write_shows, part_shows, after_arrays}
 use Rattle.shown.proofs.Layers.{told_shows}
 
@@ -121,6 +118,17 @@ finished_as name table new is =
 
 pub finish_line : (name : List ℕ) (table : Table) → (let done : Did (Unit {0}) Table = changed table (merge_finished name table) in IsShown (commands.Finish name) table done.answer (arrays_in table) (arrays_in done.left))
 finish_line name table = by_change (commands.Finish name) table (merge_finished name table) (λ e. refl) (λ new is. finished_as name table new is)
+
+-- `stop VOL`
+stopped_as : (name : List ℕ) (table new : Table) → volume_stopped name table ≡ Ok new → IsAnswered (commands.Stop name) table (arrays_in table) (arrays_in new)
+unfolding volume_stopped
+stopped_as name table new is =
+    let a = came_by (origin_by name table) _ new is in
+    let b = came_by (volume_at a.0 table) _ new a.2 in
+    (a.0, a.1, ap arrays_in (sym (same_ok _ new b.2)) ∙ one_less table.volumes a.0)
+
+pub stop_line : (name : List ℕ) (table : Table) → (let done : Did (Unit {0}) Table = changed table (volume_stopped name table) in IsShown (commands.Stop name) table done.answer (arrays_in table) (arrays_in done.left))
+stop_line name table = by_change (commands.Stop name) table (volume_stopped name table) (λ e. refl) (λ new is. stopped_as name table new is)
 
 -- bytes that are whole sectors
 whole_there : (bytes : List ℕ) (count : ℕ) → whole bytes ≡ Ok count → (length bytes ≡ 512 * count) × (0 < count)

@@ -1,12 +1,12 @@
 -- Snapshots by their places, and by their numbers, which rise.
-use Rattle.std.proofs.Common.{◌≡◌, ◌≢◌, inl, inr, ℕ, zero, suc, ◌<◌, Bool, true, false, List, [], ◌∷◌, ◌++◌, length, map, arith, refl, ap, ◌∙◌, sym, subst}
-use Rattle.std.specs.Prelude.{◌==◌, AllPairs, Option, Some, None, Ok, Err, slice_get, slice_set}
+use Rattle.std.proofs.Common.{◌≡◌, inl, inr, ℕ, zero, suc, ◌<◌, true, false, List, [], ◌∷◌, length, map, arith, refl, ap, ◌∙◌, sym, subst}
+use Rattle.std.specs.Prelude.{◌==◌, AllPairs, Some, Ok, Err, slice_get, slice_set}
 use Rattle.std.specs.List.{remove}
 use Rattle.std.proofs.lemmas.Bool.{cases_Bool, cond-true, cond-false}
 use Rattle.std.proofs.lemmas.Option.{slice_get_cases}
 use Rattle.volume_laws.proofs.Lists.{AllPairs-head, AllPairs-tail}
 use Rattle.sector.specs.declared.refusal.Refusal.TheVariants.{NoSuchDevice}
-use Rattle.plain.specs.Plain.{Saved, Live, Entry}
+use Rattle.plain.specs.Plain.{Saved, Entry}
 use Rattle.settled.specs.Snaps.{Snap, Volume as Settled}
 use Rattle.settled.specs.Attaching.{detached}
 use Rattle.settled.proofs.Each.{Each, each_from}

@@ -1,27 +1,24 @@
 -- Devices that are made, and taken away.
-use Rattle.std.proofs.Common.{◌≡◌, ℕ, ◌+◌, Bool, true, false, List, [], ◌∷◌, ◌++◌, length, map, refl, ap, ◌∙◌, sym, subst}
-use Rattle.std.specs.Prelude.{◌&&◌, ◌||◌, if◌then◌else◌, Option, Some, None, Result, Ok, Err, is_some, nat_lt, nat_le, slice_set, not}
+use Rattle.std.proofs.Common.{◌≡◌, ℕ, ◌+◌, Bool, true, false, List, [], ◌∷◌, ◌++◌, length, refl, ap, ◌∙◌, sym, subst}
+use Rattle.std.specs.Prelude.{◌&&◌, ◌||◌, if◌then◌else◌, None, Result, Ok, Err, is_some, nat_lt}
 use Rattle.std.specs.List.{remove}
-use Rattle.std.proofs.lemmas.Bool.{cases_Bool, cond-true, cond-false}
+use Rattle.std.proofs.lemmas.Bool.{cond-true}
 use Rattle.sector.specs.declared.refusal.Refusal.{Refusal}
-use Rattle.sector.specs.declared.refusal.Refusal.TheVariants.{Busy, BadTable, TooMany, Stale, BadChunk}
-use Rattle.plain.specs.Plain.{Saved, Live}
-use Rattle.settled.specs.Snaps.{Snap, Volume as Settled, shown}
+use Rattle.sector.specs.declared.refusal.Refusal.TheVariants.{Busy, TooMany, Stale, BadChunk}
+use Rattle.plain.specs.Plain.{Saved}
+use Rattle.settled.specs.Snaps.{Snap, Volume as Settled}
 use Rattle.chunk.specs.Sizes.{is_chunk}
 use Rattle.model.specs.Picture.{picture}
 use Rattle.settled.specs.Devices.{Device, sectors_of}
 use Rattle.settled.specs.Attaching.{Store, Attached, open_store, refused_attach, taken_by, attached}
-use Rattle.settled.specs.Merges.{Merge}
-use Rattle.settled.specs.MergeShown.{array_of}
-use Rattle.named.specs.State.{Stacked, Names, Merging as Begun, Volume, Table, merge_in}
+use Rattle.named.specs.State.{Stacked, Names, Volume, Table}
 use Rattle.words.specs.Given.{◌>>=◌}
-use Rattle.named.specs.Changes.{Did, refused, changed}
-use Rattle.named.specs.Places.{place_of, found, stack_at, volume_at}
-use Rattle.named.specs.Layers.{top, put}
-use Rattle.named.specs.Origins.{same_size, origin_on, origin_made, moved_under, stack_under, still, closed}
+use Rattle.named.specs.Places.{stack_at, volume_at}
+use Rattle.named.specs.Layers.{top}
+use Rattle.named.specs.Origins.{same_size, origin_on, origin_made, stack_under, still, closed}
 use Rattle.named.specs.Snapshots.{store_of, with_snapshot, kept_out, attached_to, meet}
 use Rattle.named.proofs.Keeping.{came_by, same_ok, not_ok}
-use Rattle.shown.specs.Arrays.{Named, Arrays, named_by, arrays_of, arrays_in}
+use Rattle.shown.specs.Arrays.{Named, named_by, arrays_of, arrays_in}
 use Rattle.shown.specs.Commands.{IsSnapshotMade}
 use Rattle.shown.proofs.Tables.{one_more, one_less, named_more}
 

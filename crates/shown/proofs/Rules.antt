@@ -1,27 +1,23 @@
 -- What each rule of a volume leaves of what is shown.
-use Rattle.std.proofs.Common.{◌≡◌, inl, inr, ℕ, zero, suc, ◌<◌, Bool, true, false, List, [], ◌∷◌, ◌++◌, length, map, arith, refl, ap, ◌∙◌, sym, subst}
-use Rattle.std.specs.Prelude.{if◌then◌else◌, Option, Some, None, Result, Ok, Err, is_some, nat_lt, slice_get, slice_set}
+use Rattle.std.proofs.Common.{◌≡◌, inl, inr, ℕ, true, List, [], ◌∷◌, length, arith, refl, ap, ◌∙◌, sym, subst}
+use Rattle.std.specs.Prelude.{if◌then◌else◌, Option, Some, None, Ok, Err, nat_lt, slice_get}
 use Rattle.std.specs.List.{remove}
 use Rattle.std.proofs.lemmas.Bool.{cases_Bool, cond-true, cond-false, lt-ltb}
-use Rattle.sector.specs.declared.refusal.Refusal.{Refusal}
-use Rattle.sector.specs.declared.refusal.Refusal.TheVariants.{Invalid, MergeInProgress, NotFinished, NotQuiet, NotMerging}
+use Rattle.sector.specs.declared.refusal.Refusal.TheVariants.{Invalid, NotFinished, NotMerging}
 use Rattle.sector.specs.declared.pair.Pair.{Pair}
-use Rattle.model.specs.Pairs.{pairs_of}
 use Rattle.model.specs.Picture.{picture}
-use Rattle.plain.specs.Plain.{Saved, Live}
 use Rattle.volume_laws.proofs.Attaching.{picture_none}
-use Rattle.settled.specs.Snaps.{Snap, Volume as Settled, shown}
-use Rattle.settled.specs.Attaching.{Store, detached, given_back}
-use Rattle.settled.specs.Merges.{Merge, Merged, pairs_in}
-use Rattle.settled.specs.MergeShown.{origin_shown, array_of}
-use Rattle.named.specs.State.{Stacked, Names, Merging as Begun, Volume, merge_in, merged_in}
+use Rattle.settled.specs.Snaps.{Snap, shown}
+use Rattle.settled.specs.Attaching.{detached, given_back}
+use Rattle.settled.specs.Merges.{Merge, pairs_in}
+use Rattle.named.specs.State.{Stacked, Merging as Begun, Volume, merge_in}
 use Rattle.named.specs.Messages.{snap_at}
 use Rattle.named.specs.Raw.{names_at}
 use Rattle.named.specs.Origins.{still}
-use Rattle.named.specs.Merging.{unmerged, alive, with_begun, begun, unfailed, resumed_by, resumed, all_merged, finished_by, finished}
-use Rattle.named.specs.Snapshots.{stack_of, without_snapshot, parted}
+use Rattle.named.specs.Merging.{unmerged, alive, begun, resumed_by, resumed, all_merged, finished_by, finished}
+use Rattle.named.specs.Snapshots.{stack_of, parted}
 use Rattle.named.proofs.Keeping.{came_by, same_ok, not_ok}
-use Rattle.shown.specs.Arrays.{Named, Arrays, named_by, arrays_of}
+use Rattle.shown.specs.Arrays.{Arrays, named_by, arrays_of}
 use Rattle.shown.specs.Shown.{IsMergedBack}
 use Rattle.shown.specs.Commands.{IsTakenAway}
 use Rattle.shown.specs.Well.{IsNumbered}

@@ -1,13 +1,13 @@
 -- A merge goes on: nobody sees it.
-use Rattle.std.proofs.Common.{◌≡◌, inl, inr, ℕ, List, [], ◌∷◌, length, refl, ap, ◌∙◌, sym}
+use Rattle.std.proofs.Common.{◌≡◌, inl, inr, ℕ, List, [], ◌∷◌, refl}
 use Rattle.std.specs.Prelude.{Option, Some, None}
-use Rattle.std.proofs.lemmas.Bool.{cases_Bool, cond-true, cond-false}
-use Rattle.settled.specs.Snaps.{Snap, Volume as Settled, shown}
+use Rattle.std.proofs.lemmas.Bool.{cases_Bool, cond-false}
+use Rattle.settled.specs.Snaps.{Snap, Volume as Settled}
 use Rattle.settled.specs.Shown.{ShowTheSame}
 use Rattle.settled.specs.Merges.{Merge, Merged, Merging, merge_all, merged}
-use Rattle.settled.specs.MergeShown.{IsMerging, IsUnseen, array_of, origin_shown}
+use Rattle.settled.specs.MergeShown.{IsMerging, IsUnseen, array_of}
 use Rattle.merge_laws.proofs.MergeEnds.{merge_unseen}
-use Rattle.named.specs.State.{Names, Merging as Begun, Volume, merge_in, merged_in, with_merge, with_merged}
+use Rattle.named.specs.State.{Names, Merging as Begun, Volume, merge_in, with_merge}
 use Rattle.named.specs.Events.{merge_done}
 use Rattle.shown.specs.Arrays.{Named, Arrays, named_by, arrays_of}
 use Rattle.shown.specs.Shown.{AreKept, IsGoneOn}

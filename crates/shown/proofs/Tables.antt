@@ -1,6 +1,6 @@
 -- The arrays of a table, by those of its volumes.
-use Rattle.std.proofs.Common.{◌≡◌, inl, inr, ℕ, zero, suc, ◌<◌, List, [], ◌∷◌, ◌++◌, length, map, get_or, set, arith, refl, ap, ◌∙◌, sym}
-use Rattle.std.specs.Prelude.{Option, Some, None, Ok, Err, slice_get, slice_set}
+use Rattle.std.proofs.Common.{◌≡◌, inl, inr, ℕ, zero, suc, List, [], ◌∷◌, ◌++◌, length, map, arith, refl, ap, ◌∙◌, sym}
+use Rattle.std.specs.Prelude.{Option, Some, Ok, Err, slice_get, slice_set}
 use Rattle.std.specs.List.{remove}
 use Rattle.std.proofs.lemmas.List.{map-set}
 use Rattle.std.proofs.lemmas.Option.{slice_get_cases, slice_get_read}
@@ -10,7 +10,6 @@ use Rattle.sector.specs.declared.refusal.Refusal.TheVariants.{NoSuchDevice}
 use Rattle.settled.specs.Snaps.{Snap, shown}
 use Rattle.named.specs.State.{Names, Volume, Table}
 use Rattle.named.specs.Places.{volume_at}
-use Rattle.named.specs.Messages.{put_volume}
 use Rattle.named.specs.Raw.{names_at}
 use Rattle.named.proofs.Keeping.{same_ok, not_ok, volume_there}
 use Rattle.shown.specs.Arrays.{Named, Arrays, named_by, arrays_of, arrays_in}

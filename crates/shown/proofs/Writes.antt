@@ -1,24 +1,23 @@
 -- A write of a volume that is well is one of plain arrays, whether a merge is begun or not.
-use Rattle.std.proofs.Common.{◌≡◌, inl, inr, ℕ, zero, suc, ◌+◌, ◌*◌, ◌/◌, ◌<◌, ◌≤◌, Bool, true, false, List, [], ◌∷◌, length, map, take, drop, arith, refl, ap, ◌∙◌, sym, subst}
+use Rattle.std.proofs.Common.{◌≡◌, inl, inr, ℕ, zero, suc, ◌+◌, ◌*◌, ◌<◌, ◌≤◌, List, [], ◌∷◌, length, map, take, arith, refl, ap, ◌∙◌, sym, subst}
 use Rattle.std.specs.Prelude.{Option, Some, None, Result, Ok, Err, is_some, nat_lt, slice_get, slice_set}
 use Rattle.std.proofs.lemmas.Bool.{cases_Bool, cond-true}
 use Rattle.std.proofs.lemmas.List.{take_all}
-use Rattle.sector.specs.Bytes.{with_sectors}
 use Rattle.sector.specs.declared.range.Range.{Range}
 use Rattle.sector.specs.declared.refusal.Refusal.{Refusal}
 use Rattle.sector.specs.declared.refusal.Refusal.TheVariants.{OutOfRange, NoMemory}
-use Rattle.chunk.specs.Pieces.{Span, span_of, Join, AreCutFrom, pieces_of}
+use Rattle.chunk.specs.Pieces.{Span, AreCutFrom, pieces_of}
 use Rattle.chunk.proofs.Whole.{cut_pieces}
-use Rattle.plain.specs.Plain.{Saved, Live, Invalid, Entry}
+use Rattle.plain.specs.Plain.{Saved, Live, Invalid}
 use Rattle.plain.specs.declared.request.Dev.{Dev}
 use Rattle.plain.specs.declared.request.Dev.TheVariants as devs
 use Rattle.plain.specs.declared.request.Reply.{Reply}
 use Rattle.plain.specs.declared.request.Reply.TheVariants.{Data, Written, Refused}
 use Rattle.plain.specs.declared.request.Failure.TheVariants.{Invalid as Declined, Io}
 use Rattle.settled.specs.Devices.{sectors_of}
-use Rattle.settled.specs.Snaps.{Snap, Volume as Settled}
-use Rattle.settled.specs.Merges.{Merge, Merged, Merging}
-use Rattle.settled.specs.MergeShown.{IsMerging, origin_shown}
+use Rattle.settled.specs.Snaps.{Snap}
+use Rattle.settled.specs.Merges.{Merge, Merged}
+use Rattle.settled.specs.MergeShown.{origin_shown}
 use Rattle.settled.proofs.Each.{Each}
 use Rattle.served.specs.Beside.{Served, chunk_beside, written_beside, written_first_beside}
 use Rattle.named.specs.Changes.{Did}
@@ -27,10 +26,10 @@ use Rattle.named.specs.Messages.{snap_at}
 use Rattle.named.specs.Sectors.{Asked, asked_of, serves, dev_of, takes, after_asking, write_answer, write_by, written_in, IsPartWritten, IsPartWrittenBy}
 use Rattle.named.proofs.Begun.{merged_is}
 use Rattle.named.proofs.Keeping.{came_by, same_ok, not_ok}
-use Rattle.named.specs.State.{Names, Merging as Begun, Volume, merge_in, merged_in, with_merge, with_merged}
+use Rattle.named.specs.State.{Names, Merging as Begun, Volume, merge_in, merged_in}
 use Rattle.named.specs.declared.place.Role.{Role}
 use Rattle.named.specs.declared.place.Role.TheVariants.{Origin, Under, Snapshot, Store, Merging as InMerging, MergingStore}
-use Rattle.resting.specs.Showing.{Arrays as Plain, entry_of, changed_at, saved_at, with_bytes, IsLive, IsWritten, IsLost, sectors_in}
+use Rattle.resting.specs.Showing.{entry_of, changed_at, saved_at, with_bytes, IsLive, IsWritten, IsLost, sectors_in}
 use Rattle.resting.proofs.Shown.{arrays_with}
 use Rattle.resting.proofs.Rests.{IsInside}
 use Rattle.resting.proofs.PlainReads.{span_inside, sectors_joined, has_pieces}
@@ -39,7 +38,7 @@ use Rattle.resting.proofs.BesideWrites.{parts_shown, join_take, each_take, fewer
 use Rattle.resting.proofs.WriteRuns.{parts_written}
 use Rattle.resting.proofs.Writing.{write_whole, write_first}
 use Rattle.shown.specs.Arrays.{Named, Arrays, named_by, arrays_of}
-use Rattle.shown.specs.Shown.{AreKept, IsOriginWritten, IsSnapshotChanged, IsSavedWritten, IsWrittenTo, IsPartWrittenTo, IsLostBy, IsWriteDone, IsWriteRefused}
+use Rattle.shown.specs.Shown.{AreKept, IsOriginWritten, IsSnapshotChanged, IsSavedWritten, IsWrittenTo, IsWriteDone, IsWriteRefused}
 use Rattle.shown.specs.Well.{IsWell}
 use Rattle.shown.proofs.Lists.{Rise, named_with, named_is, numbers_are, entry_at, entries_kept, IsHere, is_here, snap_there}
 use Rattle.shown.proofs.Resting.{rests}
@@ -244,7 +243,6 @@ asked_there role first count volume asks is =
   where
     ok : Dev → Result Dev Refusal
     ok dev = Ok dev
-
 
 -- a write of a volume that is well
 pub write_shows : (role : Role) (first count : ℕ) (bytes : List ℕ) (volume : Volume) → IsWell volume → length bytes ≡ 512 * count → 0 < count → (let done : Did (Unit {0}) Volume = written_in role first count bytes volume in IsWriteDone role first bytes done.answer (arrays_of volume) (arrays_of done.left))

@@ -1,6 +1,6 @@
 -- To be believed: what commands do to what volumes show is said in these words.
 -- What each command does to what is shown, by its answer. Volumes are told apart by their order, which no command changes but
--- one that takes an origin away; places and names are those of the table before the command.
+-- one that takes an origin away, alone or with its snapshots; places and names are those of the table before the command.
 use Rattle.std.specs.Prelude.{◌≡◌, ◌⊎◌, ℕ, List, [], ◌∷◌, ◌++◌, Option, Some, None, Result, Ok, Err}
 use Rattle.std.specs.List.{remove}
 use Rattle.sector.specs.declared.refusal.Refusal.{Refusal}
@@ -17,7 +17,7 @@ use Rattle.named.specs.State.{Table}
 use Rattle.named.specs.Places.{place_of}
 use Rattle.named.specs.Events.{origin_by}
 use Rattle.named.specs.Snapshots.{over}
-use Rattle.shown.specs.Arrays.{Named, Arrays}
+use Rattle.shown.specs.Arrays.{Arrays}
 use Rattle.shown.specs.Shown.{IsChangedAt, IsGoneOn, IsMergedBack, IsWrittenTo, IsWriteRefused}
 
 -- Snapshot k is gone.
@@ -71,6 +71,7 @@ IsAnswered (commands.StartWrite device first bytes) table old new = new ≡ old
 IsAnswered (commands.Step volume event) table old new = new ≡ old
 IsAnswered (commands.Resume volume) table old new = new ≡ old
 IsAnswered (commands.Finish volume) table old new = new ≡ old
+IsAnswered (commands.Stop volume) table old new = (v : ℕ) × (origin_by volume table ≡ Ok v) × (new ≡ remove old v)
 IsAnswered (commands.Status device) table old new = new ≡ old
 IsAnswered (commands.Table device) table old new = new ≡ old
 
@@ -93,6 +94,7 @@ IsRefused (commands.StartWrite device first bytes) table refusal old new = new �
 IsRefused (commands.Step volume event) table refusal old new = new ≡ old
 IsRefused (commands.Resume volume) table refusal old new = new ≡ old
 IsRefused (commands.Finish volume) table refusal old new = new ≡ old
+IsRefused (commands.Stop volume) table refusal old new = new ≡ old
 IsRefused (commands.Status device) table refusal old new = new ≡ old
 IsRefused (commands.Table device) table refusal old new = new ≡ old
 

@@ -1,6 +1,6 @@
 -- To be believed: what commands do to what volumes show is said in these words.
 -- How what is shown after a command compares with what was shown before. Volumes are told apart by their order.
-use Rattle.std.specs.Prelude.{◌≡◌, ◌⊎◌, ℕ, ◌*◌, ◌<◌, List, [], ◌∷◌, ◌++◌, length, slice_get, slice_set, take, Option, Some, Result, Ok, Err}
+use Rattle.std.specs.Prelude.{◌≡◌, ◌⊎◌, ℕ, ◌*◌, ◌<◌, List, [], ◌∷◌, length, slice_get, slice_set, take, Some, Result, Ok, Err}
 use Rattle.std.specs.List.{remove}
 use Rattle.sector.specs.Bytes.{with_sectors}
 use Rattle.sector.specs.declared.refusal.Refusal.{Refusal}

@@ -1,0 +1,103 @@
+-- What a line does to what volumes show, by its outcome.
+use Rattle.std.proofs.Common.{◌≡◌, inl, inr, ℕ, List, [], ◌∷◌, refl, ap, sym, subst}
+use Rattle.std.specs.Prelude.{◌⊎◌, Option, Some, None, Result, Ok, Err}
+use Rattle.sector.specs.declared.refusal.Refusal.{Refusal}
+use Rattle.sector.specs.declared.refusal.Refusal.TheVariants.{NoMemory}
+use Rattle.command.specs.Line.{said_of}
+use Rattle.command.specs.declared.grammar.Command.{Command}
+use Rattle.command.specs.declared.grammar.Command.TheVariants as commands
+use Rattle.reply.specs.declared.Reply.{Reply}
+use Rattle.reply.specs.declared.Reply.TheVariants.{Done, Refused}
+use Rattle.named.specs.State.{Table}
+use Rattle.named.specs.Changes.{Did}
+use Rattle.named.specs.Disks.{make}
+use Rattle.named.specs.Messages.{ticked}
+use Rattle.named.specs.Raw.{load}
+use Rattle.shown.specs.Arrays.{Arrays, arrays_in}
+use Rattle.shown.specs.Commands.{IsAnswered, IsRefused, IsShown}
+use Rattle.shown.specs.Well.{IsWellOf}
+use Rattle.shown.proofs.Layers.{ticked_shows}
+use Rattle.shown.proofs.Lines.{settle_line, merge_line, resume_line, finish_line, stop_line, write_line, write_starved, read_line, read_starved, tell_line, load_line}
+use Rattle.shown.proofs.Devices.{disk_line, remove_line, create_line}
+use Rattle.runner.specs.Steps.{reworded, step, obeyed, answer_of}
+use Rattle.runner.specs.Output.{Outcome, told, outcome, outcome_of, IsPartDone, IsPartSaid, IsStarved, MayBe}
+use Rattle.runner.specs.Shown.{answer_in, IsSaidShown, IsLineShown, IsWellSaid, IsWellLine}
+
+-- an answer as it is printed
+abbrev printed_as : Result Reply Refusal → Result (Unit {0}) Refusal
+printed_as answer = answer_in (told (reworded Some answer))
+
+-- what is answered by `ok` alone
+as_done : (command : Command) (table : Table) (answer : Result (Unit {0}) Refusal) (old new : List Arrays) → IsShown command table answer old new → IsShown command table (printed_as (reworded (λ _. Done) answer)) old new
+as_done command table (Ok done) old new shows = shows
+as_done command table (Err e) old new shows = shows
+
+-- whatever is answered
+in_both : (command : Command) (table : Table) (old new : List Arrays) → IsAnswered command table old new → ((e : Refusal) → IsRefused command table e old new) → (answer : Result (Unit {0}) Refusal) → IsShown command table answer old new
+in_both command table old new answered refused (Ok done) = answered
+in_both command table old new answered refused (Err e) = refused e
+
+-- each command's step
+step_shown : (command : Command) (table : Table) → IsWellOf command table → (let done : Did Reply Table = step command table in IsShown command table (printed_as done.answer) (arrays_in table) (arrays_in done.left))
+unfolding step
+step_shown (commands.Disk name sectors) table well = let e = disk_line name sectors table in in_both (commands.Disk name sectors) table _ _ e (λ r. e) _
+step_shown (commands.Create name line) table well = as_done (commands.Create name line) table _ _ _ (create_line name line table well)
+step_shown (commands.Remove name) table well = as_done (commands.Remove name) table _ _ _ (remove_line name table well)
+step_shown (commands.Load disk first bytes) table well = let e = load_line disk first bytes table in in_both (commands.Load disk first bytes) table _ _ e (λ r. e) _
+step_shown (commands.Save disk first count) table well = in_both (commands.Save disk first count) table _ _ refl (λ r. refl) _
+step_shown (commands.Message device message) table well = let e = tell_line device message table in in_both (commands.Message device message) table _ _ e (λ r. e) _
+step_shown (commands.Tick seconds) table well = ticked_shows seconds table
+step_shown (commands.Read device first count) table well = let e = read_line device first count table in in_both (commands.Read device first count) table _ _ e (λ r. e) _
+step_shown (commands.Write device first bytes) table well = as_done (commands.Write device first bytes) table _ _ _ (write_line device first bytes table well)
+step_shown (commands.StartRead device first count) table well = refl
+step_shown (commands.StartWrite device first bytes) table well = refl
+step_shown (commands.Step volume event) table well = refl
+step_shown (commands.Settle volume) table well = as_done (commands.Settle volume) table _ _ _ (settle_line volume table well)
+step_shown (commands.Merge name) table well = as_done (commands.Merge name) table _ _ _ (merge_line name table well)
+step_shown (commands.Resume volume) table well = as_done (commands.Resume volume) table _ _ _ (resume_line volume table)
+step_shown (commands.Finish volume) table well = as_done (commands.Finish volume) table _ _ _ (finish_line volume table)
+step_shown (commands.Stop volume) table well = as_done (commands.Stop volume) table _ _ _ (stop_line volume table)
+step_shown (commands.Status device) table well = in_both (commands.Status device) table _ _ refl (λ r. refl) _
+step_shown (commands.Table device) table well = in_both (commands.Table device) table _ _ refl (λ r. refl) _
+
+-- where memory ran out
+starved_shown : (command : Command) (table new : Table) → IsWellOf command table → IsPartDone command table new → IsRefused command table NoMemory (arrays_in table) (arrays_in new)
+starved_shown (commands.Read device first count) table new well (inl same) = ap arrays_in same
+starved_shown (commands.Read device first count) table new well (inr part) = read_starved device first count table new part
+starved_shown (commands.Write device first bytes) table new well (inl same) = inl (ap arrays_in same)
+starved_shown (commands.Write device first bytes) table new well (inr part) = write_starved device first bytes table new well part
+starved_shown (commands.Disk name sectors) table new well same = ap arrays_in same
+starved_shown (commands.Create name line) table new well same = ap arrays_in same
+starved_shown (commands.Remove name) table new well same = ap arrays_in same
+starved_shown (commands.Load disk first bytes) table new well same = ap arrays_in same
+starved_shown (commands.Save disk first count) table new well same = ap arrays_in same
+starved_shown (commands.Message device message) table new well same = ap arrays_in same
+starved_shown (commands.Tick seconds) table new well same = ap arrays_in same
+starved_shown (commands.StartRead device first count) table new well same = ap arrays_in same
+starved_shown (commands.StartWrite device first bytes) table new well same = ap arrays_in same
+starved_shown (commands.Step volume event) table new well same = ap arrays_in same
+starved_shown (commands.Settle volume) table new well same = ap arrays_in same
+starved_shown (commands.Merge name) table new well same = ap arrays_in same
+starved_shown (commands.Resume volume) table new well same = ap arrays_in same
+starved_shown (commands.Finish volume) table new well same = ap arrays_in same
+starved_shown (commands.Stop volume) table new well same = ap arrays_in same
+starved_shown (commands.Status device) table new well same = ap arrays_in same
+starved_shown (commands.Table device) table new well same = ap arrays_in same
+
+-- by what the line says
+said_shown : (said : Result (Option Command) Refusal) (table : Table) → IsWellSaid said table → (let done : Outcome = outcome (obeyed table said) in IsSaidShown said table (answer_in done.replies) (arrays_in table) (arrays_in done.table))
+said_shown (Ok None) table well = refl
+said_shown (Ok (Some command)) table well = step_shown command table well
+said_shown (Err refusal) table well = refl
+
+said_starved : (said : Result (Option Command) Refusal) (table new : Table) → IsWellSaid said table → IsPartSaid said table new → IsSaidShown said table (Err NoMemory) (arrays_in table) (arrays_in new)
+said_starved (Ok None) table new well same = ap arrays_in same
+said_starved (Ok (Some command)) table new well part = starved_shown command table new well part
+said_starved (Err refusal) table new well same = ap arrays_in same
+
+pub line_shown : (line : List ℕ) (old : Table) (done : Outcome) → IsWellLine line old → MayBe line old done → IsLineShown line old done
+unfolding IsWellLine IsLineShown IsStarved outcome_of answer_of
+line_shown line old done well (inl is) =
+    subst (λ (o : Outcome). IsSaidShown (said_of 65536 line) old (answer_in o.replies) (arrays_in old) (arrays_in o.table)) (sym is) (said_shown (said_of 65536 line) old well)
+line_shown line old done well (inr starved) =
+    subst (λ (rs : List Reply). IsSaidShown (said_of 65536 line) old (answer_in rs) (arrays_in old) (arrays_in done.table)) (sym starved.0) (said_starved (said_of 65536 line) old done.table well starved.1)

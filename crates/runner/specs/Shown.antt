@@ -1,0 +1,46 @@
+-- To be believed: what lines do to what volumes show is said in these words.
+-- What a line does to what volumes show, by the reply that it prints (`shown`).
+use Rattle.std.specs.Prelude.{◌≡◌, ℕ, List, [], ◌∷◌, Option, Some, None, Result, Ok, Err}
+use Rattle.sector.specs.declared.refusal.Refusal.{Refusal}
+use Rattle.command.specs.Line.{said_of}
+use Rattle.command.specs.declared.grammar.Command.{Command}
+use Rattle.reply.specs.declared.Reply.{Reply}
+use Rattle.reply.specs.declared.Reply.TheVariants.{Done, Data, Said, Number, Fault, Ended, Refused}
+use Rattle.named.specs.State.{Table}
+use Rattle.shown.specs.Arrays.{Arrays, arrays_in}
+use Rattle.shown.specs.Commands.{IsShown}
+use Rattle.shown.specs.Well.{IsWellOf}
+use Rattle.runner.specs.Output.{Outcome}
+
+-- whether a reply is a refusal
+abbrev pub refusal_in : Reply → Result (Unit {0}) Refusal
+refusal_in Done = Ok tt
+refusal_in (Data bytes) = Ok tt
+refusal_in (Said text) = Ok tt
+refusal_in (Number number) = Ok tt
+refusal_in Fault = Ok tt
+refusal_in (Ended ended) = Ok tt
+refusal_in (Refused refusal) = Err refusal
+
+-- whether a line was refused, of which these are the replies
+abbrev pub answer_in : List Reply → Result (Unit {0}) Refusal
+answer_in [] = Ok tt
+answer_in (reply ∷ replies) = refusal_in reply
+
+abbrev pub IsSaidShown : Result (Option Command) Refusal → Table → Result (Unit {0}) Refusal → List Arrays → List Arrays → Type 0
+IsSaidShown (Ok None) table answer old new = new ≡ old
+IsSaidShown (Ok (Some command)) table answer old new = IsShown command table answer old new
+IsSaidShown (Err refusal) table answer old new = new ≡ old
+
+-- what is shown after the line is what its command leaves of what was shown
+unfoldable pub IsLineShown : List ℕ → Table → Outcome → Type 0
+IsLineShown line old done = IsSaidShown (said_of 65536 line) old (answer_in done.replies) (arrays_in old) (arrays_in done.table)
+
+abbrev pub IsWellSaid : Result (Option Command) Refusal → Table → Type 0
+IsWellSaid (Ok None) table = Unit {0}
+IsWellSaid (Ok (Some command)) table = IsWellOf command table
+IsWellSaid (Err refusal) table = Unit {0}
+
+-- the volume that the line's command changes is well
+unfoldable pub IsWellLine : List ℕ → Table → Type 0
+IsWellLine line table = IsWellSaid (said_of 65536 line) table
