@@ -41,3 +41,4 @@ pub mod Runs
 pub mod Shown
 pub mod Ordered
 pub mod MergeArrays
+pub mod MergeGoes

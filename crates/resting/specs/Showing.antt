@@ -88,6 +88,11 @@ AreKept [] (t ∷ ts) = ⊥
 AreKept (s ∷ ss) [] = ⊥
 AreKept (s ∷ ss) (t ∷ ts) = (t.number ≡ s.number) × ((t.saved ≡ s.saved) ⊎ (t.saved ≡ Invalid)) × AreKept ss ts
 
+-- A merge goes on: nobody sees it, but that snapshots may be lost.
+pub record IsGoneOn (old new : Arrays) : Type 0 where
+  pub origin : new.origin ≡ old.origin
+  pub saved : AreKept old.saved new.saved
+
 -- These bytes stand from this sector on. Of a write to the origin, snapshots may be lost; one to a snapshot changes what that
 -- shows alone.
 abbrev pub IsWritten : Dev → ℕ → List ℕ → Arrays → Arrays → Type 0

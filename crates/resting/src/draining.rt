@@ -6,6 +6,7 @@ ghost use Rattle.settled.specs.Merges.{merged};
 ghost use Rattle.resting.specs.Rested.{rested_of, merged_of, IsSettled};
 ghost use Rattle.resting.specs.Flying.{IsWhole};
 ghost use Rattle.resting.specs.Kept.{KeepsDevices};
+ghost use Rattle.resting.specs.Showing.{arrays_in, IsGoneOn};
 ghost use Rattle.resting.specs.Draining.{IsDrained, IsDrainedApart, IsAnsweredAmong, is_idle_of};
 
 use crate::{Replied, Resting};
@@ -36,6 +37,7 @@ fn drain<B: Block>(volume: &mut Volume<B>, ended: &mut Vec<Replied>) -> Result<(
     ensures drained { OnOk result (IsDrained B.contents B.layers volume.old volume.new ended.old.items ended.new.items) }
     ensures quiet { OnOk result (is_quiet_of volume.new ≡ true) }
     ensures merged { OnOk result (IsSettled B.layers (rested_of volume.old) → merged (merged_of B.contents B.layers (rested_of volume.old)) ≡ merged_of B.contents B.layers (rested_of volume.new)) }
+    ensures shows { IsSettled B.layers (rested_of volume.old) → IsGoneOn (arrays_in B.contents B.layers (rested_of volume.old)) (arrays_in B.contents B.layers (rested_of volume.new)) }
     ensures idle { is_quiet_of volume.old ≡ true → is_ok result ≡ true }
     ensures still { is_quiet_of volume.old ≡ true → ended.new.items ≡ ended.old.items }
     ensures alone { is_quiet_of volume.old ≡ true → volume.old.merge ≡ None → volume.new ≡ volume.old }
@@ -118,11 +120,13 @@ impl<B: Block> Resting<B> {
     /// Does the events that are due, those of a merge among them, each time the one that is due first, until none is. Each
     /// reply is put at the end of `ended`. Room for one of each request in flight is taken once, before the first event:
     /// where that is refused (`NoMemory`), nothing is done. Where the volume is quiet no memory is asked for. A settled volume is left as the settled machine's whole merge
-    /// leaves it, and as it was where no merge is begun.
+    /// leaves it, and as it was where no merge is begun: whatever fails, its origin shows what it showed, and so does each
+    /// snapshot that is not spoiled.
     pub fn settle(&mut self, ended: &mut Vec<Replied>) -> Result<(), Refusal>
         ensures drained { OnOk result (IsDrained B.contents B.layers self.old.events self.new.events ended.old.items ended.new.items) }
         ensures quiet { OnOk result (is_quiet_of self.new.events ≡ true) }
         ensures merged { OnOk result (IsSettled B.layers self.old → merged (merged_of B.contents B.layers self.old) ≡ merged_of B.contents B.layers self.new) }
+        ensures shows { IsSettled B.layers self.old → IsGoneOn (arrays_in B.contents B.layers self.old) (arrays_in B.contents B.layers self.new) }
         ensures idle { is_quiet_of self.old.events ≡ true → is_ok result ≡ true }
         ensures still { is_quiet_of self.old.events ≡ true → ended.new.items ≡ ended.old.items }
         ensures alone { is_quiet_of self.old.events ≡ true → self.old.events.merge ≡ None → self.new ≡ self.old }

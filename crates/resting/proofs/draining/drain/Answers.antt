@@ -1,11 +1,12 @@
 -- One event more is done; and none is left.
-use Rattle.std.proofs.Common.{refl, sym, ◌∙◌, arith}
+use Rattle.std.proofs.Common.{None, refl, sym, ◌∙◌, arith}
 use Rattle.std.proofs.lemmas.List.{append-nil}
 use Rattle.plain.specs.declared.event.Outcome.TheVariants.{Done, Fault, Reply as Answered}
 use Rattle.resting.proofs.Drained.{drained_merged, quiet_more, quiet_start}
 use Rattle.resting.proofs.Drains.{drains_more, drains_start, step_is}
+use Rattle.resting.proofs.MergeGoes.{merged_gone_on}
 use Rattle.resting.proofs.Quiet.{free_quiet, still_free}
-use Rattle.resting.proofs.Seen.{devices_kept}
+use Rattle.resting.proofs.Seen.{devices_kept, loud_same}
 use Rattle.resting.proofs.draining.drain.Goals as goal
 
 pub loop-event-init : goal.loop-event-init
@@ -62,3 +63,8 @@ returns-clause-merged g c = λ settled. drained_merged g.B.Block.contents g.B.Bl
 
 pub returns-clause-kept : goal.returns-clause-kept
 returns-clause-kept g c = devices_kept g.B.Block.size g.B.Block.layers c.args.volume.now c.loop-event.volume c.loop-event.invariant.so.counts.kept c.loop-event.invariant.so.counts.loud
+
+pub returns-clause-shows : goal.returns-clause-shows
+returns-clause-shows g c = λ settled.
+    merged_gone_on g.B.Block.contents g.B.Block.layers g.B.Block.size c.args.volume.now c.loop-event.volume
+    (c.loop-event.invariant.quiet.looked.under settled.quiet (sym (loud_same g.B.Block.contents g.B.Block.layers c.args.volume.now) ∙ settled.loud) None) (returns-clause-merged g c settled) (returns-clause-kept g c).numbers
