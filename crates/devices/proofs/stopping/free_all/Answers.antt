@@ -17,9 +17,11 @@ loop-preserved c =
     let few = c.loop.invariant.1 in
     let room = c.loop.invariant.2 in
     let len = c.push_reserved.ensures.len in
-    let capacity = c.push_reserved.ensures.capacity in
-    (one_freed c.loop.stacks.items c.push_reserved.new.self.items c.loop.stopped c.take.new.self _ c.in-Some.stack c.loop.invariant.0 c.in-Some.ensures.some c.push_reserved.ensures.items,
-        omega (arith, less, few), omega (arith, less, room, len, capacity))
+    let capacity = c.push_reserved.ensures.capacity in (
+      one_freed c.loop.stacks.items c.push_reserved.new.self.items c.loop.stopped c.take.new.self _ c.in-Some.stack c.loop.invariant.0 c.in-Some.ensures.some c.push_reserved.ensures.items,
+      omega (arith, less, few),
+      omega (arith, less, room, len, capacity),
+    )
 
 pub returns-in_default : goal.returns-in_default
 returns-in_default c = none_left c.loop.stacks.items c.loop.stopped _ c.loop.invariant.0 c.in_default.ensures.none.0
