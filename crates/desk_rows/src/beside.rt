@@ -37,6 +37,8 @@ pub struct Tally {
     pub invalid: u32,
     pub stale: u32,
     pub damaged: u32,
+    pub merged: u32,
+    pub merges_failed: u32,
 }
 
 /// The program beside the plain machine, and what the set-up made.
@@ -70,6 +72,8 @@ impl Tally {
             invalid: 0,
             stale: 0,
             damaged: 0,
+            merged: 0,
+            merges_failed: 0,
         }
     }
 

@@ -125,6 +125,10 @@ impl Command {
             Command::Status(name) => Ok(format!(in alloc; "status d{}", name.0)?),
             Command::Table(name) => Ok(format!(in alloc; "table d{}", name.0)?),
             Command::Settle(name) => Ok(format!(in alloc; "settle d{}", name.0)?),
+            Command::Merge(name) => Ok(format!(in alloc; "merge d{}", name.0)?),
+            Command::Resume(name) => Ok(format!(in alloc; "resume d{}", name.0)?),
+            Command::Finish(name) => Ok(format!(in alloc; "finish d{}", name.0)?),
+            Command::Stop(name) => Ok(format!(in alloc; "stop d{}", name.0)?),
             Command::Wrong(line, _) => Ok(format!(in alloc; "{line}")?),
         }
     }

@@ -182,7 +182,7 @@ impl Beside {
         let volume = volume_name(numbers, self.origins());
         let span = self.some_span(numbers, volume);
         let disk = disk_name(numbers);
-        Ok(match numbers.below(32) {
+        Ok(match numbers.below(36) {
             0..=11 => self.some_write(alloc, numbers)?,
             12..=16 => Command::Read(volume, span),
             17 | 18 => Command::Tick(1 + numbers.below(3)),
@@ -196,7 +196,10 @@ impl Beside {
                 Command::Disk(disk, 20 + numbers.below(29) as usize)
             }
             29 => self.some_create(numbers),
-            30 => Command::Settle(volume),
+            30 | 31 => Command::Settle(volume),
+            32 => Command::Merge(Name(40 + numbers.below(3) as u8)),
+            33 => Command::Resume(volume),
+            34 => Command::Finish(volume),
             _ => {
                 let (line, refusal) = WRONG[numbers.below(12) as usize];
                 Command::Wrong(line, refusal)

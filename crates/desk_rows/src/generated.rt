@@ -50,7 +50,7 @@ impl Beside {
     }
 
     /// Makes a device of the set-up again, if there is one of this name.
-    fn again(&mut self, rt: &impl Abort, alloc: Global, name: Name) -> Result<(), Fail> {
+    pub fn again(&mut self, rt: &impl Abort, alloc: Global, name: Name) -> Result<(), Fail> {
         for i in 0..self.made.len() {
             let made = self.made[i];
             if made.name == name {
@@ -113,11 +113,14 @@ impl Beside {
         count: u32,
     ) -> Result<(), Fail> {
         for turn in 0..count {
-            if numbers.once_in(10) {
-                self.renew(rt, alloc, numbers)?;
-            } else {
-                let command = self.some_command(alloc, numbers)?;
-                self.does(rt, alloc, command)?;
+            match numbers.below(40) {
+                0..=3 => self.renew(rt, alloc, numbers)?,
+                4 | 5 => self.merges(rt, alloc, numbers)?,
+                6 => self.stops(rt, alloc, numbers)?,
+                _ => {
+                    let command = self.some_command(alloc, numbers)?;
+                    self.does(rt, alloc, command)?;
+                }
             }
             if turn % 8 == 0 {
                 self.compare_disks(rt, alloc)?;
@@ -147,12 +150,15 @@ fn run(
 fn disks_alone_do_what_the_plain_machine_does(rt: HostRuntime) -> Result<(), Fail> {
     let mut invalid = 0u32;
     let mut damaged = 0u32;
+    let mut merged = 0u32;
     for seed in 1..=4u64 {
         let tally = run(&rt, rt.alloc(), seed, true, 300)?;
         assert_eq!(rt; tally.io, 0);
         invalid = invalid.saturating_add(tally.invalid);
         damaged = damaged.saturating_add(tally.damaged);
+        merged = merged.saturating_add(tally.merged);
     }
+    assert!(rt; merged >= 4, "{merged} merged");
     assert!(rt;
         invalid >= 4 && damaged >= 1,
         "{invalid} invalid {damaged} damaged"
@@ -165,12 +171,15 @@ fn layers_that_fail_do_what_the_plain_machine_does(rt: HostRuntime) -> Result<()
     let mut io = 0u32;
     let mut invalid = 0u32;
     let mut stale = 0u32;
+    let mut merges_failed = 0u32;
     for seed in 1..=8u64 {
         let tally = run(&rt, rt.alloc(), seed, false, 300)?;
         io = io.saturating_add(tally.io);
         invalid = invalid.saturating_add(tally.invalid);
         stale = stale.saturating_add(tally.stale);
+        merges_failed = merges_failed.saturating_add(tally.merges_failed);
     }
+    assert!(rt; merges_failed >= 2, "{merges_failed} merges failed");
     assert!(rt; io >= 40 && invalid >= 40, "{io} failed {invalid} invalid");
     assert!(rt; stale >= 2, "{stale} stale");
     Ok(())

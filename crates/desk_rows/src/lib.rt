@@ -1,7 +1,7 @@
 //! The command program run beside a plain settled machine: slow and obvious, over whole lists of bytes.
 //!
 //! It stands on `runner` and has tests only: pseudo-random command lines over small disks, layers that fail now and then,
-//! origins and snapshots, after each of which the printed line is that of the plain machine. The plain machine keeps the
+//! origins, snapshots and merges, after each of which the printed line is that of the plain machine. The plain machine keeps the
 //! disks' bytes and the layers' moments and lists, and reads every store's pairs from its raw bytes again for each command.
 #![tactic(auto)]
 
@@ -14,6 +14,8 @@ mod commands_drawn;
 #[cfg(test)]
 mod generated;
 #[cfg(test)]
+mod merges_drawn;
+#[cfg(test)]
 mod numbers_drawn;
 #[cfg(test)]
 mod plain_commands;
@@ -21,6 +23,8 @@ mod plain_commands;
 mod plain_creating;
 #[cfg(test)]
 mod plain_layers;
+#[cfg(test)]
+mod plain_merging;
 #[cfg(test)]
 mod plain_store;
 #[cfg(test)]

@@ -36,6 +36,10 @@ pub enum Command {
     Status(Name),
     Table(Name),
     Settle(Name),
+    Merge(Name),
+    Resume(Name),
+    Finish(Name),
+    Stop(Name),
     /// A line that every machine refuses alike.
     Wrong(&'static str, Refusal),
 }
@@ -128,6 +132,10 @@ impl Machine {
             Command::Status(name) => return Ok(Answer::Text(self.status(*name)?)),
             Command::Table(name) => return Ok(Answer::Text(self.table(*name)?)),
             Command::Settle(name) => self.settle(*name)?,
+            Command::Merge(name) => self.begin_merge(*name)?,
+            Command::Resume(name) => self.resume(*name)?,
+            Command::Finish(name) => self.finish(*name)?,
+            Command::Stop(name) => self.stop(*name)?,
             Command::Wrong(_, refusal) => return Err(Stop::Refused(*refusal)),
         }
         Ok(Answer::Nothing)
@@ -182,20 +190,12 @@ impl Machine {
         Err(Stop::Refused(Refusal::BadTable))
     }
 
-    /// Nothing is due at any time.
-    fn settle(&self, name: Name) -> Result<(), Refusal> {
-        match &self.device(name)?.kind {
-            Kind::Origin { .. } => Ok(()),
-            _ => Err(Refusal::BadTable),
-        }
-    }
-
     /// The status line of an origin or a snapshot.
     fn status(&self, name: Name) -> Result<String, Stop> {
         let sectors = self.sectors_of(name)?;
         match &self.device(name)?.kind {
-            Kind::Origin { .. } => Ok(format!(in self.alloc; "0 {sectors} snapshot-origin")?),
-            Kind::Snapshot(snapshot) if !snapshot.live => {
+            Kind::Origin { under } => self.origin_line(*under, sectors),
+            Kind::Snapshot(snapshot) if !snapshot.live || snapshot.merge.is_some() => {
                 Ok(format!(in self.alloc; "0 {sectors} snapshot Invalid")?)
             }
             Kind::Snapshot(snapshot) => self.usage_line(*snapshot, sectors),
@@ -210,13 +210,33 @@ impl Machine {
         Ok(format!(in self.alloc; "0 {sectors} snapshot {allocated}/{total} {metadata}")?)
     }
 
+    /// The status line of an origin.
+    fn origin_line(&self, under: Name, sectors: usize) -> Result<String, Stop> {
+        if let Some(merging) = self.merging(under) {
+            if let Some(merge) = self.snapshot(merging)?.merge {
+                return self.merge_line(merging, merge, sectors);
+            }
+        }
+        Ok(format!(in self.alloc; "0 {sectors} snapshot-origin")?)
+    }
+
+    /// The table line of an origin.
+    fn origin_table(&self, under: Name, sectors: usize) -> Result<String, Stop> {
+        let Some(merging) = self.merging(under) else {
+            return Target::Origin(under).line(self.alloc, sectors);
+        };
+        let Snapshot { store, size, .. } = self.snapshot(merging)?;
+        let (under, store, chunk) = (under.0, store.0, size.sectors);
+        Ok(format!(in self.alloc; "0 {sectors} snapshot-merge d{under} d{store} P {chunk}")?)
+    }
+
     /// The table line of a device that is no disk.
     fn table(&self, name: Name) -> Result<String, Stop> {
         let alloc = self.alloc;
         let n = self.sectors_of(name)?;
         match &self.device(name)?.kind {
             Kind::Disk { .. } => Err(Stop::Refused(Refusal::BadTable)),
-            Kind::Origin { under } => Target::Origin(*under).line(alloc, n),
+            Kind::Origin { under } => self.origin_table(*under, n),
             Kind::Snapshot(snapshot) => Target::Snapshot {
                 under: snapshot.under,
                 store: snapshot.store,

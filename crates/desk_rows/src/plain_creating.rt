@@ -176,6 +176,7 @@ impl Machine {
             store,
             size,
             live: true,
+            merge: None,
         }))
     }
 
@@ -183,6 +184,9 @@ impl Machine {
     fn attach(&mut self, under: Name, store: Name, asked: ChunkSize) -> Result<ChunkSize, Stop> {
         if self.is_stale(store)? {
             return Err(Stop::Refused(Refusal::Stale));
+        }
+        if self.merging(under).is_some() {
+            return Err(Stop::Refused(Refusal::MergeInProgress));
         }
         let others = self.snapshots(under)?;
         if others.len() >= SNAPSHOTS {
@@ -200,6 +204,9 @@ impl Machine {
 
     /// Takes a device away that nothing stands on; an origin without snapshots.
     pub fn remove(&mut self, name: Name) -> Result<(), Stop> {
+        if self.is_merging(name) {
+            return Err(Stop::Refused(Refusal::MergeInProgress));
+        }
         let mut busy = self.is_used(name);
         if let Kind::Origin { under } = &self.device(name)?.kind {
             busy = !self.snapshots(*under)?.is_empty();

@@ -2,6 +2,7 @@
 // operation goes down from device to device; the disk at the bottom has the bytes.
 ghost use Rattle.std.specs.Prelude.{◌<◌, ◌≤◌};
 
+use crate::plain_merging::Merge;
 use crate::plain_store::ChunkSize;
 use resting_rows::plain_store::{put, sector_of};
 use sector::{Refusal, SECTOR_BYTES};
@@ -72,13 +73,14 @@ pub struct Dust {
     pub bad: Vec<usize>,
 }
 
-/// A snapshot: the device under its origin, its store, and whether it is live.
+/// A snapshot: the device under its origin, its store, whether it is live, and how far it is merged, where that is begun.
 #[derive(Clone, Copy, Debug, PartialEq, Eq)]
 pub struct Snapshot {
     pub under: Name,
     pub store: Name,
     pub size: ChunkSize,
     pub live: bool,
+    pub merge: Option<Merge>,
 }
 
 /// What a device is.

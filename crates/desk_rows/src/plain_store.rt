@@ -209,10 +209,10 @@ impl Machine {
         }
     }
 
-    /// Saves a chunk of the origin in a snapshot, which is spoiled where that fails.
+    /// Saves a chunk of the origin in a snapshot, which is spoiled where that fails; nothing in one that is being merged.
     pub fn save(&mut self, name: Name, chunk: u64) -> Result<(), Stop> {
         let snapshot = self.snapshot(name)?;
-        if !snapshot.live || self.place(snapshot, chunk)?.is_some() {
+        if !snapshot.live || snapshot.merge.is_some() || self.place(snapshot, chunk)?.is_some() {
             return Ok(());
         }
         match self.copy(snapshot, chunk) {

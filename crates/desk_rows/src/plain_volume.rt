@@ -95,6 +95,14 @@ impl Machine {
         })
     }
 
+    /// Where a piece of an origin stands: where it stood in the snapshot that is being merged, if there is one.
+    fn place_in_origin(&self, under: Name, span: Span) -> Result<(Name, Span), Stop> {
+        match self.merging(under) {
+            None => Ok((under, span)),
+            Some(merging) => self.place_of_piece(self.snapshot(merging)?, span),
+        }
+    }
+
     /// Reads a piece of an origin or a snapshot.
     fn read_piece(&self, name: Name, span: Span) -> Result<Vec<u8>, Stop> {
         match &self.device(name)?.kind {
@@ -103,7 +111,10 @@ impl Machine {
                 let (dev, at) = self.place_of_piece(*snapshot, span)?;
                 self.read(dev, at)
             }
-            _ => self.read(self.under(name)?, span),
+            _ => {
+                let (dev, at) = self.place_in_origin(self.under(name)?, span)?;
+                self.read(dev, at)
+            }
         }
     }
 
@@ -119,8 +130,12 @@ impl Machine {
         self.write(dev, at.first, data)
     }
 
-    /// Writes a piece of an origin: its chunk is saved in each live snapshot before.
+    /// Writes a piece of an origin: its chunk is saved in each live snapshot before, where the piece stands under the origin.
     fn write_origin(&mut self, under: Name, span: Span, data: &[u8]) -> Result<(), Stop> {
+        let (dev, at) = self.place_in_origin(under, span)?;
+        if dev != under {
+            return self.write(dev, at.first, data);
+        }
         for name in &self.snapshots(under)? {
             let chunk = span.first / self.snapshot(*name)?.size.sectors;
             self.save(*name, chunk as u64)?;
@@ -132,6 +147,7 @@ impl Machine {
     pub fn read_volume(&self, name: Name, span: Span) -> Result<Vec<u8>, Stop> {
         let under = self.under(name)?;
         self.inside(name, span)?;
+        self.serves(name)?;
         let mut data = Vec::new(self.alloc);
         for piece in &pieces(self.alloc, span, self.piece(under)?)? {
             data.extend_from_slice(&self.read_piece(name, *piece)?)?;
@@ -144,6 +160,7 @@ impl Machine {
         let under = self.under(name)?;
         let count = data.len() / SECTOR_BYTES;
         self.inside(name, Span { first, count })?;
+        self.serves(name)?;
         for piece in &pieces(self.alloc, Span { first, count }, self.piece(under)?)? {
             let bytes = part(self.alloc, data, first, *piece)?;
             if self.snapshot(name).is_ok() {
@@ -153,6 +170,15 @@ impl Machine {
             }
         }
         Ok(())
+    }
+
+    /// `MergingSnapshot` of a snapshot that is being merged.
+    fn serves(&self, name: Name) -> Result<(), Refusal> {
+        if self.is_merging(name) {
+            Err(Refusal::MergingSnapshot)
+        } else {
+            Ok(())
+        }
     }
 
     /// `OutOfRange` where sectors reach past a device's end.

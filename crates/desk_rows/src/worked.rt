@@ -164,3 +164,34 @@ fn a_bad_block_spoils_and_heals(rt: HostRuntime) -> Result<(), Fail> {
     says(&rt, &mut m, asked, "ok good\n")?;
     says(&rt, &mut m, Command::Read(ORIGIN, one), "ok 512*aa\n")
 }
+
+#[test]
+fn a_merge_goes_backwards_run_by_run(rt: HostRuntime) -> Result<(), Fail> {
+    let mut m = two_disks(&rt, rt.alloc())?;
+    let origin = Command::Create(ORIGIN, 24, Target::Origin(BASE));
+    says(&rt, &mut m, origin, "ok\n")?;
+    says(&rt, &mut m, snapshot_of(BASE, COW), "ok\n")?;
+    for (first, byte) in [(5, 0xaa), (6, 0xbb), (3, 0xcc)] {
+        let write = Command::Write(ORIGIN, first, sector(rt.alloc(), byte)?);
+        says(&rt, &mut m, write, "ok\n")?;
+    }
+    says(&rt, &mut m, Command::Merge(SNAPSHOT), "ok\n")?;
+    let five = Span { first: 5, count: 2 };
+    for (command, wanted) in [
+        (Command::Read(ORIGIN, five), "ok 1024*00\n"),
+        (Command::Save(BASE, five), "ok 512*aa 512*bb\n"),
+        (Command::Read(SNAPSHOT, five), "err 7 MergingSnapshot\n"),
+        (Command::Finish(ORIGIN), "err 22 NotFinished\n"),
+        (Command::Status(ORIGIN), "ok 0 24 snapshot-merge 5/16 2\n"),
+        (Command::Settle(ORIGIN), "ok\n"),
+        (Command::Status(ORIGIN), "ok 0 24 snapshot-merge 2/16 2\n"),
+        (Command::Save(BASE, five), "ok 1024*00\n"),
+        (Command::Remove(SNAPSHOT), "err 17 MergeInProgress\n"),
+        (Command::Finish(ORIGIN), "ok\n"),
+        (Command::Resume(ORIGIN), "err 18 NotMerging\n"),
+        (Command::Stop(ORIGIN), "ok\n"),
+    ] {
+        says(&rt, &mut m, command, wanted)?;
+    }
+    Ok(())
+}
