@@ -119,9 +119,9 @@ pub(crate) fn drain_for<B: Block>(
 impl<B: Block> Resting<B> {
     /// Does the events that are due, those of a merge among them, each time the one that is due first, until none is. Each
     /// reply is put at the end of `ended`. Room for one of each request in flight is taken once, before the first event:
-    /// where that is refused (`NoMemory`), nothing is done. Where the volume is quiet no memory is asked for. A settled volume is left as the settled machine's whole merge
-    /// leaves it, and as it was where no merge is begun: whatever fails, its origin shows what it showed, and so does each
-    /// snapshot that is not spoiled.
+    /// where that is refused (`NoMemory`), nothing is done. Where the volume is quiet no memory is asked for. A settled volume is
+    /// left as the settled machine's whole merge leaves it, and as it was where no merge is begun: whatever fails, its origin
+    /// shows what it showed, and so does each snapshot that is not spoiled.
     pub fn settle(&mut self, ended: &mut Vec<Replied>) -> Result<(), Refusal>
         ensures drained { OnOk result (IsDrained B.contents B.layers self.old.events self.new.events ended.old.items ended.new.items) }
         ensures quiet { OnOk result (is_quiet_of self.new.events ≡ true) }

@@ -93,8 +93,10 @@ impl Desk {
     /// Does what a line says, the line given without its end, and prints the lines of the requests that ended in it, and then
     /// its own answer. A line whose words are refused answers that refusal alone, and so does a start or an event whose
     /// names or sectors are refused, whatever is in flight. Where the allocator refuses any memory, the line prints that and
-    /// changes no device, but that of a read or a write some part may have been done. The one error is
-    /// `RunError::Write`, the writer's own; then the line was done all the same, and part of what it prints may be printed.
+    /// changes no device, but that of a read or a write some part may have been done. Where the volume that it changes is well
+    /// (its snapshots' numbers rise, and its live stores are in order), each volume shows what the line's command leaves of
+    /// what it showed. The one error is `RunError::Write`, the writer's own; then the line was done all the same, and part of
+    /// what it prints may be printed.
     pub fn line<W: Write>(&mut self, line: &[u8], writer: &mut W) -> Result<(), RunError>
         ensures done { (done : Outcome) × IsLineDone line.now self.old.table done × (self.new ≡ followed self.old done)
             × OnOk result (Appends (W.contents writer.old) (W.contents writer.new) (printed done.replies)) }
