@@ -43,6 +43,7 @@ pub mod StartsLeft
 pub mod SavingAt
 pub mod MergeRoutes
 pub mod MergeWrites
+pub mod Least
 pub mod Leaves
 pub mod Attaches
 pub mod AttachedAs

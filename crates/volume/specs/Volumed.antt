@@ -1,6 +1,6 @@
 -- To be believed: `run`'s output, a volume's steps or its attach are said in these words.
 -- What callers see of a volume, what that is as plain records, and what is due of it. This project's own.
-use Rattle.std.specs.Prelude.{◌&&◌, ℕ, ◌+◌, Bool, true, List, [], ◌∷◌, Option, Some, None, map}
+use Rattle.std.specs.Prelude.{◌&&◌, ℕ, ◌+◌, Bool, true, List, [], ◌∷◌, Option, Some, None, map, min}
 use Rattle.std.specs.List.{list_all}
 use Rattle.device.specs.Layers.{Layer, is_loud}
 use Rattle.plain.specs.Plain.{Plain}
@@ -112,3 +112,12 @@ piece_of (s ∷ snaps) = s.state.chunk
 abbrev pub piece_with : {B : Type 0} → Option (Merging B) → List (Kept B) → ℕ
 piece_with None snaps = piece_of snaps
 piece_with (Some m) snaps = m.state.chunk
+
+-- the least chunk of all of them, whatever sizes they have
+abbrev pub least_chunk_in : {B : Type 0} → List (Kept B) → ℕ
+least_chunk_in [] = 1024
+least_chunk_in (s ∷ snaps) = min s.state.chunk (least_chunk_in snaps)
+
+abbrev pub least_chunk : {B : Type 0} → Option (Merging B) → List (Kept B) → ℕ
+least_chunk None snaps = least_chunk_in snaps
+least_chunk (Some m) snaps = min m.state.chunk (least_chunk_in snaps)

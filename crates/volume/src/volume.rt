@@ -13,7 +13,7 @@ ghost use Rattle.volume_laws.specs.Waits.{IsQuiet};
 ghost use Rattle.volume.specs.Asking.{IsMergeStill};
 ghost use Rattle.volume.specs.EventKinds.{is_of_merge};
 ghost use Rattle.volume.specs.Leaving.{has_group_in, is_quiet_of};
-ghost use Rattle.volume.specs.Volumed.{books_of, next_of, piece_with};
+ghost use Rattle.volume.specs.Volumed.{books_of, least_chunk, next_of, piece_with};
 
 use device::Block;
 use merge::Merge;
@@ -98,10 +98,11 @@ impl<B: Block> Volume<B> {
         self.snaps.len()
     }
 
-    /// The sectors of a piece: of a chunk of the snapshots, the one that is being merged among them, or of the largest chunk
-    /// where there is none. A request lies inside one piece.
+    /// The sectors of a piece: of the least chunk of the snapshots, the one that is being merged among them, or of the largest
+    /// chunk where there is none. A request lies inside one piece.
     pub fn piece(&self) -> u32
         ensures piece { result ≡ piece_with self.now.merge self.now.snaps }
+        ensures least { result ≡ least_chunk self.now.merge self.now.snaps }
         ensures same { All (λ s. s.state.chunk ≡ result) self.now.snaps }
         ensures allowed { is_chunk result ≡ true }
     {
