@@ -53,6 +53,11 @@ not_lacking first s e live = at (place_of s.pairs (first / s.state.chunk)) refl
       | inr none ↦ (let here : lacks first s ≡ true = rw (live, is, none) refl in absurd (true≢false (sym here ∙ e)))
     ])
 
+-- a snapshot whose store is found full is live
+pub overflows_live : {B : Type 0} (first : ℕ) (s : Kept B) → overflows first s ≡ true → s.live ≡ true
+overflows_live first s over =
+    and_first s.live (not (is_some (place_of s.pairs (first / s.state.chunk)))) (and_first (s.live && not (is_some (place_of s.pairs (first / s.state.chunk)))) (not (list_any (λ q. nat_eq q.pair.old (first / s.state.chunk)) s.copies)) (and_first (lacks first s) (is_full_of s) over))
+
 pub refused_numbers : (which : List ℕ) (fs : List Flight) → map number_of_flight (map (refused_of which) fs) ≡ map number_of_flight fs
 refused_numbers which [] = refl
 refused_numbers which (f ∷ fs) = ap (λ ns. f.number ∷ ns) (refused_numbers which fs)
@@ -88,7 +93,7 @@ module _ {B : Type 0} (contents : B → List ℕ) (layers : B → List Layer) (s
     done_spoilt : overflows first s ≡ true → AreDone contents layers size first (k + 1) (which ++ s.number ∷ []) v0 (changed v v.origin k (spoilt_of s) (map (refused_of (s.number ∷ [])) v.flights))
     done_spoilt over =
         let x : Kept B = spoilt_of s in
-        let spoils : SpoilsSnap (snap_books contents layers s) (snap_books contents layers x) = record { number = refl; live = refl; copies = refl; marks = refl } in
+        let spoils : SpoilsSnap (snap_books contents layers s) (snap_books contents layers x) = record { number = refl; was = overflows_live first s over; live = refl; chunk = refl; pairs = refl; copies = refl; marks = refl } in
         let same = same_disk contents layers size v.origin in
         let spoil = spoils_one contents layers size v v.origin k s x within is same spoils in
         let w : Volumed B = changed v v.origin k x (map (refused_of (s.number ∷ [])) v.flights) in

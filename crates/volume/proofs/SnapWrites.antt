@@ -194,7 +194,7 @@ module _ {B : Type 0} (contents : B → List ℕ) (layers : B → List Layer) (s
 
   prepared_filled : IsPrepared (s1.number ∷ []) (books_of contents layers size roomy) (books_of contents layers size filled)
   prepared_filled =
-      let spoils : SpoilsSnap (snap_books contents layers s1) (snap_books contents layers (spoilt_of s1)) = record { number = refl; live = refl; copies = refl; marks = refl } in
+      let spoils : SpoilsSnap (snap_books contents layers s1) (snap_books contents layers (spoilt_of s1)) = record { number = refl; was = live_roomy; live = refl; chunk = refl; pairs = refl; copies = refl; marks = refl } in
       prepared_spoil [] k (snap_books contents layers s1) (snap_books contents layers (spoilt_of s1)) (books_of contents layers size roomy) (books_of contents layers size roomy) (books_of contents layers size filled) prepared_roomy
       (spoils_one contents layers size roomy v.origin k s1 (spoilt_of s1) within_roomy is_roomy (same_disk contents layers size v.origin) spoils) refl refl
 
