@@ -37,7 +37,7 @@ use Rattle.stop_laws.specs.Again.{LoadsAgain, IsRefusedAgain}
 use Rattle.stop_laws.specs.Clauses.{Given, Gives, OpensNone, StopsSnap}
 use Rattle.stop_laws.proofs.Clauses.{opens_none}
 use Rattle.stop_laws.proofs.Shown.{shown_under}
-use Rattle.volume_laws.specs.Held.{LiveHolds, CopyHolds, RequestHolds}
+use Rattle.volume_laws.specs.Held.{LiveHolds, SpoiltHolds, SnapHolds, CopyHolds, RequestHolds}
 use Rattle.volume_laws.specs.Shape.{shown_origin}
 use Rattle.volume_laws.specs.Whole.{OriginHolds}
 use Rattle.volume_laws.specs.Published.{is_published}
@@ -200,9 +200,12 @@ module _ {B : Type 0} (contents : B → List ℕ) (layers : B → List Layer) (s
     then' : IsInStep contents layers size t
     then' = subst (IsInStep contents layers size) (sym are) (steps' k t lt')
 
+    here : SnapHolds (contents v.origin) v.flights (snap_books contents layers s)
+    here = snap_holds (books_of contents layers size v) k (snap_books contents layers s) h.holds (omega (arith, lt, length-map v.snaps (snap_books contents layers))) (ap (snap_books contents layers) is ∙ sym (get_or-map (snap_books contents layers) v.snaps k s (snap_books contents layers s) lt))
+
     -- a live one
     alive : s.live ≡ true → LiveHolds (contents v.origin) v.flights (snap_books contents layers s)
-    alive live = (snap_holds (books_of contents layers size v) k (snap_books contents layers s) h.holds (omega (arith, lt, length-map v.snaps (snap_books contents layers))) (ap (snap_books contents layers) is ∙ sym (get_or-map (snap_books contents layers) v.snaps k s (snap_books contents layers s) lt))).alive live
+    alive live = here.alive live
 
     -- its array, sector by sector
     abbrev ShownGiven : Option Given → Type 0
@@ -250,17 +253,21 @@ module _ {B : Type 0} (contents : B → List ℕ) (layers : B → List Layer) (s
     λ dead. absurd (false≢true (sym dead ∙ live)),
   )
 
-  -- a spoiled one whose mark is untried: nothing but that is written of it by an Issue
+  -- a spoiled one whose mark is untried: an Issue writes nothing of it but that
   waiting_stop : (k : ℕ) (s t : Kept B) (lt : k < length v.snaps) (at : s ≡ get_or v.snaps k s) (are : t ≡ get_or w.snaps k t) (given : Option Given) → s.live ≡ false → s.untried ≡ true → (replied : Option Reply) → IssueWrites (moving_of contents layers None v) (moving_of contents layers replied w)
       → StopsSnap (λ d. HoldsNow (contents d)) size given v.origin w.origin (stopping_of s) (stopping_of t)
   waiting_stop k s t lt at are given dead waits replied writes =
       let m = moving_of contents layers None v in
+      let n = moving_of contents layers replied w in
+      let vb = books_of contents layers size v in
+      let sb = snap_books contents layers s in
+      let gone : SpoiltHolds v.flights sb = (here k s t lt at are).spoilt dead in
       let stays : Stays m (held_of contents layers s) (held_of contents layers t) =
       subst (λ x. Stays m (held_of contents layers x) (held_of contents layers t)) (sym at) (subst (λ x. Stays m (held_of contents layers (get_or v.snaps k s)) (held_of contents layers x)) (sym are) (seen_place (Stays m) (held_of contents layers) v.snaps w.snaps k s t lt writes.snaps)) in
-      let same : contents t.device ≡ contents s.device = elim stays [ inl e ↦ e | inr one ↦ absurd (untouched contents layers size whole v h k s lt at dead waits one) ] in
+      let same : contents t.device ≡ contents s.device = elim stays [ inl e ↦ e | inr one ↦ absurd (untouched m n vb h.holds h.waits refl refl sb gone waits (held_of contents layers s) refl one) ] in
       elim writes.origin [
         | inl disk ↦ still_stop k s t lt at are given disk same
-        | inr one ↦ (let beneath = under contents layers size whole v h k s lt at dead waits w replied one in
+        | inr one ↦ (let beneath : WritesUnder s.state.chunk s.pairs (contents v.origin) (contents w.origin) = under m n vb h.holds h.waits refl refl sb gone waits one in
             λ b c left_b left_c. (
               λ live. absurd (false≢true (sym dead ∙ live)),
               λ _. inr (under_opens k s t lt at are given beneath.at (ready_untried s.live s.untried s.stale waits) same beneath.rest beneath.placed b c left_b left_c),

@@ -4,39 +4,33 @@ use Rattle.std.proofs.Common.{◌≡◌, ◌≢◌, ◌⊎◌, inl, inr, ℕ, ze
 use Rattle.std.specs.Prelude.{◌==◌, ◌&&◌}
 use Rattle.std.specs.List.{All}
 use Rattle.std.proofs.lemmas.Bool.{cases_Bool, cond-true, cond-false}
-use Rattle.std.proofs.lemmas.List.{get_or-map, length-map}
 use Rattle.std.proofs.lemmas.List.Elements.{All-map}
 use Rattle.std.proofs.lemmas.Nat.{div-add-mod'}
 use Rattle.sector.specs.Bytes.{with_sectors}
 use Rattle.sector.specs.declared.pair.Pair.{Pair}
 use Rattle.sector.proofs.Sectors.{byte_outside}
-use Rattle.device.specs.Layers.{Layer}
 use Rattle.device.specs.declared.operation.Operation.TheVariants.{Reads, Writes}
 use Rattle.model.specs.Picture.{place_of}
 use Rattle.plain.specs.declared.request.Dev.{Dev}
 use Rattle.plain.specs.declared.request.Dev.TheVariants.{Origin as ToOrigin, Snap as ToSnap}
 use Rattle.plain.specs.declared.request.Op.{Op}
 use Rattle.plain.specs.declared.request.Op.TheVariants.{Read as ReadOp, Write as WriteOp}
-use Rattle.plain.specs.declared.request.Reply.{Reply}
 use Rattle.plain.specs.declared.event.Event.TheVariants.{Issue}
 use Rattle.pending.specs.Kinds.{kind_at, kind_of}
 use Rattle.pending.specs.declared.flights.Kind.TheVariants.{OriginWrite, SnapWrite}
 use Rattle.pending.specs.declared.flights.Route.{Route}
-use Rattle.pending.specs.declared.flights.Route.TheVariants.{Held as Waits, Origin, Store, Refused}
-use Rattle.volume_laws.specs.Books.{Books}
+use Rattle.pending.specs.declared.flights.Route.TheVariants.{Held as Holding, Origin, Store, Refused}
+use Rattle.volume_laws.specs.Books.{Books, SnapBooks}
 use Rattle.volume_laws.specs.Published.{IsPiece}
 use Rattle.volume_laws.specs.Held.{SnapHolds, SpoiltHolds}
-use Rattle.volume_laws.proofs.WholeOne.{snap_holds}
+use Rattle.volume_laws.specs.Whole.{Holds}
+use Rattle.volume_laws.specs.Waits.{Waits}
 use Rattle.settled.specs.Devices.{answers, met, written_by}
 use Rattle.event_machine.specs.Held.{Held, Going, MergeHeld, Moving, with_store}
 use Rattle.event_machine.specs.Seen.{going_of}
 use Rattle.event_machine.specs.Stepping.{for_some, first_that, with_first, issue, on_disk, on_store, on_merging, on_place}
 use Rattle.event_machine.specs.MergeStepping.{stepped_all}
 use Rattle.event_machine.specs.Due.{is_issuable}
-use Rattle.snapshot.specs.Kept.{Kept, books_of as snap_books}
-use Rattle.volume.specs.Volumed.{Volumed, books_of}
-use Rattle.volume.specs.Whole.{IsWhole}
-use Rattle.volume.specs.Moved.{moving_of, held_of}
 use Rattle.volume.proofs.DiskIssues.{write_kinds}
 use Rattle.volume.proofs.StopMoves.{Places, places_same, first_places, first_passes, SameBytes}
 
@@ -102,9 +96,9 @@ module _ (v : Moving) (r : Going) (k : ℕ) (within : k < length v.requests) (is
   disk_writes (WriteOp bytes) e goes = by (answers v.origin (Writes first count)) refl
     where
       by : (b : Bool) → answers v.origin (Writes first count) ≡ b → IssueWrites v (on_disk (WriteOp bytes) first count mine v)
-      by false no = still v (on_disk (WriteOp bytes) first count mine v) (cond-false _ _ _ no) refl
-      by true yes = record {
-        origin = inr (record { place = k; going = r; within = within; is = is; bytes = bytes; op = e; route = goes; after = cond-true _ _ _ yes });
+      by false unanswered = still v (on_disk (WriteOp bytes) first count mine v) (cond-false _ _ _ unanswered) refl
+      by true answered = record {
+        origin = inr (record { place = k; going = r; within = within; is = is; bytes = bytes; op = e; route = goes; after = cond-true _ _ _ answered });
         snaps = places_same (Stays v) (stay v) v.snaps;
       }
 
@@ -134,7 +128,7 @@ module _ (v : Moving) (r : Going) (k : ℕ) (within : k < length v.requests) (is
       (λ h found. store_writes n place r.request.op h refl e goes found)
 
   issue_writes : (route : Route) → r.route ≡ route → IssueWrites v (issue route mine r v)
-  issue_writes Waits e = still v v refl refl
+  issue_writes Holding e = still v v refl refl
   issue_writes Origin e = disk_writes r.request.op refl e
   issue_writes (Store place) e = place_writes r.request.dev place refl e
   issue_writes Refused e = still v (issue Refused mine r v) refl refl
@@ -168,66 +162,62 @@ IsPlaced chunk pairs g = kind_of g.request ≡ OriginWrite → g.route ≡ Origi
 abbrev IsWithin : ℕ → Going → Type 0
 IsWithin sectors g = (g.request.range.first + g.request.range.count ≤ sectors) × ((bytes : List ℕ) → g.request.op ≡ WriteOp bytes → length bytes ≡ 512 * g.request.range.count)
 
-module _ {B : Type 0} (contents : B → List ℕ) (layers : B → List Layer) (size : B → ℕ) (whole : (d : B) → length (contents d) ≡ 512 * size d) (v : Volumed B) (h : IsWhole contents layers size v) where
-  abbrev vb : Books
-  vb = books_of contents layers size v
+-- a machine whose requests and whose origin disk are those of a volume's books
+module _ (m w : Moving) (v : Books) (h : Holds v) (waiting : Waits v) (seen : m.requests ≡ map going_of v.requests) (disk : m.origin.bytes ≡ v.origin) where
+  -- what holds of each request holds of one that is found
+  found_at : (P : Going → Type 0) (place : ℕ) (g : Going) → All P (map going_of v.requests) → place < length m.requests → g ≡ get_or m.requests place g → P g
+  found_at P place g all within is = subst P (sym is) (subst (All P) (sym seen) all place g within)
 
-  no_snap_write : All NoSnapWrite (map going_of v.flights)
-  no_snap_write = All-map NoSnapWrite going_of v.flights (λ k d lt n kind route.
-      (let r = get_or v.flights k d in
-      let any = (h.waits.held k d lt).write_attached n kind in
+  no_snap_write : All NoSnapWrite (map going_of v.requests)
+  no_snap_write = All-map NoSnapWrite going_of v.requests (λ k d lt n kind route.
+      (let r = get_or v.requests k d in
+      let any = (waiting.held k d lt).write_attached n kind in
       let s = any.1 in
       let mine : kind_of r.request ≡ SnapWrite s.number = kind ∙ ap SnapWrite (sym any.4) in
-      let here : SnapHolds vb.origin vb.requests s = subst (SnapHolds vb.origin vb.requests) any.3 (h.holds.snaps any.0 s any.2) in
+      let here : SnapHolds v.origin v.requests s = subst (SnapHolds v.origin v.requests) any.3 (h.snaps any.0 s any.2) in
       elim (cases_Bool s.live) [
         | inl live ↦ ((here.alive live).routes k d lt).write mine route
         | inr dead ↦ origin_ne_refused (sym route ∙ ((here.spoilt dead).routes k d lt).write mine)
       ]))
 
-  all_within : All (IsWithin (size v.origin)) (map going_of v.flights)
-  all_within = All-map (IsWithin (size v.origin)) going_of v.flights (λ k d lt. (let one = h.holds.requests k d lt in (one.inside, one.bytes)))
+  all_within : All (IsWithin v.sectors) (map going_of v.requests)
+  all_within = All-map (IsWithin v.sectors) going_of v.requests (λ k d lt. (let one = h.requests k d lt in (one.inside, one.bytes)))
 
   -- a spoiled snapshot whose mark is untried
-  module _ (k : ℕ) (s : Kept B) (lt : k < length v.snaps) (is : s ≡ get_or v.snaps k s) (dead : s.live ≡ false) (waits : s.untried ≡ true) where
-    gone : SpoiltHolds v.flights (snap_books contents layers s)
-    gone = (snap_holds vb k (snap_books contents layers s) h.holds (omega (arith, lt, length-map v.snaps (snap_books contents layers)))
-        (ap (snap_books contents layers) is ∙ sym (get_or-map (snap_books contents layers) v.snaps k s (snap_books contents layers s) lt))).spoilt dead
+  module _ (s : SnapBooks) (gone : SpoiltHolds v.requests s) (waits : s.untried ≡ true) where
+    all_refused : All (IsRefused s.number) (map going_of v.requests)
+    all_refused = All-map (IsRefused s.number) going_of v.requests (λ i d below. (gone.routes i d below).write)
 
-    all_refused : All (IsRefused s.number) (map going_of v.flights)
-    all_refused = All-map (IsRefused s.number) going_of v.flights (λ i d below. (gone.routes i d below).write)
-
-    all_placed : All (IsPlaced s.state.chunk s.pairs) (map going_of v.flights)
-    all_placed = All-map (IsPlaced s.state.chunk s.pairs) going_of v.flights (λ i d below kind route. (let one = gone.waited waits i d below in (one.piece kind route, one.placed kind route)))
+    all_placed : All (IsPlaced s.chunk s.pairs) (map going_of v.requests)
+    all_placed = All-map (IsPlaced s.chunk s.pairs) going_of v.requests (λ i d below kind route. (let one = gone.waited waits i d below in (one.piece kind route, one.placed kind route)))
 
     -- its store is not written
-    pub untouched : StoreWrite (moving_of contents layers None v) (held_of contents layers s) → ⊥
-    untouched w =
-        let g = w.going in
-        let kind : kind_of g.request ≡ SnapWrite s.number = ap (λ d. kind_at d g.request.op) w.dev ∙ ap (kind_at (ToSnap s.number)) w.op in
-        let refused : g.route ≡ Refused = subst (IsRefused s.number) (sym w.is) (all_refused w.place g w.within) kind in
-        store_ne_refused w.chunk (sym w.route ∙ refused)
+    pub untouched : (x : Held) → x.snap.number ≡ s.number → StoreWrite m x → ⊥
+    untouched x number one =
+        let g = one.going in
+        let kind : kind_of g.request ≡ SnapWrite s.number = ap (λ d. kind_at d g.request.op) one.dev ∙ ap (kind_at (ToSnap x.snap.number)) one.op ∙ ap SnapWrite number in
+        store_ne_refused one.chunk (sym one.route ∙ found_at (IsRefused s.number) one.place g all_refused one.within one.is kind)
 
     -- and the origin disk only where it has the chunk
-    pub under : (w : Volumed B) (replied : Option Reply) → DiskWrite (moving_of contents layers None v) (moving_of contents layers replied w) → WritesUnder s.state.chunk s.pairs (contents v.origin) (contents w.origin)
-    under w replied d =
+    pub under : DiskWrite m w → WritesUnder s.chunk s.pairs v.origin w.origin.bytes
+    under d =
         let g = d.going in
         let first : ℕ = g.request.range.first in
         let count : ℕ = g.request.range.count in
-        let chunk : ℕ = s.state.chunk in
         let kind : kind_of g.request ≡ OriginWrite = elim (write_kinds g.request.dev g.request.op d.bytes d.op) [
           | inl one ↦ one
-          | inr other ↦ absurd (subst NoSnapWrite (sym d.is) (no_snap_write d.place g d.within) other.0 other.1 d.route)
+          | inr other ↦ absurd (found_at NoSnapWrite d.place g no_snap_write d.within d.is other.0 other.1 d.route)
         ] in
-        let held = subst (IsPlaced chunk s.pairs) (sym d.is) (all_placed d.place g d.within) kind d.route in
-        let fits = subst (IsWithin (size v.origin)) (sym d.is) (all_within d.place g d.within) in
+        let held = found_at (IsPlaced s.chunk s.pairs) d.place g all_placed d.within d.is kind d.route in
+        let fits = found_at (IsWithin v.sectors) d.place g all_within d.within d.is in
         let len : length d.bytes ≡ 512 * count = fits.1 d.bytes d.op in
-        let inside : first + count ≤ size v.origin = fits.0 in
-        let within : first + count ≤ chunk * (first / chunk) + chunk = held.0.within in
-        let long : length (contents v.origin) ≡ 512 * size v.origin = whole v.origin in
-        let low : chunk * (first / chunk) + first % chunk ≡ first = grind (arith, div-add-mod' first chunk) in
+        let inside : first + count ≤ v.sectors = fits.0 in
+        let within : first + count ≤ s.chunk * (first / s.chunk) + s.chunk = held.0.within in
+        let long : length v.origin ≡ 512 * v.sectors = h.whole in
+        let low : s.chunk * (first / s.chunk) + first % s.chunk ≡ first = grind (arith, div-add-mod' first s.chunk) in
         record {
-          at = first / chunk;
-          rest = λ i side. ap (λ z. get_or z i 0) d.after ∙ byte_outside (contents v.origin) first d.bytes i (omega (arith, len, inside, long)) (elim side [
+          at = first / s.chunk;
+          rest = λ i side. ap (λ z. get_or z i 0) (d.after ∙ ap (λ z. with_sectors z first d.bytes) disk) ∙ byte_outside v.origin first d.bytes i (omega (arith, len, inside, long)) (elim side [
             | inl below ↦ inl (omega (arith, below, low))
             | inr past ↦ inr (omega (arith, past, len, within))
           ]);
