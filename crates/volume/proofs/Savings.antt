@@ -100,7 +100,7 @@ module _ {B : Type 0} (contents : B → List ℕ) (layers : B → List Layer) (s
         let prepared = prepared_spoil which k (snap_books contents layers s) (snap_books contents layers x) (books_of contents layers size v0) (books_of contents layers size v) (books_of contents layers size w) h.prepared spoil refl refl in
         record {
           whole = whole_changed contents layers size v v.origin k s x within is (map (refused_of (s.number ∷ [])) v.flights) h.whole same (record { number = refl; chunk_is = refl; origin = refl; numbers = inr (inr refl); few = omega arith; counted = λ counts. counted_spoilt s counts; left = left_spoilt s x refl })
-              (refused_numbers (s.number ∷ []) v.flights) prepared.holds prepared.waits (room_spoilt contents layers s);
+              (refused_numbers (s.number ∷ []) v.flights) prepared.holds prepared.waits (room_spoilt contents layers s (overflows_live first s over));
           prepared = prepared;
           saving = saved_now x w refl (saving_set_at first k (snap_books contents layers x) (map (snap_books contents layers) v.snaps) h.saving (books_within contents layers size v v.origin k s x within is) (λ live. absurd (false≢true live)));
         }
