@@ -1,6 +1,6 @@
 -- What an Issue of the machine writes, by the request that it issues; and what that leaves of a spoiled snapshot whose invalid
 -- mark is untried: its store has its bytes, and the origin disk is written in no chunk but one that it has.
-use Rattle.std.proofs.Common.{◌≡◌, ◌≢◌, ◌⊎◌, inl, inr, ℕ, zero, suc, ◌+◌, ◌*◌, ◌/◌, ◌%◌, ◌<◌, ◌≤◌, Bool, true, false, List, [], ◌∷◌, Option, Some, None, length, get_or, map, refl, sym, ◌∙◌, ap, subst, arith, eqb-true}
+use Rattle.std.proofs.Common.{◌≡◌, ◌≢◌, ◌⊎◌, inl, inr, ℕ, suc, ◌+◌, ◌*◌, ◌/◌, ◌%◌, ◌<◌, ◌≤◌, Bool, true, false, List, [], ◌∷◌, Option, Some, None, length, get_or, map, refl, sym, ◌∙◌, ap, subst, arith, eqb-true}
 use Rattle.std.specs.Prelude.{◌==◌, ◌&&◌}
 use Rattle.std.specs.List.{All}
 use Rattle.std.proofs.lemmas.Bool.{cases_Bool, cond-true, cond-false}
@@ -28,7 +28,7 @@ use Rattle.volume_laws.specs.Waits.{Waits}
 use Rattle.settled.specs.Devices.{answers, met, written_by}
 use Rattle.event_machine.specs.Held.{Held, Going, MergeHeld, Moving, with_store}
 use Rattle.event_machine.specs.Seen.{going_of}
-use Rattle.event_machine.specs.Stepping.{for_some, first_that, with_first, issue, on_disk, on_store, on_merging, on_place}
+use Rattle.event_machine.specs.Stepping.{for_some, first_that, issue, on_disk, on_store, on_merging, on_place}
 use Rattle.event_machine.specs.MergeStepping.{stepped_all}
 use Rattle.event_machine.specs.Due.{is_issuable}
 use Rattle.volume.proofs.DiskIssues.{write_kinds}
