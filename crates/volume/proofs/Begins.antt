@@ -1,5 +1,5 @@
 -- A snapshot of the volume starts a copy, under the next number.
-use Rattle.std.proofs.Common.{◌≡◌, ◌≢◌, inl, inr, ℕ, ◌+◌, ◌<◌, ◌≤◌, List, [], ◌∷◌, ◌++◌, length, get_or, set, map, refl, sym, ◌∙◌, ap, subst, arith, length-append}
+use Rattle.std.proofs.Common.{◌≡◌, ◌≢◌, inl, inr, ℕ, true, ◌+◌, ◌<◌, ◌≤◌, List, [], ◌∷◌, ◌++◌, length, get_or, set, map, refl, sym, ◌∙◌, ap, subst, arith, length-append}
 use Rattle.std.specs.Prelude.{AllPairs, sum_by}
 use Rattle.std.specs.List.{All}
 use Rattle.std.proofs.lemmas.Bool.{cases_eq}
@@ -129,5 +129,5 @@ room_begun contents layers p s t at = start_room p (room_of contents layers s) (
 })
 
 -- one that is spoiled keeps nothing back
-pub room_spoilt : {B : Type 0} (contents : B → List ℕ) (layers : B → List Layer) (s : Kept B) → KeepsRoom (room_of contents layers s) (room_of contents layers (spoilt_of s))
-room_spoilt contents layers s = spoil_room (room_of contents layers s) (room_of contents layers (spoilt_of s)) (record { number = refl; live = refl; copies = refl; marks = refl })
+pub room_spoilt : {B : Type 0} (contents : B → List ℕ) (layers : B → List Layer) (s : Kept B) → s.live ≡ true → KeepsRoom (room_of contents layers s) (room_of contents layers (spoilt_of s))
+room_spoilt contents layers s live = spoil_room (room_of contents layers s) (room_of contents layers (spoilt_of s)) (record { number = refl; was = live; live = refl; chunk = refl; pairs = refl; copies = refl; marks = refl })

@@ -66,6 +66,7 @@ pub record SpoiltTo {B : Type 0} (s s' : Kept B) : Type 0 where
   pub untried : s'.untried ≡ true
   pub chunk_is : s'.state.chunk ≡ s.state.chunk
   pub origin : s'.state.origin ≡ s.state.origin
+  pub pairs : s'.pairs ≡ s.pairs
   pub copies : s'.copies ≡ []
   pub marks : s'.marks ≡ []
   pub counted : IsCounted s → IsCounted s'
@@ -119,7 +120,7 @@ module _ {B : Type 0} (contents : B → List ℕ) (layers : B → List Layer) (s
       let flights = map (refused_of (s.number ∷ [])) v.flights in
       let w = changed v o' k s' flights in
       let sb = snap_books contents layers in
-      let spoils : SpoilsSnap (sb s) (sb s') = record { number = t.number; live = t.live; copies = t.copies; marks = t.marks } in
+      let spoils : SpoilsSnap (sb s) (sb s') = record { number = t.number; was = live; live = t.live; chunk = t.chunk_is; pairs = t.pairs; copies = t.copies; marks = t.marks } in
       let e = spoils_one contents layers size v o' k s s' within is same spoils in
       let numbers = refused_numbers (s.number ∷ []) v.flights in
       let count : length flights ≡ length v.flights = length-map v.flights (refused_of (s.number ∷ [])) in

@@ -93,6 +93,7 @@ pub mod StopMoves
 pub mod StopGiven
 pub mod StopIssues
 pub mod StopShown
+pub mod StopUntried
 pub mod StopSteps
 pub mod StopOwn
 pub mod StopWrites

@@ -53,6 +53,11 @@ not_lacking first s e live = at (place_of s.pairs (first / s.state.chunk)) refl
       | inr none ↦ (let here : lacks first s ≡ true = rw (live, is, none) refl in absurd (true≢false (sym here ∙ e)))
     ])
 
+-- a snapshot whose store is found full is live
+pub overflows_live : {B : Type 0} (first : ℕ) (s : Kept B) → overflows first s ≡ true → s.live ≡ true
+overflows_live first s over =
+    and_first s.live (not (is_some (place_of s.pairs (first / s.state.chunk)))) (and_first (s.live && not (is_some (place_of s.pairs (first / s.state.chunk)))) (not (list_any (λ q. nat_eq q.pair.old (first / s.state.chunk)) s.copies)) (and_first (lacks first s) (is_full_of s) over))
+
 pub refused_numbers : (which : List ℕ) (fs : List Flight) → map number_of_flight (map (refused_of which) fs) ≡ map number_of_flight fs
 refused_numbers which [] = refl
 refused_numbers which (f ∷ fs) = ap (λ ns. f.number ∷ ns) (refused_numbers which fs)
@@ -88,14 +93,14 @@ module _ {B : Type 0} (contents : B → List ℕ) (layers : B → List Layer) (s
     done_spoilt : overflows first s ≡ true → AreDone contents layers size first (k + 1) (which ++ s.number ∷ []) v0 (changed v v.origin k (spoilt_of s) (map (refused_of (s.number ∷ [])) v.flights))
     done_spoilt over =
         let x : Kept B = spoilt_of s in
-        let spoils : SpoilsSnap (snap_books contents layers s) (snap_books contents layers x) = record { number = refl; live = refl; copies = refl; marks = refl } in
+        let spoils : SpoilsSnap (snap_books contents layers s) (snap_books contents layers x) = record { number = refl; was = overflows_live first s over; live = refl; chunk = refl; pairs = refl; copies = refl; marks = refl } in
         let same = same_disk contents layers size v.origin in
         let spoil = spoils_one contents layers size v v.origin k s x within is same spoils in
         let w : Volumed B = changed v v.origin k x (map (refused_of (s.number ∷ [])) v.flights) in
         let prepared = prepared_spoil which k (snap_books contents layers s) (snap_books contents layers x) (books_of contents layers size v0) (books_of contents layers size v) (books_of contents layers size w) h.prepared spoil refl refl in
         record {
           whole = whole_changed contents layers size v v.origin k s x within is (map (refused_of (s.number ∷ [])) v.flights) h.whole same (record { number = refl; chunk_is = refl; origin = refl; numbers = inr (inr refl); few = omega arith; counted = λ counts. counted_spoilt s counts; left = left_spoilt s x refl })
-              (refused_numbers (s.number ∷ []) v.flights) prepared.holds prepared.waits (room_spoilt contents layers s);
+              (refused_numbers (s.number ∷ []) v.flights) prepared.holds prepared.waits (room_spoilt contents layers s (overflows_live first s over));
           prepared = prepared;
           saving = saved_now x w refl (saving_set_at first k (snap_books contents layers x) (map (snap_books contents layers) v.snaps) h.saving (books_within contents layers size v v.origin k s x within is) (λ live. absurd (false≢true live)));
         }

@@ -194,13 +194,13 @@ module _ {B : Type 0} (contents : B → List ℕ) (layers : B → List Layer) (s
 
   prepared_filled : IsPrepared (s1.number ∷ []) (books_of contents layers size roomy) (books_of contents layers size filled)
   prepared_filled =
-      let spoils : SpoilsSnap (snap_books contents layers s1) (snap_books contents layers (spoilt_of s1)) = record { number = refl; live = refl; copies = refl; marks = refl } in
+      let spoils : SpoilsSnap (snap_books contents layers s1) (snap_books contents layers (spoilt_of s1)) = record { number = refl; was = live_roomy; live = refl; chunk = refl; pairs = refl; copies = refl; marks = refl } in
       prepared_spoil [] k (snap_books contents layers s1) (snap_books contents layers (spoilt_of s1)) (books_of contents layers size roomy) (books_of contents layers size roomy) (books_of contents layers size filled) prepared_roomy
       (spoils_one contents layers size roomy v.origin k s1 (spoilt_of s1) within_roomy is_roomy (same_disk contents layers size v.origin) spoils) refl refl
 
   pub filled_whole : IsWhole contents layers size filled
   filled_whole = whole_changed contents layers size roomy v.origin k s1 (spoilt_of s1) within_roomy is_roomy (map (refused_of (s1.number ∷ [])) v.flights) roomy_whole (same_disk contents layers size v.origin)
-      (record { number = refl; chunk_is = refl; origin = refl; numbers = inr (inr refl); few = omega arith; counted = λ counts. counted_spoilt s1 counts; left = left_spoilt s1 (spoilt_of s1) refl }) (refused_numbers (s1.number ∷ []) v.flights) prepared_filled.holds prepared_filled.waits (room_spoilt contents layers s1)
+      (record { number = refl; chunk_is = refl; origin = refl; numbers = inr (inr refl); few = omega arith; counted = λ counts. counted_spoilt s1 counts; left = left_spoilt s1 (spoilt_of s1) refl }) (refused_numbers (s1.number ∷ []) v.flights) prepared_filled.holds prepared_filled.waits (room_spoilt contents layers s1 live_roomy)
 
   pub found_full : (c : ℕ) → overflows c s1 ≡ true → place_of_snap id v.snaps ≡ Some k → IsFoundFull contents layers id c v filled
   found_full c over found = record {

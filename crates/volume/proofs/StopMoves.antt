@@ -50,7 +50,7 @@ pub places_same : {X : Type 0} (R : X → X → Type 0) → ((x : X) → R x x) 
 places_same R each [] = tt
 places_same R each (x ∷ xs) = (each x, places_same R each xs)
 
-first_passes : {X : Type 0} (test : X → Bool) (xs : List X) (x : X) → first_that test xs ≡ Some x → test x ≡ true
+pub first_passes : {X : Type 0} (test : X → Bool) (xs : List X) (x : X) → first_that test xs ≡ Some x → test x ≡ true
 first_passes test [] x e = absurd (cc)
 first_passes test (y ∷ xs) x e = by (first_passes test xs x) (test y) refl
   where

@@ -32,12 +32,12 @@ use Rattle.pending.specs.Copies.{pair_of, count_of}
 use Rattle.pending.proofs.Batches.{batch_ready}
 use Rattle.pending.specs.Kinds.{in_flight}
 use Rattle.pending.specs.declared.flights.Flight.{Flight}
-use Rattle.stop_laws.specs.Stop.{HoldsNow}
+use Rattle.stop_laws.specs.Stop.{HoldsNow, IsTorn}
 use Rattle.stop_laws.specs.Again.{LoadsAgain, IsRefusedAgain}
-use Rattle.stop_laws.specs.Clauses.{Given, Gives, StopsSnap}
+use Rattle.stop_laws.specs.Clauses.{Given, Gives, OpensNone, StopsSnap}
 use Rattle.stop_laws.proofs.Clauses.{opens_none}
 use Rattle.stop_laws.proofs.Shown.{shown_under}
-use Rattle.volume_laws.specs.Held.{LiveHolds, CopyHolds, RequestHolds}
+use Rattle.volume_laws.specs.Held.{LiveHolds, SpoiltHolds, SnapHolds, CopyHolds, RequestHolds}
 use Rattle.volume_laws.specs.Shape.{shown_origin}
 use Rattle.volume_laws.specs.Whole.{OriginHolds}
 use Rattle.volume_laws.specs.Published.{is_published}
@@ -64,13 +64,14 @@ use Rattle.volume.specs.Exact.{IsExact}
 use Rattle.volume.specs.Moved.{moving_of, held_of, merge_seen}
 use Rattle.volume.specs.Asking.{IsMergeInStep}
 use Rattle.volume.specs.Stepping.{KeepsAll, merged_of}
-use Rattle.volume.specs.Stopping.{stopping_of, given_as, given_in, given_by, told_by, CommitsWithin, MarksWithin, MergeWithin, WritesOne, CommitsMerge, StopsOwn, StopsOrigin, StopsVolume}
+use Rattle.volume.specs.Stopping.{stopping_of, given_as, given_in, given_by, of_all, CommitsWithin, MarksWithin, MergeWithin, WritesOne, CommitsMerge, StopsOwn, StopsOrigin, StopsVolume}
 use Rattle.volume.proofs.Shown.{and_left, and_right, loud_books}
 use Rattle.volume.proofs.Counting.{head_counted}
-use Rattle.volume.proofs.StopStill.{as_it_is, loads_snap, refuses_snap, ready_live, SameMerging, same_merging, still_disk, still_merge, still_snap, origin_still, loud_snap, of_origin}
+use Rattle.volume.proofs.StopStill.{as_it_is, loads_snap, refuses_snap, ready_live, ready_untried, SameMerging, same_merging, still_disk, still_merge, still_snap, origin_still, loud_snap, of_origin}
 use Rattle.volume.proofs.StopGiven.{live_given, dead_given, merge_given}
 use Rattle.volume.proofs.StopMoves.{SameBytes, seen_place, Moves, SameStore, Steps, is_still, steps_by}
 use Rattle.volume.proofs.StopIssues.{SamePairs, SameMergePairs, KeepsPairs, pairs_kept}
+use Rattle.volume.proofs.StopUntried.{IssueWrites, WritesUnder, Stays, writes_of, untouched, under}
 use Rattle.volume.proofs.MergeDue.{merged, full_inside}
 use Rattle.volume.proofs.StopWrites.{WriteSteps, write_steps, all_at, none_at, live_saved, reading_full}
 use Rattle.volume.proofs.StopShown.{same_shown, kept_shown, changed_shown}
@@ -199,9 +200,12 @@ module _ {B : Type 0} (contents : B → List ℕ) (layers : B → List Layer) (s
     then' : IsInStep contents layers size t
     then' = subst (IsInStep contents layers size) (sym are) (steps' k t lt')
 
+    here : SnapHolds (contents v.origin) v.flights (snap_books contents layers s)
+    here = snap_holds (books_of contents layers size v) k (snap_books contents layers s) h.holds (omega (arith, lt, length-map v.snaps (snap_books contents layers))) (ap (snap_books contents layers) is ∙ sym (get_or-map (snap_books contents layers) v.snaps k s (snap_books contents layers s) lt))
+
     -- a live one
     alive : s.live ≡ true → LiveHolds (contents v.origin) v.flights (snap_books contents layers s)
-    alive live = (snap_holds (books_of contents layers size v) k (snap_books contents layers s) h.holds (omega (arith, lt, length-map v.snaps (snap_books contents layers))) (ap (snap_books contents layers) is ∙ sym (get_or-map (snap_books contents layers) v.snaps k s (snap_books contents layers s) lt))).alive live
+    alive live = here.alive live
 
     -- its array, sector by sector
     abbrev ShownGiven : Option Given → Type 0
@@ -223,6 +227,54 @@ module _ {B : Type 0} (contents : B → List ℕ) (layers : B → List Layer) (s
     still_stop : (given : Option Given) → contents w.origin ≡ contents v.origin → contents t.device ≡ contents s.device → StopsSnap (λ d. HoldsNow (contents d)) size given v.origin w.origin (stopping_of s) (stopping_of t)
     still_stop given disk here = still_snap contents layers size whole given v.origin w.origin disk s t (of_origin contents layers size whole v h loud k s lt is) now (loud_snap contents layers size whole v h loud k s lt is) here
 
+  -- the origin disk is written in one chunk, of which a snapshot has its copy, and that one's store is loaded again
+  under_opens : (k : ℕ) (s t : Kept B) (lt : k < length v.snaps) (at : s ≡ get_or v.snaps k s) (are : t ≡ get_or w.snaps k t) (given : Option Given) (q : ℕ) → (s.live || (s.untried || s.stale)) ≡ true → contents t.device ≡ contents s.device
+      → ((i : ℕ) → (i < 512 * (s.state.chunk * q)) ⊎ (512 * (s.state.chunk * q + s.state.chunk) ≤ i) → get_or (contents w.origin) i 0 ≡ get_or (contents v.origin) i 0) → place_of s.pairs q ≢ None
+      → (b c : List ℕ) → IsTorn (size v.origin) (contents v.origin) (contents w.origin) b → IsTorn (size s.device) (contents s.device) (contents t.device) c
+      → LoadsAgain s.state.chunk (size v.origin) (size s.device) c × OpensNone (λ d. HoldsNow (contents d)) size given (Some s.number) s.state.chunk v.origin s.device b c
+  under_opens k s t lt at are given q ready same rest placed b c left_b left_c =
+      let drops = loud_snap contents layers size whole v h loud k s lt at in
+      let ec : c ≡ contents s.device = as_it_is contents layers size whole s.device t.device c same left_c in
+      let shows : picture s.state.chunk b c ≡ picture s.state.chunk (contents v.origin) (contents s.device) =
+      ap (picture s.state.chunk b) ec
+      ∙ shown_under (size v.origin) s.state.chunk q s.state.chunk (contents v.origin) (contents w.origin) b (contents s.device) s.pairs (some k s t lt at are) left_b (whole v.origin) (whole w.origin ∙ ap (λ n. 512 * n) sectors) rest (omega arith) ((now k s t lt at are).pairs drops) placed in
+      let loads = loads_snap contents layers size whole v.origin s (of_origin contents layers size whole v h loud k s lt at) (now k s t lt at are) drops ready in (
+        subst (λ (z : List ℕ). LoadsAgain s.state.chunk (size v.origin) (size s.device) z) (sym ec) loads,
+        opens_none contents size given (Some s.number) s.state.chunk v.origin s.device b c (whole v.origin) (whole s.device) (λ n below. inl (ap (λ z. sector_at z n) shows)),
+      )
+
+  -- a live one
+  under_stop : (k : ℕ) (s t : Kept B) (lt : k < length v.snaps) (at : s ≡ get_or v.snaps k s) (are : t ≡ get_or w.snaps k t) (q : ℕ) → s.live ≡ true → contents t.device ≡ contents s.device
+      → ((i : ℕ) → (i < 512 * (s.state.chunk * q)) ⊎ (512 * (s.state.chunk * q + s.state.chunk) ≤ i) → get_or (contents w.origin) i 0 ≡ get_or (contents v.origin) i 0) → place_of s.pairs q ≢ None
+      → StopsSnap (λ d. HoldsNow (contents d)) size None v.origin w.origin (stopping_of s) (stopping_of t)
+  under_stop k s t lt at are q live same rest placed = λ b c left_b left_c. (
+    λ _. under_opens k s t lt at are None q (ready_live s.live s.untried s.stale live) same rest placed b c left_b left_c,
+    λ waits. absurd (false≢true (sym (alive k s t lt at are live).tried ∙ waits)),
+    λ dead. absurd (false≢true (sym dead ∙ live)),
+  )
+
+  -- a spoiled one whose mark is untried: an Issue writes nothing of it but that
+  waiting_stop : (k : ℕ) (s t : Kept B) (lt : k < length v.snaps) (at : s ≡ get_or v.snaps k s) (are : t ≡ get_or w.snaps k t) (given : Option Given) → s.live ≡ false → s.untried ≡ true → (replied : Option Reply) → IssueWrites (moving_of contents layers None v) (moving_of contents layers replied w)
+      → StopsSnap (λ d. HoldsNow (contents d)) size given v.origin w.origin (stopping_of s) (stopping_of t)
+  waiting_stop k s t lt at are given dead waits replied writes =
+      let m = moving_of contents layers None v in
+      let n = moving_of contents layers replied w in
+      let vb = books_of contents layers size v in
+      let sb = snap_books contents layers s in
+      let gone : SpoiltHolds v.flights sb = (here k s t lt at are).spoilt dead in
+      let stays : Stays m (held_of contents layers s) (held_of contents layers t) =
+      subst (λ x. Stays m (held_of contents layers x) (held_of contents layers t)) (sym at) (subst (λ x. Stays m (held_of contents layers (get_or v.snaps k s)) (held_of contents layers x)) (sym are) (seen_place (Stays m) (held_of contents layers) v.snaps w.snaps k s t lt writes.snaps)) in
+      let same : contents t.device ≡ contents s.device = elim stays [ inl e ↦ e | inr one ↦ absurd (untouched m n vb h.holds h.waits refl refl sb gone waits (held_of contents layers s) refl one) ] in
+      elim writes.origin [
+        | inl disk ↦ still_stop k s t lt at are given disk same
+        | inr one ↦ (let beneath : WritesUnder s.state.chunk s.pairs (contents v.origin) (contents w.origin) = under m n vb h.holds h.waits refl refl sb gone waits one in
+            λ b c left_b left_c. (
+              λ live. absurd (false≢true (sym dead ∙ live)),
+              λ _. inr (under_opens k s t lt at are given beneath.at (ready_untried s.live s.untried s.stale waits) same beneath.rest beneath.placed b c left_b left_c),
+              λ _ tried. absurd (false≢true (sym tried ∙ waits)),
+            ))
+      ]
+
   -- an event that writes no pair, no mark and no request's bytes
   same_stores : (m m' : Option (Merging B)) → SameStore (held_in (merge_seen contents layers m)) (held_in (merge_seen contents layers m')) → SameMerging contents layers size whole m m'
   same_stores None m' e = tt
@@ -230,7 +282,7 @@ module _ {B : Type 0} (contents : B → List ℕ) (layers : B → List Layer) (s
   same_stores (Some m) (Some m') e = e
 
   pub still_event : (event : Event) (outcome : Outcome) → is_still event ≡ true → IsExact contents layers event outcome v w → IsLegalStep (plain_of contents layers v) event outcome (plain_of contents layers w)
-      → StopsVolume contents size (told_by event) (given_by event (map in_flight v.flights)) v w
+      → StopsVolume contents size of_all (given_by event (map in_flight v.flights)) v w
   still_event event outcome is exact legal =
       let moved : Steps (moving_of contents layers None v) (moving_of contents layers (replied_by outcome None) w) = subst (Steps (moving_of contents layers None v)) (exact.step loud None) (steps_by event (moving_of contents layers None v) is) in
       let spoils = spoils_of event outcome (plain_of contents layers v) (plain_of contents layers w) is legal in
@@ -350,7 +402,7 @@ module _ {B : Type 0} (contents : B → List ℕ) (layers : B → List Layer) (s
       (subst (λ c. (n : ℕ) → n < size v.origin → (sector_at (picture c (contents w.origin) (contents m'.device)) n ≡ sector_at (picture m.state.chunk (contents v.origin) (contents m.device)) n) ⊎ Gives given None n (sector_at (picture c (contents w.origin) (contents m'.device)) n)) chunk shown)
 
   pub issue_event : (number : ℕ) (outcome : Outcome) → IsExact contents layers (Issue number) outcome v w → IsLegalStep (plain_of contents layers v) (Issue number) outcome (plain_of contents layers w)
-      → StopsVolume contents size (told_by (Issue number)) (given_by (Issue number) (map in_flight v.flights)) v w
+      → StopsVolume contents size of_all (given_by (Issue number) (map in_flight v.flights)) v w
   issue_event number Done exact legal = absurd legal
   issue_event number Fault exact legal = absurd legal
   issue_event number (Replied m reply) exact legal =
@@ -362,13 +414,17 @@ module _ {B : Type 0} (contents : B → List ℕ) (layers : B → List Layer) (s
       let is : given_by (Issue number) (map in_flight v.flights) ≡ given_as q.dev q.range q.op = ap (λ n. given_in (asked_under n (map in_flight v.flights))) same ∙ ap given_in asked in
       let law = subst (λ (g : Option Given). ShownSnaps g × ShownOrigin g) (sym is) (serve_law q.dev q.op q.range reply fits.0 fits.1 legal.1.served) in
       let keeps : KeepsPairs (moving_of contents layers None v) (moving_of contents layers (replied_by (Replied m reply) None) w) = subst (KeepsPairs (moving_of contents layers None v)) (exact.step loud None) (pairs_kept number (moving_of contents layers None v)) in
+      let writes : IssueWrites (moving_of contents layers None v) (moving_of contents layers (replied_by (Replied m reply) None) w) = subst (IssueWrites (moving_of contents layers None v)) (exact.step loud None) (writes_of number (moving_of contents layers None v)) in
       record {
         snaps = λ k s t lt at are said.
             let one : SamePairs (held_of contents layers s) (held_of contents layers t) =
             subst (λ x. SamePairs (held_of contents layers x) (held_of contents layers t)) (sym at) (subst (λ x. SamePairs (held_of contents layers (get_or v.snaps k s)) (held_of contents layers x)) (sym are) (seen_place SamePairs (held_of contents layers) v.snaps w.snaps k s t lt keeps.snaps)) in
             elim (either s.live) [
               | inl live ↦ live_stop k s t lt at are (given_by (Issue number) (map in_flight v.flights)) live (law.0 k s t lt at are live).0 one.pairs (law.0 k s t lt at are live).1
-              | inr dead ↦ dead_stop k s t lt at are (given_by (Issue number) (map in_flight v.flights)) dead (not_false s.untried said) one.live one.untried one.stale
+              | inr dead ↦ elim (either s.untried) [
+                | inl waits ↦ waiting_stop k s t lt at are (given_by (Issue number) (map in_flight v.flights)) dead waits (Some reply) writes
+                | inr tried ↦ dead_stop k s t lt at are (given_by (Issue number) (map in_flight v.flights)) dead tried one.live one.untried one.stale
+              ]
             ];
         origin = given_origin (given_by (Issue number) (map in_flight v.flights)) (is_loud (layers v.origin)) v.merge w.merge h.merge h'.merge step step' h.holds.merge kept.merged kept.sizes (loud_store v.merge _ loud) (loud_store w.merge _ loud') keeps.merge law.1;
       }
@@ -429,25 +485,6 @@ module _ {B : Type 0} (contents : B → List ℕ) (layers : B → List Layer) (s
     snaps = λ k s t lt at are said. still_stop k s t lt at are None (ap contents o.origin) (ap (λ x. contents x.device) (are ∙ ap (λ xs. get_or xs k t) o.snaps ∙ get_or_default v.snaps k t s lt ∙ sym at));
     origin = commit_origin (ap contents o.origin) true v.merge w.merge h.merge step (loud_books contents layers size v loud).origin (loud_store v.merge _ loud) h.holds.merge o.merge;
   }
-
-  -- the origin disk is written in one chunk, of which a live snapshot has its copy
-  under_stop : (k : ℕ) (s t : Kept B) (lt : k < length v.snaps) (at : s ≡ get_or v.snaps k s) (are : t ≡ get_or w.snaps k t) (q : ℕ) → s.live ≡ true → contents t.device ≡ contents s.device
-      → ((i : ℕ) → (i < 512 * (s.state.chunk * q)) ⊎ (512 * (s.state.chunk * q + s.state.chunk) ≤ i) → get_or (contents w.origin) i 0 ≡ get_or (contents v.origin) i 0) → place_of s.pairs q ≢ None
-      → StopsSnap (λ d. HoldsNow (contents d)) size None v.origin w.origin (stopping_of s) (stopping_of t)
-  under_stop k s t lt at are q live same rest placed = λ b c left_b left_c.
-      let drops = loud_snap contents layers size whole v h loud k s lt at in
-      let ec : c ≡ contents s.device = as_it_is contents layers size whole s.device t.device c same left_c in
-      let shows : picture s.state.chunk b c ≡ picture s.state.chunk (contents v.origin) (contents s.device) =
-      ap (picture s.state.chunk b) ec
-      ∙ shown_under (size v.origin) s.state.chunk q s.state.chunk (contents v.origin) (contents w.origin) b (contents s.device) s.pairs (some k s t lt at are) left_b (whole v.origin) (whole w.origin ∙ ap (λ n. 512 * n) sectors) rest (omega arith) ((now k s t lt at are).pairs drops) placed in
-      let loads = loads_snap contents layers size whole v.origin s (of_origin contents layers size whole v h loud k s lt at) (now k s t lt at are) drops (ready_live s.live s.untried s.stale live) in (
-        λ _. (
-          subst (λ (z : List ℕ). LoadsAgain s.state.chunk (size v.origin) (size s.device) z) (sym ec) loads,
-          opens_none contents size None (Some s.number) s.state.chunk v.origin s.device b c (whole v.origin) (whole s.device) (λ n below. inl (ap (λ z. sector_at z n) shows)),
-        ),
-        λ waits. absurd (false≢true (sym (alive k s t lt at are live).tried ∙ waits)),
-        λ dead. absurd (false≢true (sym dead ∙ live)),
-      )
 
   refused_stop : (k : ℕ) (s t : Kept B) (lt : k < length v.snaps) (at : s ≡ get_or v.snaps k s) (are : t ≡ get_or w.snaps k t) → s.live ≡ false → s.untried ≡ false → contents t.device ≡ contents s.device
       → StopsSnap (λ d. HoldsNow (contents d)) size None v.origin w.origin (stopping_of s) (stopping_of t)
@@ -513,13 +550,13 @@ module _ {B : Type 0} (contents : B → List ℕ) (layers : B → List Layer) (s
       flag true = inl refl
       flag false = inr refl
 
-  write_event : (outcome : Outcome) → IsExact contents layers MergeWrite outcome v w → IsLegalStep (plain_of contents layers v) MergeWrite outcome (plain_of contents layers w) → StopsVolume contents size (told_by MergeWrite) None v w
-  write_event Done exact legal = back_event (told_by MergeWrite) (subst (WriteSteps (moving_of contents layers None v)) (exact.step loud None) (write_steps (moving_of contents layers None v))) (ap (λ p. p.origin) legal.1)
-  write_event Fault exact legal = back_event (told_by MergeWrite) (subst (WriteSteps (moving_of contents layers None v)) (exact.step loud None) (write_steps (moving_of contents layers None v))) (ap (λ p. p.origin) legal.1)
+  write_event : (outcome : Outcome) → IsExact contents layers MergeWrite outcome v w → IsLegalStep (plain_of contents layers v) MergeWrite outcome (plain_of contents layers w) → StopsVolume contents size of_all None v w
+  write_event Done exact legal = back_event of_all (subst (WriteSteps (moving_of contents layers None v)) (exact.step loud None) (write_steps (moving_of contents layers None v))) (ap (λ p. p.origin) legal.1)
+  write_event Fault exact legal = back_event of_all (subst (WriteSteps (moving_of contents layers None v)) (exact.step loud None) (write_steps (moving_of contents layers None v))) (ap (λ p. p.origin) legal.1)
   write_event (Replied number reply) exact legal = absurd (let e : MergeWrite ≡ Issue number = legal.0 in cc)
 
   pub told_event : (event : Event) (outcome : Outcome) → IsExact contents layers event outcome v w → IsLegalStep (plain_of contents layers v) event outcome (plain_of contents layers w) → StopsOwn contents event v w
-      → StopsVolume contents size (told_by event) (given_by event (map in_flight v.flights)) v w
+      → StopsVolume contents size of_all (given_by event (map in_flight v.flights)) v w
   told_event (Issue n) outcome exact legal own = issue_event n outcome exact legal
   told_event (CopyRead n) outcome exact legal own = still_event (CopyRead n) outcome refl exact legal
   told_event (CopyWrite n) outcome exact legal own = still_event (CopyWrite n) outcome refl exact legal
@@ -530,7 +567,7 @@ module _ {B : Type 0} (contents : B → List ℕ) (layers : B → List Layer) (s
   told_event MergeRead outcome exact legal own = still_event MergeRead outcome refl exact legal
   told_event MergeFlush outcome exact legal own = still_event MergeFlush outcome refl exact legal
   told_event MergeRelease outcome exact legal own = still_event MergeRelease outcome refl exact legal
-  told_event (WriteArea n) outcome exact legal own = area_event (told_by (WriteArea n)) own
-  told_event (WriteInvalid n) outcome exact legal own = mark_event (told_by (WriteInvalid n)) own
+  told_event (WriteArea n) outcome exact legal own = area_event of_all own
+  told_event (WriteInvalid n) outcome exact legal own = mark_event of_all own
   told_event MergeWrite outcome exact legal own = write_event outcome exact legal
-  told_event MergeCommit outcome exact legal own = commit_event (told_by MergeCommit) own
+  told_event MergeCommit outcome exact legal own = commit_event of_all own

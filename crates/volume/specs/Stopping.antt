@@ -1,7 +1,7 @@
 -- What the devices of a volume may be left with where the machine stops before, after or within a call, while no device
 -- drops writes. Each sector is left as it was or as the call writes it, each by itself. This project's own; the bytes are
 -- those of dm-snap-persistent.c.
-use Rattle.std.specs.Prelude.{◌≡◌, ◌⊎◌, not, ℕ, ◌-◌, ◌<◌, Bool, true, List, Option, Some, None, length, take, slice_index_or}
+use Rattle.std.specs.Prelude.{◌≡◌, ◌⊎◌, ℕ, ◌-◌, ◌<◌, Bool, true, List, Option, Some, None, length, take, slice_index_or}
 use Rattle.sector.specs.declared.range.Range.{Range}
 use Rattle.device.specs.Layers.{Layer}
 use Rattle.plain.specs.declared.event.Event.{Event}
@@ -59,12 +59,6 @@ pub record StopsVolume {B : Type 0} (contents : B → List ℕ) (size : B → �
 -- of all snapshots
 abbrev pub of_all : Bool → Bool
 of_all untried = true
-
--- Of those that an event says something of: an Issue of a spoiled snapshot only once its mark was tried, for nothing is kept of
--- whether an origin write that was routed before the spoil has its chunk among that one's pairs.
-abbrev pub told_by : Event → Bool → Bool
-told_by (Issue number) untried = not untried
-told_by event untried = true
 
 -- What the events that write pairs or a mark say of themselves. A snapshot's first copies are committed; its store is marked.
 pub record CommitsWithin {B : Type 0} (contents : B → List ℕ) (s t : Kept B) : Type 0 where

@@ -7,7 +7,7 @@ ghost use Rattle.volume.specs.Volumed.{is_due_of, is_loud_in_all, left_in_all, n
 ghost use Rattle.volume.specs.Causes.{HasCause, IsOneAtMost};
 ghost use Rattle.volume.specs.Flying.{IsFlown};
 ghost use Rattle.volume.specs.Stepping.{IsStepped, KeepsAll, failed_by, has_failed, starts_by};
-ghost use Rattle.volume.specs.Stopping.{StopsOwn, StopsVolume, given_by, told_by};
+ghost use Rattle.volume.specs.Stopping.{StopsOwn, StopsVolume, given_by, of_all};
 ghost use Rattle.volume.specs.Stored.{RemovesPairs, is_finished_on};
 ghost use Rattle.volume.specs.Exact.{IsExact};
 ghost use Rattle.volume.specs.Whole.{IsWhole};
@@ -50,8 +50,8 @@ impl<B: Block> Volume<B> {
     /// answered, and a read that is not refused is answered with as many bytes as were asked for; and a merge stops just
     /// where one of its own operations fails. A commit of a merge takes pairs away, and it is finished where its store's
     /// bytes have none. Where no device drops writes, whatever a stop before, within or after the event leaves is loaded
-    /// again with the same arrays, but for what an Issue writes; of a spoiled snapshot's store an Issue says that only once
-    /// its mark was tried. Where an event is not due, nothing changes at all.
+    /// again with the same arrays, but for what an Issue writes; a spoiled snapshot's store whose mark is untried may be
+    /// refused instead, and one that was marked is. Where an event is not due, nothing changes at all.
     pub fn step(&mut self, event: Event) -> Result<Outcome, NotDue>
         ensures legal { IfOk result (λ outcome. is_loud_in_all B.layers self.old ≡ true → IsLegalStep (plain_of B.contents B.layers self.old) event outcome (plain_of B.contents B.layers self.new)) }
         ensures exact { IfOk result (λ outcome. IsExact B.contents B.layers event outcome self.old self.new) }
@@ -67,7 +67,7 @@ impl<B: Block> Volume<B> {
         ensures counts { OnOk result ((self.new.requests ≡ self.old.requests) × (self.new.copies ≤ self.old.copies + starts_by event) × (self.old.copies ≤ self.new.copies)) }
         ensures removes { IfOk result (λ outcome. RemovesPairs B.contents B.layers event outcome self.old self.new) }
         ensures finished { OnOk result (is_loud_in_all B.layers self.new ≡ true → is_finished_in self.new.merge ≡ is_finished_on B.contents self.new.merge) }
-        ensures stops { IfOk result (λ outcome. is_loud_in_all B.layers self.old ≡ true → StopsVolume B.contents B.size (told_by event) (given_by event (map in_flight self.old.flights)) self.old self.new) }
+        ensures stops { IfOk result (λ outcome. is_loud_in_all B.layers self.old ≡ true → StopsVolume B.contents B.size of_all (given_by event (map in_flight self.old.flights)) self.old self.new) }
         ensures same { OnErr result (self.new ≡ self.old) }
     {
         // Looks: what the type keeps, and what the stores say, is known from here on.

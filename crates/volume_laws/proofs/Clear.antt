@@ -48,3 +48,7 @@ all_true first (v ∷ vs) e =
 -- where a write is clear each live snapshot has published its chunk
 pub clear_saved : (snaps : List SnapBooks) (first : ℕ) → is_clear snaps first ≡ true → All (IsSaved first) snaps
 clear_saved snaps first e = all_true first snaps (and_true (list_all (is_saved first) snaps) (not (list_any (λ v. v.untried) snaps)) e).0
+
+-- and no invalid mark is untried
+pub clear_tried : (snaps : List SnapBooks) (first : ℕ) → is_clear snaps first ≡ true → All (λ v. v.untried ≡ false) snaps
+clear_tried snaps first e = All-from_list_any (λ v. v.untried) snaps (not_true (list_any (λ v. v.untried) snaps) (and_true (list_all (is_saved first) snaps) (not (list_any (λ v. v.untried) snaps)) e).1)

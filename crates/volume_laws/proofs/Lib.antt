@@ -14,6 +14,7 @@ pub mod Refusing
 pub mod Spoiling
 pub mod Clear
 pub mod Routing
+pub mod Untried
 pub mod Rerouting
 pub mod Requests
 pub mod Entries

@@ -16,7 +16,7 @@ use Rattle.pending.specs.declared.flights.Route.{Route}
 use Rattle.pending.specs.declared.flights.Route.TheVariants.{Held, Origin, Store, Refused}
 use Rattle.volume_laws.specs.Books.{SnapBooks, MergeBooks, Books, listed, taken}
 use Rattle.volume_laws.specs.Published.{chunk_of, IsPublished, is_published}
-use Rattle.volume_laws.specs.Held.{SnapHolds, RouteHolds, RefusedHolds, RequestHolds}
+use Rattle.volume_laws.specs.Held.{SnapHolds, RouteHolds, RefusedHolds, UntriedHolds, RequestHolds}
 use Rattle.volume_laws.specs.Merging.{MergeRouteHolds}
 use Rattle.volume_laws.specs.Whole.{Holds, plain_of, entry_of, origin_of, begun_of, UnmergedHolds, OriginHolds}
 use Rattle.volume_laws.specs.Again.{published_place, placed_of, Places}
@@ -24,7 +24,8 @@ use Rattle.volume_laws.specs.Outcomes.{IsSilent}
 use Rattle.volume_laws.proofs.Same.{same_volume, plain}
 use Rattle.volume_laws.proofs.Clear.{published_true}
 use Rattle.volume_laws.proofs.Refusing.{merge_requests, live_requests}
-use Rattle.volume_laws.proofs.Routing.{snap_write_placed, snap_write_other, refused_other_write, unmerged_snap_write, merge_snap_write}
+use Rattle.volume_laws.proofs.Routing.{snap_write_placed, snap_write_other, refused_other_write, unmerged_snap_write, merge_snap_write, origin_write_ne_write}
+use Rattle.volume_laws.proofs.Untried.{untried_other}
 use Rattle.volume_laws.proofs.Spoiling.{numbers_differ}
 use Rattle.volume_laws.proofs.WholeOne.{silent_step, snap_holds}
 
@@ -101,6 +102,7 @@ module _ (k : ℕ) (s : SnapBooks) (v w : Books) (h : Holds v) (e : Places k s v
                 copies = gone.copies;
                 unpublished = gone.unpublished;
                 routes = all_placed (RefusedHolds x.number) s v.requests gone.routes (λ r _ goes. refused_other_write x.number s.number (placed_of s r) goes.mine ne);
+                waited = λ waits. all_placed (UntriedHolds x.chunk x.pairs) s v.requests (gone.waited waits) (λ r _ goes. untried_other x.chunk x.pairs (placed_of s r) (λ e. origin_write_ne_write s.number (sym e ∙ goes.mine)));
               });
             })
       ]

@@ -2,6 +2,7 @@
 use Rattle.std.proofs.Common.{◌≡◌, ℕ, true, false, List, [], ◌∷◌, Option, Some, None, get_or, map, refl, sym, ◌∙◌, ap, if◌then◌else◌}
 use Rattle.std.specs.List.{All}
 use Rattle.std.proofs.lemmas.List.Elements.{All-weaker, All-map}
+use Rattle.sector.specs.declared.pair.Pair.{Pair}
 use Rattle.plain.specs.Plain.{is_in}
 use Rattle.pending.specs.Kinds.{kind_of, in_flight}
 use Rattle.pending.specs.Routes.{refused_of, refused_route_of}
@@ -11,7 +12,7 @@ use Rattle.pending.specs.declared.flights.Kind.TheVariants.{OriginRead, OriginWr
 use Rattle.pending.specs.declared.flights.Route.{Route}
 use Rattle.pending.specs.declared.flights.Route.TheVariants.{Refused}
 use Rattle.volume_laws.specs.Books.{SnapBooks, MergeBooks, listed, taken}
-use Rattle.volume_laws.specs.Held.{LiveHolds, SnapHolds, RouteHolds, RefusedHolds, RequestHolds}
+use Rattle.volume_laws.specs.Held.{LiveHolds, SnapHolds, RouteHolds, RefusedHolds, UntriedHolds, RequestHolds}
 use Rattle.volume_laws.specs.Merging.{MergeHolds, MergeRouteHolds}
 use Rattle.volume_laws.specs.Whole.{UnmergedHolds, OriginHolds}
 
@@ -94,6 +95,16 @@ refuses which n rs one = All-map (RefusedHolds n) (refused_of which) rs (λ k d 
 refused_kept : (which : List ℕ) (n : ℕ) (r : Flight) → RefusedHolds n r → RefusedHolds n (refused_of which r)
 refused_kept which n r h = record { read = λ is. still_refused which (kind_of r.request) r.route (h.read is); write = λ is. still_refused which (kind_of r.request) r.route (h.write is) }
 
+-- one whose mark is untried
+untried_kept : (which : List ℕ) (chunk : ℕ) (pairs : List Pair) (r : Flight) → UntriedHolds chunk pairs r → UntriedHolds chunk pairs (refused_of which r)
+untried_kept which chunk pairs r h = let kind : Kind = kind_of r.request in record {
+  piece = λ is route. h.piece is (sym (same_origin_write which kind r.route is) ∙ route);
+  placed = λ is route. h.placed is (sym (same_origin_write which kind r.route is) ∙ route);
+}
+
+pub untried_refused : (which : List ℕ) (chunk : ℕ) (pairs : List Pair) (rs : List Flight) → All (UntriedHolds chunk pairs) rs → All (UntriedHolds chunk pairs) (map (refused_of which) rs)
+untried_refused which chunk pairs rs all = (let P = UntriedHolds chunk pairs in All-map P (refused_of which) rs (All-weaker P (λ r. P (refused_of which r)) (untried_kept which chunk pairs) rs all))
+
 -- a snapshot that is not among the spoiled
 pub snap_refused : (which : List ℕ) (o : List ℕ) (rs : List Flight) (v : SnapBooks) → is_in which v.number ≡ false → SnapHolds o rs v → SnapHolds o (map (refused_of which) rs) v
 snap_refused which o rs v none h = record {
@@ -103,6 +114,7 @@ snap_refused which o rs v none h = record {
     copies = old.copies;
     unpublished = old.unpublished;
     routes = All-map (RefusedHolds v.number) (refused_of which) rs (All-weaker (RefusedHolds v.number) (λ r. RefusedHolds v.number (refused_of which r)) (refused_kept which v.number) rs old.routes);
+    waited = λ waits. untried_refused which v.chunk v.pairs rs (old.waited waits);
   });
 }
 

@@ -7,7 +7,7 @@ use Rattle.plain.specs.Plain.{asked_under, without}
 use Rattle.pending.specs.Kinds.{in_flight}
 use Rattle.pending.specs.declared.flights.Flight.{Flight}
 use Rattle.volume_laws.specs.Books.{SnapBooks, MergeBooks, Books, listed, taken}
-use Rattle.volume_laws.specs.Held.{LiveHolds, SnapHolds, RouteHolds, RefusedHolds}
+use Rattle.volume_laws.specs.Held.{LiveHolds, SnapHolds, RouteHolds, RefusedHolds, UntriedHolds}
 use Rattle.volume_laws.specs.Merging.{MergeRouteHolds}
 use Rattle.volume_laws.specs.Whole.{UnmergedHolds, OriginHolds}
 use Rattle.volume_laws.specs.Steps.{TakesOut}
@@ -62,5 +62,10 @@ live_out o rs v k h = live_requests o rs (remove rs k) v h (All-remove (RouteHol
 pub snap_out : (o : List ℕ) (rs : List Flight) (v : SnapBooks) (k : ℕ) → SnapHolds o rs v → SnapHolds o (remove rs k) v
 snap_out o rs v k h = record {
   alive = λ live. live_out o rs v k (h.alive live);
-  spoilt = λ dead. (let old = h.spoilt dead in record { copies = old.copies; unpublished = old.unpublished; routes = All-remove (RefusedHolds v.number) rs k old.routes });
+  spoilt = λ dead. (let old = h.spoilt dead in record {
+    copies = old.copies;
+    unpublished = old.unpublished;
+    routes = All-remove (RefusedHolds v.number) rs k old.routes;
+    waited = λ waits. All-remove (UntriedHolds v.chunk v.pairs) rs k (old.waited waits);
+  });
 }

@@ -13,16 +13,17 @@ use Rattle.pending.specs.declared.flights.Route.TheVariants.{Held, Origin, Store
 use Rattle.model.specs.Picture.{place_of, picture}
 use Rattle.volume_laws.specs.Books.{SnapBooks, MergeBooks, Books, listed, taken, group_of}
 use Rattle.volume_laws.specs.Published.{chunk_of, IsPublished, IsSaved, is_clear}
-use Rattle.volume_laws.specs.Held.{SnapHolds, RouteHolds, RefusedHolds, RequestHolds}
+use Rattle.volume_laws.specs.Held.{SnapHolds, RouteHolds, RefusedHolds, UntriedHolds, RequestHolds}
 use Rattle.volume_laws.specs.Merging.{MergeRouteHolds}
 use Rattle.volume_laws.specs.Whole.{Holds, plain_of, entry_of, origin_of, begun_of, UnmergedHolds, OriginHolds}
 use Rattle.volume_laws.specs.Steps.{ChangesSnap, TriesMark}
 use Rattle.volume_laws.specs.Again.{has_chunk, new_route, again_of, Reroutes}
 use Rattle.volume_laws.specs.Outcomes.{IsSilent}
 use Rattle.volume_laws.proofs.Same.{same_volume, plain}
-use Rattle.volume_laws.proofs.Clear.{clear_saved}
+use Rattle.volume_laws.proofs.Clear.{clear_saved, clear_tried}
 use Rattle.volume_laws.proofs.Refusing.{merge_requests, live_requests}
 use Rattle.volume_laws.proofs.Routing.{unmerged_write, merge_write_routed, origin_write_snap, refused_origin_write}
+use Rattle.volume_laws.proofs.Untried.{untried_write}
 use Rattle.volume_laws.proofs.WholeOne.{silent_step, one_holds, one_plain, snap_holds, shown}
 
 -- a request keeps its route, or it is an origin write with the new one
@@ -63,8 +64,14 @@ again_write v None clear r published old kind new = origin_write_snap v (again_o
 again_write v (Some m) clear r published old kind new =
     origin_write_snap v (again_of (Some m) clear r) (has_chunk (group_of m) (chunk_of m.chunk r)) (place_of m.pairs (chunk_of m.chunk r)) (clear r.request.range.first) kind old.piece new published
 
-again_snap : (o : List ℕ) (rs : List Flight) (merge : Option MergeBooks) (clear : ℕ → Bool) (v : SnapBooks) → SnapHolds o rs v → ((first : ℕ) → clear first ≡ true → IsSaved first v) → SnapHolds o (map (again_of merge clear) rs) v
-again_snap o rs merge clear v h published = record {
+-- and as to a spoiled one whose mark is untried
+again_untried : (v : SnapBooks) (merge : Option MergeBooks) (clear : ℕ → Bool) (r : Flight) → (clear r.request.range.first ≡ true → v.untried ≡ false) → v.untried ≡ true → again_route_of (kind_of r.request) r.route (new_route merge clear r) ≡ new_route merge clear r
+    → UntriedHolds v.chunk v.pairs (again_of merge clear r)
+again_untried v None clear r tried waits new = untried_write v (again_of None clear r) false None (clear r.request.range.first) new tried waits
+again_untried v (Some m) clear r tried waits new = untried_write v (again_of (Some m) clear r) (has_chunk (group_of m) (chunk_of m.chunk r)) (place_of m.pairs (chunk_of m.chunk r)) (clear r.request.range.first) new tried waits
+
+again_snap : (o : List ℕ) (rs : List Flight) (merge : Option MergeBooks) (clear : ℕ → Bool) (v : SnapBooks) → SnapHolds o rs v → ((first : ℕ) → clear first ≡ true → IsSaved first v) → ((first : ℕ) → clear first ≡ true → v.untried ≡ false) → SnapHolds o (map (again_of merge clear) rs) v
+again_snap o rs merge clear v h published tried = record {
   alive = λ live. (let old = h.alive live in let P = RouteHolds v.number v.chunk v.pairs v.marks in
       live_requests o rs (map (again_of merge clear) rs) v old
       (all_again P P merge clear rs old.routes old.routes (λ r was kind new. again_write v merge clear r (λ e. published r.request.range.first e live) was kind new)));
@@ -72,6 +79,8 @@ again_snap o rs merge clear v h published = record {
     copies = old.copies;
     unpublished = old.unpublished;
     routes = all_again (RefusedHolds v.number) (RefusedHolds v.number) merge clear rs old.routes old.routes (λ r _ kind new. refused_origin_write v.number (again_of merge clear r) kind);
+    waited = λ waits. (let P = UntriedHolds v.chunk v.pairs in
+        all_again P P merge clear rs (old.waited waits) (old.waited waits) (λ r _ kind new. again_untried v merge clear r (tried r.request.range.first) waits new));
   });
 }
 
@@ -80,15 +89,15 @@ again_in_flight merge clear [] = refl
 again_in_flight merge clear (r ∷ rs) = ap (λ x. in_flight r ∷ x) (again_in_flight merge clear rs)
 
 -- held origin writes are routed again, and nothing is seen of it
-pub reroute_by : (clear : ℕ → Bool) (v w : Books) → Holds v → Reroutes clear v w → ((first : ℕ) → clear first ≡ true → All (IsSaved first) v.snaps) → IsSilent v w
-reroute_by clear v w h e published =
+pub reroute_by : (clear : ℕ → Bool) (v w : Books) → Holds v → Reroutes clear v w → ((first : ℕ) → clear first ≡ true → All (IsSaved first) v.snaps) → ((first : ℕ) → clear first ≡ true → All (λ s. s.untried ≡ false) v.snaps) → IsSilent v w
+reroute_by clear v w h e published tried =
     let after : Books = record v { requests = map (again_of v.merge clear) v.requests } in
     let now : w ≡ after = same_volume w after e.origin e.sectors e.loud e.snaps e.merge e.requests in
     record {
       holds = subst Holds (sym now) (record {
         whole = h.whole;
         merge = again_origin v.origin v.requests v.merge clear h.merge;
-        snaps = λ k d lt. again_snap v.origin v.requests v.merge clear (get_or v.snaps k d) (h.snaps k d lt) (λ first is. published first is k d lt);
+        snaps = λ k d lt. again_snap v.origin v.requests v.merge clear (get_or v.snaps k d) (h.snaps k d lt) (λ first is. published first is k d lt) (λ first is. tried first is k d lt);
         requests = All-map (RequestHolds v.sectors) (again_of v.merge clear) v.requests
             (All-weaker (RequestHolds v.sectors) (λ r. RequestHolds v.sectors (again_of v.merge clear r)) (λ r old. record { some = old.some; inside = old.inside; room = old.room; bytes = old.bytes }) v.requests h.requests);
         numbers = h.numbers;
@@ -99,7 +108,7 @@ reroute_by clear v w h e published =
 
 -- by the table's test
 pub reroute : (v w : Books) → Holds v → Reroutes (is_clear v.snaps) v w → IsSilent v w
-reroute v w h e = reroute_by (is_clear v.snaps) v w h e (clear_saved v.snaps)
+reroute v w h e = reroute_by (is_clear v.snaps) v w h e (clear_saved v.snaps) (clear_tried v.snaps)
 
 -- WriteInvalid, before held writes are routed again
 pub tried_event : (k : ℕ) (s s' : SnapBooks) (v w : Books) → Holds v → ChangesSnap k s s' v w → TriesMark s s' → IsSilent v w
@@ -112,6 +121,7 @@ tried_event k s s' v w h e t =
           copies = t.copies ∙ old.copies;
           unpublished = t.marks ∙ old.unpublished;
           routes = subst (λ n. All (RefusedHolds n) v.requests) (sym t.number) old.routes;
+          waited = λ waits. absurd (false≢true (sym t.tried ∙ waits));
         };
       });
       step = λ _. silent_step (plain_of v) (plain_of w) (one_plain k s s' v w e

@@ -15,8 +15,9 @@ use Rattle.volume_laws.specs.Published.{chunk_of, IsPiece, IsPublished, is_clear
 use Rattle.volume_laws.specs.Held.{RouteHolds}
 use Rattle.volume_laws.specs.Steps.{FitsSnap}
 use Rattle.volume_laws.specs.Waits.{IsSaving, IsCopying, WaitsHolds, is_grouped}
-use Rattle.volume_laws.proofs.Clear.{clear_saved}
+use Rattle.volume_laws.proofs.Clear.{clear_saved, clear_tried}
 use Rattle.volume_laws.proofs.Routing.{origin_read_snap, origin_write_snap, snap_read_snap, snap_write_other, snap_write_placed, snap_write_held, refused_origin_read, refused_origin_write, refused_other_read, refused_other_write, read_ne_write, origin_write_ne_write, origin_write_ne_read, snap_read_ne_read, snap_write_ne_read, reads_ne_writes, write_goes, read_goes, snap_of_read, snap_of_write}
+use Rattle.volume_laws.proofs.Untried.{untried_other, untried_write}
 use Rattle.volume_laws.proofs.Spoiling.{numbers_differ}
 
 -- the range lies inside a chunk of each live snapshot
@@ -26,7 +27,11 @@ ArePieces f snaps = All (λ s. s.live ≡ true → IsPiece s.chunk f.request.ran
 pub fits_origin_read : (f : Flight) (snaps : List SnapBooks) → kind_of f.request ≡ OriginRead → ArePieces f snaps → All (FitsSnap f) snaps
 fits_origin_read f snaps kind pieces k d lt =
     let s = get_or snaps k d in
-    record { alive = λ live. origin_read_snap s f kind (pieces k d lt live); spoilt = λ _. refused_origin_read s.number f kind }
+    record {
+      alive = λ live. origin_read_snap s f kind (pieces k d lt live);
+      spoilt = λ _. refused_origin_read s.number f kind;
+      waited = λ _. untried_other s.chunk s.pairs f (λ e. read_ne_write (sym kind ∙ e));
+    }
 
 pub fits_origin_write : (f : Flight) (snaps : List SnapBooks) (grouped : Bool) (found : Option ℕ) → kind_of f.request ≡ OriginWrite → ArePieces f snaps → f.route ≡ write_route_of grouped found (is_clear snaps f.request.range.first) → All (FitsSnap f) snaps
 fits_origin_write f snaps grouped found kind pieces route k d lt =
@@ -34,6 +39,7 @@ fits_origin_write f snaps grouped found kind pieces route k d lt =
     record {
       alive = λ live. origin_write_snap s f grouped found (is_clear snaps f.request.range.first) kind (pieces k d lt live) route (λ clear. clear_saved snaps f.request.range.first clear k d lt live);
       spoilt = λ _. refused_origin_write s.number f kind;
+      waited = untried_write s f grouped found (is_clear snaps f.request.range.first) route (λ clear. clear_tried snaps f.request.range.first clear k d lt);
     }
 
 -- a request of the live snapshot s, which stands at place j
@@ -49,30 +55,32 @@ module _ (f : Flight) (snaps : List SnapBooks) (j : ℕ) (s : SnapBooks) (number
   piece_mine = subst (λ (x : SnapBooks). x.live ≡ true → IsPiece x.chunk f.request.range) (sym was) (pieces j s within) live
 
   -- it fits all, where it fits its own
-  fits_all : RouteHolds s.number s.chunk s.pairs s.marks f → ((k : ℕ) (d : SnapBooks) → k < length snaps → k ≢ j → FitsSnap f (get_or snaps k d)) → All (FitsSnap f) snaps
-  fits_all mine others k d lt = elim (cases_eq k j) [
-    | inl same ↦ subst (FitsSnap f) (mine_at k d lt same) (record { alive = λ _. mine; spoilt = λ dead. absurd (false≢true (sym dead ∙ live)) })
+  fits_all : kind_of f.request ≢ OriginWrite → RouteHolds s.number s.chunk s.pairs s.marks f → ((k : ℕ) (d : SnapBooks) → k < length snaps → k ≢ j → FitsSnap f (get_or snaps k d)) → All (FitsSnap f) snaps
+  fits_all unwritten mine others k d lt = elim (cases_eq k j) [
+    | inl same ↦ subst (FitsSnap f) (mine_at k d lt same) (record { alive = λ _. mine; spoilt = λ dead. absurd (false≢true (sym dead ∙ live)); waited = λ _. untried_other s.chunk s.pairs f unwritten })
     | inr other ↦ others k d lt other
   ]
 
   pub fits_snap_read : kind_of f.request ≡ SnapRead s.number → f.route ≡ read_route_of (place_of s.pairs (chunk_of s.chunk f)) → All (FitsSnap f) snaps
-  fits_snap_read kind route = fits_all (snap_read_snap s f s.number kind piece_mine (λ _. route))
+  fits_snap_read kind route = fits_all (λ e. origin_write_ne_read s.number (sym e ∙ kind)) (snap_read_snap s f s.number kind piece_mine (λ _. route))
       (λ k d lt other. (let x = get_or snaps k d in record {
         alive = λ l. snap_read_snap x f s.number kind (pieces k d lt l) (λ same. absurd (other_number k d lt other same));
         spoilt = λ _. refused_other_read x.number s.number f kind (other_number k d lt other);
+        waited = λ _. untried_other x.chunk x.pairs f (λ e. origin_write_ne_read s.number (sym e ∙ kind));
       }))
 
   write_others : kind_of f.request ≡ SnapWrite s.number → (k : ℕ) (d : SnapBooks) → k < length snaps → k ≢ j → FitsSnap f (get_or snaps k d)
   write_others kind k d lt other = (let x = get_or snaps k d in record {
     alive = λ l. snap_write_other x f s.number kind (other_number k d lt other) (pieces k d lt l);
     spoilt = λ _. refused_other_write x.number s.number f kind (other_number k d lt other);
+    waited = λ _. untried_other x.chunk x.pairs f (λ e. origin_write_ne_write s.number (sym e ∙ kind));
   })
 
   pub fits_snap_write_held : kind_of f.request ≡ SnapWrite s.number → f.route ≡ Held → All (FitsSnap f) snaps
-  fits_snap_write_held kind route = fits_all (snap_write_held s f kind piece_mine route) (write_others kind)
+  fits_snap_write_held kind route = fits_all (λ e. origin_write_ne_write s.number (sym e ∙ kind)) (snap_write_held s f kind piece_mine route) (write_others kind)
 
   pub fits_snap_write_placed : (place : ℕ) → kind_of f.request ≡ SnapWrite s.number → f.route ≡ Store place → place_of s.pairs (chunk_of s.chunk f) ≡ Some place → IsPublished s.pairs s.marks (chunk_of s.chunk f) → All (FitsSnap f) snaps
-  fits_snap_write_placed place kind route named published = fits_all (snap_write_placed s f place kind piece_mine route named published) (write_others kind)
+  fits_snap_write_placed place kind route named published = fits_all (λ e. origin_write_ne_write s.number (sym e ∙ kind)) (snap_write_placed s f place kind piece_mine route named published) (write_others kind)
 
   attached : (n : ℕ) → s.number ≡ n → Any (λ x. x.number ≡ n) snaps
   attached n mine = (j, s, within, sym was, mine)

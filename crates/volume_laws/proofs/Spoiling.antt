@@ -9,13 +9,14 @@ use Rattle.pending.specs.Kinds.{in_flight}
 use Rattle.pending.specs.Routes.{refused_of}
 use Rattle.model.specs.Picture.{picture}
 use Rattle.volume_laws.specs.Books.{SnapBooks, Books, number_of}
-use Rattle.volume_laws.specs.Held.{SnapHolds}
+use Rattle.volume_laws.specs.Held.{SnapHolds, UntriedHolds}
 use Rattle.volume_laws.specs.Whole.{Holds, plain_of, entry_of, origin_of, begun_of}
 use Rattle.volume_laws.specs.Steps.{SpoilsOne}
 use Rattle.volume_laws.specs.Outcomes.{IsSpoil}
 use Rattle.volume_laws.proofs.Same.{same_volume, plain}
-use Rattle.volume_laws.proofs.Refusing.{origin_refused, snap_refused, refuses, requests_refused, refused_in_flight}
-use Rattle.volume_laws.proofs.WholeOne.{same_numbers, shown}
+use Rattle.volume_laws.proofs.Refusing.{origin_refused, snap_refused, untried_refused, refuses, requests_refused, refused_in_flight}
+use Rattle.volume_laws.proofs.Untried.{all_untried}
+use Rattle.volume_laws.proofs.WholeOne.{same_numbers, snap_holds, shown}
 
 -- two snapshots have two numbers
 pub numbers_differ : (snaps : List SnapBooks) (j k : ℕ) (s t : SnapBooks) → AllPairs (λ m n. m ≢ n) (map number_of snaps) → j < length snaps → k < length snaps → s ≡ get_or snaps j s → t ≡ get_or snaps k t → j ≢ k → s.number ≢ t.number
@@ -69,6 +70,9 @@ module _ (k : ℕ) (s s' : SnapBooks) (v w : Books) (h : Holds v) (e : SpoilsOne
       copies = e.spoils.copies;
       unpublished = e.spoils.marks;
       routes = refuses which s'.number v.requests (ap (is_in which) e.spoils.number ∙ alone_in s.number);
+      waited = λ _. subst (λ c. All (UntriedHolds c s'.pairs) (map (refused_of which) v.requests)) (sym e.spoils.chunk)
+          (subst (λ ps. All (UntriedHolds s.chunk ps) (map (refused_of which) v.requests)) (sym e.spoils.pairs)
+          (untried_refused which s.chunk s.pairs v.requests (all_untried s.number s.chunk s.pairs s.marks v.requests ((snap_holds v k s h e.within e.was).alive e.spoils.was).routes)));
     };
   }
 

@@ -7,7 +7,7 @@ use Rattle.plain.specs.Plain.{Entry, spoiled_entry}
 use Rattle.pending.specs.Kinds.{in_flight}
 use Rattle.pending.specs.declared.flights.Flight.{Flight}
 use Rattle.volume_laws.specs.Books.{SnapBooks, MergeBooks, Books, listed, taken}
-use Rattle.volume_laws.specs.Held.{SnapHolds, RouteHolds, RefusedHolds, RequestHolds}
+use Rattle.volume_laws.specs.Held.{SnapHolds, RouteHolds, RefusedHolds, UntriedHolds, RequestHolds}
 use Rattle.volume_laws.specs.Merging.{MergeRouteHolds}
 use Rattle.volume_laws.specs.Whole.{Holds, plain_of, entry_of, origin_of, begun_of, UnmergedHolds, OriginHolds}
 use Rattle.volume_laws.specs.Steps.{Accepts, FitsSnap, FitsMerge}
@@ -22,7 +22,12 @@ origin_more o rs f (Some m) h fits = merge_requests o rs (rs ++ f ∷ []) m h (A
 snap_more : (o : List ℕ) (rs : List Flight) (f : Flight) (s : SnapBooks) → SnapHolds o rs s → FitsSnap f s → SnapHolds o (rs ++ f ∷ []) s
 snap_more o rs f s h fits = record {
   alive = λ live. live_requests o rs (rs ++ f ∷ []) s (h.alive live) (All-push (RouteHolds s.number s.chunk s.pairs s.marks) rs f (h.alive live).routes (fits.alive live));
-  spoilt = λ dead. (let old = h.spoilt dead in record { copies = old.copies; unpublished = old.unpublished; routes = All-push (RefusedHolds s.number) rs f old.routes (fits.spoilt dead) });
+  spoilt = λ dead. (let old = h.spoilt dead in record {
+    copies = old.copies;
+    unpublished = old.unpublished;
+    routes = All-push (RefusedHolds s.number) rs f old.routes (fits.spoilt dead);
+    waited = λ waits. All-push (UntriedHolds s.chunk s.pairs) rs f (old.waited waits) (fits.waited waits);
+  });
 }
 
 spoiled_none : (es : List Entry) → map (spoiled_entry []) es ≡ es

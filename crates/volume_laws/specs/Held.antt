@@ -1,5 +1,5 @@
 -- What is true of a snapshot that is not being merged, over the origin disk's bytes and the requests in flight.
-use Rattle.std.specs.Prelude.{◌≡◌, ◌≢◌, ℕ, ◌+◌, ◌*◌, ◌/◌, ◌<◌, ◌≤◌, Bool, true, false, List, [], Some, length, map, AllPairs, slice_index}
+use Rattle.std.specs.Prelude.{◌≡◌, ◌≢◌, ℕ, ◌+◌, ◌*◌, ◌/◌, ◌<◌, ◌≤◌, Bool, true, false, List, [], None, Some, length, map, AllPairs, slice_index}
 use Rattle.std.specs.List.{All}
 use Rattle.sector.specs.Bytes.{sectors_at}
 use Rattle.sector.specs.declared.pair.Pair.{Pair}
@@ -63,11 +63,19 @@ pub record RefusedHolds (number : ℕ) (r : Flight) : Type 0 where
   pub read : kind_of r.request ≡ SnapRead number → r.route ≡ Refused
   pub write : kind_of r.request ≡ SnapWrite number → r.route ≡ Refused
 
--- a spoiled snapshot: no copies, and its requests are refused
+-- Where an origin write goes, as to a spoiled snapshot whose invalid mark is untried: to the origin disk only in a chunk that
+-- the snapshot has. So its store, if it is loaded again, still shows the array that the snapshot had.
+pub record UntriedHolds (chunk : ℕ) (pairs : List Pair) (r : Flight) : Type 0 where
+  pub piece : kind_of r.request ≡ OriginWrite → r.route ≡ Origin → IsPiece chunk r.request.range
+  pub placed : kind_of r.request ≡ OriginWrite → r.route ≡ Origin → place_of pairs (chunk_of chunk r) ≢ None
+
+-- A spoiled snapshot: no copies, and its requests are refused. Until its mark was tried, origin writes go where it has the
+-- chunk.
 pub record SpoiltHolds (rs : List Flight) (v : SnapBooks) : Type 0 where
   pub copies : v.copies ≡ []
   pub unpublished : v.marks ≡ []
   pub routes : All (RefusedHolds v.number) rs
+  pub waited : v.untried ≡ true → All (UntriedHolds v.chunk v.pairs) rs
 
 pub record SnapHolds (origin : List ℕ) (rs : List Flight) (v : SnapBooks) : Type 0 where
   pub alive : v.live ≡ true → LiveHolds origin rs v

@@ -13,7 +13,7 @@ use Rattle.pending.specs.declared.copies.Mark.{Mark}
 use Rattle.pending.specs.declared.copies.Stage.TheVariants.{Waiting, Read, Written}
 use Rattle.pending.specs.declared.flights.Flight.{Flight}
 use Rattle.volume_laws.specs.Books.{SnapBooks, MergeBooks, Books, listed, taken, number_of}
-use Rattle.volume_laws.specs.Held.{StoreHolds, RouteHolds, RefusedHolds}
+use Rattle.volume_laws.specs.Held.{StoreHolds, RouteHolds, RefusedHolds, UntriedHolds}
 use Rattle.volume_laws.specs.Merging.{MergeRouteHolds}
 use Rattle.volume_laws.specs.Whole.{UnmergedHolds}
 
@@ -120,10 +120,13 @@ pub record WritesPlace (c place off : ℕ) (bytes : List ℕ) (v w : SnapBooks) 
   pub only : ChangesOnly v.chunk place v.store w.store
   pub written : v.loud ≡ true → w.store ≡ with_sectors v.store (v.chunk * place + off) bytes
 
--- a spoil: no copies and no marks are left
+-- a spoil of a live snapshot: no copies and no marks are left, and the committed pairs stay
 pub record SpoilsSnap (v w : SnapBooks) : Type 0 where
   pub number : w.number ≡ v.number
+  pub was : v.live ≡ true
   pub live : w.live ≡ false
+  pub chunk : w.chunk ≡ v.chunk
+  pub pairs : w.pairs ≡ v.pairs
   pub copies : w.copies ≡ []
   pub marks : w.marks ≡ []
 
@@ -132,6 +135,7 @@ pub record TriesMark (v w : SnapBooks) : Type 0 where
   pub number : w.number ≡ v.number
   pub was : v.live ≡ false
   pub live : w.live ≡ false
+  pub tried : w.untried ≡ false
   pub copies : w.copies ≡ v.copies
   pub marks : w.marks ≡ v.marks
 
@@ -209,6 +213,7 @@ pub record Accepts (f : Flight) (v w : Books) : Type 0 where
 pub record FitsSnap (f : Flight) (s : SnapBooks) : Type 0 where
   pub alive : s.live ≡ true → RouteHolds s.number s.chunk s.pairs s.marks f
   pub spoilt : s.live ≡ false → RefusedHolds s.number f
+  pub waited : s.untried ≡ true → UntriedHolds s.chunk s.pairs f
 
 abbrev pub FitsMerge : Flight → Option MergeBooks → Type 0
 FitsMerge f None = UnmergedHolds f
