@@ -1,5 +1,5 @@
 -- What changes a volume between requests keeps what is true of an audit.
-use Rattle.std.proofs.Common.{◌≡◌, ℕ, ◌+◌, ◌≤◌, Bool, true, false, List, [], ◌∷◌, ◌++◌, length, map, refl, sym, ◌∙◌, ap, subst, arith, length-append}
+use Rattle.std.proofs.Common.{◌≡◌, ℕ, ◌+◌, ◌≤◌, Bool, true, false, List, [], ◌∷◌, ◌++◌, length, get_or, map, refl, sym, ◌∙◌, ap, subst, arith, length-append}
 use Rattle.std.specs.Prelude.{◌&&◌}
 use Rattle.std.proofs.lemmas.Bool.{false≢true}
 use Rattle.std.proofs.lemmas.List.{length-map}
@@ -38,8 +38,9 @@ module _ (loud loud' told told' : Bool) (p q : Plain) (v : Books) (e : Entry) (l
     counted = record {
       fits = h.counted.fits;
       held = h.counted.held ∙ sym requests;
-      counts = λ s lt. h.counted.counts s lt ∙ ap (λ (es : List AnsweredEntry). length es) (sym (none s v.entries));
+      counts = λ s lt. h.counted.counts s lt ∙ ap (λ (es : List AnsweredEntry). get_or v.folded s 0 + length es) (sym (none s v.entries));
       seats = h.counted.seats;
+      folds = h.counted.folds;
       lives = count;
       entries = omega (arith, free, length-append v.entries (e ∷ []));
       room = omega (arith, h.counted.room, room);

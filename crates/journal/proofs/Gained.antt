@@ -7,20 +7,13 @@ use Rattle.std.proofs.lemmas.Bool.{false≢true, ne_eqb}
 use Rattle.std.proofs.lemmas.List.{length-map, map-append}
 use Rattle.std.proofs.Math.Seq.{get_or-append_seam, take-length}
 use Rattle.device.specs.Layers.{Layer, is_loud}
-use Rattle.sector.specs.Bytes.{sector_at, sectors_at}
-use Rattle.sector.specs.declared.refusal.Refusal.{Refusal}
+use Rattle.sector.specs.Bytes.{sectors_at}
 use Rattle.sector.specs.declared.refusal.Refusal.TheVariants.{Invalid}
-use Rattle.cow_header.specs.declared.found.Found.{Found}
-use Rattle.cow_header.specs.declared.found.Found.TheVariants.{Fresh, Header}
-use Rattle.cow_header.specs.HeaderText.{found_in}
-use Rattle.std.specs.Prelude.{Result, Ok, Err}
-use Rattle.model.proofs.Pictures.{length-picture}
 use Rattle.plain.specs.Plain.{Plain, Entry as Shown, Saved, Live, saved_under}
 use Rattle.plain.specs.Legal.{IsTaken}
 use Rattle.plain.specs.declared.request.Dev.TheVariants.{Snap}
 use Rattle.pending.specs.Kinds.{in_flight}
 use Rattle.snapshot.specs.Kept.{Kept}
-use Rattle.snapshot.specs.Opening.{shown_array, shown_as}
 use Rattle.snapshot.specs.declared.opening.StoreDev.{StoreDev}
 use Rattle.snapshots.specs.Finding.{place_of_snap}
 use Rattle.merge.specs.Merging.{Merging}
@@ -42,15 +35,6 @@ use Rattle.journal.proofs.Replaying.{entries_by_silent}
 -- all bytes of an array are its sectors from the first on
 pub all_sectors : (array : List ℕ) (n : ℕ) → length array ≡ 512 * n → sectors_at array 0 n ≡ array
 all_sectors array n whole = ap (λ k. take k array) (sym whole) ∙ take-length array
-
--- what a snapshot shows is as long as the origin
-shown_whole : (origin bytes : List ℕ) (found : Result Found Refusal) → length (shown_as origin bytes found) ≡ length origin
-shown_whole origin bytes (Ok Fresh) = refl
-shown_whole origin bytes (Ok (Header chunk)) = length-picture chunk origin bytes
-shown_whole origin bytes (Err refusal) = refl
-
-pub shown_long : (origin bytes : List ℕ) → length (shown_array origin bytes) ≡ length origin
-shown_long origin bytes = shown_whole origin bytes (found_in (sector_at bytes 0))
 
 -- a search that finds the last one alone
 ends_last : {X : Type 0} (test : X → Bool) (xs : List X) (x : X) → ((j : ℕ) (d : X) → j < length xs → test (get_or xs j d) ≡ false) → test x ≡ true → position_or_len test (xs ++ x ∷ []) ≡ length xs
@@ -79,7 +63,7 @@ taken_there layers size number store w w' g alone =
     ∙ ap (refusal_at (w.snaps ++ g.snap ∷ [])) (place_last number w.snaps g.snap g.fresh g.number_is)
     ∙ ap (λ b. if b then None else Some Invalid) (live_last w.snaps g.snap g.live)
 
-and_left : (a b : Bool) → (a && b) ≡ true → a ≡ true
+pub and_left : (a b : Bool) → (a && b) ≡ true → a ≡ true
 and_left true b all = refl
 and_left false b all = all
 

@@ -1,7 +1,7 @@
 -- The events and the requests keep what is true of an audit.
-use Rattle.std.proofs.Common.{◌≡◌, ◌≢◌, inl, inr, ℕ, zero, suc, ◌+◌, ◌<◌, ◌≤◌, Bool, true, false, List, [], ◌∷◌, ◌++◌, length, get_or, set, map, take, drop, Option, Some, None, refl, sym, ◌∙◌, ap, subst, arith, length-append}
-use Rattle.std.specs.List.{All, list_all, remove}
-use Rattle.std.specs.Prelude.{◌&&◌, replicate}
+use Rattle.std.proofs.Common.{◌≡◌, ◌≢◌, inl, inr, ℕ, zero, suc, ◌+◌, ◌<◌, ◌≤◌, Bool, true, List, [], ◌∷◌, ◌++◌, length, get_or, set, map, take, drop, Some, refl, sym, ◌∙◌, ap, subst, arith, length-append}
+use Rattle.std.specs.List.{All, remove}
+use Rattle.std.specs.Prelude.{replicate}
 use Rattle.std.proofs.lemmas.Bool.{cases_eq}
 use Rattle.std.proofs.lemmas.List.{get_or-set_same, get_or-set_other, length-set, length-map, map-append}
 use Rattle.std.proofs.lemmas.List.Edits.{length-remove}
@@ -23,11 +23,6 @@ use Rattle.sector.specs.declared.range.Range.{Range}
 use Rattle.sector.specs.declared.refusal.Refusal.{Refusal}
 use Rattle.pending.specs.Kinds.{room_of, room_at}
 use Rattle.volume.specs.Flying.{Fits, IsFlown, IsTakenOut}
-use Rattle.device.specs.Layers.{Layer, is_loud}
-use Rattle.volume_laws.specs.Shape.{shown_entry}
-use Rattle.snapshot.specs.Kept.{Kept}
-use Rattle.merge.specs.Merging.{Merging}
-use Rattle.volume.specs.Volumed.{Volumed, plain_of, snap_shape, is_loud_in_all, is_loud_with}
 use Rattle.journal.specs.declared.entry.Answered.{Answered as AnsweredEntry}
 use Rattle.journal.specs.declared.entry.Entry.{Entry}
 use Rattle.journal.specs.declared.entry.Entry.TheVariants.{Answered, Spoiled}
@@ -36,8 +31,8 @@ use Rattle.journal.specs.Replay.{Saves, saves_of, plain_in, served, replay, IsLa
 use Rattle.journal.specs.Entries.{entries_by}
 use Rattle.journal.specs.Noted.{Noted, is_live, live_count}
 use Rattle.journal.specs.Books.{Books, Counted, Replays, IsAudit, HeldFits, in_flight}
-use Rattle.journal.proofs.Lost.{all_noted, lives_now}
-use Rattle.journal.proofs.Replaying.{replay_then, lawful_then, replay_spoils, lawful_spoils, entries_by_spoils, entries_by_mine, entries_by_other, entries_by_few, served_is, lawful_is, lives_served, IsFirst, asked_first, without_first}
+use Rattle.journal.proofs.Lost.{all_noted, live_few, lives_now}
+use Rattle.journal.proofs.Replaying.{replay_then, lawful_then, replay_spoils, lawful_spoils, entries_by_spoils, entries_by_mine, entries_by_other, served_is, lawful_is, lives_served, IsFirst, asked_first, without_first}
 
 -- an event that is no Issue spoils, or is silent
 pub spoils_of : (old : Plain) (event : Event) (outcome : Outcome) (new : Plain) → ((n : ℕ) → event ≢ Issue n) → IsLegalStep old event outcome new → (which : List ℕ) × Spoils which old new
@@ -109,8 +104,9 @@ pub noted_counted : (p q : Plain) (v : Books) (lives' : List Bool) (es' : List E
 noted_counted p q v lives' es' room' h s requests same room = record {
   fits = h.fits;
   held = h.held ∙ sym requests;
-  counts = λ seat lt. h.counts seat lt ∙ ap (λ (es : List AnsweredEntry). length es) (sym (ap (entries_by seat) s.entries_are ∙ entries_by_spoils seat v.entries s.which));
+  counts = λ seat lt. h.counts seat lt ∙ ap (λ (es : List AnsweredEntry). get_or v.folded seat 0 + length es) (sym (ap (entries_by seat) s.entries_are ∙ entries_by_spoils seat v.entries s.which));
   seats = h.seats;
+  folds = h.folds;
   lives = s.same_length ∙ h.lives ∙ sym same;
   entries = omega (arith, ap length s.entries_are, length-append v.entries (map Spoiled s.which), length-map s.which Spoiled, s.room, h.entries);
   room = omega (arith, h.room, room);
@@ -158,7 +154,7 @@ answered_here p q n m reply l = subst (λ (k : ℕ). IsAnswered p k reply q) (is
 pub taken_here : (n m : ℕ) (reply : Reply) (old new : List InFlight) → IsFlown (Issue n) (Replied m reply) old new → IsTakenOut n reply old new
 taken_here n m reply old new f = subst (λ (k : ℕ). IsTakenOut k reply old new) (issue_same n m f.0) f.1
 
-same_asked : (p : Plain) (v : Books) (n k : ℕ) (x : Held) (request : Request) → Counted p v → IsFirst n v.held k x → asked_under n p.requests ≡ Some request → request ≡ x.for_entry
+pub same_asked : (p : Plain) (v : Books) (n k : ℕ) (x : Held) (request : Request) → Counted p v → IsFirst n v.held k x → asked_under n p.requests ≡ Some request → request ≡ x.for_entry
 same_asked p v n k x request h first asked =
     let e : Some request ≡ Some x.for_entry = sym asked ∙ ap (asked_under n) (sym h.held) ∙ asked_first n v.held k x first in
     cc
@@ -183,13 +179,13 @@ left_fits : (hs : List Held) (k : ℕ) → All HeldFits hs → All HeldFits (rem
 left_fits hs k all = All-append HeldFits (take k hs) (drop (suc k) hs) (All-take HeldFits k hs all) (All-drop HeldFits (suc k) hs all)
 
 -- one more for a seat
-counted_one : (counts : List ℕ) (es : List Entry) (a : AnsweredEntry) (s : ℕ) → a.seat < length counts → get_or counts s 0 ≡ length (entries_by s es)
-    → get_or (set counts a.seat (get_or counts a.seat 0 + 1)) s 0 ≡ length (entries_by s (es ++ Answered a ∷ []))
-counted_one counts es a s within was = elim (cases_eq a.seat s) [
+counted_one : (counts : List ℕ) (es : List Entry) (a : AnsweredEntry) (s folded : ℕ) → a.seat < length counts → get_or counts s 0 ≡ folded + length (entries_by s es)
+    → get_or (set counts a.seat (get_or counts a.seat 0 + 1)) s 0 ≡ folded + length (entries_by s (es ++ Answered a ∷ []))
+counted_one counts es a s folded within was = elim (cases_eq a.seat s) [
   | inl same ↦
       let new : get_or (set counts a.seat (get_or counts a.seat 0 + 1)) s 0 ≡ get_or counts s 0 + 1 = subst (λ (j : ℕ). get_or (set counts a.seat (get_or counts a.seat 0 + 1)) j 0 ≡ get_or counts j 0 + 1) same (get_or-set_same counts a.seat (get_or counts a.seat 0 + 1) 0 within) in
       omega (arith, new, was, ap length (entries_by_mine s es a same), length-append (entries_by s es) (a ∷ []))
-  | inr apart ↦ get_or-set_other counts a.seat s (get_or counts a.seat 0 + 1) 0 (λ e. apart (sym e)) ∙ was ∙ ap (λ (xs : List AnsweredEntry). length xs) (sym (entries_by_other s es a apart))
+  | inr apart ↦ get_or-set_other counts a.seat s (get_or counts a.seat 0 + 1) 0 (λ e. apart (sym e)) ∙ was ∙ ap (λ (xs : List AnsweredEntry). folded + length xs) (sym (entries_by_other s es a apart))
 ]
 
 -- the entry of a request that was answered
@@ -210,9 +206,6 @@ module _ (loud told : Bool) (p : Plain) (v : Books) (h : IsAudit loud told p v) 
     pub within : seat < length v.counts
     within = omega (arith, low, h.counted.seats)
 
-    pub count_low : get_or v.counts seat 0 < 18_446_744_073_709_551_615
-    count_low = omega (arith, h.counted.counts seat low, entries_by_few seat v.entries, h.counted.entries)
-
 module _ (loud loud' told : Bool) (p q : Plain) (v : Books) (room' : ℕ) (h : IsAudit loud told p v) (same : loud' ≡ loud) (count : length q.saved ≡ length p.saved)
     (room : room' ≡ v.room) (n k : ℕ) (x : Held) (first : IsFirst n v.held k x) (seat : ℕ) (mine : x.seat ≡ seat) where
   inside : seat < length v.counts
@@ -229,8 +222,9 @@ module _ (loud loud' told : Bool) (p q : Plain) (v : Books) (room' : ℕ) (h : I
     issued_counted t = record {
       fits = left_fits v.held k h.counted.fits;
       held = sym (without_first n v.held k x first) ∙ ap (without n) h.counted.held ∙ sym t.gone;
-      counts = λ s lt. counted_one v.counts v.entries (answer_of x seat reply) s inside (h.counted.counts s lt);
+      counts = λ s lt. counted_one v.counts v.entries (answer_of x seat reply) s (get_or v.folded s 0) inside (h.counted.counts s lt);
       seats = length-set v.counts seat (get_or v.counts seat 0 + 1) ∙ h.counted.seats;
+      folds = h.counted.folds;
       lives = h.counted.lives ∙ sym count;
       entries = omega (arith, length-append v.entries (Answered (answer_of x seat reply) ∷ []), less, h.counted.entries);
       room = omega (arith, h.counted.room, room);
@@ -270,8 +264,9 @@ submitted_keeps loud loud' told p q v x number request lives' es' room' h same c
       counted = record {
         fits = All-append HeldFits v.held (x ∷ []) h.counted.fits (one_fits x fits);
         held = map-append in_flight v.held (x ∷ []) ∙ ap (λ (ys : List InFlight). ys ++ in_flight x ∷ []) h.counted.held ∙ ap (λ y. p.requests ++ y ∷ []) one ∙ sym flown;
-        counts = λ seat lt. h.counted.counts seat lt ∙ ap (λ (es : List AnsweredEntry). length es) (sym (ap (entries_by seat) noted.entries_are ∙ entries_by_spoils seat v.entries noted.which));
+        counts = λ seat lt. h.counted.counts seat lt ∙ ap (λ (es : List AnsweredEntry). get_or v.folded seat 0 + length es) (sym (ap (entries_by seat) noted.entries_are ∙ entries_by_spoils seat v.entries noted.which));
         seats = h.counted.seats;
+        folds = h.counted.folds;
         lives = noted.same_length ∙ h.counted.lives ∙ sym count;
         entries = omega (arith, free, length-append v.held (x ∷ []), ap length noted.entries_are, length-append v.entries (map Spoiled noted.which), length-map noted.which Spoiled, noted.room);
         room = omega (arith, h.counted.room, room);
@@ -298,44 +293,35 @@ declined_spoils request refusal p q (inl same) = ([], spoiled_nothing p q same)
 declined_spoils request refusal p q (inr full) = (full.0 ∷ [], full.5)
 
 -- a new audit
-abbrev pub new_books : Saves → List ℕ → ℕ → Books
-new_books base counts room = record { base = base; entries = []; held = []; lives = []; counts = counts; room = room }
+abbrev pub new_books : Saves → List Bool → List ℕ → List ℕ → ℕ → Books
+new_books base lives counts folded room = record { base = base; entries = []; held = []; lives = lives; counts = counts; folded = folded; room = room }
 
 zeros : (n s z : ℕ) → z ≡ 0 → get_or (replicate n z) s z ≡ z
 zeros zero s z e = refl
 zeros (suc n) zero z e = refl
 zeros (suc n) (suc s) z e = zeros n s z e
 
-pub new_keeps : (loud told : Bool) (p : Plain) (base : Saves) (counts : List ℕ) (room : ℕ) → p.saved ≡ [] → p.requests ≡ [] → (told ≡ true → loud ≡ true) → base ≡ saves_of p → 65_536 ≤ room → counts ≡ replicate 9 0
-    → IsAudit loud told p (new_books base counts room)
-new_keeps loud told p base counts room bare quiet on begins enough nought = record {
+pub none_yet : (counts : List ℕ) (s : ℕ) → counts ≡ replicate 9 0 → get_or counts s 0 ≡ 0
+none_yet counts s nought = ap (λ (l : List ℕ). get_or l s 0) nought ∙ zeros 9 s 0 refl
+
+pub new_keeps : (loud told : Bool) (p : Plain) (base : Saves) (lives : List Bool) (counts folded : List ℕ) (room : ℕ) → p.requests ≡ [] → (told ≡ true → loud ≡ true) → (told ≡ true → base ≡ saves_of p) → lives ≡ map is_live p.saved → length lives ≤ 8 → 65_536 ≤ room → counts ≡ replicate 9 0 → folded ≡ replicate 9 0
+    → IsAudit loud told p (new_books base lives counts folded room)
+new_keeps loud told p base lives counts folded room quiet on begins are few enough nought none = record {
   counted = record {
     fits = All-nil HeldFits;
     held = sym quiet;
-    counts = λ s lt. omega (arith, zeros 9 s 0 refl, ap (λ (l : List ℕ). get_or l s 0) nought);
+    counts = λ s lt. omega (arith, none_yet counts s nought, none_yet folded s none);
     seats = ap length nought;
-    lives = sym (ap length bare);
-    entries = omega arith;
+    folds = ap length none;
+    lives = ap length are ∙ length-map p.saved is_live;
+    entries = omega (arith, live_few lives, few);
     room = enough;
   };
   loud_is = on;
-  replays = λ yes'. record { replay_is = begins; lawful = tt; lives = sym (ap (map is_live) bare) };
+  replays = λ yes'. record { replay_is = begins yes'; lawful = tt; lives = are };
 }
 
 -- a call that nobody sees
 pub quiet_keeps : (loud loud' told : Bool) (p q : Plain) (v : Books) → IsAudit loud told p v → loud' ≡ loud → q ≡ p → IsAudit loud' told q v
 quiet_keeps loud loud' told p q v h same plain =
     subst (λ (x : Plain). IsAudit loud' told x v) (sym plain) (record { counted = h.counted; loud_is = λ on. same ∙ h.loud_is on; replays = h.replays })
-
--- a volume with no snapshot and no merge
-pub bare_saved : {B : Type 0} (contents : B → List ℕ) (layers : B → List Layer) (w : Volumed B) → w.snaps ≡ [] → (plain_of contents layers w).saved ≡ []
-bare_saved contents layers w bare = ap (λ (ss : List (Kept _)). map (shown_entry contents (contents w.origin)) (map snap_shape ss)) bare
-
-pub loud_alone : {B : Type 0} (layers : B → List Layer) (w : Volumed B) (told : Bool) → w.snaps ≡ [] → w.merge ≡ None → told ≡ is_loud (layers w.origin) → told ≡ is_loud_in_all layers w
-loud_alone layers w told bare alone is =
-    is ∙ sym (and_on (is_loud (layers w.origin))) ∙ ap (λ (ss : List (Kept _)). is_loud (layers w.origin) && list_all (λ (s : Kept _). is_loud (layers s.device)) ss) (sym bare)
-    ∙ ap (λ (m : Option (Merging _)). is_loud_with layers m (is_loud (layers w.origin) && list_all (λ (s : Kept _). is_loud (layers s.device)) w.snaps)) (sym alone)
-  where
-    and_on : (b : Bool) → (b && true) ≡ b
-    and_on true = refl
-    and_on false = refl

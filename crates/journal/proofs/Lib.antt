@@ -5,3 +5,6 @@ pub mod Departed
 pub mod Gained
 pub mod Receipts
 pub mod Changes
+pub mod Beginning
+pub mod Bounds
+pub mod Cut

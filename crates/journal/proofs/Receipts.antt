@@ -24,8 +24,7 @@ use Rattle.volume.specs.Flying.{IsFlown}
 use Rattle.journal.specs.declared.entry.Entry.{Entry}
 use Rattle.journal.specs.declared.entry.Entry.TheVariants.{Answered, Spoiled}
 use Rattle.journal.specs.declared.entry.Held.{Held}
-use Rattle.journal.specs.Books.{AuditShape}
-use Rattle.journal.specs.Entries.{entries_by}
+use Rattle.journal.specs.Books.{AuditShape, count_of}
 use Rattle.journal.specs.Journaled.{HasReceipt, IsNoted, IsSilent, OnlySpoils}
 use Rattle.journal.specs.Noted.{Noted}
 use Rattle.journal.specs.Seats.{Seated, is_of, seated, seated_under, without_seated}
@@ -67,7 +66,7 @@ by_second a b c e f = f ∙ sym (ap (λ x. x && b) e)
 
 -- a reply's receipt
 pub receipt_has : {B : Type 0} (old new : AuditShape B) (hs : List Held) (n m k seat count : ℕ) (x : Held) (reply : Reply) → m ≡ n → IsFirst n hs k x → x.seat ≡ seat → x.for_receipt ≡ x.for_entry
-    → map seated hs ≡ old.held → new.held ≡ map seated (remove hs k) → count ≡ length (entries_by seat old.entries) + 1 → new.entries ≡ old.entries ++ Answered (answer_of x seat reply) ∷ []
+    → map seated hs ≡ old.held → new.held ≡ map seated (remove hs k) → count ≡ count_of seat old + 1 → new.entries ≡ old.entries ++ Answered (answer_of x seat reply) ∷ []
     → HasReceipt seat m reply (record { seat = seat; count = count; request = x.for_receipt; reply = reply }) old new
 receipt_has old new hs n m k seat count x reply same first mine copied was now counted added = record {
   by = refl;

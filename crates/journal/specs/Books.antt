@@ -10,6 +10,7 @@ use Rattle.journal.specs.declared.entry.Held.{Held}
 use Rattle.journal.specs.declared.entry.Entry.{Entry}
 use Rattle.journal.specs.Replay.{Saves, saves_of, replay, AllLawful}
 use Rattle.journal.specs.Entries.{entries_by}
+use Rattle.journal.specs.Inside.{IsAsked, AllInside}
 use Rattle.journal.specs.Noted.{is_live, live_count}
 use Rattle.journal.specs.Seats.{Seated}
 
@@ -24,7 +25,8 @@ abbrev pub saves_in : Base → Saves
 saves_in b = record { origin = b.origin; begun = b.begun; saved = map shown_in b.saved.items }
 
 -- What callers see of an audit. lives: which snapshots were live when it looked last, in order of attaching. loud: whether no
--- device that its volume had dropped writes.
+-- device that its volume had dropped writes. folded: of each seat, from 0 to 8, how many of its request entries checkpoints
+-- folded into the base.
 pub record AuditShape (B : Type 0) : Type 0 where
   pub volume : Volumed B
   pub base : Saves
@@ -32,6 +34,11 @@ pub record AuditShape (B : Type 0) : Type 0 where
   pub held : List Seated
   pub lives : List Bool
   pub loud : Bool
+  pub folded : List ℕ
+
+-- a seat's count: the number of its request entries, with those that a checkpoint folded
+abbrev pub count_of : {B : Type 0} → ℕ → AuditShape B → ℕ
+count_of seat a = slice_index_or a.folded seat 0 + length (entries_by seat a.entries)
 
 pub record Books : Type 0 where
   pub base : Saves
@@ -39,6 +46,7 @@ pub record Books : Type 0 where
   pub held : List Held
   pub lives : List Bool
   pub counts : List ℕ
+  pub folded : List ℕ
   pub room : ℕ
 
 abbrev pub in_flight : Held → InFlight
@@ -55,8 +63,9 @@ pub record HeldFits (h : Held) : Type 0 where
 pub record Counted (p : Plain) (v : Books) : Type 0 where
   pub fits : All HeldFits v.held
   pub held : map in_flight v.held ≡ p.requests
-  pub counts : (s : ℕ) → s < 9 → slice_index_or v.counts s 0 ≡ length (entries_by s v.entries)
+  pub counts : (s : ℕ) → s < 9 → slice_index_or v.counts s 0 ≡ slice_index_or v.folded s 0 + length (entries_by s v.entries)
   pub seats : length v.counts ≡ 9
+  pub folds : length v.folded ≡ 9
   pub lives : length v.lives ≡ length p.saved
   pub entries : length v.entries + length v.held + live_count v.lives ≤ 65_536
   pub room : 65_536 ≤ v.room
@@ -72,3 +81,15 @@ pub record IsAudit (loud told : Bool) (p : Plain) (v : Books) : Type 0 where
   pub counted : Counted p v
   pub loud_is : told ≡ true → loud ≡ true
   pub replays : told ≡ true → Replays p v
+
+-- The requests in flight lie inside the origin; no seat has more entries and requests in flight than the volume gave numbers;
+-- and what was written lies inside its array, where no device ever dropped writes.
+pub record IsBounded (given : ℕ) (told : Bool) (p : Plain) (v : Books) : Type 0 where
+  pub asked : All (λ r. IsAsked (length p.origin) r.request) p.requests
+  pub made : (s : ℕ) → s < 9 → slice_index_or v.counts s 0 + length v.held ≤ given
+  pub inside : told ≡ true → AllInside v.base v.entries
+
+-- all of it
+pub record IsKept (given : ℕ) (loud told : Bool) (p : Plain) (v : Books) : Type 0 where
+  pub audit : IsAudit loud told p v
+  pub bounded : IsBounded given told p v

@@ -1,5 +1,5 @@
 -- What a call notes in the journal. This project's own.
-use Rattle.std.specs.Prelude.{◌≡◌, ◌⊎◌, nat_lt, ℕ, ◌+◌, Bool, true, false, List, [], ◌∷◌, ◌++◌, length, map, Option, Some, None}
+use Rattle.std.specs.Prelude.{◌≡◌, ◌⊎◌, nat_lt, ℕ, ◌+◌, ◌<◌, Bool, true, false, List, [], ◌∷◌, ◌++◌, length, map, Option, Some, None, slice_index_or}
 use Rattle.plain.specs.declared.event.Outcome.{Outcome}
 use Rattle.plain.specs.declared.event.Outcome.TheVariants.{Reply as Replied}
 use Rattle.plain.specs.declared.request.Reply.{Reply}
@@ -12,9 +12,10 @@ use Rattle.volume.specs.Beginning.{IsNotBegun}
 use Rattle.journal.specs.declared.entry.Entry.{Entry}
 use Rattle.journal.specs.declared.entry.Entry.TheVariants.{Answered, Attached, Spoiled}
 use Rattle.journal.specs.declared.entry.Receipt.{Receipt}
-use Rattle.journal.specs.Books.{AuditShape}
-use Rattle.journal.specs.Entries.{answered_of, entries_by}
+use Rattle.journal.specs.Books.{AuditShape, count_of}
+use Rattle.journal.specs.Entries.{answered_of}
 use Rattle.journal.specs.Noted.{live_count}
+use Rattle.journal.specs.Replay.{replay}
 use Rattle.journal.specs.Seats.{seated_under, without_seated}
 
 -- whether so many entries more may be too many: each request in flight may come to one, and each live snapshot
@@ -25,6 +26,7 @@ is_full_by more a = nat_lt 65_536 (length a.entries + length a.held + live_count
 pub record KeepsBase {B : Type 0} (old new : AuditShape B) : Type 0 where
   pub base : new.base ≡ old.base
   pub loud : new.loud ≡ old.loud
+  pub folded : new.folded ≡ old.folded
 
 -- entries of spoiled snapshots alone are new
 pub record OnlySpoils {B : Type 0} (old new : AuditShape B) : Type 0 where
@@ -32,13 +34,13 @@ pub record OnlySpoils {B : Type 0} (old new : AuditShape B) : Type 0 where
   pub entries : new.entries ≡ old.entries ++ map Spoiled which
 
 -- A reply to a seat's request under a number has one entry more, for which there is this receipt, and the request is in
--- flight no more.
+-- flight no more. Its count is the seat's, with this entry.
 pub record HasReceipt {B : Type 0} (seat number : ℕ) (reply : Reply) (r : Receipt) (old new : AuditShape B) : Type 0 where
   pub by : r.seat ≡ seat
   pub answer : r.reply ≡ reply
   pub asked : seated_under number old.held ≡ Some (record { number = number; seat = seat; request = r.request })
   pub gone : new.held ≡ without_seated number old.held
-  pub count : r.count ≡ length (entries_by seat old.entries) + 1
+  pub count : r.count ≡ count_of seat old + 1
   pub added : new.entries ≡ old.entries ++ Answered (answered_of r) ∷ []
 
 -- an event that gave no reply
@@ -93,3 +95,11 @@ pub record HasTaken {B : Type 0} (number : ℕ) (old new : AuditShape B) : Type 
 abbrev pub IsNotAttached : Bool → Refusal → Type 0 → Type 0 → Type 0
 IsNotAttached full refusal same others =
     ((full ≡ true) × (refusal ≡ JournalFull) × same) ⊎ ((full ≡ false) × (((refusal ≡ NoMemory) × same) ⊎ others))
+
+-- A checkpoint: no entry is left, the base is what they made of it where no device ever dropped writes, and each seat's count
+-- is the same, all of it folded. Nothing else changes.
+pub record IsCheckpoint {B : Type 0} (old new : AuditShape B) : Type 0 where
+  pub becomes : new ≡ record old { base = new.base; entries = []; folded = new.folded }
+  pub base : old.loud ≡ true → new.base ≡ replay old.base old.entries
+  pub seats : length new.folded ≡ 9
+  pub folded : (seat : ℕ) → seat < 9 → slice_index_or new.folded seat 0 ≡ count_of seat old

@@ -2,5 +2,6 @@ pub mod Replay
 pub mod Seats
 pub mod Entries
 pub mod Noted
+pub mod Inside
 pub mod Books
 pub mod Journaled

@@ -107,6 +107,8 @@ impl<B: Layered> Audit<B> {
                 let held = self.held.remove(place);
                 let for_entry = reply.copy_into(held.entry_room);
                 let for_receipt = reply.copy_into(held.receipt_room);
+                // A look: no seat has more entries than requests were given numbers.
+                let _ = self.volume.last_request();
                 let count = count_one(&mut self.counts, seat);
                 self.entries.push_reserved(Entry::Answered(Answered {
                     seat,

@@ -2,48 +2,25 @@
 ghost use Rattle.std.specs.Prelude.{◌≡◌, ◌≢◌, ◌⊎◌, ◌&&◌, ◌+◌, ◌*◌, MatchResult, Err, IfErr, IfOk, List, None, Ok, OnErr, OnOk, Some, false, length, true, ℕ};
 ghost use Rattle.device.specs.Layers.{is_loud};
 ghost use Rattle.plain.specs.Legal.{IsTaken};
-ghost use Rattle.plain.specs.Serves.{Shows};
-ghost use Rattle.plain.specs.declared.request.Dev.TheVariants.{Snap};
 ghost use Rattle.sector.specs.declared.refusal.Refusal.TheVariants.{NoMemory};
 ghost use Rattle.settled.specs.Attaching.{attached as attached_by, refused_attach};
 ghost use Rattle.snapshot.specs.Opening.{shown_array};
 ghost use Rattle.store.specs.Reading.{AreRead};
 ghost use Rattle.volume.specs.Attached.{IsAttachedAs, IsGained, store_of, volume_in};
 ghost use Rattle.volume.specs.Leaving.{is_quiet_of};
-ghost use Rattle.volume.specs.Submitting.{dev_refusal};
 ghost use Rattle.volume.specs.Taking.{IsNotTaken, attach_refusal};
 ghost use Rattle.volume.specs.Volumed.{is_loud_in_all, plain_of};
 ghost use Rattle.journal.specs.Journaled.{HasTaken, IsNotAttached, is_full_by};
 
 use crate::Audit;
+use crate::array::Array;
+use crate::bases::fill;
 use crate::entry::Entry;
 use crate::holding::is_full;
 use layers::Layered;
 use plain::{Dev, SnapId};
-use sector::{Buf, Range, Refusal, SECTOR_BYTES};
+use sector::{Refusal, SECTOR_BYTES};
 use snapshot::StoreDev;
-use volume::Volume;
-
-/// All that a live snapshot shows.
-fn fill<B: Layered>(volume: &Volume<B>, number: SnapId, out: &mut [u8])
-    requires there { dev_refusal (Snap number) volume.now.merge volume.now.snaps ≡ None }
-    requires room { length out.old ≡ 512 * B.size volume.now.origin }
-    ensures { is_loud_in_all B.layers volume.now ≡ true → (array : List ℕ) → Shows (plain_of B.contents B.layers volume.now) (Snap number) array → length array ≡ 512 * B.size volume.now.origin → out.new ≡ array }
-{
-    let sectors = volume.origin().sectors();
-    if sectors == 0 {
-        return;
-    }
-    let range = Range {
-        first: 0,
-        count: sectors as u32,
-        size: sectors,
-    };
-    match volume.peek(Dev::Snap(number), range, out) {
-        Ok(()) => {}
-        Err(_) => unreachable!(),
-    }
-}
 
 impl<B: Layered> Audit<B> {
     /// Takes a snapshot over a store, by a table line with this chunk size, and tells its number. `JournalFull` comes first,
@@ -88,10 +65,10 @@ impl<B: Layered> Audit<B> {
         let loud = store.device.is_loud();
         match self.volume.attach(self.alloc, store, chunk) {
             Ok(number) => {
-                fill(&self.volume, number, array.as_mut_slice());
+                fill(&self.volume, Dev::Snap(number), array.as_mut_slice());
                 self.loud = self.loud && loud;
                 self.lives.push_reserved(true);
-                let array = Buf::from_vec(array);
+                let array = Array::from_vec(array);
                 self.entries.push_reserved(Entry::Attached(number, array));
                 Ok(number)
             }

@@ -1,12 +1,15 @@
 // An audit, and what callers ask of it.
-ghost use Rattle.std.specs.Prelude.{◌≡◌, [], None, IfErr, IfOk, length, true};
+ghost use Rattle.std.specs.Prelude.{◌≡◌, ◌<◌, [], IfErr, IfOk, length, replicate, slice_index_or, true};
 ghost use Rattle.sector.specs.declared.refusal.Refusal.TheVariants.{NoMemory};
 ghost use Rattle.volume.specs.Volumed.{is_loud_in_all, plain_of};
+ghost use Rattle.volume.specs.Causes.{lives_of};
+ghost use Rattle.journal.specs.Books.{count_of};
 ghost use Rattle.journal.specs.Entries.{HasVerdict};
 ghost use Rattle.journal.specs.Replay.{AllLawful, replay, saves_of};
 
 use crate::bases::base_of;
 use crate::entry::{Base, Entry, Held, Receipt, Verdict};
+use crate::looking::{is_loud_now, lives_in};
 use crate::verdict::verdict_of;
 use layers::Layered;
 use sector::Refusal;
@@ -29,8 +32,10 @@ pub struct Audit<B: Layered> {
     pub(crate) held: Vec<Held>,
     /// Which snapshots were live when it looked last, in order of attaching.
     pub(crate) lives: Vec<bool>,
-    /// How many request entries each seat has.
+    /// How many request entries each seat has, those that were folded among them.
     pub(crate) counts: Vec<u64>,
+    /// How many of each seat's were folded into the base.
+    pub(crate) folded: Vec<u64>,
     /// Whether no device that its volume had dropped writes.
     pub(crate) loud: bool,
     pub(crate) alloc: Global,
@@ -43,23 +48,23 @@ impl<B: Layered> Model for Audit<B> {
 
     ghost use Rattle.std.specs.Prelude.{map, vec_capacity};
     ghost use Rattle.volume.specs.Volumed.{is_loud_in_all, plain_of};
-    ghost use Rattle.journal.specs.Books.{IsAudit, saves_in};
+    ghost use Rattle.journal.specs.Books.{IsKept, saves_in};
     ghost use Rattle.journal.specs.Seats.{seated};
 
-    ghost view = { λ a. record { volume = a.volume; base = saves_in a.base; entries = a.entries.items; held = map seated a.held.items; lives = a.lives.items; loud = a.loud } };
+    ghost view = { λ a. record { volume = a.volume; base = saves_in a.base; entries = a.entries.items; held = map seated a.held.items; lives = a.lives.items; loud = a.loud; folded = a.folded.items } };
 
-    ghost invariant = { λ a. IsAudit (is_loud_in_all B.layers a.volume) a.loud (plain_of B.contents B.layers a.volume) (record { base = saves_in a.base; entries = a.entries.items; held = a.held.items; lives = a.lives.items; counts = a.counts.items; room = vec_capacity a.entries }) };
+    ghost invariant = { λ a. IsKept a.volume.requests (is_loud_in_all B.layers a.volume) a.loud (plain_of B.contents B.layers a.volume) (record { base = saves_in a.base; entries = a.entries.items; held = a.held.items; lives = a.lives.items; counts = a.counts.items; folded = a.folded.items; room = vec_capacity a.entries }) };
 }
 
 impl<B: Layered> Audit<B> {
-    /// Takes a volume with no snapshot and no request in flight, a copy of its array, and the room of all entries. Where
-    /// memory is refused, the volume is given back.
+    /// Takes a volume with no request in flight, with what snapshots there are, and beside a merge too: a copy of each array
+    /// that it shows, by `Volume::peek`, and the room of all entries. A spoiled snapshot has no array, nor has the one that is
+    /// being merged. Where memory is refused, the volume is given back.
     pub fn new(alloc: Global, volume: Volume<B>) -> Result<Audit<B>, (Refusal, Volume<B>)>
-        requires bare { volume.snaps ≡ [] }
-        requires alone { volume.merge ≡ None }
         requires quiet { volume.flights ≡ [] }
-        ensures ok { IfOk result (λ a. (a.volume ≡ volume) × (a.entries ≡ []) × (a.held ≡ []) × (a.lives ≡ []) × (a.loud ≡ is_loud_in_all B.layers volume)) }
+        ensures ok { IfOk result (λ a. (a.volume ≡ volume) × (a.entries ≡ []) × (a.held ≡ []) × (a.lives ≡ lives_of volume) × (a.loud ≡ is_loud_in_all B.layers volume)) }
         ensures base { IfOk result (λ a. a.loud ≡ true → a.base ≡ saves_of (plain_of B.contents B.layers volume)) }
+        ensures folded { IfOk result (λ a. a.folded ≡ replicate 9 0) }
         ensures err { IfErr result (λ e. e ≡ record { 0 = NoMemory; 1 = volume }) }
     {
         let Ok(base) = base_of(alloc, &volume) else {
@@ -68,17 +73,24 @@ impl<B: Layered> Audit<B> {
         let Ok(entries) = Vec::with_capacity(alloc, MAX_ENTRIES) else {
             return Err((Refusal::NoMemory, volume));
         };
+        let Ok(lives) = lives_in(alloc, &volume) else {
+            return Err((Refusal::NoMemory, volume));
+        };
         let Ok(counts) = vec![in alloc; 0u64; SEATS] else {
             return Err((Refusal::NoMemory, volume));
         };
-        let loud = volume.origin().is_loud();
+        let Ok(folded) = vec![in alloc; 0u64; SEATS] else {
+            return Err((Refusal::NoMemory, volume));
+        };
+        let loud = is_loud_now(&volume);
         Ok(Audit {
             volume,
             base,
             entries,
             held: Vec::new(alloc),
-            lives: Vec::new(alloc),
+            lives,
             counts,
+            folded,
             loud,
             alloc,
         })
@@ -101,12 +113,24 @@ impl<B: Layered> Audit<B> {
         self.entries.as_slice()
     }
 
-    /// Whether a receipt is for an entry of the journal: the seat's request entry with its count has its request and its
-    /// reply.
+    /// Whether a receipt is for an entry of the journal: `Folded` where a checkpoint folded the seat's request entry with its
+    /// count, `Agrees` where that stands in the journal with its request and its reply, else `Differs`.
     pub fn check(&self, receipt: &Receipt) -> Verdict
-        ensures { HasVerdict self.now.entries receipt.now result }
+        ensures { HasVerdict (slice_index_or self.now.folded receipt.now.seat 0) self.now.entries receipt.now result }
     {
-        verdict_of(self.entries.as_slice(), receipt)
+        let folded = match self.folded.get(receipt.seat as usize) {
+            Some(count) => *count,
+            None => 0,
+        };
+        verdict_of(self.entries.as_slice(), folded, receipt)
+    }
+
+    /// How many request entries a seat has, from 0 to 8: those in the journal, and those that checkpoints folded.
+    pub fn count(&self, seat: u8) -> u64
+        requires { seat < 9 }
+        ensures { result ≡ count_of seat self.now }
+    {
+        self.counts[seat as usize]
     }
 
     /// Whether it drops no writes, and never did: then its entries say what its devices' bytes stand for.

@@ -9,7 +9,6 @@ ghost use Rattle.event_machine.specs.Merging.{finished, resumed};
 ghost use Rattle.volume.specs.Beginning.{IsResumed};
 ghost use Rattle.volume.specs.Finishing.{IsTakenOut, finish_refusal};
 ghost use Rattle.volume.specs.Layering.{IsTicked, moving_relayered};
-ghost use Rattle.volume.specs.Leaving.{close_refusal};
 ghost use Rattle.volume.specs.Moved.{moving_of};
 ghost use Rattle.volume.specs.Telling.{IsNotTold, IsTold, dev_relayered, layers_told};
 ghost use Rattle.volume.specs.Volumed.{books_of, is_loud_in_all, plain_of};
@@ -90,42 +89,6 @@ impl<B: Layered> Audit<B> {
                 Ok(store)
             }
             Err(refusal) => Err(refusal),
-        }
-    }
-}
-
-impl<B: Layered + Drop> Audit<B> {
-    /// Gives the origin disk back, and drops the journal. `Busy` where a snapshot is attached or a merge is begun, `NotQuiet`
-    /// where a request is in flight.
-    pub fn close(self) -> Result<B, (Refusal, Audit<B>)>
-        ensures ok { IfOk result (λ origin. (origin ≡ self.volume.origin) × (close_refusal self.volume ≡ None)) }
-        ensures err { IfErr result (λ e. (close_refusal self.volume ≡ Some e.0) × (e.1 ≡ self)) }
-    {
-        let Audit {
-            volume,
-            base,
-            entries,
-            held,
-            lives,
-            counts,
-            loud,
-            alloc,
-        } = self;
-        match volume.close() {
-            Ok(origin) => Ok(origin),
-            Err((refusal, volume)) => Err((
-                refusal,
-                Audit {
-                    volume,
-                    base,
-                    entries,
-                    held,
-                    lives,
-                    counts,
-                    loud,
-                    alloc,
-                },
-            )),
         }
     }
 }

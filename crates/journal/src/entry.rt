@@ -1,4 +1,5 @@
 // What a journal holds, what it is asked about, and what stands beside it for each request in flight.
+use crate::array::Array;
 use plain::{Reply, ReqId, Request, SnapId};
 use sector::Buf;
 
@@ -14,10 +15,10 @@ pub struct Answered {
 #[derive(Debug, Drop)]
 pub enum Entry {
     Answered(Answered),
-    /// A snapshot was spoiled.
+    /// A snapshot was spoiled. It is no seat's request: such entries belong to seat 0, and no seat's count counts them.
     Spoiled(SnapId),
     /// A snapshot was taken, with this array.
-    Attached(SnapId, Buf),
+    Attached(SnapId, Array),
     /// A snapshot was taken away.
     Detached(SnapId),
     /// A snapshot began to be merged: the origin is its array from here on.
@@ -26,7 +27,7 @@ pub enum Entry {
     Finished,
 }
 
-/// For a seat's request entry with this count, from 1.
+/// For a seat's request entry with this count, from 1: those that a checkpoint folded are counted too.
 #[derive(Debug, Drop)]
 pub struct Receipt {
     pub seat: u8,
@@ -38,6 +39,9 @@ pub struct Receipt {
 /// What a journal says of a receipt.
 #[derive(Clone, Copy, Debug, PartialEq, Eq)]
 pub enum Verdict {
+    /// Its entry was folded into the base arrays by a checkpoint.
+    Folded,
+    /// Its entry stands in the journal, with the same request and reply.
     Agrees,
     Differs,
 }
@@ -46,13 +50,13 @@ pub enum Verdict {
 #[derive(Debug, Drop)]
 pub struct Saved {
     pub number: SnapId,
-    pub array: Option<Buf>,
+    pub array: Option<Array>,
 }
 
 /// The arrays and states that the entries are replayed on.
 #[derive(Debug, Drop)]
 pub struct Base {
-    pub origin: Buf,
+    pub origin: Array,
     /// The snapshot that is being merged.
     pub begun: Option<SnapId>,
     /// The others, in order of attaching.

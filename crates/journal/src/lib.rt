@@ -8,16 +8,22 @@
 #![tactic(auto)]
 
 mod applying;
+mod array;
 mod attaching;
 mod audit;
 mod bases;
 mod changing;
+mod checkpoint;
+mod ending;
 mod entry;
+mod fold;
 mod holding;
 mod leaving;
+mod looking;
 mod noting;
 mod submitting;
 mod verdict;
 
+pub use array::Array;
 pub use audit::{Audit, MAX_ENTRIES, SEATS};
 pub use entry::{Answered, Base, Entry, Receipt, Saved, Verdict};

@@ -55,14 +55,17 @@ fn nth_of(entries: &[Entry], seat: u8, number: u64) -> Option<&Answered>
     None
 }
 
-/// What a journal with these entries says of a receipt.
-pub(crate) fn verdict_of(entries: &[Entry], receipt: &Receipt) -> Verdict
-    ensures { HasVerdict entries.now receipt.now result }
+/// What a journal with these entries says of a receipt, where so many of the seat's were folded.
+pub(crate) fn verdict_of(entries: &[Entry], folded: u64, receipt: &Receipt) -> Verdict
+    ensures { HasVerdict folded entries.now receipt.now result }
 {
     if receipt.count == 0 {
         return Verdict::Differs;
     }
-    let Some(entry) = nth_of(entries, receipt.seat, receipt.count - 1) else {
+    if receipt.count <= folded {
+        return Verdict::Folded;
+    }
+    let Some(entry) = nth_of(entries, receipt.seat, receipt.count - folded - 1) else {
         return Verdict::Differs;
     };
     if is_same(&entry.request, &receipt.request) && entry.reply.is_same(&receipt.reply) {

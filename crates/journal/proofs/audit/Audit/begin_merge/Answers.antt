@@ -1,7 +1,12 @@
-use Rattle.std.proofs.Common.{true, sym, ap, ◌∙◌, arith}
+use Rattle.std.proofs.Common.{true, sym, ap, ◌∙◌, arith, length, map}
 use Rattle.std.proofs.lemmas.Bool.{ltb-false}
 use Rattle.journal.specs.Noted.{live_count}
 use Rattle.volume.proofs.Ran.{unbegun_same}
+use Rattle.pending.specs.Kinds.{in_flight}
+use Rattle.plain.specs.Plain.{Plain}
+use Rattle.volume.specs.Volumed.{Volumed}
+use Rattle.journal.specs.declared.entry.Entry.TheVariants.{Begun}
+use Rattle.journal.proofs.Bounds.{entry_bounds, long_kept, quiet_bounds, unbegun_given}
 use Rattle.journal.proofs.Departed.{begun_keeps}
 use Rattle.journal.proofs.Keeping.{quiet_keeps}
 use Rattle.journal.proofs.audit.Audit.begin_merge.Goals as goal
@@ -9,10 +14,18 @@ use Rattle.journal.proofs.audit.Audit.begin_merge.Goals as goal
 pub invariant_of-self : goal.invariant_of-self
 invariant_of-self g c =
     rw (c.push_reserved.ensures.items, c.remove.ensures.items)
-    (begun_keeps g.B.Block.contents g.B.Block.layers c.args.number c.self.inside.volume c.begin_merge.new.self _ _ true c.self.inside.loud _ _ c.self.invariant
-    (omega (arith, ltb-false 65_536 _ (sym c.is_full.ensures ∙ c.if-is_full.false), c.len.ensures, c.len-2.ensures, ap live_count c.as_slice.ensures.value)) c.push_reserved.ensures.capacity c.in-Some.place (sym c.place_in-place.ensures ∙ c.in-Some.is)
-    c.in-Ok.ensures.loud c.in-Ok.ensures.begun c.in-Ok.ensures.legal)
+    (record {
+      audit = begun_keeps g.B.Block.contents g.B.Block.layers c.args.number c.self.inside.volume c.begin_merge.new.self _ _ true c.self.inside.loud _ _ c.self.invariant.audit
+          (omega (arith, ltb-false 65_536 _ (sym c.is_full.ensures ∙ c.if-is_full.false), c.len.ensures, c.len-2.ensures, ap live_count c.as_slice.ensures.value)) c.push_reserved.ensures.capacity c.in-Some.place (sym c.place_in-place.ensures ∙ c.in-Some.is)
+          c.in-Ok.ensures.loud c.in-Ok.ensures.begun c.in-Ok.ensures.legal;
+      bounded = entry_bounds _ _ c.self.inside.loud _ _ _ _ c.self.invariant.bounded (ap (λ (x : Volumed _). x.requests) c.in-Ok.ensures.begun.becomes) (λ on. on)
+          (long_kept g.B.Block.contents g.B.Block.layers g.B.Block.size g.met.B.Block.whole c.self.inside.volume c.begin_merge.new.self (ap (λ (x : Volumed _). g.B.Block.size x.origin) c.in-Ok.ensures.begun.becomes)) (ap (λ (x : Volumed _). map in_flight x.flights) c.in-Ok.ensures.begun.becomes) (Begun c.args.number) _ _ tt;
+    })
 
 pub invariant_of-self-in-Err : goal.invariant_of-self-in-Err
 invariant_of-self-in-Err g c =
-    quiet_keeps _ _ c.self.inside.loud _ _ _ c.self.invariant c.in-Err.ensures.loud (unbegun_same g.B.Block.contents g.B.Block.layers c.args.number c.in-Err.refusal c.self.inside.volume c.begin_merge.new.self c.in-Err.ensures.refused)
+    let same = unbegun_given c.args.number c.in-Err.refusal c.self.inside.volume c.begin_merge.new.self c.in-Err.ensures.refused in
+    let plain = unbegun_same g.B.Block.contents g.B.Block.layers c.args.number c.in-Err.refusal c.self.inside.volume c.begin_merge.new.self c.in-Err.ensures.refused in record {
+      audit = quiet_keeps _ _ c.self.inside.loud _ _ _ c.self.invariant.audit c.in-Err.ensures.loud plain;
+      bounded = quiet_bounds _ _ c.self.inside.loud _ _ _ _ c.self.invariant.bounded same.0 (λ on. on) (ap (λ (x : Plain). length x.origin) plain) (ap (λ (x : Plain). x.requests) plain);
+    }

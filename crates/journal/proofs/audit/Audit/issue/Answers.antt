@@ -1,12 +1,13 @@
-use Rattle.std.proofs.Common.{rules, ◌≡◌, ◌≢◌, ◌+◌, ◌++◌, ◌∷◌, [], sym, ap, ◌∙◌, arith, length, map}
+use Rattle.std.proofs.Common.{rules, ◌≡◌, ◌≢◌, ◌+◌, ◌++◌, ◌∷◌, [], sym, ap, ◌∙◌, arith, map}
 use Rattle.journal.specs.Seats.{seated}
 use Rattle.journal.specs.declared.entry.Entry.TheVariants.{Answered}
 use Rattle.std.proofs.lemmas.List.{get_or_default}
 use Rattle.volume.specs.Volumed.{plain_of}
-use Rattle.journal.specs.Books.{AuditShape}
-use Rattle.journal.specs.Entries.{entries_by}
+use Rattle.journal.specs.Books.{AuditShape, count_of}
 use Rattle.journal.specs.declared.entry.Held.{Held}
-use Rattle.journal.proofs.Keeping.{first_of, held_at, fits_held, taken_here, number_same, count_low, issued_keeps, answer_of}
+use Rattle.journal.proofs.Beginning.{plain_long, shows_long}
+use Rattle.journal.proofs.Bounds.{count_low, issued_bounds, long_kept, size_kept}
+use Rattle.journal.proofs.Keeping.{first_of, held_at, fits_held, taken_here, number_same, issued_keeps, answer_of}
 use Rattle.journal.proofs.Receipts.{saved_same, mine_none, mine_other, mine_own, not_both, by_second, receipt_has}
 use Rattle.journal.proofs.audit.Audit.issue.Goals as goal
 
@@ -34,20 +35,21 @@ pub copy_into-for_entry-requires : goal.copy_into-for_entry-requires
 copy_into-for_entry-requires g c =
     let first = first_of c.args.number c.self.inside.held.items c.in-Some.place c.remove-held.result c.remove-held.ensures.value (rw c.as_slice.ensures.value at c.in-Some.ensures.some) in
     let flown = rw c.in-Ok-Reply.field-0-is at c.in-Ok-Reply.ensures.flown in
-    (fits_held _ _ c.args.number c.in-Some.place c.remove-held.result c.in-Ok-Reply.reply _ c.self.invariant.counted first (taken_here c.args.number c.in-Ok-Reply.which c.in-Ok-Reply.reply _ _ flown)).0
+    (fits_held _ _ c.args.number c.in-Some.place c.remove-held.result c.in-Ok-Reply.reply _ c.self.invariant.audit.counted first (taken_here c.args.number c.in-Ok-Reply.which c.in-Ok-Reply.reply _ _ flown)).0
 
 pub copy_into-for_receipt-requires : goal.copy_into-for_receipt-requires
 copy_into-for_receipt-requires g c =
     let first = first_of c.args.number c.self.inside.held.items c.in-Some.place c.remove-held.result c.remove-held.ensures.value (rw c.as_slice.ensures.value at c.in-Some.ensures.some) in
     let flown = rw c.in-Ok-Reply.field-0-is at c.in-Ok-Reply.ensures.flown in
-    (fits_held _ _ c.args.number c.in-Some.place c.remove-held.result c.in-Ok-Reply.reply _ c.self.invariant.counted first (taken_here c.args.number c.in-Ok-Reply.which c.in-Ok-Reply.reply _ _ flown)).1
+    (fits_held _ _ c.args.number c.in-Some.place c.remove-held.result c.in-Ok-Reply.reply _ c.self.invariant.audit.counted first (taken_here c.args.number c.in-Ok-Reply.which c.in-Ok-Reply.reply _ _ flown)).1
 
 pub count_one-count-requires-clause-few : goal.count_one-count-requires-clause-few
 count_one-count-requires-clause-few g c =
     let first = first_of c.args.number c.self.inside.held.items c.in-Some.place c.remove-held.result c.remove-held.ensures.value (rw c.as_slice.ensures.value at c.in-Some.ensures.some) in
     let same = c.remove-held.ensures.value ∙ get_or_default c.self.inside.held.items c.in-Some.place c.remove-held.result c.index.result.now first.within ∙ sym c.index.ensures in
     let theirs : c.index.result.now.seat ≡ c.args.seat = search rules in
-    count_low _ _ (plain_of g.B.Block.contents g.B.Block.layers c.self.inside.volume) _ c.self.invariant c.args.number c.in-Some.place c.remove-held.result first c.args.seat (ap (λ (y : Held). y.seat) same ∙ theirs)
+    let fit = held_at c.self.inside.held.items c.args.number c.in-Some.place c.remove-held.result c.self.invariant.audit.counted.fits first in
+    count_low _ 0 _ _ _ (plain_of g.B.Block.contents g.B.Block.layers c.self.inside.volume) _ 0 c.self.invariant.audit c.self.invariant.bounded c.args.number c.in-Some.place c.remove-held.result first c.args.seat (omega (arith, fit.seat, ap (λ (y : Held). y.seat) same ∙ theirs)) (omega (arith, c.last_request.ensures, c.last_request.type_inv, c.in-Ok-Reply.ensures.counts.0))
 
 pub invariant_of-self : goal.invariant_of-self
 invariant_of-self g c =
@@ -55,10 +57,16 @@ invariant_of-self g c =
     let first = first_of c.args.number c.self.inside.held.items c.in-Some.place x c.remove-held.ensures.value (rw c.as_slice.ensures.value at c.in-Some.ensures.some) in
     let same = c.remove-held.ensures.value ∙ get_or_default c.self.inside.held.items c.in-Some.place x c.index.result.now first.within ∙ sym c.index.ensures in
     let theirs : c.index.result.now.seat ≡ c.args.seat = search rules in
-    let kept = issued_keeps _ _ c.self.inside.loud (plain_of g.B.Block.contents g.B.Block.layers c.self.inside.volume) (plain_of g.B.Block.contents g.B.Block.layers c.step.new.self) _ _ c.self.invariant c.in-Ok-Reply.ensures.loud
+    let fit = held_at c.self.inside.held.items c.args.number c.in-Some.place x c.self.invariant.audit.counted.fits first in
+    let seat = ap (λ (y : Held). y.seat) same ∙ theirs in
+    let flown = rw c.in-Ok-Reply.field-0-is at c.in-Ok-Reply.ensures.flown in
+    let kept = issued_keeps _ _ c.self.inside.loud (plain_of g.B.Block.contents g.B.Block.layers c.self.inside.volume) (plain_of g.B.Block.contents g.B.Block.layers c.step.new.self) _ _ c.self.invariant.audit c.in-Ok-Reply.ensures.loud
     (saved_same g.B.Block.contents g.B.Block.layers c.self.inside.volume c.step.new.self c.in-Ok-Reply.ensures.kept.numbers) c.push_reserved.ensures.capacity c.args.number c.in-Some.place x first c.args.seat (ap (λ (y : Held). y.seat) same ∙ theirs)
     c.in-Ok-Reply.reply c.in-Ok-Reply.which (rw c.in-Ok-Reply.field-0-is at c.in-Ok-Reply.ensures.flown) (λ loud. rw c.in-Ok-Reply.field-0-is at (c.in-Ok-Reply.ensures.legal loud)) in
-    rw (c.push_reserved.ensures.items, c.remove-held.ensures.items, c.count_one-count.ensures.counts, c.copy_into-for_entry.ensures) kept
+    let bounds = issued_bounds _ _ _ c.self.inside.loud (plain_of g.B.Block.contents g.B.Block.layers c.self.inside.volume) (plain_of g.B.Block.contents g.B.Block.layers c.step.new.self) _ _ c.self.invariant.audit c.self.invariant.bounded c.args.number c.in-Some.place x first c.in-Ok-Reply.ensures.counts.0
+    (long_kept g.B.Block.contents g.B.Block.layers g.B.Block.size g.met.B.Block.whole c.self.inside.volume c.step.new.self (size_kept g.B.Block.size c.self.inside.volume c.step.new.self c.in-Ok-Reply.ensures.kept.sizes)) c.args.seat (omega (arith, fit.seat, seat)) c.in-Ok-Reply.reply (taken_here c.args.number c.in-Ok-Reply.which c.in-Ok-Reply.reply _ _ flown)
+    (λ dev array shows. shows_long g.B.Block.contents g.B.Block.layers c.self.inside.volume dev array shows ∙ sym (plain_long g.B.Block.contents g.B.Block.layers c.self.inside.volume)) in
+    rw (c.push_reserved.ensures.items, c.remove-held.ensures.items, c.count_one-count.ensures.counts, c.copy_into-for_entry.ensures) (record { audit = kept; bounded = bounds })
 
 pub returns-in-Ok-Reply-clause-noted : goal.returns-in-Ok-Reply-clause-noted
 returns-in-Ok-Reply-clause-noted g c =
@@ -66,10 +74,10 @@ returns-in-Ok-Reply-clause-noted g c =
     let first = first_of c.args.number c.self.inside.held.items c.in-Some.place x c.remove-held.ensures.value (rw c.as_slice.ensures.value at c.in-Some.ensures.some) in
     let same = c.remove-held.ensures.value ∙ get_or_default c.self.inside.held.items c.in-Some.place x c.index.result.now first.within ∙ sym c.index.ensures in
     let theirs : c.index.result.now.seat ≡ c.args.seat = search rules in
-    let fit = held_at c.self.inside.held.items c.args.number c.in-Some.place x c.self.invariant.counted.fits first in
+    let fit = held_at c.self.inside.held.items c.args.number c.in-Some.place x c.self.invariant.audit.counted.fits first in
     let mine = ap (λ (y : Held). y.seat) same ∙ theirs in
     let entries = ap (λ (a : AuditShape _). a.entries) c.self.view_is in
-    let counted = c.count_one-count.ensures.result ∙ ap (λ k. k + 1) (c.self.invariant.counted.counts c.args.seat (omega (arith, fit.seat, mine)) ∙ ap (λ es. length (entries_by c.args.seat es)) entries) in
+    let counted = c.count_one-count.ensures.result ∙ ap (λ k. k + 1) (c.self.invariant.audit.counted.counts c.args.seat (omega (arith, fit.seat, mine)) ∙ ap (count_of c.args.seat) c.self.view_is) in
     rw c.copy_into-for_receipt.ensures
     (receipt_has _ _ c.self.inside.held.items c.args.number c.in-Ok-Reply.which c.in-Some.place c.args.seat c.count_one-count.result x c.in-Ok-Reply.reply
     (number_same c.args.number c.in-Ok-Reply.which c.in-Ok-Reply.reply _ _ (rw c.in-Ok-Reply.field-0-is at c.in-Ok-Reply.ensures.flown)) first mine fit.same

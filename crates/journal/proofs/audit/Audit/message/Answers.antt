@@ -1,8 +1,14 @@
+use Rattle.std.proofs.Common.{length, ap}
+use Rattle.plain.specs.Plain.{Plain}
+use Rattle.journal.proofs.Bounds.{quiet_bounds, told_given}
 use Rattle.journal.proofs.Keeping.{quiet_keeps}
 use Rattle.journal.proofs.audit.Audit.message.Goals as goal
 
 pub invariant_of-self : goal.invariant_of-self
-invariant_of-self g c = quiet_keeps _ _ c.self.inside.loud _ _ _ c.self.invariant c.message.ensures.loud c.message.ensures.plain
+invariant_of-self g c = record {
+  audit = quiet_keeps _ _ c.self.inside.loud _ _ _ c.self.invariant.audit c.message.ensures.loud c.message.ensures.plain;
+  bounded = quiet_bounds _ _ c.self.inside.loud _ _ _ _ c.self.invariant.bounded (told_given (record { contents = g.B.Block.contents; durable = g.B.Block.durable; size = g.B.Block.size; faults = g.B.Block.fault_count; done = g.B.Block.done_count }) g.B.Block.layers c.args.dev c.args.depth c.args.message.now c.message.result _ _ c.message.ensures.ok c.message.ensures.err) (λ on. on) (ap (λ (x : Plain). length x.origin) c.message.ensures.plain) (ap (λ (x : Plain). x.requests) c.message.ensures.plain);
+}
 
 pub returns-clause-still : goal.returns-clause-still
 returns-clause-still g c = rw (← c.self.view_is) c.message.ensures.still

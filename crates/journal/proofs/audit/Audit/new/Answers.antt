@@ -1,18 +1,28 @@
-use Rattle.std.proofs.Common.{rules, refl, sym, ap, ◌∙◌, map}
+use Rattle.std.proofs.Common.{◌≡◌, ◌≤◌, ◌∙◌, ap, arith, length, map, refl, rules, sym}
+use Rattle.std.specs.Prelude.{replicate}
+use Rattle.std.proofs.lemmas.List.{length-map}
 use Rattle.volume.specs.Volumed.{plain_of}
 use Rattle.pending.specs.Kinds.{in_flight}
 use Rattle.journal.specs.Seats.{seated}
-use Rattle.journal.proofs.Keeping.{new_keeps, bare_saved, loud_alone}
+use Rattle.journal.proofs.Beginning.{lives_shown}
+use Rattle.journal.proofs.Bounds.{new_bounds}
+use Rattle.journal.proofs.Keeping.{new_keeps, none_yet}
 use Rattle.journal.proofs.audit.Audit.new.Goals as goal
 
 pub invariant_of-result : goal.invariant_of-result
 invariant_of-result g c =
-    let loud = loud_alone g.B.Block.layers c.args.volume c.is_loud-loud.result c.requires.bare c.requires.alone (c.is_loud-loud.ensures ∙ ap (λ b. Rattle.device.specs.Layers.is_loud (g.B.Block.layers b)) c.origin.ensures) in
-    rw (c.new.ensures.items, c.new-2.ensures.items, c.in-Ok-with_capacity.ensures.items)
-    (new_keeps _ c.is_loud-loud.result (plain_of g.B.Block.contents g.B.Block.layers c.args.volume) _ c.in-Ok-vec.counts.items _ (bare_saved g.B.Block.contents g.B.Block.layers c.args.volume c.requires.bare) (ap (map in_flight) c.requires.quiet)
-    (λ on. sym loud ∙ on) c.in-Ok.ensures c.in-Ok-with_capacity.ensures.capacity (search rules))
+    let w = c.args.volume in
+    let loud = c.is_loud_now-loud.ensures in
+    let quiet = ap (map in_flight) c.requires.quiet in
+    let nought : c.in-Ok-vec.counts.items ≡ replicate 9 0 = search rules in
+    let none : c.in-Ok-vec-2.folded.items ≡ replicate 9 0 = search rules in
+    let few : length c.in-Ok-lives_in.lives.items ≤ 8 = omega (arith, c.in-Ok-lives_in.ensures.few, ap length c.in-Ok-lives_in.ensures.lives, length-map w.snaps (λ s. s.live)) in
+    rw (c.new.ensures.items, c.in-Ok-with_capacity.ensures.items)
+    (record {
+      audit = new_keeps _ c.is_loud_now-loud.result (plain_of g.B.Block.contents g.B.Block.layers w) _ c.in-Ok-lives_in.lives.items c.in-Ok-vec.counts.items c.in-Ok-vec-2.folded.items _ quiet (λ on. sym loud ∙ on) (λ on. c.in-Ok.ensures (sym loud ∙ on))
+          (c.in-Ok-lives_in.ensures.lives ∙ lives_shown g.B.Block.contents (g.B.Block.contents w.origin) w.snaps) few c.in-Ok-with_capacity.ensures.capacity nought none;
+      bounded = new_bounds w.requests c.is_loud_now-loud.result (plain_of g.B.Block.contents g.B.Block.layers w) _ quiet refl refl (λ s lt. none_yet c.in-Ok-vec.counts.items s nought);
+    })
 
 pub returns-clause-ok : goal.returns-clause-ok
-returns-clause-ok g c =
-    let loud = loud_alone g.B.Block.layers c.args.volume c.is_loud-loud.result c.requires.bare c.requires.alone (c.is_loud-loud.ensures ∙ ap (λ b. Rattle.device.specs.Layers.is_loud (g.B.Block.layers b)) c.origin.ensures) in
-    (refl, c.in-Ok-with_capacity.ensures.items, ap (map seated) c.new.ensures.items, c.new-2.ensures.items, loud)
+returns-clause-ok g c = (refl, c.in-Ok-with_capacity.ensures.items, ap (map seated) c.new.ensures.items, c.in-Ok-lives_in.ensures.lives, c.is_loud_now-loud.ensures)

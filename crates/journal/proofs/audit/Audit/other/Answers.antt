@@ -1,19 +1,23 @@
 use Rattle.std.proofs.Common.{◌∙◌, ap, sym, refl}
 use Rattle.volume.specs.Volumed.{plain_of}
 use Rattle.journal.specs.Books.{AuditShape}
+use Rattle.journal.proofs.Bounds.{long_kept, size_kept, spoilt_bounds}
 use Rattle.journal.proofs.Keeping.{spoilt_keeps, spoils_of, flown_other}
 use Rattle.journal.proofs.Receipts.{saved_count, saved_same, snaps_same, noted_all, only_spoils, silent_noted}
 use Rattle.journal.proofs.audit.Audit.other.Goals as goal
 
 pub note_spoils-requires-clause-lives : goal.note_spoils-requires-clause-lives
 note_spoils-requires-clause-lives g c =
-    c.self.invariant.counted.lives ∙ saved_count g.B.Block.contents g.B.Block.layers c.self.inside.volume ∙ sym (snaps_same c.self.inside.volume c.step.new.self c.in-Ok.ensures.kept.numbers)
+    c.self.invariant.audit.counted.lives ∙ saved_count g.B.Block.contents g.B.Block.layers c.self.inside.volume ∙ sym (snaps_same c.self.inside.volume c.step.new.self c.in-Ok.ensures.kept.numbers)
 
 pub invariant_of-self : goal.invariant_of-self
 invariant_of-self g c =
-    spoilt_keeps _ _ _ (plain_of g.B.Block.contents g.B.Block.layers c.self.inside.volume) (plain_of g.B.Block.contents g.B.Block.layers c.step.new.self) _ _ _ _ c.self.invariant c.in-Ok.ensures.loud
-    (flown_other c.args.event c.in-Ok.outcome _ _ c.requires c.in-Ok.ensures.flown) (saved_same g.B.Block.contents g.B.Block.layers c.self.inside.volume c.step.new.self c.in-Ok.ensures.kept.numbers)
-    (λ loud. spoils_of _ c.args.event c.in-Ok.outcome _ c.requires (c.in-Ok.ensures.legal loud)) (noted_all g.B.Block.contents g.B.Block.layers c.step.new.self _ _ _ _ c.note_spoils.ensures.noted) c.note_spoils.ensures.capacity
+    let flown = flown_other c.args.event c.in-Ok.outcome _ _ c.requires c.in-Ok.ensures.flown in record {
+      audit = spoilt_keeps _ _ _ (plain_of g.B.Block.contents g.B.Block.layers c.self.inside.volume) (plain_of g.B.Block.contents g.B.Block.layers c.step.new.self) _ _ _ _ c.self.invariant.audit c.in-Ok.ensures.loud
+          flown (saved_same g.B.Block.contents g.B.Block.layers c.self.inside.volume c.step.new.self c.in-Ok.ensures.kept.numbers)
+          (λ loud. spoils_of _ c.args.event c.in-Ok.outcome _ c.requires (c.in-Ok.ensures.legal loud)) (noted_all g.B.Block.contents g.B.Block.layers c.step.new.self _ _ _ _ c.note_spoils.ensures.noted) c.note_spoils.ensures.capacity;
+      bounded = spoilt_bounds _ _ c.self.inside.loud _ _ _ _ c.self.invariant.bounded c.in-Ok.ensures.counts.0 (λ on. on) (long_kept g.B.Block.contents g.B.Block.layers g.B.Block.size g.met.B.Block.whole c.self.inside.volume c.step.new.self (size_kept g.B.Block.size c.self.inside.volume c.step.new.self c.in-Ok.ensures.kept.sizes)) flown c.note_spoils.ensures.noted.which _ _ _ c.note_spoils.ensures.noted.entries_are;
+    }
 
 pub returns-in-Ok-clause-noted : goal.returns-in-Ok-clause-noted
 returns-in-Ok-clause-noted g c =

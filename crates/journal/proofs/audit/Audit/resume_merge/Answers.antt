@@ -1,5 +1,11 @@
+use Rattle.std.proofs.Common.{length, ap}
+use Rattle.plain.specs.Plain.{Plain}
+use Rattle.journal.proofs.Bounds.{quiet_bounds, resumed_given}
 use Rattle.journal.proofs.Keeping.{quiet_keeps}
 use Rattle.journal.proofs.audit.Audit.resume_merge.Goals as goal
 
 pub invariant_of-self : goal.invariant_of-self
-invariant_of-self g c = quiet_keeps _ _ c.self.inside.loud _ _ _ c.self.invariant c.resume_merge.ensures.loud c.resume_merge.ensures.plain
+invariant_of-self g c = record {
+  audit = quiet_keeps _ _ c.self.inside.loud _ _ _ c.self.invariant.audit c.resume_merge.ensures.loud c.resume_merge.ensures.plain;
+  bounded = quiet_bounds _ _ c.self.inside.loud _ _ _ _ c.self.invariant.bounded (resumed_given c.resume_merge.result _ _ c.resume_merge.ensures.resumed c.resume_merge.ensures.err) (λ on. on) (ap (λ (x : Plain). length x.origin) c.resume_merge.ensures.plain) (ap (λ (x : Plain). x.requests) c.resume_merge.ensures.plain);
+}

@@ -6,39 +6,48 @@ use Rattle.journal.specs.Books.{AuditShape}
 use Rattle.journal.specs.Noted.{live_count}
 use Rattle.journal.specs.Seats.{seated}
 use Rattle.volume.proofs.Declines.{refused_declined, refused_loud}
+use Rattle.journal.proofs.Bounds.{admitted_asked, long_kept, refused_given, spoilt_bounds, submitted_bounds}
 use Rattle.journal.proofs.Keeping.{submitted_keeps, spoilt_keeps, declined_spoils}
 use Rattle.journal.proofs.Receipts.{saved_count, saved_same, snaps_same, noted_all, only_spoils, refused_requests}
 use Rattle.journal.proofs.audit.Audit.submit.Goals as goal
 
 pub note_spoils-requires-clause-lives : goal.note_spoils-requires-clause-lives
 note_spoils-requires-clause-lives g c =
-    c.self.invariant.counted.lives ∙ saved_count g.B.Block.contents g.B.Block.layers c.self.inside.volume ∙ sym (snaps_same c.self.inside.volume c.submit.new.self c.in-Ok-submit.ensures.kept.numbers)
+    c.self.invariant.audit.counted.lives ∙ saved_count g.B.Block.contents g.B.Block.layers c.self.inside.volume ∙ sym (snaps_same c.self.inside.volume c.submit.new.self c.in-Ok-submit.ensures.kept.numbers)
 
 pub note_spoils-requires-in-Err-clause-lives : goal.note_spoils-requires-in-Err-clause-lives
 note_spoils-requires-in-Err-clause-lives g c =
-    c.self.invariant.counted.lives ∙ saved_count g.B.Block.contents g.B.Block.layers c.self.inside.volume ∙ sym (snaps_same c.self.inside.volume c.submit.new.self c.in-Err.ensures.kept.numbers)
+    c.self.invariant.audit.counted.lives ∙ saved_count g.B.Block.contents g.B.Block.layers c.self.inside.volume ∙ sym (snaps_same c.self.inside.volume c.submit.new.self c.in-Err.ensures.kept.numbers)
 
 pub invariant_of-self-in-Ok-submit : goal.invariant_of-self-in-Ok-submit
 invariant_of-self-in-Ok-submit g c =
     let ok = c.in-Ok-submit.ensures.ok in
     let held = c.in-Ok-hold.ensures in
     rw (c.push_reserved.ensures.items, c.reserve.ensures.items)
-    (submitted_keeps _ _ c.self.inside.loud (plain_of g.B.Block.contents g.B.Block.layers c.self.inside.volume) (plain_of g.B.Block.contents g.B.Block.layers c.submit.new.self) _ _ c.in-Ok-submit.number c.args.request _ _ _ c.self.invariant
-    ok.loud (saved_same g.B.Block.contents g.B.Block.layers c.self.inside.volume c.submit.new.self c.in-Ok-submit.ensures.kept.numbers) ok.flown (λ loud. (_, ok.legal loud))
-    (noted_all g.B.Block.contents g.B.Block.layers c.submit.new.self _ _ _ _ c.note_spoils.ensures.noted) c.note_spoils.ensures.capacity
-    (record { same = held.2 ∙ sym held.1; entry_room = held.3 ∙ ap room_of (sym held.1); receipt_room = held.4 ∙ ap room_of (sym held.1); seat = omega (arith, held.0, c.requires.seat) }) refl held.1
-    (omega (arith, ltb-false 65_536 _ (sym c.is_full.ensures ∙ c.if-is_full.false), c.len.ensures, c.len-2.ensures, ap live_count c.as_slice.ensures.value)))
+    (record {
+      audit = submitted_keeps _ _ c.self.inside.loud (plain_of g.B.Block.contents g.B.Block.layers c.self.inside.volume) (plain_of g.B.Block.contents g.B.Block.layers c.submit.new.self) _ _ c.in-Ok-submit.number c.args.request _ _ _ c.self.invariant.audit
+          ok.loud (saved_same g.B.Block.contents g.B.Block.layers c.self.inside.volume c.submit.new.self c.in-Ok-submit.ensures.kept.numbers) ok.flown (λ loud. (_, ok.legal loud))
+          (noted_all g.B.Block.contents g.B.Block.layers c.submit.new.self _ _ _ _ c.note_spoils.ensures.noted) c.note_spoils.ensures.capacity
+          (record { same = held.2 ∙ sym held.1; entry_room = held.3 ∙ ap room_of (sym held.1); receipt_room = held.4 ∙ ap room_of (sym held.1); seat = omega (arith, held.0, c.requires.seat) }) refl held.1
+          (omega (arith, ltb-false 65_536 _ (sym c.is_full.ensures ∙ c.if-is_full.false), c.len.ensures, c.len-2.ensures, ap live_count c.as_slice.ensures.value));
+      bounded = submitted_bounds _ _ c.self.inside.loud _ _ _ _ c.in-Ok-submit.number c.args.request c.note_spoils.ensures.noted.which _ _ _ c.self.invariant.bounded ok.given ok.next
+          (long_kept g.B.Block.contents g.B.Block.layers g.B.Block.size g.met.B.Block.whole c.self.inside.volume c.submit.new.self (ap g.B.Block.size ok.origin)) ok.flown (admitted_asked g.B.Block.contents g.B.Block.layers g.B.Block.size g.met.B.Block.whole c.args.request c.self.inside.volume c.in-Ok-submit.ensures.admitted c.requires.bytes) c.note_spoils.ensures.noted.entries_are;
+    })
 
 pub invariant_of-self-in-Err-submit : goal.invariant_of-self-in-Err-submit
 invariant_of-self-in-Err-submit g c =
     let refused = c.in-Err.ensures.refused in
     rw c.reserve.ensures.items
-    (spoilt_keeps _ _ c.self.inside.loud (plain_of g.B.Block.contents g.B.Block.layers c.self.inside.volume) (plain_of g.B.Block.contents g.B.Block.layers c.submit.new.self) _ _ _ _ c.self.invariant
-    (refused_loud g.B.Block.contents g.B.Block.layers g.B.Block.size c.self.inside.volume c.submit.new.self c.args.request c.in-Err.refusal refused)
-    (refused_requests g.B.Block.contents g.B.Block.layers g.B.Block.size c.args.request c.in-Err.refusal c.self.inside.volume c.submit.new.self refused)
-    (saved_same g.B.Block.contents g.B.Block.layers c.self.inside.volume c.submit.new.self c.in-Err.ensures.kept.numbers)
-    (λ loud. declined_spoils c.args.request c.in-Err.refusal _ _ (refused_declined g.B.Block.contents g.B.Block.layers g.B.Block.size c.self.inside.volume c.submit.new.self c.args.request c.in-Err.refusal refused loud))
-    (noted_all g.B.Block.contents g.B.Block.layers c.submit.new.self _ _ _ _ c.note_spoils-in-Err.ensures.noted) c.note_spoils-in-Err.ensures.capacity)
+    (record {
+      audit = spoilt_keeps _ _ c.self.inside.loud (plain_of g.B.Block.contents g.B.Block.layers c.self.inside.volume) (plain_of g.B.Block.contents g.B.Block.layers c.submit.new.self) _ _ _ _ c.self.invariant.audit
+          (refused_loud g.B.Block.contents g.B.Block.layers g.B.Block.size c.self.inside.volume c.submit.new.self c.args.request c.in-Err.refusal refused)
+          (refused_requests g.B.Block.contents g.B.Block.layers g.B.Block.size c.args.request c.in-Err.refusal c.self.inside.volume c.submit.new.self refused)
+          (saved_same g.B.Block.contents g.B.Block.layers c.self.inside.volume c.submit.new.self c.in-Err.ensures.kept.numbers)
+          (λ loud. declined_spoils c.args.request c.in-Err.refusal _ _ (refused_declined g.B.Block.contents g.B.Block.layers g.B.Block.size c.self.inside.volume c.submit.new.self c.args.request c.in-Err.refusal refused loud))
+          (noted_all g.B.Block.contents g.B.Block.layers c.submit.new.self _ _ _ _ c.note_spoils-in-Err.ensures.noted) c.note_spoils-in-Err.ensures.capacity;
+      bounded = spoilt_bounds _ _ c.self.inside.loud _ _ _ _ c.self.invariant.bounded (refused_given g.B.Block.contents g.B.Block.layers g.B.Block.size c.args.request c.in-Err.refusal _ _ refused) (λ on. on)
+          (long_kept g.B.Block.contents g.B.Block.layers g.B.Block.size g.met.B.Block.whole c.self.inside.volume c.submit.new.self (ap g.B.Block.size c.in-Err.ensures.untouched.origin)) (refused_requests g.B.Block.contents g.B.Block.layers g.B.Block.size c.args.request c.in-Err.refusal c.self.inside.volume c.submit.new.self refused) c.note_spoils-in-Err.ensures.noted.which _ _ _ c.note_spoils-in-Err.ensures.noted.entries_are;
+    })
 
 pub returns-in-Err-clause-starved : goal.returns-in-Err-clause-starved
 returns-in-Err-clause-starved g c = λ other replied. rw (← c.self.view_is) (c.in-Err.ensures.starved other replied)
