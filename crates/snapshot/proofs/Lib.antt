@@ -7,3 +7,4 @@ pub mod Tries
 pub mod Rests
 pub mod Spared
 pub mod Stops
+pub mod StopsOpened

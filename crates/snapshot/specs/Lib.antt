@@ -6,3 +6,4 @@ pub mod Kept
 pub mod Opened
 pub mod Opening
 pub mod Rest
+pub mod StopsOpening

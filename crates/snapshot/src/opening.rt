@@ -1,6 +1,7 @@
 // A snapshot is opened over a store: the store's load, with all of its writes.
 ghost use Rattle.std.specs.Prelude.{◌≡◌, ◌≢◌, ◌⊎◌, ℕ, ◌+◌, ◌*◌, ◌<◌, ◌≤◌, List, [], length, Option, OnOk, OnErr, IfOk, IfErr, IfSome, MatchResult, MatchBool, IsTrue, Ok, Err, true, false};
-ghost use Rattle.sector.specs.Bytes.{next_count};
+ghost use Rattle.sector.specs.Bytes.{next_count, sector_at};
+ghost use Rattle.cow_header.specs.HeaderText.{found_in};
 ghost use Rattle.sector.specs.declared.refusal.Refusal.TheVariants.{NoMemory, Io as IoRefusal};
 ghost use Rattle.chunk.specs.Sizes.{is_chunk};
 ghost use Rattle.device.specs.Layers.{is_loud};
@@ -15,6 +16,7 @@ ghost use Rattle.snapshot.specs.InStep.{IsInStep};
 ghost use Rattle.snapshot.specs.Kept.{books_of};
 ghost use Rattle.snapshot.specs.Opening.{IsWanted, IsOpenRefused, IsOpenedAs, prepared, shown_array, ChangesFront};
 ghost use Rattle.snapshot.specs.Opened.{IsOpened, IsBack};
+ghost use Rattle.snapshot.specs.StopsOpening.{StopsOpening, StopsPrepared, StopsRefused};
 ghost use Rattle.store.specs.Reading.{AreRead};
 ghost use Rattle.settled.specs.Snaps.{Snap};
 ghost use Rattle.settled.specs.Attaching.{open_store, refuse, done};
@@ -87,6 +89,7 @@ fn prepare_all<B: Block>(store: &mut Store<B>) -> Result<(), Io>
     ensures places { store.new.places ≡ store.old.places }
     ensures written { OnOk result (IsTrue (is_loud (B.layers store.old.device)) → B.contents store.new.device ≡ prepared store.old.state.left store.old.state (B.contents store.old.device)) }
     ensures stopped { OnErr result ((B.contents store.new.device ≡ B.contents store.old.device) ⊎ ((store.old.state.left ≡ FirstArea) × (IsTrue (is_loud (B.layers store.old.device)) → B.contents store.new.device ≡ with_left FirstArea store.old.state (B.contents store.old.device)) × ChangesOnly store.old.state.chunk (area_place store.old.state.chunk store.old.state.current) (B.contents store.old.device) (B.contents store.new.device))) }
+    ensures stops { OnOk result (store.old.state.valid ≡ true → IsTrue (is_loud (B.layers store.old.device)) → StopsPrepared store.old.state.left store.old.state (committed store.old.exceptions) (B.contents store.old.device) (B.contents store.new.device)) }
     ensures operations { is_loud (B.layers store.old.device) ≡ true → MatchResult result (λ _. prepared_by store.old.state.left store.old.state (device_of B.contents B.layers store.old.device) ≡ done store.old.state.chunk (device_of B.contents B.layers store.new.device)) (λ _. prepared_by store.old.state.left store.old.state (device_of B.contents B.layers store.old.device) ≡ refuse IoRefusal (device_of B.contents B.layers store.new.device)) }
     ensures only { ChangesFront store.old.state.chunk store.old.state.current (B.contents store.old.device) (B.contents store.new.device) }
     ensures durable { B.durable store.new.device ≡ B.durable store.old.device }
@@ -109,7 +112,8 @@ fn prepare_all<B: Block>(store: &mut Store<B>) -> Result<(), Io>
 /// Opens a snapshot over a store, for an origin of so many sectors: a fresh store gets chunks of so many sectors, a written
 /// one has its own. All writes of its load are done. Where other snapshots have chunks of another size it is refused with
 /// `ChunkMismatch`, after the refusals of the store's load and before anything is written. The store is given back with a
-/// refusal; after `Io` its area 0 may be zeroed, where it was fresh.
+/// refusal; after `Io` its area 0 may be zeroed, where it was fresh. Whatever a stop before, within or after it leaves of the
+/// store is as it was, fresh as it was, or loaded again with the pairs that it had.
 pub fn open_snapshot<B: Block>(
     alloc: Global,
     number: SnapId,
@@ -131,6 +135,8 @@ pub fn open_snapshot<B: Block>(
     ensures starved { IfErr result (λ e. e.0 ≡ NoMemory → (B.contents e.1.device ≡ B.contents store.device) × AreRead (B.layers store.device) (B.layers e.1.device)) }
     ensures refused { IfErr result (λ e. IsOpenRefused chunk wanted sectors (B.size store.device) (B.contents store.device) e.0) }
     ensures back { IfErr result (λ e. IsBack chunk e.0 (B.contents store.device) (B.contents e.1.device)) }
+    ensures stops { IfOk result (λ s. is_loud (B.layers store.device) ≡ true → StopsOpening chunk sectors (B.size store.device) (found_in (sector_at (B.contents store.device) 0)) (B.contents store.device) (B.contents s.device)) }
+    ensures stops_back { IfErr result (λ e. StopsRefused (B.size store.device) (B.contents store.device) (B.contents e.1.device)) }
     ensures stale { IfErr result (λ e. e.1.stale ≡ store.stale) }
     ensures durable { MatchResult result (λ s. B.durable s.device ≡ B.durable store.device) (λ e. B.durable e.1.device ≡ B.durable store.device) }
     ensures size { MatchResult result (λ s. B.size s.device ≡ B.size store.device) (λ e. B.size e.1.device ≡ B.size store.device) }

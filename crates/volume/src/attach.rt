@@ -1,11 +1,14 @@
 // A snapshot is taken.
-ghost use Rattle.std.specs.Prelude.{◌≡◌, ◌≢◌, ◌⊎◌, ◌&&◌, MatchResult, ℕ, ◌+◌, ◌*◌, List, [], ◌∷◌, ◌++◌, length, Option, Some, None, IfOk, IfErr, OnErr, OnOk, Ok, Err, true, false, IsTrue};
+ghost use Rattle.std.specs.Prelude.{◌≡◌, ◌≢◌, ◌⊎◌, ◌&&◌, MatchResult, ℕ, ◌+◌, ◌*◌, List, [], ◌∷◌, ◌++◌, length, Option, Some, None, IfOk, IfErr, OnErr, OnOk, Ok, Err, true, false, IsTrue, slice_index_or};
 ghost use Rattle.sector.specs.declared.refusal.Refusal.TheVariants.{Io as IoRefusal, NoMemory};
+ghost use Rattle.sector.specs.Bytes.{sector_at};
+ghost use Rattle.cow_header.specs.HeaderText.{found_in};
 ghost use Rattle.device.specs.Layers.{is_loud};
 ghost use Rattle.plain.specs.Legal.{IsTaken};
 ghost use Rattle.snapshot.specs.Opened.{IsBack};
 ghost use Rattle.snapshot.specs.Opening.{shown_array};
 ghost use Rattle.snapshot.specs.Kept.{Kept};
+ghost use Rattle.snapshot.specs.StopsOpening.{StopsOpening, StopsRefused};
 ghost use Rattle.volume.specs.Volumed.{Volumed, plain_of, is_loud_in_all};
 ghost use Rattle.volume.specs.Taking.{attach_refusal, wanted_of, IsNotTaken};
 ghost use Rattle.volume.specs.Attached.{store_of, volume_in, IsAttachedAs, IsGained};
@@ -60,7 +63,8 @@ impl<B: Block> Volume<B> {
     /// shows the origin; a written store has a chunk size of its own, and its snapshot shows the chunks that it has in
     /// place of the origin's. Refused, in this order: a stale store (`Stale`), a volume with a merge
     /// (`MergeInProgress`), one that is not quiet (`NotQuiet`), a ninth snapshot or one whose number would be 2^32 (`TooMany`), a chunk size that is none (`BadChunk`); and then as
-    /// the store's load says. The store is given back with a refusal.
+    /// the store's load says. The store is given back with a refusal. Whatever a stop before, within or after the call leaves
+    /// of the store is as it was, fresh as it was, or loaded again with the pairs that it had.
     pub fn attach(
         &mut self,
         alloc: Global,
@@ -79,6 +83,8 @@ impl<B: Block> Volume<B> {
         ensures size { IfErr result (λ e. B.size e.1.device ≡ B.size store.device) }
         ensures loud { MatchResult result (λ _. is_loud_in_all B.layers self.new ≡ (is_loud_in_all B.layers self.old && is_loud (B.layers store.device))) (λ e. is_loud (B.layers e.1.device) ≡ is_loud (B.layers store.device)) }
         ensures stops { OnOk result (StopsAround B.contents B.layers B.size self.old self.new) }
+        ensures stops_store { IfOk result (λ _. is_loud (B.layers store.device) ≡ true → (s : Kept B) → s ≡ slice_index_or self.new.snaps (length self.old.snaps) s → StopsOpening chunk (B.size self.old.origin) (B.size store.device) (found_in (sector_at (B.contents store.device) 0)) (B.contents store.device) (B.contents s.device)) }
+        ensures stops_back { IfErr result (λ e. StopsRefused (B.size store.device) (B.contents store.device) (B.contents e.1.device)) }
         ensures same { OnErr result (self.new ≡ self.old) }
         ensures stale { IfErr result (λ e. e.1.stale ≡ store.stale) }
     {

@@ -1,7 +1,11 @@
 -- What the load gives, the snapshot has.
-use Rattle.std.proofs.Common.{◌≡◌, ◌*◌, ◌++◌, ℕ, List, map, true, ◌∙◌, ap, sym, subst}
+use Rattle.std.proofs.Common.{◌≡◌, ◌*◌, ◌++◌, ℕ, List, map, true, ◌∙◌, ap, sym, subst, inl, inr, IsTrue}
 use Rattle.std.proofs.lemmas.List.{append-nil}
+use Rattle.sector.specs.Bytes.{sector_at}
 use Rattle.sector.specs.declared.pair.Pair.{Pair}
+use Rattle.sector.specs.declared.refusal.Refusal.TheVariants.{Io}
+use Rattle.chunk.proofs.Limits.{is_chunk-some}
+use Rattle.cow_header.specs.HeaderText.{found_in}
 use Rattle.model.specs.NextPlace.{IsNextPlace}
 use Rattle.exception_arena.specs.Pending.{pairs}
 use Rattle.device.specs.Layers.{is_loud}
@@ -12,8 +16,11 @@ use Rattle.store.specs.Held.{committed, pending}
 use Rattle.store.specs.Stored.{new_of}
 use Rattle.store.specs.Loading.{is_begun}
 use Rattle.snapshot.specs.Kept.{Kept}
+use Rattle.snapshot.specs.Opened.{IsBack}
+use Rattle.snapshot.specs.StopsOpening.{StopsOpening, StopsPrepared}
 use Rattle.snapshot.specs.Opening.{ChangesFront, IsOpenedAs, prepared}
 use Rattle.snapshot.proofs.Openings.{shows, opened_origin, opened_copying, opened_is}
+use Rattle.snapshot.proofs.StopsOpened.{opened_valid, opening_stops, refused_stops, stopped_back}
 use Rattle.snapshot.proofs.opening.open_snapshot.Goals as goal
 
 pub returns-in-Ok-prepare_all-clause-opened : goal.returns-in-Ok-prepare_all-clause-opened
@@ -49,3 +56,30 @@ returns-in-Ok-prepare_all-clause-shown g c = λ loud origin.
     let only = subst (λ (b : List ℕ). ChangesFront c.in-Ok.store.state.chunk c.in-Ok.store.state.current b bytes') c.in-Ok.ensures.contents e.only in
     let is = shows c.args.chunk c.args.sectors (g.B.Block.size c.args.store.device) c.in-Ok.store.state.current bytes bytes' loaded ps c.in-Ok.store.front.some c.in-Ok.ensures.opened only listed origin in
     ap (λ (s : Kept g.row.B.Denot). picture s.state.chunk origin (g.B.Block.contents s.device)) c.over.ensures.fields ∙ ap (λ n. picture n origin bytes') chunk ∙ is
+
+pub returns-in-Ok-prepare_all-clause-stops : goal.returns-in-Ok-prepare_all-clause-stops
+returns-in-Ok-prepare_all-clause-stops g c = λ loud.
+    let size = g.B.Block.size c.args.store.device in
+    let old = g.B.Block.contents c.args.store.device in
+    let after = c.prepare_all.new.store.device in
+    let s = c.in-Ok.store.state in
+    let ps = committed c.in-Ok.store.exceptions in
+    let opened = c.in-Ok.ensures.opened in
+    let loud' : IsTrue (is_loud (g.B.Block.layers c.in-Ok.store.device)) = c.in-Ok.ensures.loud ∙ loud in
+    let stops = c.in-Ok-prepare_all.ensures.stops (opened_valid c.args.chunk c.args.sectors size old s ps opened) loud' in
+    let all : StopsOpening c.args.chunk c.args.sectors size (found_in (sector_at old 0)) old (g.B.Block.contents after) =
+    opening_stops c.args.chunk c.args.sectors size old (g.B.Block.contents after) s ps opened (subst (λ z. StopsPrepared s.left s ps z (g.B.Block.contents after)) c.in-Ok.ensures.contents stops) in
+    subst (λ (x : Kept g.row.B.Denot). StopsOpening c.args.chunk c.args.sectors size (found_in (sector_at old 0)) old (g.B.Block.contents x.device)) (sym c.over.ensures.fields) all
+
+pub returns-in-Err-clause-stops_back : goal.returns-in-Err-clause-stops_back
+returns-in-Err-clause-stops_back g c =
+    refused_stops c.args.chunk (g.B.Block.size c.args.store.device) c.in-Err.refusal (g.B.Block.contents c.args.store.device) (g.B.Block.contents c.in-Err.device) (is_chunk-some c.args.chunk c.requires) (g.met.B.Block.whole c.args.store.device) (inl c.in-Err.ensures.contents)
+
+pub returns-in-Err-prepare_all-clause-stops_back : goal.returns-in-Err-prepare_all-clause-stops_back
+returns-in-Err-prepare_all-clause-stops_back g c =
+    let old = g.B.Block.contents c.args.store.device in
+    let new = g.B.Block.contents c.into_device-device.result in
+    let now : new ≡ g.B.Block.contents c.prepare_all.new.store.device = ap g.B.Block.contents c.into_device-device.ensures in
+    let back : IsBack c.args.chunk Io old new = stopped_back c.args.chunk c.args.sectors (g.B.Block.size c.args.store.device) old (g.B.Block.contents c.in-Ok.store.device) (g.B.Block.contents c.prepare_all.new.store.device) new c.in-Ok.store.state (committed c.in-Ok.store.exceptions)
+    c.in-Ok.ensures.opened c.in-Ok.ensures.contents now (elim c.in-Err-prepare_all.ensures.stopped [ inl e ↦ inl e | inr e ↦ inr (e.0, e.2) ]) in
+    refused_stops c.args.chunk (g.B.Block.size c.args.store.device) Io old new (is_chunk-some c.args.chunk c.requires) (g.met.B.Block.whole c.args.store.device) back

@@ -1,10 +1,15 @@
 -- The snapshot that was opened is the last one.
-use Rattle.std.proofs.Common.{◌≡◌, ◌*◌, ◌+◌, ◌<◌, ◌≤◌, ℕ, List, [], ◌∷◌, ◌++◌, length, inr, refl, sym, ◌∙◌, ap, subst, arith, true, false}
+use Rattle.std.proofs.Common.{◌≡◌, ◌*◌, ◌+◌, ◌<◌, ◌≤◌, ℕ, List, [], ◌∷◌, ◌++◌, length, inl, inr, get_or, refl, sym, ◌∙◌, ap, subst, arith, true, false}
 use Rattle.std.specs.Prelude.{Option, Some, None}
 use Rattle.std.specs.List.{All}
 use Rattle.std.specs.Option.{is_some}
 use Rattle.volume_laws.specs.Steps.{IsNewSnap}
+use Rattle.cow_header.specs.HeaderText.{found_in}
+use Rattle.sector.specs.Bytes.{sector_at}
+use Rattle.std.proofs.Math.Seq.{get_or-append_seam}
+use Rattle.stop_laws.proofs.Torn.{torn_still}
 use Rattle.snapshot.specs.Kept.{Kept, books_of as snap_books}
+use Rattle.snapshot.specs.StopsOpening.{StopsOpening}
 use Rattle.snapshot.specs.Opening.{IsWanted, IsOpenRefused, shown_array}
 use Rattle.snapshot.proofs.Openings.{opened_origin}
 use Rattle.volume.specs.Volumed.{Volumed}
@@ -158,3 +163,22 @@ returns-in-Ok-open_snapshot-clause-loud g c =
     let s : Kept g.row.B.Denot = c.in-Ok-open_snapshot.snap in
     let pushed = c.push_reserved.ensures.items ∙ ap (λ (x : List (Kept g.row.B.Denot)). x ++ s ∷ []) c.reserve.ensures.items in
     rw (← c.self.view_is) (loud_taken_as g.B.Block.contents g.B.Block.layers v (v.attached + 1) c.args.store.device s c.push_reserved.new.self.items pushed c.in-Ok-open_snapshot.ensures.loud)
+
+pub returns-in-Ok-open_snapshot-clause-stops_store : goal.returns-in-Ok-open_snapshot-clause-stops_store
+returns-in-Ok-open_snapshot-clause-stops_store g c = λ loud x at.
+    let v : Volumed g.row.B.Denot = record { origin = c.self.inside.origin; snaps = c.self.inside.snaps.items; merge = c.self.inside.merge; flights = c.self.inside.flights.items; requests = c.self.inside.requests; copies = c.self.inside.copies; attached = c.self.inside.attached } in
+    let s : Kept g.row.B.Denot = c.in-Ok-open_snapshot.snap in
+    let old = g.B.Block.contents c.args.store.device in
+    let size = g.B.Block.size c.args.store.device in
+    let pushed : c.push_reserved.new.self.items ≡ v.snaps ++ s ∷ [] = c.push_reserved.ensures.items ∙ ap (λ (ys : List (Kept g.row.B.Denot)). ys ++ s ∷ []) c.reserve.ensures.items in
+    let here : length c.args.self.now.snaps ≡ length v.snaps = ap (λ (w : Volumed g.row.B.Denot). length w.snaps) (sym c.self.view_is) in
+    let is : x ≡ s = at ∙ ap (λ n. get_or c.push_reserved.new.self.items n x) here ∙ ap (λ ys. get_or ys (length v.snaps) x) pushed ∙ get_or-append_seam v.snaps s [] x in
+    let sectors : c.sectors.result ≡ g.B.Block.size c.args.self.now.origin = c.sectors.ensures ∙ ap (λ (w : Volumed g.row.B.Denot). g.B.Block.size w.origin) c.self.view_is in
+    subst (λ n. StopsOpening c.args.chunk n size (found_in (sector_at old 0)) old (g.B.Block.contents x.device)) sectors
+    (subst (λ (y : Kept g.row.B.Denot). StopsOpening c.args.chunk c.sectors.result size (found_in (sector_at old 0)) old (g.B.Block.contents y.device)) (sym is) (c.in-Ok-open_snapshot.ensures.stops loud))
+
+pub returns-in-Some-clause-stops_back : goal.returns-in-Some-clause-stops_back
+returns-in-Some-clause-stops_back g c = λ torn is. inl (torn_still (g.B.Block.size c.args.store.device) (g.B.Block.contents c.args.store.device) torn is (g.met.B.Block.whole c.args.store.device))
+
+pub returns-in-Err-clause-stops_back : goal.returns-in-Err-clause-stops_back
+returns-in-Err-clause-stops_back g c = λ torn is. inl (torn_still (g.B.Block.size c.args.store.device) (g.B.Block.contents c.args.store.device) torn is (g.met.B.Block.whole c.args.store.device))

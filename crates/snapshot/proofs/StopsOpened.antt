@@ -1,0 +1,89 @@
+-- What a stop within the opening of a snapshot leaves of its store, write by write.
+use Rattle.std.proofs.Common.{◌≡◌, ◌≢◌, ◌⊎◌, inl, inr, ℕ, ◌+◌, ◌*◌, ◌<◌, ◌≤◌, Bool, true, false, List, [], length, get_or, refl, sym, ◌∙◌, ap, subst, arith, Ok, Err}
+use Rattle.std.specs.Prelude.{Result}
+use Rattle.std.proofs.lemmas.Bool.{false≢true}
+use Rattle.sector.specs.Bytes.{sector_at}
+use Rattle.sector.specs.declared.pair.Pair.{Pair}
+use Rattle.sector.specs.declared.refusal.Refusal.{Refusal}
+use Rattle.sector.specs.declared.refusal.Refusal.TheVariants.{Io}
+use Rattle.model.specs.Places.{area_place, ChangesOnly}
+use Rattle.model.specs.Pairs.{pairs_of}
+use Rattle.cow_header.specs.HeaderText.{found_in}
+use Rattle.cow_header.specs.declared.found.Found.{Found}
+use Rattle.cow_header.specs.declared.found.Found.TheVariants.{Fresh, Header}
+use Rattle.store.specs.declared.state.Left.{Left}
+use Rattle.store.specs.declared.state.Left.TheVariants.{FirstArea, HeaderChunk, Tail, Nothing}
+use Rattle.store.specs.declared.state.State.{State}
+use Rattle.store.specs.Loading.{with_left, is_left, after_write}
+use Rattle.store.specs.Opening.{IsOpenedFresh, IsOpenedWritten}
+use Rattle.store.specs.Stopping.{LoadsFirst, IsFreshAgain, StopsPreparing}
+use Rattle.stop_laws.specs.Stop.{IsTorn}
+use Rattle.stop_laws.proofs.Loads.{header_kept}
+use Rattle.stop_laws.proofs.Torn.{torn_still, torn_only}
+use Rattle.snapshot.specs.Opened.{IsBack}
+use Rattle.snapshot.specs.Opening.{IsOpenedAs}
+use Rattle.snapshot.specs.StopsOpening.{StopsPrepared, StopsOpening, StopsRefused, begun_store}
+
+-- a second write is left only after the first of a fresh store
+pub prepared_two : (left : Left) (s : State) (ps : List Pair) (old middle new : List ℕ) → is_left (after_write left) ≡ true → middle ≡ with_left left s old
+    → StopsPreparing left s.chunk s.origin s.size ps old middle → StopsPreparing (after_write left) s.chunk s.origin s.size ps middle new → StopsPrepared left s ps old new
+prepared_two FirstArea s ps old middle new more is first second = λ torn side. elim side [
+  | inl t ↦ inl (first torn (subst (λ z. IsTorn s.size old z torn) (sym is) t))
+  | inr t ↦ second torn (subst (λ z. IsTorn s.size z new torn) (sym is) t)
+]
+prepared_two HeaderChunk s ps old middle new more is first second = absurd (false≢true more)
+prepared_two Tail s ps old middle new more is first second = absurd (false≢true more)
+prepared_two Nothing s ps old middle new more is first second = absurd (false≢true more)
+
+-- and else one is done at most
+pub prepared_one : (left : Left) (s : State) (ps : List Pair) (old new : List ℕ) → is_left (after_write left) ≡ false → StopsPreparing left s.chunk s.origin s.size ps old new → StopsPrepared left s ps old new
+prepared_one FirstArea s ps old new more first = absurd (false≢true (sym more))
+prepared_one HeaderChunk s ps old new more first = first
+prepared_one Tail s ps old new more first = first
+prepared_one Nothing s ps old new more first = first
+
+-- of an opened store
+pub opened_valid : (line origin size : ℕ) (bytes : List ℕ) (s : State) (ps : List Pair) → IsOpenedAs line origin size bytes s ps → s.valid ≡ true
+opened_valid line origin size bytes s ps (inl f) = ap (λ (t : State). t.valid) f.state
+opened_valid line origin size bytes s ps (inr w) = w.valid
+
+written_by : (left : Left) (s : State) (ps : List Pair) (old new : List ℕ) → (left ≡ Tail) ⊎ (left ≡ Nothing) → StopsPrepared left s ps old new → (torn : List ℕ) → IsTorn s.size old new torn → LoadsFirst s.chunk s.origin s.size ps [] torn
+written_by FirstArea s ps old new (inl e) stops = absurd (cc)
+written_by FirstArea s ps old new (inr e) stops = absurd (cc)
+written_by HeaderChunk s ps old new (inl e) stops = absurd (cc)
+written_by HeaderChunk s ps old new (inr e) stops = absurd (cc)
+written_by Tail s ps old new at stops = stops
+written_by Nothing s ps old new at stops = stops
+
+pub opening_stops : (line origin size : ℕ) (old new : List ℕ) (s : State) (ps : List Pair) → IsOpenedAs line origin size old s ps → StopsPrepared s.left s ps old new → StopsOpening line origin size (found_in (sector_at old 0)) old new
+opening_stops line origin size old new s ps (inl f) stops =
+    let fresh : State = record { chunk = line; origin = origin; size = size; current = 0; filled = 0; zeroed = false; left = FirstArea; copying = true; valid = true } in
+    subst (λ (r : Result Found Refusal). StopsOpening line origin size r old new) (sym f.found)
+    (subst (λ qs. StopsPrepared FirstArea fresh qs old new) f.none (subst (λ (t : State). StopsPrepared t.left t ps old new) f.state stops))
+opening_stops line origin size old new s ps (inr w) stops =
+    let loads = written_by s.left s ps old new (elim w.tail [ inl t ↦ inl t.0 | inr t ↦ inr t.0 ]) stops in
+    subst (λ (r : Result Found Refusal). StopsOpening line origin size r old new) (sym w.found)
+    (subst (λ qs. (torn : List ℕ) → IsTorn size old new torn → LoadsFirst s.chunk origin size qs [] torn) (sym w.pairs)
+    (subst (λ n. (torn : List ℕ) → IsTorn n old new torn → LoadsFirst s.chunk origin n ps [] torn) w.rest.1
+    (subst (λ n. (torn : List ℕ) → IsTorn s.size old new torn → LoadsFirst s.chunk n s.size ps [] torn) w.rest.0 loads)))
+
+-- of a store that was refused
+pub refused_stops : (line size : ℕ) (refusal : Refusal) (old new : List ℕ) → 0 < line → length old ≡ 512 * size → IsBack line refusal old new → StopsRefused size old new
+refused_stops line size refusal old new pos whole (inl same) = λ torn is. inl (torn_still size old torn (subst (λ z. IsTorn size old z torn) same is) whole)
+refused_stops line size refusal old new pos whole (inr b) = λ torn is.
+    (let past : area_place line 0 ≢ 0 = λ e. absurd (omega (arith, e)) in
+    inr (b.1, ap found_in (header_kept line (area_place line 0) old torn pos past (torn_only size line (area_place line 0) old new torn is whole b.2)) ∙ b.1))
+
+-- a device that failed while a load wrote to it
+pub stopped_back : (line origin size : ℕ) (old opened after new : List ℕ) (s : State) (ps : List Pair) → IsOpenedAs line origin size old s ps → opened ≡ old → new ≡ after
+    → (after ≡ opened) ⊎ ((s.left ≡ FirstArea) × ChangesOnly s.chunk (area_place s.chunk s.current) opened after) → IsBack line Io old new
+stopped_back line origin size old opened after new s ps is same now (inl e) = inl (now ∙ e ∙ same)
+stopped_back line origin size old opened after new s ps (inl f) same now (inr e) =
+    inr (refl, f.found, subst (λ z. ChangesOnly line (area_place line 0) old z) (sym now) (subst (λ z. ChangesOnly line (area_place line 0) z after) same (subst (λ (t : State). ChangesOnly t.chunk (area_place t.chunk t.current) opened after) f.state e.1)))
+stopped_back line origin size old opened after new s ps (inr w) same now (inr e) = absurd (elim w.tail [ inl t ↦ tail_first (sym t.0 ∙ e.0) | inr t ↦ nothing_first (sym t.0 ∙ e.0) ])
+  where
+    tail_first : Tail ≢ FirstArea
+    tail_first c = cc
+
+    nothing_first : Nothing ≢ FirstArea
+    nothing_first c = cc
