@@ -9,3 +9,4 @@ pub mod LeftLemmas
 pub mod ShownLemmas
 pub mod DeskLemmas
 pub mod RunLemmas
+pub mod WellLemmas
