@@ -96,8 +96,8 @@ impl Desk {
     /// its own answer. A line whose words are refused answers that refusal alone, and so does a start or an event whose
     /// names or sectors are refused, whatever is in flight. Where the allocator refuses any memory, the line prints that and
     /// changes no device, but that of a read or a write some part may have been done. Where its command has its rule, each
-    /// volume shows what the command leaves of what it showed. The one error is `RunError::Write`, the writer's own; then the line was done all the same, and part of
-    /// what it prints may be printed.
+    /// volume shows what the command leaves of what it showed. The one error is `RunError::Write`, the writer's own; then the
+    /// line was done all the same, and part of what it prints may be printed.
     pub fn line<W: Write>(&mut self, line: &[u8], writer: &mut W) -> Result<(), RunError>
         ensures done { (done : Outcome) × IsLineDone line.now self.old.table done × (self.new ≡ followed self.old done)
             × OnOk result (Appends (W.contents writer.old) (W.contents writer.new) (printed done.replies)) }
