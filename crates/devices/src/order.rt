@@ -1,11 +1,8 @@
 // In what order the snapshots of a volume stand, and its stores, by a name.
-ghost use Rattle.std.specs.Prelude.{◌≡◌, ◌<◌, true, length, Ok};
+ghost use Rattle.std.specs.Prelude.{◌<◌, length};
 ghost use Rattle.named.specs.Places.{volume_at};
-ghost use Rattle.named.specs.Sound.{is_sound_volume};
-ghost use Rattle.named.specs.State.{Volume};
-ghost use Rattle.shown.specs.Well.{IsNumbered, IsNumberedFor, IsWell, IsWellFor};
 ghost use Rattle.devices.specs.Devices.{table_of};
-ghost use Rattle.devices.specs.Ruled.{is_sound_in, volume_for};
+ghost use Rattle.devices.specs.Order.{IsInOrderFor, IsInOrderIn};
 
 use crate::find::find;
 use crate::held::Held;
@@ -15,7 +12,7 @@ use words::Name;
 /// A look at the volume at a place.
 fn look_in(held: &Held, v: usize)
     requires { v < length held.now.volumes.items }
-    ensures { (volume : Volume) × (volume_at v (table_of held.now) ≡ Ok volume) × IsNumbered volume × (is_sound_volume volume ≡ true → IsWell volume) }
+    ensures { IsInOrderIn (volume_at v (table_of held.now)) }
 {
     held.volumes[v].look_at_snapshots();
 }
@@ -24,8 +21,7 @@ fn look_in(held: &Held, v: usize)
 /// and a number above those before it. Where no device of it drops writes and nothing is left to do, the stores of those that
 /// are live, and that of a merge, are in order.
 pub fn look_at_snapshots(held: &Held, name: &Name)
-    ensures numbered { IsNumberedFor name.now (table_of held.now) }
-    ensures well { is_sound_in (volume_for name.now (table_of held.now)) ≡ true → IsWellFor name.now (table_of held.now) }
+    ensures { IsInOrderFor name.now (table_of held.now) }
 {
     match find(held, name) {
         None => {}

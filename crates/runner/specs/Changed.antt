@@ -1,9 +1,11 @@
--- Whose volume a line's command changes, of those that change what a volume shows.
+-- Whose volume a command changes, of those that change what a volume shows; and that it is in order.
 use Rattle.std.specs.Prelude.{ℕ, List, Option, Some, None}
 use Rattle.table.specs.declared.lines.Target.{Target}
 use Rattle.table.specs.declared.lines.Target.TheVariants as targets
 use Rattle.command.specs.declared.grammar.Command.{Command}
 use Rattle.command.specs.declared.grammar.Command.TheVariants as commands
+use Rattle.named.specs.State.{Table}
+use Rattle.devices.specs.Order.{IsInOrderFor}
 
 -- the name on whose volume a target's snapshot is made
 abbrev pub changed_under : Target → Option (List ℕ)
@@ -35,3 +37,8 @@ changed_by (commands.Finish volume) = None
 changed_by (commands.Stop volume) = None
 changed_by (commands.Status device) = None
 changed_by (commands.Table device) = None
+
+-- the volume that has the device of a name is in order, if there is a name
+abbrev pub IsLookedAt : Table → Option (List ℕ) → Type 0
+IsLookedAt table None = Unit {0}
+IsLookedAt table (Some name) = IsInOrderFor name table

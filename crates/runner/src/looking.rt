@@ -1,10 +1,8 @@
 // A look at the volume that a command changes, before it does.
-ghost use Rattle.std.specs.Prelude.{◌≡◌, true};
+ghost use Rattle.std.specs.Prelude.{◌≡◌};
 ghost use Rattle.std.specs.Option.{option_copied};
-ghost use Rattle.shown.specs.Well.{IsWellOf};
 ghost use Rattle.devices.specs.Devices.{table_of};
-ghost use Rattle.runner.specs.Changed.{changed_by, changed_under};
-ghost use Rattle.runner.specs.Ruled.{is_ruled};
+ghost use Rattle.runner.specs.Changed.{changed_by, changed_under, IsLookedAt};
 
 use command::Command;
 use devices::{Held, look_at_snapshots};
@@ -39,9 +37,9 @@ fn changed_by(command: &Command) -> Option<&Name>
     }
 }
 
-/// A look at the volume that a command changes: where the command's rule speaks, it is well.
+/// A look at the volume that a command changes, if it changes what one shows: it is in order.
 pub fn look(held: &Held, command: &Command)
-    ensures { is_ruled command.now (table_of held.now) ≡ true → IsWellOf command.now (table_of held.now) }
+    ensures { IsLookedAt (table_of held.now) (changed_by command.now) }
 {
     match changed_by(command) {
         None => {}

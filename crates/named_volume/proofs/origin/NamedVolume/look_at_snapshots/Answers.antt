@@ -1,5 +1,6 @@
+use Rattle.std.proofs.Common.{◌∙◌}
 use Rattle.named_volume.proofs.Orders.{named_each, numbers_rise, ordered_with}
-use Rattle.named_volume.proofs.order.NamedVolume.look_at_snapshots.Goals as goal
+use Rattle.named_volume.proofs.origin.NamedVolume.look_at_snapshots.Goals as goal
 
 pub returns-clause-named : goal.returns-clause-named
 returns-clause-named c = rw (← c.self.view_is) (named_each c.self.inside.snaps.items c.self.inside.volume c.self.invariant.many)
