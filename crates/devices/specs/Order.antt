@@ -1,16 +1,19 @@
--- In what order the snapshots of a volume stand, and its stores (`shown/specs/Well`). This project's own.
-use Rattle.std.specs.Prelude.{◌≡◌, ℕ, true, List, Option, Some, None, Result, Ok, Err}
+-- In what order the snapshots of a volume stand, and its stores. This project's own.
+use Rattle.std.specs.Prelude.{◌≡◌, ◌<◌, ℕ, true, List, length, map, AllPairs, Option, Some, None, Result, Ok, Err}
 use Rattle.sector.specs.declared.refusal.Refusal.{Refusal}
 use Rattle.named.specs.declared.place.Place.{Place}
 use Rattle.named.specs.declared.place.Place.TheVariants.{Free, In}
-use Rattle.named.specs.State.{Volume, Table}
+use Rattle.resting.specs.Ordered.{IsOrdered}
+use Rattle.named.specs.State.{Volume, Table, merged_in}
 use Rattle.named.specs.Places.{place_of, volume_at}
 use Rattle.named.specs.Sound.{is_sound_volume}
-use Rattle.shown.specs.Well.{IsNumbered, IsWell}
 
--- A volume is numbered, whatever is in flight; and well where no device of it drops writes and nothing is left to do.
-abbrev pub IsInOrder : Volume → Type 0
-IsInOrder volume = IsNumbered volume × (is_sound_volume volume ≡ true → IsWell volume)
+-- Whatever is in flight, each snapshot has its name, and a number above those before it. Where no device drops writes and nothing
+-- is left to do, the stores of those that are live, and that of a merge, are in order.
+pub record IsInOrder (volume : Volume) : Type 0 where
+  pub named : length volume.snaps ≡ length volume.state.snaps
+  pub numbers : AllPairs (λ m n. m < n) (map (λ s. s.number) volume.state.snaps)
+  pub ordered : is_sound_volume volume ≡ true → IsOrdered (merged_in volume)
 
 abbrev pub IsInOrderIn : Result Volume Refusal → Type 0
 IsInOrderIn (Err refusal) = Unit {0}

@@ -10,3 +10,4 @@ pub mod ShownLemmas
 pub mod DeskLemmas
 pub mod RunLemmas
 pub mod WellLemmas
+pub mod Orders

@@ -9,7 +9,7 @@ use Rattle.command.specs.declared.grammar.Command.{Command}
 use Rattle.command.specs.declared.grammar.Command.TheVariants as commands
 use Rattle.named.specs.State.{Table}
 use Rattle.shown.specs.Well.{IsNumberedTarget, IsWellOf}
-use Rattle.devices.proofs.Orders.{numbered_for, well_for}
+use Rattle.runner.proofs.Orders.{numbered_for, well_for}
 use Rattle.runner.specs.Changed.{changed_by, changed_under, IsLookedAt}
 use Rattle.runner.specs.Ruled.{is_ruled, is_ruled_line}
 use Rattle.runner.proofs.RuledLemmas.{ruled_as}
