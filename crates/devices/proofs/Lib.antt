@@ -8,3 +8,4 @@ pub mod Begins
 pub mod Finishes
 pub mod Settles
 pub mod Stops
+pub mod Orders

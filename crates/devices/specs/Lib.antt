@@ -4,3 +4,4 @@ pub mod Ruled
 pub mod Flights
 pub mod Merging
 pub mod Stopping
+pub mod Order

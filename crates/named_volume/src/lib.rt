@@ -9,6 +9,7 @@ mod attaching;
 mod flights;
 mod merging;
 mod names;
+mod order;
 mod origin;
 mod reporting;
 mod sectors;

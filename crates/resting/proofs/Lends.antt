@@ -21,7 +21,7 @@ use Rattle.volume.specs.Whole.{IsCounted}
 use Rattle.snapshots.specs.Finding.{place_of_snap}
 use Rattle.volume.specs.Leaving.{usage_of}
 use Rattle.resting.specs.Rested.{Attached, Rested, attached_of, rested_of, snap_at, without}
-use Rattle.resting.specs.Using.{IsUsed}
+use Rattle.resting.specs.Using.{IsInUse, IsUsed}
 use Rattle.resting.proofs.Leaves.{at_place}
 
 -- The snapshot of this place: a volume of events is seen as r.
@@ -86,6 +86,17 @@ module _ {B : Type 0} (v : Volumed B) (r : Rested B) (view : rested_of v ≡ r) 
       ∙ ap (λ n. (let x : Usage = record { allocated = s.next * s.state.chunk; total = n; metadata = u.metadata } in Some x)) total
       ∙ ap (λ n. (let x : Usage = record { allocated = s.next * s.state.chunk; total = s.state.size; metadata = n } in Some x)) metadata
       ∙ sym (cond-true _ _ _ live) ∙ sym (usage_at d)
+
+  pub held_usage : (size : B → ℕ) (u : Usage) → s.live ≡ true → IsCounted s → s.state.size ≡ size s.device → u.allocated ≡ s.next * s.state.chunk → u.total ≡ s.state.size → u.metadata ≡ (s.state.current + 2) * s.state.chunk
+      → (d : Kept B) → IsInUse size (get_or r.events.snaps k d) u
+  held_usage size u live counted sized allocated total metadata d =
+      let areas = whole_areas s.state.chunk s.state.current s.state.filled (length s.pairs) counted.count (counted.fits live) in
+      let here : get_or r.events.snaps k d ≡ s = ap (λ (x : Rested B). get_or x.events.snaps k d) (sym view) ∙ sym (is d) in
+      subst (λ (x : Kept B). IsInUse size x u) (sym here) (record {
+        allocated = allocated ∙ turned s.next s.state.chunk;
+        total = total ∙ sized;
+        metadata = metadata ∙ turned (s.state.current + 2) s.state.chunk ∙ ap (λ n. s.state.chunk * (n + 2)) (sym areas);
+      })
 
   pub no_usage : s.live ≡ false → (d : Kept B) → None ≡ usage_of (get_or r.events.snaps k d)
   no_usage spoiled d = sym (cond-false _ _ _ spoiled) ∙ sym (usage_at d)

@@ -52,7 +52,7 @@ module _ {B : Type 0} (contents : B → List ℕ) (layers : B → List Layer) wh
   loud_same v = ap (λ b. is_loud_with layers v.merge (is_loud (layers v.origin) && b)) (all_of (λ (s : Attached B). is_loud (layers s.store)) attached_of v.snaps)
 
 module _ {B : Type 0} (size : B → ℕ) where
-  numbers_same : (v : Volumed B) → numbers_of (rested_of v) ≡ map number_of_snap v.snaps
+  pub numbers_same : (v : Volumed B) → numbers_of (rested_of v) ≡ map number_of_snap v.snaps
   numbers_same v = map_twice attached_of (λ (s : Attached B). s.number) v.snaps
 
   chunks_same : (v : Volumed B) → chunks_of (rested_of v) ≡ map (λ (s : Kept B). s.state.chunk) v.snaps

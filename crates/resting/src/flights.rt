@@ -1,5 +1,5 @@
 // Requests in flight between commands: one is started, and one event is done.
-ghost use Rattle.std.specs.Prelude.{◌≡◌, ◌≢◌, ◌+◌, ◌*◌, ◌≤◌, ℕ, List, length, Option, Some, None, IfOk, IfErr, IsOk, OnOk, OnErr, is_ok, true};
+ghost use Rattle.std.specs.Prelude.{◌≡◌, ◌≢◌, ◌+◌, ◌*◌, ◌<◌, ◌≤◌, ℕ, List, length, AllPairs, Option, Some, None, IfOk, IfErr, IsOk, OnOk, OnErr, is_ok, true};
 ghost use Rattle.sector.specs.declared.refusal.Refusal.TheVariants.{Invalid};
 ghost use Rattle.plain.specs.declared.request.Failure.TheVariants.{Invalid as IsInvalid};
 ghost use Rattle.plain.specs.declared.request.Reply.{Reply as AnyReply};
@@ -13,7 +13,7 @@ ghost use Rattle.volume.specs.Exact.{IsExact};
 ghost use Rattle.volume.specs.Causes.{HasCause, IsOneAtMost};
 ghost use Rattle.volume.specs.Leaving.{is_quiet_of};
 ghost use Rattle.volume.specs.Submitting.{submit_refusal, IsAcceptedAs, IsRefusedAs};
-ghost use Rattle.resting.specs.Rested.{rested_of, merged_of, is_loud_in, IsSettled};
+ghost use Rattle.resting.specs.Rested.{rested_of, merged_of, numbers_of, is_loud_in, IsSettled};
 ghost use Rattle.resting.specs.Flying.{IsWhole};
 ghost use Rattle.resting.specs.Kept.{KeepsDevices};
 ghost use Rattle.resting.specs.Ordered.{IsOrdered};
@@ -26,9 +26,11 @@ use sector::Refusal;
 use std::alloc::Global;
 use volume::Volume;
 
-/// Whether a volume of events is quiet. One that is, and of which no device drops writes, is settled.
+/// Whether a volume of events is quiet. One that is, and of which no device drops writes, is settled. The numbers of its
+/// snapshots rise in any case.
 fn is_still<B: Block>(volume: &Volume<B>) -> bool
     ensures value { result ≡ is_quiet_of volume.now }
+    ensures numbers { AllPairs (λ a b. a < b) (numbers_of (rested_of volume.now)) }
     ensures rest { result ≡ true → is_loud_in B.layers (rested_of volume.now) ≡ true → IsSettled B.layers (rested_of volume.now) }
     ensures still { IsSettled B.layers (rested_of volume.now) → result ≡ true }
     ensures ordered { result ≡ true → is_loud_in B.layers (rested_of volume.now) ≡ true → IsOrdered (merged_of B.contents B.layers (rested_of volume.now)) }
@@ -83,9 +85,10 @@ fn advance<B: Block>(volume: &mut Volume<B>, event: Event) -> Result<Outcome, No
 impl<B: Block> Resting<B> {
     /// Whether the volume is quiet: no request is in flight, no copy is pending, and no mark of a spoiled store is untried.
     /// A settled volume is; and one that is, and of which no device drops writes, is settled, whatever was done to it, and the
-    /// stores of its live snapshots are in order.
+    /// stores of its live snapshots are in order. Whatever is in flight, each snapshot has a number above those before it.
     pub fn is_quiet(&self) -> bool
         ensures value { result ≡ is_quiet_of self.now.events }
+        ensures numbers { AllPairs (λ a b. a < b) (numbers_of self.now) }
         ensures rest { result ≡ true → is_loud_in B.layers self.now ≡ true → IsSettled B.layers self.now }
         ensures still { IsSettled B.layers self.now → result ≡ true }
         ensures ordered { result ≡ true → is_loud_in B.layers self.now ≡ true → IsOrdered (merged_of B.contents B.layers self.now) }

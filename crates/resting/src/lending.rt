@@ -6,7 +6,7 @@ ghost use Rattle.volume.specs.Leaving.{usage_of};
 ghost use Rattle.volume.specs.Submitting.{is_merging};
 ghost use Rattle.resting.specs.Flying.{IsWhole};
 ghost use Rattle.resting.specs.Rested.{Attached, IsSettled, snap_at, without};
-ghost use Rattle.resting.specs.Using.{IsUsed};
+ghost use Rattle.resting.specs.Using.{IsInUse, IsUsed};
 
 use crate::Resting;
 use chunk_alloc::Usage;
@@ -49,13 +49,14 @@ impl<B: Block> Resting<B> {
         self.volume.snap(k).device()
     }
 
-    /// The sectors in use on its store, by the numbers that are kept in memory; none of a snapshot that is spoiled. Where
-    /// the volume is settled, they are those of the store's own bytes.
+    /// The sectors in use on its store, by what is kept in memory of it, whatever is in flight; none of a snapshot that is
+    /// spoiled. Where the volume is settled, they are those of the store's own bytes.
     pub fn usage(&self, k: usize) -> Option<Usage>
         requires { k < length self.now.snaps }
         ensures whole { IsWhole self.now }
         ensures is { (d : Kept B) → result ≡ usage_of (slice_index_or self.now.events.snaps k d) }
         ensures live { (d : Attached B) → is_some result ≡ (slice_index_or self.now.snaps k d).live }
+        ensures held { IfSome result (λ usage. (d : Kept B) → IsInUse B.size (slice_index_or self.now.events.snaps k d) usage) }
         ensures used { IfSome result (λ usage. IsSettled B.layers self.now → (d : Attached B) → IsUsed B.contents B.size (slice_index_or self.now.snaps k d) usage) }
     {
         // What a quiet volume is.

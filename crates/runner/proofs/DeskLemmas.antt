@@ -16,10 +16,10 @@ use Rattle.runner.specs.Ended.{line_replies}
 use Rattle.runner.specs.Output.{Outcome, Standing, answered, counted, empty, outcome, outcome_of, IsStarved, MayBe, followed}
 use Rattle.runner.specs.Done.{IsLineDone, IsToldFor}
 use Rattle.runner.specs.Ruled.{is_ruled_line}
+use Rattle.runner.specs.Shown.{IsLineShown}
 use Rattle.runner.specs.Asking.{IsFirst, line_first}
 use Rattle.runner.proofs.EndedLemmas.{all_lines_counted}
 use Rattle.runner.proofs.AskingLemmas.{memory_or_not}
-use Rattle.runner.proofs.ShownLemmas.{line_shown}
 
 -- a line that was done has its outcome
 pub may_ok : (line : List ℕ) (old new : Table) (reply : Option Reply) → Does (Ok reply) new (IsStarved line old) (answer_of line old) → MayBe line old (record { replies = answered reply; table = new })
@@ -35,8 +35,8 @@ may_err line old new e is = elim (memory_or_not e) [
 ]
 
 -- what a line answers where no request ended in it
-none_ended : (line : List ℕ) (was table : Table) (ended : List Replied) (own : Option Reply) → ended ≡ [] → MayBe line was (record { replies = answered own; table = table }) → MayBe line was (record { replies = line_replies ended own; table = table })
-none_ended line was table ended own none may = let P : List Replied → Type 0 = λ e. MayBe line was (record { replies = line_replies e own; table = table }) in subst P (sym none) may
+none_ended : (P : List Reply → Type 0) (ended : List Replied) (own : Option Reply) → ended ≡ [] → P (answered own) → P (line_replies ended own)
+none_ended P ended own none is = subst (λ e. P (line_replies e own)) (sym none) is
 
 -- a line that starts a request answers that alone
 pub start_alone : (line : List ℕ) (ended : List Replied) (own : Option Reply) → (starts_line line ≡ true → AreStartReplies (answered own)) → (starts_line line ≡ true → ended ≡ []) → starts_line line ≡ true → AreStartReplies (line_replies ended own)
@@ -44,16 +44,16 @@ start_alone line ended own number none does =
     let P : List Replied → Type 0 = λ es. AreStartReplies (line_replies es own) in subst P (sym (none does)) (number does)
 
 -- what a line did, as its desk shows it
-pub line_done : (line : List ℕ) (old : Standing) (was table : Table) (summary now : Summary) (ended : List Replied) (own : Option Reply) (P : List Reply → Type 0) → old ≡ record { table = was; summary = summary } → (is_ruled_line line was ≡ true → MayBe line was (record { replies = answered own; table = table })) → (is_ruled_line line was ≡ true → ended ≡ [])
+pub line_done : (line : List ℕ) (old : Standing) (was table : Table) (summary now : Summary) (ended : List Replied) (own : Option Reply) (P : List Reply → Type 0) → old ≡ record { table = was; summary = summary } → (is_ruled_line line was ≡ true → MayBe line was (record { replies = answered own; table = table })) → (is_ruled_line line was ≡ true → IsLineShown line was (record { replies = answered own; table = table })) → (is_ruled_line line was ≡ true → ended ≡ [])
     → IsFirst (line_first line was) (line_replies ended own) → IfSome (line_first line was) (λ _. table ≡ was) → (starts_line line ≡ true → AreStartReplies (line_replies ended own)) → IsToldFor line was (record { replies = line_replies ended own; table = table }) → now ≡ counted (line_replies ended own) summary → P (line_replies ended own)
     → (done : Outcome) × IsLineDone line old.table done × (record { table = table; summary = now } ≡ followed old done) × P done.replies
-line_done line old was table summary now ended own P view may none asks stays number told is last =
+line_done line old was table summary now ended own P view may shown none asks stays number told is last =
     let replies = line_replies ended own in
     let same : was ≡ old.table = sym (ap (λ (s : Standing). s.table) view) in
     let D : Table → Type 0 = λ t. IsLineDone line t (record { replies = replies; table = table }) in
     let here : D was = record {
-      rule = λ ruled. none_ended line was table ended own (none ruled) (may ruled);
-      shows = λ ruled well. line_shown line was (record { replies = replies; table = table }) well (none_ended line was table ended own (none ruled) (may ruled));
+      rule = λ ruled. none_ended (λ rs. MayBe line was (record { replies = rs; table = table })) ended own (none ruled) (may ruled);
+      shows = λ ruled. none_ended (λ rs. IsLineShown line was (record { replies = rs; table = table })) ended own (none ruled) (shown ruled);
       first = asks;
       stays = stays;
       number = number;

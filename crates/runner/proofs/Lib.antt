@@ -9,3 +9,5 @@ pub mod LeftLemmas
 pub mod ShownLemmas
 pub mod DeskLemmas
 pub mod RunLemmas
+pub mod WellLemmas
+pub mod Orders

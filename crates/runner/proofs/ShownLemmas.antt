@@ -1,6 +1,6 @@
 -- What a line does to what volumes show, by its outcome.
 use Rattle.std.proofs.Common.{◌≡◌, inl, inr, ℕ, List, [], ◌∷◌, refl, ap, sym, subst}
-use Rattle.std.specs.Prelude.{◌⊎◌, Option, Some, None, Result, Ok, Err}
+use Rattle.std.specs.Prelude.{◌≢◌, ◌⊎◌, Option, Some, None, Result, Ok, Err}
 use Rattle.sector.specs.declared.refusal.Refusal.{Refusal}
 use Rattle.sector.specs.declared.refusal.Refusal.TheVariants.{NoMemory}
 use Rattle.command.specs.Line.{said_of}
@@ -21,7 +21,8 @@ use Rattle.shown.proofs.Lines.{settle_line, merge_line, resume_line, finish_line
 use Rattle.shown.proofs.Devices.{disk_line, remove_line, create_line}
 use Rattle.runner.specs.Steps.{reworded, step, obeyed, answer_of}
 use Rattle.runner.specs.Output.{Outcome, told, outcome, outcome_of, IsPartDone, IsPartSaid, IsStarved, MayBe}
-use Rattle.runner.specs.Shown.{answer_in, IsSaidShown, IsLineShown, IsWellSaid, IsWellLine}
+use Rattle.runner.proofs.AskingLemmas.{memory_or_not}
+use Rattle.runner.specs.Shown.{answer_in, IsSaidShown, IsLineShown}
 
 -- an answer as it is printed
 abbrev printed_as : Result Reply Refusal → Result (Unit {0}) Refusal
@@ -84,6 +85,12 @@ starved_shown (commands.Stop volume) table new well same = ap arrays_in same
 starved_shown (commands.Status device) table new well same = ap arrays_in same
 starved_shown (commands.Table device) table new well same = ap arrays_in same
 
+-- the volume that a line's command changes is well
+abbrev pub IsWellSaid : Result (Option Command) Refusal → Table → Type 0
+IsWellSaid (Ok None) table = Unit {0}
+IsWellSaid (Ok (Some command)) table = IsWellOf command table
+IsWellSaid (Err refusal) table = Unit {0}
+
 -- by what the line says
 said_shown : (said : Result (Option Command) Refusal) (table : Table) → IsWellSaid said table → (let done : Outcome = outcome (obeyed table said) in IsSaidShown said table (answer_in done.replies) (arrays_in table) (arrays_in done.table))
 said_shown (Ok None) table well = refl
@@ -95,9 +102,52 @@ said_starved (Ok None) table new well same = ap arrays_in same
 said_starved (Ok (Some command)) table new well part = starved_shown command table new well part
 said_starved (Err refusal) table new well same = ap arrays_in same
 
-pub line_shown : (line : List ℕ) (old : Table) (done : Outcome) → IsWellLine line old → MayBe line old done → IsLineShown line old done
-unfolding IsWellLine IsLineShown IsStarved outcome_of answer_of
+-- a line whose volume is well
+pub line_shown : (line : List ℕ) (old : Table) (done : Outcome) → IsWellSaid (said_of 65536 line) old → MayBe line old done → IsLineShown line old done
+unfolding IsLineShown IsStarved outcome_of answer_of
 line_shown line old done well (inl is) =
     subst (λ (o : Outcome). IsSaidShown (said_of 65536 line) old (answer_in o.replies) (arrays_in old) (arrays_in o.table)) (sym is) (said_shown (said_of 65536 line) old well)
 line_shown line old done well (inr starved) =
     subst (λ (rs : List Reply). IsSaidShown (said_of 65536 line) old (answer_in rs) (arrays_in old) (arrays_in done.table)) (sym starved.0) (said_starved (said_of 65536 line) old done.table well starved.1)
+
+-- one that says nothing
+pub silent_shown : (line : List ℕ) (table : Table) → said_of 65536 line ≡ Ok None → IsLineShown line table (record { replies = []; table = table })
+unfolding IsLineShown
+silent_shown line table is = subst (λ (s : Result (Option Command) Refusal). IsSaidShown s table (Ok tt) (arrays_in table) (arrays_in table)) (sym is) refl
+
+-- one for which memory ran out before it was read
+unread : (command : Command) (table : Table) (shows : List Arrays) → IsRefused command table NoMemory shows shows
+unread (commands.Write device first bytes) table shows = inl refl
+unread (commands.Read device first count) table shows = refl
+unread (commands.Disk name sectors) table shows = refl
+unread (commands.Create name line) table shows = refl
+unread (commands.Remove name) table shows = refl
+unread (commands.Load disk first bytes) table shows = refl
+unread (commands.Save disk first count) table shows = refl
+unread (commands.Message device message) table shows = refl
+unread (commands.Tick seconds) table shows = refl
+unread (commands.StartRead device first count) table shows = refl
+unread (commands.StartWrite device first bytes) table shows = refl
+unread (commands.Step volume event) table shows = refl
+unread (commands.Settle volume) table shows = refl
+unread (commands.Merge name) table shows = refl
+unread (commands.Resume volume) table shows = refl
+unread (commands.Finish volume) table shows = refl
+unread (commands.Stop volume) table shows = refl
+unread (commands.Status device) table shows = refl
+unread (commands.Table device) table shows = refl
+
+unread_said : (said : Result (Option Command) Refusal) (table : Table) (shows : List Arrays) → IsSaidShown said table (Err NoMemory) shows shows
+unread_said (Ok None) table shows = refl
+unread_said (Ok (Some command)) table shows = unread command table shows
+unread_said (Err refusal) table shows = refl
+
+-- and one whose words are refused
+pub refused_shown : (line : List ℕ) (table : Table) (e : Refusal) → (e ≢ NoMemory → said_of 65536 line ≡ Err e) → IsLineShown line table (record { replies = Refused e ∷ []; table = table })
+unfolding IsLineShown
+refused_shown line table e is =
+    let P : Refusal → Type 0 = λ r. IsSaidShown (said_of 65536 line) table (Err r) (arrays_in table) (arrays_in table) in
+    elim (memory_or_not e) [
+      | inl memory ↦ subst P (sym memory) (unread_said (said_of 65536 line) table (arrays_in table))
+      | inr other ↦ subst (λ (s : Result (Option Command) Refusal). IsSaidShown s table (Err e) (arrays_in table) (arrays_in table)) (sym (is other)) refl
+    ]

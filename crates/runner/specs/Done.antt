@@ -9,7 +9,7 @@ use Rattle.runner.specs.Ended.{ended_lines}
 use Rattle.runner.specs.Left.{IsLineLeft}
 use Rattle.runner.specs.Output.{Outcome, MayBe, told}
 use Rattle.runner.specs.Ruled.{is_ruled_line}
-use Rattle.runner.specs.Shown.{IsLineShown, IsWellLine}
+use Rattle.runner.specs.Shown.{IsLineShown}
 use Rattle.runner.specs.Starts.{AreStartReplies, starts_line}
 
 -- These requests ended in the line, and this is its own answer: the lines of those stand before it.
@@ -19,12 +19,12 @@ pub record IsToldFor (line : List ℕ) (old : Table) (done : Outcome) : Type 0 w
   pub lines : done.replies ≡ ended_lines ended ++ told own
   pub left : IsLineLeft line own old done.table [] ended
 
--- Where its command has its rule, the line has its outcome, or memory ran out for it. A line that is refused before any volume
--- is asked answers that alone and leaves all as it was, and one that starts a request answers its number or is refused. Where
--- the volume that it changes is well, too, each volume shows what the line's command leaves of what it showed.
+-- Where its command has its rule, the line has its outcome, or memory ran out for it, and each volume shows what the line's
+-- command leaves of what it showed. A line that is refused before any volume is asked answers that alone and leaves all as it
+-- was, and one that starts a request answers its number or is refused.
 pub record IsLineDone (line : List ℕ) (old : Table) (done : Outcome) : Type 0 where
   pub rule : is_ruled_line line old ≡ true → MayBe line old done
-  pub shows : is_ruled_line line old ≡ true → IsWellLine line old → IsLineShown line old done
+  pub shows : is_ruled_line line old ≡ true → IsLineShown line old done
   pub first : IsFirst (line_first line old) done.replies
   pub stays : IfSome (line_first line old) (λ _. done.table ≡ old)
   pub number : starts_line line ≡ true → AreStartReplies done.replies

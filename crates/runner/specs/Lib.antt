@@ -11,3 +11,4 @@ pub mod Ruled
 pub mod Left
 pub mod Done
 pub mod Shown
+pub mod Changed

@@ -9,7 +9,6 @@ use Rattle.reply.specs.declared.Reply.TheVariants.{Done, Data, Said, Number, Fau
 use Rattle.named.specs.State.{Table}
 use Rattle.shown.specs.Arrays.{Arrays, arrays_in}
 use Rattle.shown.specs.Commands.{IsShown}
-use Rattle.shown.specs.Well.{IsWellOf}
 use Rattle.runner.specs.Output.{Outcome}
 
 -- whether a reply is a refusal
@@ -35,12 +34,3 @@ IsSaidShown (Err refusal) table answer old new = new ≡ old
 -- what is shown after the line is what its command leaves of what was shown
 unfoldable pub IsLineShown : List ℕ → Table → Outcome → Type 0
 IsLineShown line old done = IsSaidShown (said_of 65536 line) old (answer_in done.replies) (arrays_in old) (arrays_in done.table)
-
-abbrev pub IsWellSaid : Result (Option Command) Refusal → Table → Type 0
-IsWellSaid (Ok None) table = Unit {0}
-IsWellSaid (Ok (Some command)) table = IsWellOf command table
-IsWellSaid (Err refusal) table = Unit {0}
-
--- the volume that the line's command changes is well
-unfoldable pub IsWellLine : List ℕ → Table → Type 0
-IsWellLine line table = IsWellSaid (said_of 65536 line) table

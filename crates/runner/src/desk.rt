@@ -13,6 +13,7 @@ ghost use Rattle.runner.specs.Done.{IsLineDone};
 ghost use Rattle.runner.specs.Left.{IsLineLeft};
 ghost use Rattle.runner.specs.Output.{Outcome, MayBe, answered, empty, followed, printed, told};
 ghost use Rattle.runner.specs.Ruled.{is_ruled_line};
+ghost use Rattle.runner.specs.Shown.{IsLineShown};
 ghost use Rattle.runner.specs.Sound.{is_sound_line};
 ghost use Rattle.runner.specs.Starts.{AreStartReplies, starts_line};
 
@@ -53,6 +54,7 @@ impl Model for Desk {
 /// `ended`.
 fn outcome(alloc: Global, held: &mut Held, line: &[u8], ended: &mut Vec<Replied>) -> Option<Reply>
     ensures done { is_ruled_line line.now (table_of held.old) ≡ true → MayBe line.now (table_of held.old) (record { replies = answered result; table = table_of held.new }) }
+    ensures shows { is_ruled_line line.now (table_of held.old) ≡ true → IsLineShown line.now (table_of held.old) (record { replies = answered result; table = table_of held.new }) }
     ensures asks { IsFirst (line_first line.now (table_of held.old)) (answered result) }
     ensures number { starts_line line.now ≡ true → AreStartReplies (answered result) }
     ensures alone { starts_line line.now ≡ true → ended.new.items ≡ ended.old.items }
@@ -93,10 +95,9 @@ impl Desk {
     /// Does what a line says, the line given without its end, and prints the lines of the requests that ended in it, and then
     /// its own answer. A line whose words are refused answers that refusal alone, and so does a start or an event whose
     /// names or sectors are refused, whatever is in flight. Where the allocator refuses any memory, the line prints that and
-    /// changes no device, but that of a read or a write some part may have been done. Where the volume that it changes is well
-    /// (its snapshots' numbers rise, and its live stores are in order), each volume shows what the line's command leaves of
-    /// what it showed. The one error is `RunError::Write`, the writer's own; then the line was done all the same, and part of
-    /// what it prints may be printed.
+    /// changes no device, but that of a read or a write some part may have been done. Where its command has its rule, each
+    /// volume shows what the command leaves of what it showed. The one error is `RunError::Write`, the writer's own; then the
+    /// line was done all the same, and part of what it prints may be printed.
     pub fn line<W: Write>(&mut self, line: &[u8], writer: &mut W) -> Result<(), RunError>
         ensures done { (done : Outcome) × IsLineDone line.now self.old.table done × (self.new ≡ followed self.old done)
             × OnOk result (Appends (W.contents writer.old) (W.contents writer.new) (printed done.replies)) }

@@ -22,6 +22,7 @@ mod desk;
 mod ended;
 mod error;
 mod events;
+mod looking;
 mod step;
 mod summary;
 mod text;

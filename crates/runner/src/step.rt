@@ -14,11 +14,13 @@ ghost use Rattle.runner.specs.Lawful.{is_lawful};
 ghost use Rattle.runner.specs.Left.{IsLeft, IsLineLeft};
 ghost use Rattle.runner.specs.Output.{IsPartDone, IsStarved, told};
 ghost use Rattle.runner.specs.Ruled.{is_ruled, is_ruled_line};
+ghost use Rattle.runner.specs.Shown.{IsLineShown};
 ghost use Rattle.runner.specs.Sound.{is_sound_command, is_sound_line};
 ghost use Rattle.runner.specs.Starts.{AreStartReplies, starts, starts_line};
 ghost use Rattle.runner.specs.Steps.{reworded, told_as, step, answer_of};
 
 use crate::events::step_volume;
+use crate::looking::look;
 use command::Command::{
     Create, Disk, Finish, Load, Merge, Read, Remove, Resume, Save, Settle, StartRead, StartWrite,
     Status, Step, Stop, Table, Tick, Write,
@@ -152,6 +154,7 @@ pub fn answer(
     ended: &mut Vec<Replied>,
 ) -> Result<Option<Reply>, Refusal>
     ensures done { is_ruled_line line.now (table_of held.old) ≡ true → Does result (table_of held.new) (IsStarved line.now (table_of held.old)) (answer_of line.now (table_of held.old)) }
+    ensures shows { is_ruled_line line.now (table_of held.old) ≡ true → IsLineShown line.now (table_of held.old) (record { replies = told result; table = table_of held.new }) }
     ensures asks { IsFirst (line_first line.now (table_of held.old)) (told result) }
     ensures number { starts_line line.now ≡ true → AreStartReplies (told result) }
     ensures alone { starts_line line.now ≡ true → ended.new.items ≡ ended.old.items }
@@ -163,10 +166,13 @@ pub fn answer(
 {
     match said(alloc, line, LINE_LIMIT) {
         Ok(None) => Ok(None),
-        Ok(Some(command)) => match obey(alloc, held, command, ended) {
-            Ok(reply) => Ok(Some(reply)),
-            Err(refusal) => Err(refusal),
-        },
+        Ok(Some(command)) => {
+            look(held, &command);
+            match obey(alloc, held, command, ended) {
+                Ok(reply) => Ok(Some(reply)),
+                Err(refusal) => Err(refusal),
+            }
+        }
         Err(refusal) => Err(refusal),
     }
 }

@@ -26,7 +26,7 @@ use Rattle.named.proofs.Keeping.{came_by, same_ok, not_ok}
 use Rattle.shown.specs.Arrays.{arrays_in}
 use Rattle.shown.specs.Shown.{IsChangedAt}
 use Rattle.shown.specs.Commands.{IsTakenAway, IsSnapshotMade, IsRemoved, IsMade, IsShown}
-use Rattle.shown.specs.Well.{IsWell, IsWellFor, IsWellTarget}
+use Rattle.shown.specs.Well.{IsNumbered, IsNumberedFor, IsNumberedTarget}
 use Rattle.shown.proofs.Tables.{changed_in}
 use Rattle.shown.proofs.Rules.{parted_shows}
 use Rattle.shown.proofs.Making.{origin_shows, closed_shows, met_shows}
@@ -54,35 +54,35 @@ lowered_same i table new is =
     ap arrays_in (sym (same_ok _ new a.2)) ∙ left_same i (lowered_to a.0) table
 
 -- a snapshot that goes
-left_shows : (v k : ℕ) (table new : Table) → ((volume : Volume) → volume_at v table ≡ Ok volume → IsWell volume) → left_by v k table ≡ Ok new → IsChangedAt v (IsTakenAway k) (arrays_in table) (arrays_in new)
+left_shows : (v k : ℕ) (table new : Table) → ((volume : Volume) → volume_at v table ≡ Ok volume → IsNumbered volume) → left_by v k table ≡ Ok new → IsChangedAt v (IsTakenAway k) (arrays_in table) (arrays_in new)
 unfolding left_by
-left_shows v k table new well is =
+left_shows v k table new numbered is =
     let a = came_by (volume_at v table) _ new is in
     let b = came_by (parted k a.0) _ new a.2 in
     subst (λ (t : Table). IsChangedAt v (IsTakenAway k) (arrays_in table) (arrays_in t)) (same_ok _ new b.2)
-    (changed_in v table a.0 b.0.1 (IsTakenAway k) a.1 (parted_shows k a.0 b.0 (well a.0 a.1).numbered b.1))
+    (changed_in v table a.0 b.0.1 (IsTakenAway k) a.1 (parted_shows k a.0 b.0 (numbered a.0 a.1) b.1))
 
 -- `remove NAME`
-removed_shows : (place : Place) (table new : Table) → ((v k : ℕ) → place ≡ In v (Snapshot k) → (volume : Volume) → volume_at v table ≡ Ok volume → IsWell volume) → removed_at place table ≡ Ok new → IsRemoved (Some place) (arrays_in table) (arrays_in new)
-removed_shows (Free i depth) table new well is =
+removed_shows : (place : Place) (table new : Table) → ((v k : ℕ) → place ≡ In v (Snapshot k) → (volume : Volume) → volume_at v table ≡ Ok volume → IsNumbered volume) → removed_at place table ≡ Ok new → IsRemoved (Some place) (arrays_in table) (arrays_in new)
+removed_shows (Free i depth) table new numbered is =
     let a = came_by (top_of i depth) _ new is in
     lowered_same a.0 table new a.2
-removed_shows (In v Origin) table new well is = closed_shows v table new is
-removed_shows (In v (Under depth)) table new well is = absurd (not_ok Busy new is)
-removed_shows (In v (Snapshot k)) table new well is = left_shows v k table new (well v k refl) is
-removed_shows (In v (Store k depth)) table new well is = absurd (not_ok Busy new is)
-removed_shows (In v Merging) table new well is = absurd (not_ok MergeInProgress new is)
-removed_shows (In v (MergingStore depth)) table new well is = absurd (not_ok Busy new is)
+removed_shows (In v Origin) table new numbered is = closed_shows v table new is
+removed_shows (In v (Under depth)) table new numbered is = absurd (not_ok Busy new is)
+removed_shows (In v (Snapshot k)) table new numbered is = left_shows v k table new (numbered v k refl) is
+removed_shows (In v (Store k depth)) table new numbered is = absurd (not_ok Busy new is)
+removed_shows (In v Merging) table new numbered is = absurd (not_ok MergeInProgress new is)
+removed_shows (In v (MergingStore depth)) table new numbered is = absurd (not_ok Busy new is)
 
-pub remove_line : (name : List ℕ) (table : Table) → IsWellFor name table → (let done : Did (Unit {0}) Table = changed table (take_away name table) in IsShown (commands.Remove name) table done.answer (arrays_in table) (arrays_in done.left))
+pub remove_line : (name : List ℕ) (table : Table) → IsNumberedFor name table → (let done : Did (Unit {0}) Table = changed table (take_away name table) in IsShown (commands.Remove name) table done.answer (arrays_in table) (arrays_in done.left))
 unfolding take_away
-remove_line name table well = by (place_of name table) refl
+remove_line name table numbered = by (place_of name table) refl
   where
     there : (place : Place) (r : Result Table Refusal) → place_of name table ≡ Some place → removed_at place table ≡ r → (let done : Did (Unit {0}) Table = changed table r in IsShown (commands.Remove name) table done.answer (arrays_in table) (arrays_in done.left))
     there place (Err e) at is = refl
     there place (Ok new) at is =
         subst (λ (o : Option Place). IsRemoved o (arrays_in table) (arrays_in new)) (sym at)
-        (removed_shows place table new (λ v k same volume here. well v (Snapshot k) volume (at ∙ ap Some same) here) is)
+        (removed_shows place table new (λ v k same volume here. numbered v (Snapshot k) volume (at ∙ ap Some same) here) is)
 
     by : (o : Option Place) → place_of name table ≡ o → (let done : Did (Unit {0}) Table = changed table (found o >>= λ place. removed_at place table) in IsShown (commands.Remove name) table done.answer (arrays_in table) (arrays_in done.left))
     by None at = refl
@@ -148,40 +148,40 @@ module _ (name : List ℕ) (sectors : ℕ) (table : Table) where
   kept_same : (rule : Result Table Refusal) → arrays_in (changed table rule).left ≡ arrays_in table → (new : Table) → rule ≡ Ok new → arrays_in new ≡ arrays_in table
   kept_same rule same new is = ap (λ (r : Result Table Refusal). arrays_in (changed table r).left) (sym is) ∙ same
 
-  snapshot_makes : (device store : List ℕ) (chunk : ℕ) → IsWellFor device table → Makes (targets.Snapshot device store chunk) (snapshot_made name sectors device store chunk table)
+  snapshot_makes : (device store : List ℕ) (chunk : ℕ) → IsNumberedFor device table → Makes (targets.Snapshot device store chunk) (snapshot_made name sectors device store chunk table)
   unfolding snapshot_made
-  snapshot_makes device store chunk well = by (named_in sectors device store table) refl
+  snapshot_makes device store chunk numbered = by (named_in sectors device store table) refl
     where
       by_met : (n : Line_names) → AreNames sectors device table n → (o : Option Refusal) → (meet name chunk n.stacked n.volume).refused ≡ o → Makes (targets.Snapshot device store chunk) (snapshot_left n.i n.v o (meet name chunk n.stacked n.volume).stacked (meet name chunk n.stacked n.volume).volume table)
       by_met n are (Some refusal) is = refl
       by_met n are None is =
           let place = over_there (place_of device table) n.v are.over in
-          let numbered = (well n.v (Under zero) n.volume place are.volume).numbered in
-          (n.v, are.over, changed_in n.v table n.volume (meet name chunk n.stacked n.volume).volume (IsSnapshotMade name) are.volume (met_shows name chunk n.stacked n.volume numbered.named is))
+          let here = numbered n.v (Under zero) n.volume place are.volume in
+          (n.v, are.over, changed_in n.v table n.volume (meet name chunk n.stacked n.volume).volume (IsSnapshotMade name) are.volume (met_shows name chunk n.stacked n.volume here.named is))
 
       by : (r : Result Line_names Refusal) → named_in sectors device store table ≡ r → Makes (targets.Snapshot device store chunk) (snapshot_by name chunk table r)
       by (Err e) is = refl
       by (Ok n) is = by_met n (are_names sectors device store table n is) (meet name chunk n.stacked n.volume).refused refl
 
-  made_makes : (target : Target) → is_merge target ≡ false → IsWellTarget target table → Makes target (made name sectors target table)
+  made_makes : (target : Target) → is_merge target ≡ false → IsNumberedTarget target table → Makes target (made name sectors target table)
   unfolding made
-  made_makes (targets.Origin device) other well = by_rule (targets.Origin device) (origin_made name sectors device table) (λ new is. origin_shows name sectors device table new is)
-  made_makes (targets.Snapshot device store chunk) other well = snapshot_makes device store chunk well
-  made_makes (targets.Merge device store chunk) other well = absurd (cc)
-  made_makes (targets.Flakey device offset up down features) other well =
+  made_makes (targets.Origin device) other numbered = by_rule (targets.Origin device) (origin_made name sectors device table) (λ new is. origin_shows name sectors device table new is)
+  made_makes (targets.Snapshot device store chunk) other numbered = snapshot_makes device store chunk numbered
+  made_makes (targets.Merge device store chunk) other numbered = absurd (cc)
+  made_makes (targets.Flakey device offset up down features) other numbered =
       by_rule (targets.Flakey device offset up down features) (flakey_over name sectors device offset up down features table) (kept_same (flakey_over name sectors device offset up down features table) (laid_same name (Flaky 0 up down (features_of features) offset) offset sectors device table))
-  made_makes (targets.Dust device block) other well =
+  made_makes (targets.Dust device block) other numbered =
       by_rule (targets.Dust device block) (dust_over name sectors device block table) (kept_same (dust_over name sectors device block table) (laid_same name (Dusty sectors block false []) 0 sectors device table))
-  made_makes targets.Error other well = by_rule targets.Error (broken name sectors table) (kept_same (broken name sectors table) (broken_same name sectors table))
+  made_makes targets.Error other numbered = by_rule targets.Error (broken name sectors table) (kept_same (broken name sectors table) (broken_same name sectors table))
 
 -- `create NAME LINE`
-pub create_line : (name : List ℕ) (line : Line) (table : Table) → IsWellTarget line.target table → (let done : Did (Unit {0}) Table = create name line table in IsShown (commands.Create name line) table done.answer (arrays_in table) (arrays_in done.left))
+pub create_line : (name : List ℕ) (line : Line) (table : Table) → IsNumberedTarget line.target table → (let done : Did (Unit {0}) Table = create name line table in IsShown (commands.Create name line) table done.answer (arrays_in table) (arrays_in done.left))
 unfolding create
-create_line name line table well = by (is_merge line.target) refl (is_some (place_of name table)) (nat_le 64 (device_count table))
+create_line name line table numbered = by (is_merge line.target) refl (is_some (place_of name table)) (nat_le 64 (device_count table))
   where
     by : (a : Bool) → is_merge line.target ≡ a → (b c : Bool)
         → (let done : Did (Unit {0}) Table = if a then refused table BadTable else if b then refused table Busy else if c then refused table TooMany else made name line.sectors line.target table in IsShown (commands.Create name line) table done.answer (arrays_in table) (arrays_in done.left))
     by true is b c = refl
     by false is true c = refl
     by false is false true = refl
-    by false is false false = made_makes name line.sectors table line.target is well
+    by false is false false = made_makes name line.sectors table line.target is numbered

@@ -26,7 +26,7 @@ use Rattle.named.proofs.Keeping.{came_by, same_ok, not_ok}
 use Rattle.shown.specs.Arrays.{arrays_of, arrays_in}
 use Rattle.shown.specs.Shown.{IsGoneOn, IsMergedBack, IsWrittenTo, IsWriteRefused, IsWriteDone}
 use Rattle.shown.specs.Commands.{IsAnswered, IsRefused, IsShown}
-use Rattle.shown.specs.Well.{IsWellFor}
+use Rattle.shown.specs.Well.{IsNumberedFor, IsWellFor}
 use Rattle.shown.proofs.Tables.{changed_in, same_in, one_less}
 use Rattle.shown.proofs.Settles.{merge_goes_on}
 use Rattle.shown.proofs.Rules.{begun_shows, resumed_shows, finished_shows}
@@ -73,9 +73,9 @@ pub settle_line : (name : List ℕ) (table : Table) → IsWellFor name table →
 settle_line name table well = by_change (commands.Settle name) table (settle name table) (λ e. refl) (λ new is. settled_as name table new well is)
 
 -- `merge SNAP`
-merged_as : (name : List ℕ) (table new : Table) → IsWellFor name table → merge_begun name table ≡ Ok new → IsAnswered (commands.Merge name) table (arrays_in table) (arrays_in new)
+merged_as : (name : List ℕ) (table new : Table) → IsNumberedFor name table → merge_begun name table ≡ Ok new → IsAnswered (commands.Merge name) table (arrays_in table) (arrays_in new)
 unfolding merge_begun begun_at
-merged_as name table new well is =
+merged_as name table new numbered is =
     let a = came_by (found (place_of name table)) _ new is in
     by a.0 (found_there (place_of name table) a.0 a.1) a.2
   where
@@ -87,13 +87,13 @@ merged_as name table new well is =
         let b = came_by (volume_at v table) _ new h in
         let c = came_by (begun k b.0) _ new b.2 in
         subst (λ (t : Table). IsAnswered (commands.Merge name) table (arrays_in table) (arrays_in t)) (same_ok _ new c.2)
-        (v, k, at, changed_in v table b.0 c.0 (IsMergedBack k) b.1 (begun_shows k b.0 c.0 (well v (Snapshot k) b.0 at b.1).numbered c.1))
+        (v, k, at, changed_in v table b.0 c.0 (IsMergedBack k) b.1 (begun_shows k b.0 c.0 (numbered v (Snapshot k) b.0 at b.1) c.1))
     by (In v (Store k depth)) at h = absurd (not_ok BadTable new h)
     by (In v Merging) at h = absurd (not_ok MergeInProgress new h)
     by (In v (MergingStore depth)) at h = absurd (not_ok BadTable new h)
 
-pub merge_line : (name : List ℕ) (table : Table) → IsWellFor name table → (let done : Did (Unit {0}) Table = changed table (merge_begun name table) in IsShown (commands.Merge name) table done.answer (arrays_in table) (arrays_in done.left))
-merge_line name table well = by_change (commands.Merge name) table (merge_begun name table) (λ e. refl) (λ new is. merged_as name table new well is)
+pub merge_line : (name : List ℕ) (table : Table) → IsNumberedFor name table → (let done : Did (Unit {0}) Table = changed table (merge_begun name table) in IsShown (commands.Merge name) table done.answer (arrays_in table) (arrays_in done.left))
+merge_line name table numbered = by_change (commands.Merge name) table (merge_begun name table) (λ e. refl) (λ new is. merged_as name table new numbered is)
 
 -- `resume VOL`
 resumed_as : (name : List ℕ) (table new : Table) → merge_resumed name table ≡ Ok new → arrays_in new ≡ arrays_in table

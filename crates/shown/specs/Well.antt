@@ -1,4 +1,5 @@
--- What holds of a volume over which no device drops writes, and in which nothing is in flight. This project's own.
+-- What holds of any volume of the program, and of one over which no device drops writes and in which nothing is in flight: the
+-- premises of the laws of this crate. This project's own.
 use Rattle.std.specs.Prelude.{◌≡◌, ℕ, ◌<◌, List, length, map, AllPairs, Some, Ok}
 use Rattle.resting.specs.Ordered.{IsOrdered}
 use Rattle.table.specs.declared.lines.Target.{Target}
@@ -20,26 +21,32 @@ pub record IsWell (volume : Volume) : Type 0 where
   pub numbered : IsNumbered volume
   pub ordered : IsOrdered (merged_in volume)
 
--- the volume that has the device of a name is well
+-- this holds of the volume that has the device of a name
+abbrev pub HoldsFor : (Volume → Type 0) → List ℕ → Table → Type 0
+HoldsFor holds name table = (v : ℕ) (role : Role) (volume : Volume) → place_of name table ≡ Some (In v role) → volume_at v table ≡ Ok volume → holds volume
+
+abbrev pub IsNumberedFor : List ℕ → Table → Type 0
+IsNumberedFor name table = HoldsFor IsNumbered name table
+
 abbrev pub IsWellFor : List ℕ → Table → Type 0
-IsWellFor name table = (v : ℕ) (role : Role) (volume : Volume) → place_of name table ≡ Some (In v role) → volume_at v table ≡ Ok volume → IsWell volume
+IsWellFor name table = HoldsFor IsWell name table
 
--- and the volume that a snapshot's line names
-abbrev pub IsWellTarget : Target → Table → Type 0
-IsWellTarget (targets.Snapshot device store chunk) table = IsWellFor device table
-IsWellTarget (targets.Origin device) table = Unit {0}
-IsWellTarget (targets.Merge device store chunk) table = Unit {0}
-IsWellTarget (targets.Flakey device offset up down features) table = Unit {0}
-IsWellTarget (targets.Dust device block) table = Unit {0}
-IsWellTarget targets.Error table = Unit {0}
+-- the volume that a snapshot's line names is numbered
+abbrev pub IsNumberedTarget : Target → Table → Type 0
+IsNumberedTarget (targets.Snapshot device store chunk) table = IsNumberedFor device table
+IsNumberedTarget (targets.Origin device) table = Unit {0}
+IsNumberedTarget (targets.Merge device store chunk) table = Unit {0}
+IsNumberedTarget (targets.Flakey device offset up down features) table = Unit {0}
+IsNumberedTarget (targets.Dust device block) table = Unit {0}
+IsNumberedTarget targets.Error table = Unit {0}
 
--- the volume that a command changes, if it changes what one shows
+-- The volume that a command changes, if it changes what one shows: one that is written, or whose merge goes on, is well.
 abbrev pub IsWellOf : Command → Table → Type 0
-IsWellOf (commands.Create name line) table = IsWellTarget line.target table
-IsWellOf (commands.Remove name) table = IsWellFor name table
+IsWellOf (commands.Create name line) table = IsNumberedTarget line.target table
+IsWellOf (commands.Remove name) table = IsNumberedFor name table
 IsWellOf (commands.Write name first bytes) table = IsWellFor name table
 IsWellOf (commands.Settle name) table = IsWellFor name table
-IsWellOf (commands.Merge name) table = IsWellFor name table
+IsWellOf (commands.Merge name) table = IsNumberedFor name table
 IsWellOf (commands.Disk name sectors) table = Unit {0}
 IsWellOf (commands.Load disk first bytes) table = Unit {0}
 IsWellOf (commands.Save disk first count) table = Unit {0}

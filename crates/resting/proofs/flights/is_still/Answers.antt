@@ -1,13 +1,16 @@
 -- A settled volume is quiet, and a quiet one with no device that drops writes is settled.
-use Rattle.std.proofs.Common.{◌∙◌, sym}
-use Rattle.std.specs.Prelude.{None}
-use Rattle.resting.proofs.Seen.{loud_same}
+use Rattle.std.proofs.Common.{◌<◌, ◌∙◌, subst, sym}
+use Rattle.std.specs.Prelude.{AllPairs, None}
+use Rattle.resting.proofs.Seen.{loud_same, numbers_same}
 use Rattle.resting.proofs.Going.{chunks_by}
 use Rattle.resting.proofs.Ordered.{ordered_by}
 use Rattle.resting.proofs.flights.is_still.Goals as goal
 
 pub returns-clause-still : goal.returns-clause-still
 returns-clause-still g c = λ settled. c.is_quiet.ensures.value ∙ settled.quiet
+
+pub returns-clause-numbers : goal.returns-clause-numbers
+returns-clause-numbers g c = subst (AllPairs (λ a b. a < b)) (sym (numbers_same g.B.Block.size c.args.volume.now)) c.is_quiet.ensures.numbers
 
 pub returns-clause-ordered : goal.returns-clause-ordered
 returns-clause-ordered g c = λ quiet loud.

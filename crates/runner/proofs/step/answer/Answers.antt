@@ -1,7 +1,8 @@
-use Rattle.std.proofs.Common.{◌≡◌, [], Option, Some, Ok, Err, refl, ap, ◌∙◌, subst}
+use Rattle.std.proofs.Common.{◌≡◌, [], ◌∷◌, Option, Some, Ok, Err, refl, ap, ◌∙◌, subst}
 use Rattle.std.specs.Prelude.{Result, IfSome}
 use Rattle.sector.specs.declared.refusal.Refusal.{Refusal}
 use Rattle.command.specs.declared.grammar.Command.{Command}
+use Rattle.reply.specs.declared.Reply.TheVariants.{Refused}
 use Rattle.devices.specs.Devices.{table_of}
 use Rattle.runner.proofs.Lawful.{command_said}
 use Rattle.runner.proofs.StepLemmas.{silent_does, refused_does, obeyed_does, sound_said, starts_too, silent_starts}
@@ -10,6 +11,9 @@ use Rattle.runner.specs.Output.{told}
 use Rattle.runner.proofs.AskingLemmas.{silent_first, worded_first, command_first, same_still}
 use Rattle.runner.proofs.LeftLemmas.{silent_left, worded_left, command_left}
 use Rattle.runner.proofs.RuledLemmas.{ruled_as}
+use Rattle.runner.proofs.DeskLemmas.{may_ok, may_err}
+use Rattle.runner.proofs.ShownLemmas.{line_shown, refused_shown, silent_shown}
+use Rattle.runner.proofs.WellLemmas.{line_well}
 use Rattle.runner.specs.Starts.{AreStartReplies}
 use Rattle.runner.proofs.step.answer.Goals as goal
 
@@ -105,3 +109,25 @@ returns-in-Err-obey-clause-left c =
 
 pub returns-in-Err-clause-left : goal.returns-in-Err-clause-left
 returns-in-Err-clause-left c = worded_left c.args.line.now (table_of c.args.held.now) c.args.ended.now.items c.in-Err.refusal c.in-Err.ensures
+
+pub returns-in-Ok-None-clause-shows : goal.returns-in-Ok-None-clause-shows
+returns-in-Ok-None-clause-shows c = λ ruled. silent_shown c.args.line.now (table_of c.args.held.now) (said c.in-Ok-None.ensures c.in-Ok-None.field-0-is)
+
+pub returns-in-Ok-clause-shows : goal.returns-in-Ok-clause-shows
+returns-in-Ok-clause-shows c = λ ruled.
+    let old = table_of c.args.held.now in
+    let new = table_of c.obey.new.held in
+    line_shown c.args.line.now old (record { replies = c.in-Ok.reply ∷ []; table = new })
+    (line_well c.args.line.now c.in-Ok-Some.command old (said c.in-Ok-Some.ensures c.in-Ok-Some.field-0-is) c.look.ensures ruled)
+    (may_ok c.args.line.now old new (Some c.in-Ok.reply) (returns-in-Ok-clause-done c ruled))
+
+pub returns-in-Err-obey-clause-shows : goal.returns-in-Err-obey-clause-shows
+returns-in-Err-obey-clause-shows c = λ ruled.
+    let old = table_of c.args.held.now in
+    let new = table_of c.obey.new.held in
+    line_shown c.args.line.now old (record { replies = Refused c.in-Err-obey.refusal ∷ []; table = new })
+    (line_well c.args.line.now c.in-Ok-Some.command old (said c.in-Ok-Some.ensures c.in-Ok-Some.field-0-is) c.look.ensures ruled)
+    (may_err c.args.line.now old new c.in-Err-obey.refusal (returns-in-Err-obey-clause-done c ruled))
+
+pub returns-in-Err-clause-shows : goal.returns-in-Err-clause-shows
+returns-in-Err-clause-shows c = λ ruled. refused_shown c.args.line.now (table_of c.args.held.now) c.in-Err.refusal c.in-Err.ensures

@@ -3,7 +3,7 @@ use Rattle.std.proofs.Common.{◌≡◌, None, true, false, sym, ◌∙◌, ap, 
 use Rattle.resting.specs.Rested.{Attached, IsSettled}
 use Rattle.resting.specs.Using.{IsUsed}
 use Rattle.resting.proofs.Seen.{loud_same}
-use Rattle.resting.proofs.Lends.{inside, seen_at, used_at, kept_usage, no_usage}
+use Rattle.resting.proofs.Lends.{inside, seen_at, used_at, held_usage, kept_usage, no_usage}
 use Rattle.resting.proofs.resting.Resting.usage.Goals as goal
 
 pub returns-then-is_live-clause-is : goal.returns-then-is_live-clause-is
@@ -11,6 +11,12 @@ returns-then-is_live-clause-is g c = λ d.
     let s = c.snap-snap.result.now in
     let live : s.live ≡ true = sym c.is_live.ensures ∙ c.if-is_live.true in
     kept_usage c.self.inside.volume c.args.self.now c.self.view_is c.args.k s c.snap-snap.ensures.value c.usage.result live c.usage.ensures.allocated c.usage.ensures.total c.usage.ensures.metadata d
+
+pub returns-then-is_live-clause-held : goal.returns-then-is_live-clause-held
+returns-then-is_live-clause-held g c = λ d.
+    let s = c.snap-snap.result.now in
+    let live : s.live ≡ true = sym c.is_live.ensures ∙ c.if-is_live.true in
+    held_usage c.self.inside.volume c.args.self.now c.self.view_is c.args.k s c.snap-snap.ensures.value g.B.Block.size c.usage.result live c.snap-snap.ensures.counted (c.snap-snap.ensures.sized live) c.usage.ensures.allocated c.usage.ensures.total c.usage.ensures.metadata d
 
 pub returns-else-is_live-clause-is : goal.returns-else-is_live-clause-is
 returns-else-is_live-clause-is g c = λ d.

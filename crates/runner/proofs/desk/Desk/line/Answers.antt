@@ -29,4 +29,4 @@ returns-clause-done g c =
     let counts = line_counted c.self.inside.summary c.with_lines.result c.with_own-self-inside.result c.len.result ended own small size c.with_lines.ensures c.with_own-self-inside.ensures in
     let left = c.outcome-own.ensures.left in
     let told = told_for c.args.line.now (table_of c.self.inside.held) (table_of c.outcome-own.new.held) c.new-ended.result.items ended own left.0 c.new-ended.ensures.items left.1 left.2 in
-    line_done c.args.line.now c.args.self.now (table_of c.self.inside.held) (table_of c.outcome-own.new.held) c.self.inside.summary c.with_own-self-inside.result ended own P (sym c.self.view_is) c.outcome-own.ensures.done (λ ruled. c.outcome-own.ensures.told ruled ∙ c.new-ended.ensures.items) asks stays number told counts last
+    line_done c.args.line.now c.args.self.now (table_of c.self.inside.held) (table_of c.outcome-own.new.held) c.self.inside.summary c.with_own-self-inside.result ended own P (sym c.self.view_is) c.outcome-own.ensures.done c.outcome-own.ensures.shows (λ ruled. c.outcome-own.ensures.told ruled ∙ c.new-ended.ensures.items) asks stays number told counts last

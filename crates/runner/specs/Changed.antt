@@ -1,0 +1,44 @@
+-- Whose volume a command changes, of those that change what a volume shows; and that it is in order.
+use Rattle.std.specs.Prelude.{ℕ, List, Option, Some, None}
+use Rattle.table.specs.declared.lines.Target.{Target}
+use Rattle.table.specs.declared.lines.Target.TheVariants as targets
+use Rattle.command.specs.declared.grammar.Command.{Command}
+use Rattle.command.specs.declared.grammar.Command.TheVariants as commands
+use Rattle.named.specs.State.{Table}
+use Rattle.devices.specs.Order.{IsInOrderFor}
+
+-- the name on whose volume a target's snapshot is made
+abbrev pub changed_under : Target → Option (List ℕ)
+changed_under (targets.Snapshot device store chunk) = Some device
+changed_under (targets.Origin device) = None
+changed_under (targets.Merge device store chunk) = None
+changed_under (targets.Flakey device offset up down features) = None
+changed_under (targets.Dust device block) = None
+changed_under targets.Error = None
+
+-- the name whose volume a command changes
+abbrev pub changed_by : Command → Option (List ℕ)
+changed_by (commands.Create name line) = changed_under line.target
+changed_by (commands.Remove name) = Some name
+changed_by (commands.Write name first bytes) = Some name
+changed_by (commands.Settle volume) = Some volume
+changed_by (commands.Merge name) = Some name
+changed_by (commands.Disk name sectors) = None
+changed_by (commands.Load disk first bytes) = None
+changed_by (commands.Save disk first count) = None
+changed_by (commands.Message device message) = None
+changed_by (commands.Tick seconds) = None
+changed_by (commands.Read device first count) = None
+changed_by (commands.StartRead device first count) = None
+changed_by (commands.StartWrite device first bytes) = None
+changed_by (commands.Step volume event) = None
+changed_by (commands.Resume volume) = None
+changed_by (commands.Finish volume) = None
+changed_by (commands.Stop volume) = None
+changed_by (commands.Status device) = None
+changed_by (commands.Table device) = None
+
+-- the volume that has the device of a name is in order, if there is a name
+abbrev pub IsLookedAt : Table → Option (List ℕ) → Type 0
+IsLookedAt table None = Unit {0}
+IsLookedAt table (Some name) = IsInOrderFor name table
