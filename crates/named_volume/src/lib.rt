@@ -10,6 +10,7 @@ mod flights;
 mod merging;
 mod names;
 mod origin;
+mod parting;
 mod reporting;
 mod sectors;
 mod stack_names;
@@ -18,4 +19,5 @@ mod stored;
 mod telling;
 
 pub use origin::NamedVolume;
+pub use parting::NamedParts;
 pub use stopping::StoppedVolume;

@@ -1,0 +1,112 @@
+// A volume is taken apart into the names of its devices and the volume itself, and made of both again.
+ghost use Rattle.std.specs.Prelude.{◌≡◌, ◌⊎◌, true, None, is_some, slice_get, length, suc};
+ghost use Rattle.std.specs.List.{remove};
+ghost use Rattle.layers.specs.Stack.{stack_layers};
+ghost use Rattle.resting.specs.Rested.{is_loud_in};
+ghost use Rattle.named_volume.specs.Parting.{HasAll, HasBegun, IsParted, named_with, place_begun, with_begun, with_requests};
+
+use crate::names::SnapNames;
+use crate::origin::NamedVolume;
+use crate::stopping::earlier;
+use layers::Stack;
+use resting::Resting;
+use std::marker::Model;
+use words::Name;
+
+/// The names of a volume's devices without the volume itself, the mark of the disk under its origin, the sectors that it was
+/// asked for, and whether none of its devices drops writes.
+#[derive(Drop)]
+pub struct NamedParts {
+    origin: Name,
+    under: Vec<Name>,
+    stale: bool,
+    snaps: Vec<SnapNames>,
+    merging: Option<SnapNames>,
+    asked: u64,
+    sound: bool,
+}
+
+impl Model for NamedParts {
+    ghost use Rattle.named_volume.specs.Parting.{Parts};
+
+    ghost Value = { Parts };
+
+    ghost view = { λ p. record { origin = p.origin; under = p.under.items; stale = p.stale; snaps = p.snaps.items; merging = p.merging; asked = p.asked; sound = p.sound } };
+}
+
+/// Gives the name of the snapshot to the merge that was begun of it, if one was.
+fn name_merge(
+    snaps: &mut Vec<SnapNames>,
+    merging: &mut Option<SnapNames>,
+    volume: &Resting<Stack>,
+)
+    requires many { ((length snaps.old.items ≡ length volume.now.snaps) × (is_some merging.old ≡ is_some volume.now.events.merge)) ⊎ ((length snaps.old.items ≡ suc (length volume.now.snaps)) × (merging.old ≡ None) × (is_some volume.now.events.merge ≡ true)) }
+    ensures many { length snaps.new.items ≡ length volume.now.snaps }
+    ensures begun { is_some merging.new ≡ is_some volume.now.events.merge }
+    ensures same { is_some merging.old ≡ is_some volume.now.events.merge → (snaps.new.items ≡ snaps.old.items) × (merging.new ≡ merging.old) }
+    ensures named { merging.old ≡ None → is_some volume.now.events.merge ≡ true → (snaps.new.items ≡ remove snaps.old.items (place_begun volume.now)) × (merging.new ≡ slice_get snaps.old.items (place_begun volume.now)) }
+{
+    if merging.is_none() && volume.merging().is_some() {
+        let k = earlier(volume);
+        *merging = Some(snaps.remove(k));
+    }
+}
+
+impl NamedVolume {
+    /// The names of its devices, and the volume itself.
+    pub fn into_parts(self) -> (NamedParts, Resting<Stack>)
+        ensures named { self ≡ named_with result.0 result.1 }
+        ensures parted { IsParted result.0 result.1 }
+    {
+        let NamedVolume {
+            origin,
+            under,
+            stale,
+            snaps,
+            merging,
+            volume,
+            asked,
+            sound,
+        } = self;
+        let parts = NamedParts {
+            origin,
+            under,
+            stale,
+            snaps,
+            merging,
+            asked,
+            sound,
+        };
+        (parts, volume)
+    }
+
+    /// A volume under the names of its devices, of which one of the snapshots may be merged since they were taken from it.
+    pub fn of_parts(parts: NamedParts, volume: Resting<Stack>) -> NamedVolume
+        requires fits { HasAll parts volume ⊎ HasBegun parts volume }
+        requires loud { parts.sound ≡ true → is_loud_in stack_layers volume ≡ true }
+        ensures same { HasAll parts volume → result ≡ named_with (with_requests volume.requests parts) volume }
+        ensures begun { HasBegun parts volume → result ≡ named_with (with_requests volume.requests (with_begun (place_begun volume) parts)) volume }
+    {
+        let NamedParts {
+            origin,
+            under,
+            stale,
+            mut snaps,
+            mut merging,
+            asked,
+            sound,
+        } = parts;
+        name_merge(&mut snaps, &mut merging, &volume);
+        let asked = asked.max(volume.last_request());
+        NamedVolume {
+            origin,
+            under,
+            stale,
+            snaps,
+            merging,
+            volume,
+            asked,
+            sound,
+        }
+    }
+}
