@@ -14,3 +14,4 @@ pub mod Finishes
 pub mod Resumes
 pub mod Closes
 pub mod Stops
+pub mod Begun

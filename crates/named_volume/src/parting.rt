@@ -1,5 +1,5 @@
 // A volume is taken apart into the names of its devices and the volume itself, and made of both again.
-ghost use Rattle.std.specs.Prelude.{◌≡◌, ◌⊎◌, true, None, is_some, slice_get, length, suc};
+ghost use Rattle.std.specs.Prelude.{◌≡◌, ◌⊎◌, true, None, Some, is_some, slice_get, length, suc};
 ghost use Rattle.std.specs.List.{remove};
 ghost use Rattle.layers.specs.Stack.{stack_layers};
 ghost use Rattle.resting.specs.Rested.{is_loud_in};
@@ -34,7 +34,20 @@ impl Model for NamedParts {
     ghost view = { λ p. record { origin = p.origin; under = p.under.items; stale = p.stale; snaps = p.snaps.items; merging = p.merging; asked = p.asked; sound = p.sound } };
 }
 
-/// Gives the name of the snapshot to the merge that was begun of it, if one was.
+/// Takes out the names of the snapshot that is being merged since there was one more.
+#[tactic(auto, using(crate::proofs::Begun::place_within))]
+fn take_begun(snaps: &mut Vec<SnapNames>, volume: &Resting<Stack>) -> SnapNames
+    requires { length snaps.old.items ≡ suc (length volume.now.snaps) }
+    ensures rest { snaps.new.items ≡ remove snaps.old.items (place_begun volume.now) }
+    ensures names { slice_get snaps.old.items (place_begun volume.now) ≡ Some result }
+    ensures many { length snaps.new.items ≡ length volume.now.snaps }
+{
+    let k = earlier(volume);
+    snaps.remove(k)
+}
+
+/// Gives the names of the snapshot to the merge that was begun of it, if one was.
+#[tactic(auto, using(crate::proofs::Begun::one_more, crate::proofs::Begun::still_all, crate::proofs::Begun::none_begun))]
 fn name_merge(
     snaps: &mut Vec<SnapNames>,
     merging: &mut Option<SnapNames>,
@@ -46,9 +59,11 @@ fn name_merge(
     ensures same { is_some merging.old ≡ is_some volume.now.events.merge → (snaps.new.items ≡ snaps.old.items) × (merging.new ≡ merging.old) }
     ensures named { merging.old ≡ None → is_some volume.now.events.merge ≡ true → (snaps.new.items ≡ remove snaps.old.items (place_begun volume.now)) × (merging.new ≡ slice_get snaps.old.items (place_begun volume.now)) }
 {
-    if merging.is_none() && volume.merging().is_some() {
-        let k = earlier(volume);
-        *merging = Some(snaps.remove(k));
+    if merging.is_some() {
+        return;
+    }
+    if volume.merging().is_some() {
+        *merging = Some(take_begun(snaps, volume));
     }
 }
 
