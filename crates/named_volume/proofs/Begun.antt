@@ -1,12 +1,17 @@
 -- The names of a snapshot of which a merge was begun.
-use Rattle.std.proofs.Common.{◌≡◌, ◌⊎◌, ℕ, suc, ◌<◌, ◌≤◌, Bool, true, false, cond, List, [], ◌∷◌, length, Option, Some, None, inl, inr, arith, refl}
-use Rattle.std.specs.Prelude.{is_some, nat_lt}
+use Rattle.std.proofs.Common.{◌≡◌, ◌⊎◌, ℕ, ◌+◌, suc, get_or, ap, sym, ◌∙◌, ◌<◌, ◌≤◌, Bool, true, false, cond, List, [], ◌∷◌, length, Option, Some, None, inl, inr, arith, refl}
+use Rattle.std.specs.Prelude.{is_some, nat_lt, slice_get, sum_by}
+use Rattle.std.specs.List.{remove}
+use Rattle.std.proofs.lemmas.List.Sums.{sum_by-remove}
+use Rattle.std.proofs.lemmas.Option.{get_or_from_slice_get}
+use Rattle.named.specs.Naming.{merging_sum, names_sum, volume_sum}
+use Rattle.named_volume.proofs.Merges.{names_are}
 use Rattle.layers.specs.declared.stack.Stack.{Stack}
 use Rattle.merge.specs.Merging.{Merging}
 use Rattle.volume.specs.Asking.{merging_number}
 use Rattle.resting.specs.Rested.{Attached, Rested}
 use Rattle.named.specs.State.{Names}
-use Rattle.named_volume.specs.Parting.{place_begun}
+use Rattle.named_volume.specs.Parting.{Parts, named_with, parts_sum, place_begun}
 use Rattle.named_volume.specs.Stopping.{earlier, earlier_than}
 
 earlier_within : (number : ℕ) (snaps : List (Attached Stack)) → earlier number snaps ≤ length snaps
@@ -43,3 +48,19 @@ pub none_begun : (names snaps : ℕ) (merging : Option Names) (merge : Option (M
 none_begun names snaps merging merge (inl all) none = all
 none_begun names snaps merging None (inr (more, was, begun)) none = absurd (let no : ⊥ = cc in no)
 none_begun names snaps merging (Some m) (inr (more, was, begun)) none = absurd (let no : ⊥ = cc in no)
+
+-- the names of one of the snapshots are taken out
+pub taken_sum : (f : List ℕ → ℕ) (names : List Names) (k : ℕ) (one : Names) → k < length names → slice_get names k ≡ Some one → sum_by (names_sum f) (remove names k) + names_sum f one ≡ sum_by (names_sum f) names
+taken_sum f names k one within is =
+    let less = sum_by-remove (names_sum f) names k one within in
+    let same : names_sum f (get_or names k one) ≡ names_sum f one = ap (names_sum f) (get_or_from_slice_get names k one one is) in
+    omega (arith, less, same)
+
+-- none was being merged
+pub none_sum : (f : List ℕ → ℕ) (merging : Option Names) → is_some merging ≡ false → merging_sum f merging ≡ 0
+none_sum f None none = refl
+none_sum f (Some n) none = absurd (let no : ⊥ = cc in no)
+
+-- the names of a volume are those that it is made of
+pub named_sum : (f : List ℕ → ℕ) (p : Parts) (v : Rested Stack) → is_some p.merging ≡ is_some v.events.merge → volume_sum f (named_with p v) ≡ parts_sum f p
+named_sum f p v begun = ap (λ m. f p.origin + sum_by f p.under + sum_by (names_sum f) p.snaps + merging_sum f m) (names_are p.merging v begun)

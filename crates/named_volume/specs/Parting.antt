@@ -1,11 +1,12 @@
 -- A volume with the names of its devices, taken apart into the names and the volume, and made of both again. This project's own.
-use Rattle.std.specs.Prelude.{◌≡◌, ◌≤◌, ℕ, suc, max, Bool, true, List, length, slice_get, Option, Some, None, is_some}
+use Rattle.std.specs.Prelude.{◌≡◌, ◌+◌, ◌≤◌, ℕ, suc, sum_by, max, Bool, true, List, length, slice_get, Option, Some, None, is_some}
 use Rattle.std.specs.List.{remove}
 use Rattle.layers.specs.declared.stack.Stack.{Stack}
 use Rattle.layers.specs.Stack.{stack_layers}
 use Rattle.volume.specs.Asking.{merging_number}
 use Rattle.volume.specs.Leaving.{is_quiet_of}
 use Rattle.resting.specs.Rested.{Rested, is_loud_in}
+use Rattle.named.specs.Naming.{merging_sum, names_sum}
 use Rattle.named.specs.State.{Names, Volume}
 use Rattle.named_volume.specs.Held.{flying_in, merging_with, settled_in}
 use Rattle.named_volume.specs.Stopping.{earlier_than}
@@ -19,6 +20,10 @@ pub record Parts : Type 0 where
   pub merging : Option Names
   pub asked : ℕ
   pub sound : Bool
+
+-- a number for each name, added up over all of them
+abbrev pub parts_sum : (List ℕ → ℕ) → Parts → ℕ
+parts_sum f p = f p.origin + sum_by f p.under + sum_by (names_sum f) p.snaps + merging_sum f p.merging
 
 -- a volume under these names
 abbrev pub named_with : Parts → Rested Stack → Volume
