@@ -23,6 +23,5 @@ stays_held names merging before after asked sound held kept requests =
       many = held.many ∙ sym (same_many before after kept.numbers);
       begun = held.begun ∙ still_begun before after kept.merging;
       requests = rw requests held.requests;
-      few = held.few;
       loud = λ is. kept.loud ∙ held.loud is;
     }

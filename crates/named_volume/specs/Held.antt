@@ -1,5 +1,5 @@
 -- What holds of a volume with the names of its devices. This project's own.
-use Rattle.std.specs.Prelude.{◌≡◌, ◌<◌, ◌≤◌, ℕ, Bool, true, List, length, Option, Some, None, is_some, if◌then◌else◌}
+use Rattle.std.specs.Prelude.{◌≡◌, ◌≤◌, ℕ, Bool, true, List, length, Option, Some, None, is_some, if◌then◌else◌}
 use Rattle.layers.specs.declared.stack.Stack.{Stack}
 use Rattle.layers.specs.Stack.{stack_contents, stack_layers}
 use Rattle.event_machine.specs.Held.{Moving}
@@ -41,5 +41,4 @@ pub record IsHeld (names : List Names) (merging : Option Names) (volume : Rested
   pub many : length names ≡ length volume.snaps
   pub begun : is_some merging ≡ is_some volume.events.merge
   pub requests : volume.requests ≤ asked
-  pub few : asked < 1_152_921_504_606_846_976
   pub loud : sound ≡ true → is_loud_in stack_layers volume ≡ true

@@ -11,6 +11,7 @@ mod merging;
 mod names;
 mod order;
 mod origin;
+mod parting;
 mod reporting;
 mod sectors;
 mod stack_names;
@@ -19,4 +20,5 @@ mod stored;
 mod telling;
 
 pub use origin::NamedVolume;
+pub use parting::NamedParts;
 pub use stopping::StoppedVolume;

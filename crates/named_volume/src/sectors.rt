@@ -54,15 +54,13 @@ fn dev_of(volume: &Resting<Stack>, role: Role) -> Result<Dev, Refusal>
 
 /// Counts sectors that are asked for. `TooMany` where they would be 2^60 in all.
 fn count_asked(asked: &mut u64, count: u32) -> Result<(), Refusal>
-    requires { asked.old < 1_152_921_504_606_846_976 }
     ensures value { (v : Volume) → v.asked ≡ asked.old → result ≡ takes count v }
     ensures ok { OnOk result ((asked.new ≡ asked.old + count) × (asked.new < 1_152_921_504_606_846_976)) }
     ensures err { OnErr result (asked.new ≡ asked.old) }
     ensures known { IfErr result (λ e. e ≡ TooMany) }
 {
-    let all = *asked + u64::from(count);
-    if all < ASKED_END {
-        *asked = all;
+    if *asked < ASKED_END - u64::from(count) {
+        *asked += u64::from(count);
         Ok(())
     } else {
         Err(Refusal::TooMany)
@@ -79,7 +77,6 @@ pub(crate) fn ask(
     count: u32,
 ) -> Result<(Dev, Range), Refusal>
     requires role { HasRole role (length volume.now.snaps) (is_some volume.now.events.merge) }
-    requires few { asked.old < 1_152_921_504_606_846_976 }
     ensures ok { IfOk result (λ asks. (v : Volume) → v.state ≡ settled_in volume.now → v.asked ≡ asked.old → asked_of role first count v ≡ Ok (record { dev = asks.0; span = span_of asks.1 })) }
     ensures err { IfErr result (λ e. (v : Volume) → v.state ≡ settled_in volume.now → v.asked ≡ asked.old → asked_of role first count v ≡ Err e) }
     ensures known { IfErr result (λ e. e ≢ NoMemory) }

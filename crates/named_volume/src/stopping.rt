@@ -35,7 +35,7 @@ impl Model for StoppedVolume {
 }
 
 /// How many snapshots were attached before the one that is being merged.
-fn earlier(volume: &Resting<Stack>) -> usize
+pub(crate) fn earlier(volume: &Resting<Stack>) -> usize
     ensures { result ≡ earlier_than (merging_number volume.now.events.merge) volume.now.snaps }
 {
     let Some(number) = volume.merging() else {

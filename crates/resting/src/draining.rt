@@ -16,7 +16,7 @@ use sector::Refusal;
 use volume::{Volume, is_of_merge};
 
 /// Takes room for so many replies more. For none, no memory is asked for.
-fn make_room(ended: &mut Vec<Replied>, replies: usize) -> Result<(), Refusal>
+pub(crate) fn make_room(ended: &mut Vec<Replied>, replies: usize) -> Result<(), Refusal>
     ensures ok { OnOk result (vec_len ended.new + replies ≤ vec_capacity ended.new) }
     ensures none { replies ≡ 0 → is_ok result ≡ true }
     ensures items { ended.new.items ≡ ended.old.items }

@@ -18,6 +18,7 @@ mod flights;
 mod layering;
 mod lending;
 mod merging;
+mod parting;
 mod pieces;
 mod resting;
 mod serving;

@@ -32,7 +32,6 @@ invariant_of-self c =
       many = omega (arith, many, names, snaps, left, gone);
       begun = sym (ap (λ (o : Option (Merging Stack)). is_some o) out.begun);
       requests = rw out.requests old.requests;
-      few = old.few;
       loud = λ sound. (c.begin_merge.ensures.settled (c.look.ensures c.in-Ok.ensures.quiet.0 (old.loud sound))).loud;
     }
 

@@ -42,7 +42,6 @@ invariant_of-self c =
       many = omega (arith, many, names, snaps, left, gone);
       begun = old.begun ∙ begun_as_before c.self.inside.volume c.detach.new.self out.merge;
       requests = rw out.requests old.requests;
-      few = old.few;
       loud = λ sound. (c.detach.ensures.settled (c.is_quiet.ensures.rest c.if-not-is_quiet.false (old.loud sound))).loud;
     }
 

@@ -1,0 +1,5 @@
+pub mod Word
+pub mod Opening
+pub mod Lines
+pub mod Blocks
+pub mod Founds

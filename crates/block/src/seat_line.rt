@@ -1,0 +1,24 @@
+// What a line of a block asks for.
+
+use sector::Buf;
+use words::Name;
+
+/// What a seat is to do. Numbers of sectors and places are in sectors; bytes are whole sectors.
+#[derive(Debug, Drop)]
+pub enum Work {
+    /// `read DEV S N`: reads an origin or snapshot. `count` is 1 to 2048.
+    Read { name: Name, first: u32, count: u32 },
+    /// `write DEV S DATA`: writes an origin or snapshot. 1 to 2048 sectors.
+    Write { name: Name, first: u32, bytes: Buf },
+    /// `merge SNAP`: merges a snapshot into its origin.
+    Merge { name: Name },
+    /// A read or a write of a number of sectors outside 1 to 2048, which is refused as its turn comes.
+    Outside { name: Name },
+}
+
+/// A line of a block: the seat whose line it is, 1 to 8, and what that is to do.
+#[derive(Debug, Drop)]
+pub struct SeatLine {
+    pub seat: u8,
+    pub work: Work,
+}

@@ -1,0 +1,67 @@
+// The first word of a line, and what stands after it.
+ghost use Rattle.std.specs.Prelude.{◌≡◌, ◌<◌, IfSome, length, not, position};
+ghost use Rattle.std.specs.List.{after_first, before_first};
+ghost use Rattle.block.specs.Word.{after_word, first_word, is_space, unspaced};
+
+/// Where the first space stands.
+fn space_at(line: &[u8]) -> Option<usize>
+    ensures place { result ≡ position is_space line.now }
+    ensures within { IfSome result (λ i. i < length line.now) }
+{
+    line.iter().position(|byte| *byte == b' ')
+}
+
+/// Where the first byte stands that is no space.
+fn start_at(line: &[u8]) -> Option<usize>
+    ensures place { result ≡ position (λ byte. not (is_space byte)) line.now }
+    ensures within { IfSome result (λ i. i < length line.now) }
+{
+    line.iter().position(|byte| *byte != b' ')
+}
+
+/// What stands after the spaces at its beginning.
+#[tactic(auto, using(crate::proofs::Parts::start_some, crate::proofs::Parts::start_none))]
+fn unspaced(line: &[u8]) -> &[u8]
+    ensures { result.now ≡ unspaced line.now }
+{
+    match start_at(line) {
+        Some(start) => &line[start..],
+        None => &line[line.len()..],
+    }
+}
+
+/// The bytes up to the first space, or all.
+#[tactic(auto, using(crate::proofs::Parts::word_some, crate::proofs::Parts::word_none))]
+fn before_space(line: &[u8]) -> &[u8]
+    ensures { result.now ≡ before_first is_space line.now }
+{
+    match space_at(line) {
+        Some(end) => &line[..end],
+        None => line,
+    }
+}
+
+/// The bytes after the first space.
+#[tactic(auto, using(crate::proofs::Parts::after_some, crate::proofs::Parts::after_none))]
+fn after_space(line: &[u8]) -> &[u8]
+    ensures { result.now ≡ after_first is_space line.now }
+{
+    match space_at(line) {
+        Some(end) => &line[end + 1..],
+        None => &line[line.len()..],
+    }
+}
+
+/// The first word; it has no byte where there is none.
+pub fn first_word(line: &[u8]) -> &[u8]
+    ensures { result.now ≡ first_word line.now }
+{
+    before_space(unspaced(line))
+}
+
+/// What stands after the first word and the space that ends it.
+pub fn after_word(line: &[u8]) -> &[u8]
+    ensures { result.now ≡ after_word line.now }
+{
+    after_space(unspaced(line))
+}
