@@ -1,0 +1,107 @@
+// What is done to a volume, as a list of steps.
+use plain::{Dev, Event, SnapId};
+
+/// One thing that is done. Chunks are counted from 0; each sector of a chunk that is written is filled with one byte.
+#[derive(Clone, Copy)]
+pub enum Step {
+    /// Attaches the next store, which is fresh.
+    Attach,
+    /// Attaches the next store, which has one sector of its own, with this byte.
+    AttachWritten(u64, u8),
+    /// Submits a write of a chunk.
+    Start(Dev, u64, u8),
+    /// Submits writes of so many chunks from one on, and does all that is due after every eighth and at the end.
+    Fill(Dev, u64, u64, u8),
+    /// Reads a chunk.
+    Read(Dev, u64),
+    /// Does one event.
+    Do(Event),
+    /// Does all that is due.
+    Settle,
+    /// Says that the write before found the store of this snapshot full.
+    Full(SnapId),
+    /// Begins to merge a snapshot.
+    Merge(SnapId),
+    /// Takes the merge out.
+    Finish,
+}
+
+/// The steps of a volume with an origin of 128 sectors, and what it is made of.
+#[derive(Clone, Copy)]
+pub struct Scenario {
+    /// Sectors of a chunk.
+    pub chunk: u32,
+    /// How many chunks each store has.
+    pub stores: &'static [u64],
+    /// Whether the first store has a pair, and behind it a slot that was left without its turn.
+    pub written: bool,
+    pub steps: &'static [Step],
+}
+
+/// A fresh store is attached.
+pub static ATTACH: [Step; 1] = [Step::Attach];
+
+/// A written store is attached.
+pub static ATTACH_WRITTEN: [Step; 1] = [Step::AttachWritten(5, 0x77)];
+
+/// One chunk is copied.
+pub static ONE_COPY: [Step; 4] = [
+    Step::Attach,
+    Step::Fill(Dev::Origin, 5, 1, 0xaa),
+    Step::Read(Dev::Origin, 5),
+    Step::Read(Dev::Snap(1), 5),
+];
+
+/// A whole area of pairs, in chunks of one sector, and one pair more.
+pub static WHOLE_AREA: [Step; 3] = [
+    Step::Attach,
+    Step::Fill(Dev::Origin, 0, 32, 0xaa),
+    Step::Fill(Dev::Origin, 32, 1, 0xaa),
+];
+
+/// Forty chunks are copied, and merged again.
+pub static LONG_MERGE: [Step; 6] = [
+    Step::Attach,
+    Step::Fill(Dev::Origin, 0, 40, 0xaa),
+    Step::Merge(1),
+    Step::Read(Dev::Origin, 0),
+    Step::Settle,
+    Step::Finish,
+];
+
+/// A snapshot that was written is merged beside a second one.
+pub static MERGE_BESIDE: [Step; 10] = [
+    Step::Attach,
+    Step::Attach,
+    Step::Fill(Dev::Snap(1), 9, 1, 0x77),
+    Step::Fill(Dev::Origin, 5, 1, 0xaa),
+    Step::Merge(1),
+    Step::Settle,
+    Step::Read(Dev::Snap(2), 9),
+    Step::Read(Dev::Snap(2), 5),
+    Step::Read(Dev::Origin, 9),
+    Step::Read(Dev::Origin, 5),
+];
+
+/// The origin is written while a merge has its chunks: one is in the group and waits, the other is not.
+pub static WRITTEN_MERGE: [Step; 10] = [
+    Step::Attach,
+    Step::Fill(Dev::Origin, 3, 1, 0xaa),
+    Step::Fill(Dev::Origin, 8, 1, 0xaa),
+    Step::Merge(1),
+    Step::Do(Event::MergeGroup),
+    Step::Start(Dev::Origin, 8, 0x55),
+    Step::Start(Dev::Origin, 3, 0x44),
+    Step::Do(Event::Issue(4)),
+    Step::Settle,
+    Step::Finish,
+];
+
+/// A whole area of pairs, in chunks of one sector, fills its store, and one write more spoils the snapshot.
+pub static FULL_STORE: [Step; 5] = [
+    Step::Attach,
+    Step::Fill(Dev::Origin, 0, 32, 0xaa),
+    Step::Start(Dev::Origin, 32, 0xbb),
+    Step::Full(1),
+    Step::Settle,
+];

@@ -1,0 +1,188 @@
+// A stop within each write of each device in turn.
+use crate::again::load_again;
+use crate::disks::disks_of;
+use crate::machine::Machine;
+use crate::scenario::{
+    ATTACH, ATTACH_WRITTEN, FULL_STORE, LONG_MERGE, MERGE_BESIDE, ONE_COPY, Scenario, Step,
+    WHOLE_AREA, WRITTEN_MERGE,
+};
+use device::MemDisk;
+use fuse::Fuse;
+use plain::Dev;
+use std::alloc::Global;
+use std::test::Fail;
+
+/// More writes than a run has.
+const MOST: u64 = 10_000;
+
+/// Which sectors of a write are new: none, all, the first alone, the last alone, in chunks of one sector and of two.
+static ONE_SECTOR: [&[bool]; 2] = [&[], &[true]];
+
+static TWO_SECTORS: [&[bool]; 4] = [&[], &[true, true], &[true], &[false, true]];
+
+/// A fuse over a disk.
+fn fuse_over(alloc: Global, disk: MemDisk, writes: u64, new: &[bool]) -> Result<Fuse, Fail> {
+    match Fuse::new(alloc, disk, writes, Vec::from_slice(alloc, new)?) {
+        Ok(fuse) => Ok(fuse),
+        Err((refusal, _)) => Err(Fail::from(refusal)),
+    }
+}
+
+/// A machine, the device at a place of which (the origin's is 0) stops at its write `k`.
+pub fn fused(
+    alloc: Global,
+    scenario: &Scenario,
+    place: usize,
+    k: u64,
+    new: &[bool],
+) -> Result<Machine<Fuse>, Fail> {
+    let mut fuses = Vec::new(alloc);
+    let mut at = scenario.stores.len();
+    for disk in disks_of(alloc, scenario)? {
+        let writes = if at == place { k } else { u64::MAX };
+        fuses.push(fuse_over(alloc, disk, writes, new)?)?;
+        at = at.saturating_sub(1);
+    }
+    Machine::new(alloc, fuses, scenario.chunk, true)
+}
+
+/// Stops a run at the write `k` of a device, and tells whether it had so many.
+fn stop_at(
+    alloc: Global,
+    scenario: &Scenario,
+    place: usize,
+    k: u64,
+    new: &[bool],
+) -> Result<bool, Fail> {
+    let mut machine = fused(alloc, scenario, place, k, new)?;
+    if machine.run(alloc, scenario.steps)? {
+        load_again(alloc, machine)?;
+        return Ok(true);
+    }
+    machine.hold_snaps()?;
+    machine.hold(Dev::Origin)?;
+    Ok(false)
+}
+
+/// Stops runs at each write of a device, and tells how many there were.
+pub fn stop_at_each(
+    alloc: Global,
+    scenario: &Scenario,
+    place: usize,
+    new: &[bool],
+) -> Result<u64, Fail> {
+    for k in 0..MOST {
+        if !stop_at(alloc, scenario, place, k, new)? {
+            return Ok(k);
+        }
+    }
+    Err(Fail::from("writes without an end"))
+}
+
+/// Stops runs at each write of each device, in each way, and tells how many there were.
+fn stop_everywhere(alloc: Global, scenario: &Scenario) -> Result<u64, Fail> {
+    let ways = if scenario.chunk == 1 {
+        ONE_SECTOR.as_slice()
+    } else {
+        TWO_SECTORS.as_slice()
+    };
+    let mut count = 0u64;
+    for place in 0..=scenario.stores.len() {
+        for new in ways {
+            count = count.saturating_add(stop_at_each(alloc, scenario, place, new)?);
+        }
+    }
+    Ok(count)
+}
+
+/// Stops runs everywhere, in chunks of one sector and of two.
+fn stop_in_both(
+    alloc: Global,
+    stores: &'static [u64],
+    steps: &'static [Step],
+) -> Result<u64, Fail> {
+    let mut count = 0u64;
+    for chunk in [1, 2] {
+        let scenario = Scenario {
+            chunk,
+            stores,
+            written: false,
+            steps,
+        };
+        count = count.saturating_add(stop_everywhere(alloc, &scenario)?);
+    }
+    Ok(count)
+}
+
+#[test]
+fn a_stop_within_a_first_attach(rt: HostRuntime) -> Result<(), Fail> {
+    let count = stop_in_both(rt.alloc(), &[64], &ATTACH)?;
+    // The first area and the header are written.
+    assert_eq!(rt; count, 2 * 2 + 2 * 4);
+    Ok(())
+}
+
+#[test]
+fn a_stop_within_the_attach_of_a_written_store(rt: HostRuntime) -> Result<(), Fail> {
+    let scenario = Scenario {
+        chunk: 1,
+        stores: &[64],
+        written: true,
+        steps: &ATTACH_WRITTEN,
+    };
+    let count = stop_everywhere(rt.alloc(), &scenario)?;
+    // The area is written without what stood behind its last pair.
+    assert_eq!(rt; count, 2);
+    Ok(())
+}
+
+#[test]
+fn a_stop_within_one_copy(rt: HostRuntime) -> Result<(), Fail> {
+    let count = stop_in_both(rt.alloc(), &[64], &ONE_COPY)?;
+    // The store is made ready by two writes, the copy and its pair are written, and one write reaches the origin.
+    assert_eq!(rt; count, 5 * 2 + 5 * 4);
+    Ok(())
+}
+
+#[test]
+fn a_stop_within_a_whole_area(rt: HostRuntime) -> Result<(), Fail> {
+    let count = stop_in_both(rt.alloc(), &[64], &WHOLE_AREA)?;
+    // At least each chunk is copied and written.
+    assert!(rt; count > 33 * 2 * 6, "{count}");
+    Ok(())
+}
+
+#[test]
+fn a_stop_within_a_long_merge(rt: HostRuntime) -> Result<(), Fail> {
+    let count = stop_in_both(rt.alloc(), &[64], &LONG_MERGE)?;
+    // At least each chunk is copied, written and merged.
+    assert!(rt; count > 40 * 3 * 6, "{count}");
+    Ok(())
+}
+
+#[test]
+fn a_stop_within_a_merge_beside_a_snapshot(rt: HostRuntime) -> Result<(), Fail> {
+    let count = stop_in_both(rt.alloc(), &[64, 64], &MERGE_BESIDE)?;
+    assert!(rt; count > 60, "{count}");
+    Ok(())
+}
+
+#[test]
+fn a_stop_within_a_merge_that_is_written(rt: HostRuntime) -> Result<(), Fail> {
+    let count = stop_in_both(rt.alloc(), &[64], &WRITTEN_MERGE)?;
+    assert!(rt; count > 60, "{count}");
+    Ok(())
+}
+
+#[test]
+fn a_stop_beside_a_spoil(rt: HostRuntime) -> Result<(), Fail> {
+    let scenario = Scenario {
+        chunk: 1,
+        stores: &[35],
+        written: false,
+        steps: &FULL_STORE,
+    };
+    let count = stop_everywhere(rt.alloc(), &scenario)?;
+    assert!(rt; count > 33 * 2 * 2, "{count}");
+    Ok(())
+}

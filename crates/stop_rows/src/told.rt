@@ -1,0 +1,41 @@
+// What failed in an event, and whether its outcome tells that and nothing else.
+use crate::arrays::Arrays;
+use crate::calls::{is_spoilt, store_faults};
+use device::Block;
+use plain::{Event, Failure, Outcome, Reply};
+use volume::Volume;
+
+/// How many operations of a volume's devices failed, and how many of its snapshots are spoiled or stopped merging.
+#[derive(Clone, Copy)]
+pub struct Failures {
+    pub faults: u64,
+    pub lost: u64,
+}
+
+/// What failed so far.
+pub fn failed<B: Block>(volume: &Volume<B>, arrays: &Arrays) -> Failures {
+    let mut faults = volume.origin().faults();
+    let mut lost = u64::from(volume.is_merge_failed());
+    for snap in &arrays.snaps {
+        faults = faults.wrapping_add(store_faults(volume, snap.number));
+        lost = lost.wrapping_add(u64::from(is_spoilt(volume, snap.number)));
+    }
+    Failures { faults, lost }
+}
+
+/// How many operations failed and how many snapshots were lost in an event with such an outcome.
+fn wanted(event: Event, outcome: &Outcome) -> (u64, u64) {
+    match (event, outcome) {
+        (Event::WriteInvalid(_), Outcome::Fault) => (1, 0),
+        (_, Outcome::Fault) => (1, 1),
+        (_, Outcome::Reply(_, Reply::Refused(Failure::Io))) => (1, 0),
+        _ => (0, 0),
+    }
+}
+
+/// Whether an outcome tells what failed in an event, and nothing else.
+pub fn is_told(event: Event, outcome: &Outcome, before: Failures, after: Failures) -> bool {
+    let faults = after.faults.wrapping_sub(before.faults);
+    let lost = after.lost.wrapping_sub(before.lost);
+    wanted(event, outcome) == (faults, lost)
+}
