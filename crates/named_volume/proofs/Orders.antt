@@ -1,5 +1,5 @@
 -- The snapshots of a volume over stacks in order, as the settled machine has them.
-use Rattle.std.proofs.Common.{◌≡◌, ℕ, ◌<◌, List, length, map, sym, ap, ◌∙◌, subst}
+use Rattle.std.proofs.Common.{◌≡◌, ◌<◌, List, length, map, sym, ◌∙◌, subst}
 use Rattle.std.specs.Prelude.{Option, AllPairs, is_some}
 use Rattle.std.proofs.lemmas.List.{length-map}
 use Rattle.layers.specs.declared.stack.Stack.{Stack}

@@ -12,7 +12,7 @@ use Rattle.event_machine.specs.MergeRest.{in_big_steps}
 use Rattle.volume.specs.Moved.{moving_of}
 use Rattle.volume.specs.Volumed.{Volumed}
 use Rattle.volume.proofs.Relayered.{map_twice}
-use Rattle.resting.specs.Rested.{Attached, Rested, merged_of, numbers_of, rested_of, settled_of, snap_of}
+use Rattle.resting.specs.Rested.{Rested, merged_of, numbers_of, rested_of, settled_of, snap_of}
 use Rattle.resting.specs.Showing.{Arrays, arrays_in, entry_of, AreKept, IsGoneOn}
 use Rattle.resting.proofs.Parts.{kept_none}
 use Rattle.resting.proofs.PlainReads.{IsUnder, under_by}

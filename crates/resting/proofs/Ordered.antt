@@ -1,12 +1,12 @@
 -- A quiet volume, no device of which drops writes, is in order.
 use Rattle.std.proofs.Common.{◌≡◌, ℕ, ◌<◌, true, List, [], ◌∷◌, map, refl, ap, ◌∙◌, sym, subst}
-use Rattle.std.specs.Prelude.{AllPairs, Option, Some, None}
+use Rattle.std.specs.Prelude.{AllPairs, Some, None}
 use Rattle.std.specs.List.{All}
 use Rattle.device.specs.Layers.{Layer}
 use Rattle.chunk.specs.Sizes.{is_chunk}
 use Rattle.chunk.proofs.Limits.{is_chunk-some}
 use Rattle.settled.specs.Snaps.{Snap}
-use Rattle.settled.specs.Merges.{Merge, Merged, Merging}
+use Rattle.settled.specs.Merges.{Merged}
 use Rattle.settled.specs.MergeShown.{IsMerging, IsWell as IsOrderly}
 use Rattle.settled.proofs.Each.{Each, all_from}
 use Rattle.served.specs.Beside.{chunk_beside}
