@@ -1,0 +1,2 @@
+mod Held
+mod Moves
