@@ -1,0 +1,71 @@
+-- What callers see of a rig, of its seats and of what it is made from. This project's own.
+use Rattle.std.specs.Prelude.{◌≡◌, ◌+◌, ◌<◌, ℕ, List, [], ◌++◌, length, map, slice_index_or}
+use Rattle.std.specs.List.{All}
+use Rattle.atomic_table.specs.Seated.{TableId}
+use Rattle.copier.specs.Passes.{Queue}
+use Rattle.device.specs.Layers.{Layer}
+use Rattle.journal.specs.declared.entry.Entry.{Entry}
+use Rattle.journal.specs.declared.entry.Receipt.{Receipt}
+use Rattle.journal.specs.Books.{AuditShape}
+use Rattle.journal.specs.Entries.{answered_of, entries_by}
+use Rattle.rig.specs.Fixed.{Fixed, StaysFrom, fixed_of}
+use Rattle.rig.specs.Names.{no_table, nothing_fixed}
+use Rattle.rig.specs.Sittings.{SittingShape}
+
+-- how many workers there are
+pub record RigShape : Type 0 where
+  pub workers : ℕ
+
+-- What callers see of a seat: its number, from 1 to 8, and how it sits at each volume.
+pub record SeatShape : Type 0 where
+  pub number : ℕ
+  pub sittings : List SittingShape
+
+-- a seat at a volume between two of its calls
+pub record IsIdle (number k : ℕ) (s : SittingShape) : Type 0 where
+  pub seat : s.seat ≡ number
+  pub volume : s.volume ≡ k
+  pub waits : s.waits ≡ []
+
+-- it sits at each volume, the volume's place being its own
+abbrev pub AreIdle : ℕ → List SittingShape → Type 0
+AreIdle number sittings = (k : ℕ) (d : SittingShape) → k < length sittings → IsIdle number k (slice_index_or sittings k d)
+
+-- the tables of new histories, each with the entries that it began with, and the queue of tickets
+pub record OpenedShape : Type 0 where
+  pub tables : List TableId
+  pub entries : List (List Entry)
+  pub queue : Queue
+
+abbrev pub histories_in : OpenedShape → ℕ → TableId
+histories_in o k = slice_index_or o.tables k no_table
+
+abbrev pub start_in : {B : Type 0} → List (AuditShape B) → ℕ → List Entry
+start_in audits k = slice_index_or (map (λ a. a.entries) audits) k []
+
+abbrev pub fixed_in : {B : Type 0} → (B → ℕ) → (B → List Layer) → List (AuditShape B) → ℕ → Fixed
+fixed_in size layers audits k = slice_index_or (map (fixed_of size layers) audits) k nothing_fixed
+
+-- The room is that of these audits and of what was opened for them.
+pub record IsRoomOf {B : Type 0} (size : B → ℕ) (layers : B → List Layer) (audits : List (AuditShape B)) (opened : OpenedShape) (volumes : ℕ) (history : ℕ → TableId) (start : ℕ → List Entry) (queue : Queue) (fixed : ℕ → Fixed) : Type 0 where
+  pub entries : opened.entries ≡ map (λ a. a.entries) audits
+  pub volumes_are : volumes ≡ length audits
+  pub histories : history ≡ histories_in opened
+  pub starts : start ≡ start_in audits
+  pub queue_is : queue ≡ opened.queue
+  pub fixed_is : fixed ≡ fixed_in size layers audits
+
+-- the receipts of the volume at a place
+abbrev pub receipts_at : SeatShape → ℕ → List Receipt
+receipts_at s k = (slice_index_or s.sittings k (record { volume = k; seat = s.number; receipts = []; waits = []; room = 0 })).receipts
+
+-- A call added these receipts at one volume, and left the seat as it was at the others.
+pub record HasAdded (volume : ℕ) (more : List Receipt) (old new : SeatShape) : Type 0 where
+  pub number : new.number ≡ old.number
+  pub here : receipts_at new volume ≡ receipts_at old volume ++ more
+  pub others : (k : ℕ) → (k ≡ volume → ⊥) → receipts_at new k ≡ receipts_at old k
+
+-- A seat's receipts of a volume are its entries in the journal after those that it had, in their order, and there are as
+-- many.
+abbrev pub IsSettledAt : {B : Type 0} → List Entry → AuditShape B → ℕ → SeatShape → Type 0
+IsSettledAt start audit k s = entries_by s.number audit.entries ≡ entries_by s.number start ++ map answered_of (receipts_at s k)
