@@ -1,5 +1,5 @@
 -- What callers see of a rig, of its seats and of what it is made from. This project's own.
-use Rattle.std.specs.Prelude.{◌≡◌, ◌+◌, ◌<◌, ℕ, List, [], ◌++◌, length, map, slice_index_or}
+use Rattle.std.specs.Prelude.{◌≡◌, ◌⊎◌, ◌+◌, ◌<◌, ℕ, List, [], ◌∷◌, ◌++◌, length, map, slice_index_or}
 use Rattle.std.specs.List.{All}
 use Rattle.atomic_table.specs.Seated.{TableId}
 use Rattle.copier.specs.Passes.{Queue}
@@ -8,6 +8,15 @@ use Rattle.journal.specs.declared.entry.Entry.{Entry}
 use Rattle.journal.specs.declared.entry.Receipt.{Receipt}
 use Rattle.journal.specs.Books.{AuditShape}
 use Rattle.journal.specs.Entries.{answered_of, entries_by}
+use Rattle.chunk.specs.Pieces.{Span}
+use Rattle.plain.specs.Failures.{refusal_of}
+use Rattle.plain.specs.declared.request.Dev.{Dev}
+use Rattle.plain.specs.declared.request.Failure.{Failure}
+use Rattle.plain.specs.declared.request.Op.{Op}
+use Rattle.plain.specs.declared.request.Reply.{Reply}
+use Rattle.plain.specs.declared.request.Reply.TheVariants.{Refused}
+use Rattle.sector.specs.declared.refusal.Refusal.{Refusal}
+use Rattle.rig.specs.Served.{IsOf}
 use Rattle.rig.specs.Fixed.{Fixed, StaysFrom, fixed_of}
 use Rattle.rig.specs.Names.{no_table, nothing_fixed}
 use Rattle.rig.specs.Sittings.{SittingShape}
@@ -30,6 +39,11 @@ pub record IsIdle (number k : ℕ) (s : SittingShape) : Type 0 where
 -- it sits at each volume, the volume's place being its own
 abbrev pub AreIdle : ℕ → List SittingShape → Type 0
 AreIdle number sittings = (k : ℕ) (d : SittingShape) → k < length sittings → IsIdle number k (slice_index_or sittings k d)
+
+-- the table of a new history, with the entries that it began with
+pub record OpenedAt : Type 0 where
+  pub table : TableId
+  pub entries : List Entry
 
 -- the tables of new histories, each with the entries that it began with, and the queue of tickets
 pub record OpenedShape : Type 0 where
@@ -65,7 +79,20 @@ pub record HasAdded (volume : ℕ) (more : List Receipt) (old new : SeatShape) :
   pub here : receipts_at new volume ≡ receipts_at old volume ++ more
   pub others : (k : ℕ) → (k ≡ volume → ⊥) → receipts_at new k ≡ receipts_at old k
 
+-- One piece was not done. There is a receipt of its failure; or of its being done, and then memory was refused; or none.
+abbrev pub IsPieceCut : (List ℕ → Op) → (List ℕ → Reply) → Dev → Span → Refusal → ℕ → SeatShape → SeatShape → Type 0
+IsPieceCut op reply dev piece refusal volume old new =
+    HasAdded volume [] old new
+    ⊎ ((own : List ℕ) × (r : Receipt) × IsOf dev (op own) piece r × HasAdded volume (r ∷ []) old new
+        × ((r.reply ≡ reply own) ⊎ ((failure : Failure) × (r.reply ≡ Refused failure) × (refusal ≡ refusal_of failure))))
+
 -- A seat's receipts of a volume are its entries in the journal after those that it had, in their order, and there are as
 -- many.
 abbrev pub IsSettledAt : {B : Type 0} → List Entry → AuditShape B → ℕ → SeatShape → Type 0
 IsSettledAt start audit k s = entries_by s.number audit.entries ≡ entries_by s.number start ++ map answered_of (receipts_at s k)
+
+-- seat i, from 0, has number i + 1 and no receipts
+pub record AreNewSeats (seats : ℕ) (all : List SeatShape) : Type 0 where
+  pub many : length all ≡ seats
+  pub numbers : (i : ℕ) (d : SeatShape) → i < seats → (slice_index_or all i d).number ≡ i + 1
+  pub none : (i : ℕ) (d : SeatShape) (k : ℕ) → i < seats → receipts_at (slice_index_or all i d) k ≡ []

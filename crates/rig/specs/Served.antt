@@ -13,9 +13,9 @@ use Rattle.journal.specs.declared.entry.Receipt.{Receipt}
 
 -- a receipt of an operation on a piece of a device
 pub record IsOf (dev : Dev) (op : Op) (piece : Span) (r : Receipt) : Type 0 where
-  pub dev : r.request.dev ≡ dev
-  pub op : r.request.op ≡ op
-  pub piece : span_of r.request.range ≡ piece
+  pub goes_to : r.request.dev ≡ dev
+  pub asks : r.request.op ≡ op
+  pub covers : span_of r.request.range ≡ piece
 
 module _ (op : List ℕ → Op) (reply : List ℕ → Reply) (dev : Dev) where
   -- receipts of these pieces, one for each and in order, each with its bytes and that it was done; all bytes together

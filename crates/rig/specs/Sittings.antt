@@ -21,21 +21,21 @@ pub record IsSeat (history : TableId) (seat : ℕ) (me : Seat Told View) : Type 
 
 -- the same seat, which knows the same
 pub record IsSameSeat (history : TableId) (seat : ℕ) (before after : Seat Told View) : Type 0 where
-  pub seat : IsSeat history seat after
+  pub is_seat : IsSeat history seat after
   pub old : after.me.0.old ≡ before.me.0.old
   pub mine : after.me.0.mine ≡ before.me.0.mine
   pub waits : after.me.0.waits ≡ before.me.0.waits
 
 -- one request more is in flight for the seat
 pub record IsAsked (history : TableId) (seat number : ℕ) (request : Request) (before after : Seat Told View) : Type 0 where
-  pub seat : IsSeat history seat after
+  pub is_seat : IsSeat history seat after
   pub old : after.me.0.old ≡ before.me.0.old
   pub mine : after.me.0.mine ≡ before.me.0.mine
   pub waits : after.me.0.waits ≡ before.me.0.waits ++ record { number = number; seat = seat; request = request } ∷ []
 
 -- The seat has one entry more, which the receipt is for: it answers the request that the seat waited for.
 pub record IsReceipted (history : TableId) (seat : ℕ) (before after : Seat Told View) (answer : Reply) (receipt : Receipt) : Type 0 where
-  pub seat : IsSeat history seat after
+  pub is_seat : IsSeat history seat after
   pub old : after.me.0.old ≡ before.me.0.old
   pub mine : after.me.0.mine ≡ before.me.0.mine ++ answered_of receipt ∷ []
   pub reply : receipt.reply ≡ answer
