@@ -1,0 +1,2 @@
+mod Fresh
+mod Staying

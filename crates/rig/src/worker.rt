@@ -19,6 +19,7 @@ pub struct Worker<J: Room> {
 }
 
 // Does copies of the volumes at these places.
+#[derive(Drop)]
 struct Copying<'a, B: Layered, J: Room> {
     places: &'a [Place<B, J>],
 }
