@@ -1,2 +1,2 @@
 mod Held
-mod Moves
+pub mod Moves

@@ -48,8 +48,8 @@ impl<B: Layered> Audit<B> {
         }
     }
 
-    /// Does one event that replies to nobody, for nobody: it is none that issues a request.
-    pub fn other(&mut self, event: Event) -> Result<Outcome, NotDue>
+    /// Does one event that replies to nobody.
+    fn other(&mut self, event: Event) -> Result<Outcome, NotDue>
         requires { (n : ℕ) → event ≢ Issue n }
         ensures noted { IfOk result (λ outcome. IsNoted 0 outcome None self.old self.new) }
         ensures base { KeepsBase self.old self.new }

@@ -101,13 +101,6 @@ impl<B: Layered> Audit<B> {
         self.entries.as_slice()
     }
 
-    /// The same entries as the list that holds them.
-    pub fn entry_list(&self) -> &Vec<Entry>
-        ensures { result.now.items ≡ self.now.entries }
-    {
-        &self.entries
-    }
-
     /// Whether a receipt is for an entry of the journal: the seat's request entry with its count has its request and its
     /// reply.
     pub fn check(&self, receipt: &Receipt) -> Verdict

@@ -1,5 +1,5 @@
 -- What callers see of a rig, of its seats and of what it is made from. This project's own.
-use Rattle.std.specs.Prelude.{◌≡◌, ◌⊎◌, ◌+◌, ◌<◌, ℕ, List, [], ◌∷◌, ◌++◌, length, map, slice_index_or}
+use Rattle.std.specs.Prelude.{◌≡◌, ◌⊎◌, ◌+◌, ◌<◌, ◌≤◌, ℕ, List, [], ◌∷◌, ◌++◌, length, map, slice_index_or}
 use Rattle.std.specs.List.{All}
 use Rattle.atomic_table.specs.Seated.{TableId}
 use Rattle.copier.specs.Passes.{Queue}
@@ -40,19 +40,36 @@ pub record IsIdle (number k : ℕ) (s : SittingShape) : Type 0 where
 abbrev pub AreIdle : ℕ → List SittingShape → Type 0
 AreIdle number sittings = (k : ℕ) (d : SittingShape) → k < length sittings → IsIdle number k (slice_index_or sittings k d)
 
--- the table of a new history, with the entries that it began with
+-- the table of a new history, and the number of the next seat
 pub record OpenedAt : Type 0 where
   pub table : TableId
-  pub entries : List Entry
+  pub next : ℕ
 
--- the tables of new histories, each with the entries that it began with, and the queue of tickets
+-- the new histories, the queue of tickets, and the parts of the right to it that are not dealt
 pub record OpenedShape : Type 0 where
-  pub tables : List TableId
-  pub entries : List (List Entry)
+  pub volumes : List OpenedAt
   pub queue : Queue
+  pub parts : ℕ
+
+-- so many volumes were opened, and nobody was dealt a seat or a pass
+pub record AreOpened (volumes : ℕ) (o : OpenedShape) : Type 0 where
+  pub many : length o.volumes ≡ volumes
+  pub nexts : (k : ℕ) (d : OpenedAt) → k < volumes → (slice_index_or o.volumes k d).next ≡ 1
+  pub all_parts : o.parts ≡ 1024
+
+-- The first volumes have dealt a seat more than the others, whose next one has this number.
+pub record AreDealt (history : ℕ → TableId) (volumes next front : ℕ) (opened : List OpenedAt) : Type 0 where
+  pub many : length opened ≡ volumes
+  pub tables : (k : ℕ) (d : OpenedAt) → k < volumes → (slice_index_or opened k d).table ≡ history k
+  pub firsts : (k : ℕ) (d : OpenedAt) → k < volumes → k < front → (slice_index_or opened k d).next ≡ next + 1
+  pub others : (k : ℕ) (d : OpenedAt) → k < volumes → front ≤ k → (slice_index_or opened k d).next ≡ next
+
+-- no receipts yet
+abbrev pub HasNoReceipts : List SittingShape → Type 0
+HasNoReceipts sittings = (k : ℕ) (d : SittingShape) → k < length sittings → (slice_index_or sittings k d).receipts ≡ []
 
 abbrev pub histories_in : OpenedShape → ℕ → TableId
-histories_in o k = slice_index_or o.tables k no_table
+histories_in o k = (slice_index_or o.volumes k (record { table = no_table; next = 0 })).table
 
 abbrev pub start_in : {B : Type 0} → List (AuditShape B) → ℕ → List Entry
 start_in audits k = slice_index_or (map (λ a. a.entries) audits) k []
@@ -60,9 +77,15 @@ start_in audits k = slice_index_or (map (λ a. a.entries) audits) k []
 abbrev pub fixed_in : {B : Type 0} → (B → ℕ) → (B → List Layer) → List (AuditShape B) → ℕ → Fixed
 fixed_in size layers audits k = slice_index_or (map (fixed_of size layers) audits) k nothing_fixed
 
+-- an audit with no request in flight, as its volume was when the rig was made
+pub record IsStart {B : Type 0} (start : List Entry) (fixed now : Fixed) (a : AuditShape B) : Type 0 where
+  pub entries : a.entries ≡ start
+  pub held : a.held ≡ []
+  pub fixed_is : now ≡ fixed
+
 -- The room is that of these audits and of what was opened for them.
 pub record IsRoomOf {B : Type 0} (size : B → ℕ) (layers : B → List Layer) (audits : List (AuditShape B)) (opened : OpenedShape) (volumes : ℕ) (history : ℕ → TableId) (start : ℕ → List Entry) (queue : Queue) (fixed : ℕ → Fixed) : Type 0 where
-  pub entries : opened.entries ≡ map (λ a. a.entries) audits
+  pub is_opened : AreOpened (length audits) opened
   pub volumes_are : volumes ≡ length audits
   pub histories : history ≡ histories_in opened
   pub starts : start ≡ start_in audits

@@ -57,14 +57,14 @@ abbrev pub waits_of : List View → List Seated
 waits_of [] = []
 waits_of (v ∷ vs) = v.waits
 
--- the pass knows just the entries of the receipts, after those that the journal had
-pub record SittingHolds (history : TableId) (start : List Entry) (seat : ℕ) (pass : Badge View) (receipts : List Receipt) : Type 0 where
+-- the pass knows just the entries of the receipts
+pub record SittingHolds (history : TableId) (seat : ℕ) (pass : Badge View) (receipts : List Receipt) : Type 0 where
   pub view : View
   pub has : pass.views ≡ view ∷ []
   pub table : pass.table_id ≡ history
   pub sits : view.sits ≡ true
   pub number : view.seat ≡ seat
-  pub old : view.old ≡ start
+  pub old : view.old ≡ []
   pub mine : view.mine ≡ map answered_of receipts
 
 -- nothing but the room changed

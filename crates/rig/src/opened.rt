@@ -3,7 +3,7 @@ use copier::{Pass, Tickets};
 use history::History;
 use std::marker::Model;
 
-/// The history of one volume, with the keeper's pass, before any seat.
+/// The history of one volume, with the keeper's pass. Contracts see its table, and the number of the next seat.
 #[derive(Drop)]
 pub struct OpenedVolume {
     pub(crate) history: History,
@@ -15,17 +15,17 @@ impl Model for OpenedVolume {
 
     ghost Value = { OpenedAt };
 
-    ghost use Rattle.std.specs.Prelude.{◌≡◌};
+    ghost use Rattle.std.specs.Prelude.{◌≡◌, []};
     ghost use Rattle.history.specs.Keeping.{knower};
     ghost use Rattle.history.specs.Ties.{IsPassOf, table_of};
 
-    ghost view = { λ o. record { table = table_of o.history; entries = o.keeper.me.0.all } };
+    ghost view = { λ o. record { table = table_of o.history; next = o.keeper.me.0.dealt } };
 
-    ghost invariant = { λ o. IsPassOf (table_of o.history) o.keeper × (o.keeper.me.0 ≡ knower o.keeper.me.0.all 1) };
+    ghost invariant = { λ o. IsPassOf (table_of o.history) o.keeper × (o.keeper.me.0 ≡ knower [] o.keeper.me.0.dealt) };
 }
 
-/// Tables and first passes for the audits of a rig, and its queue of tickets. They are made before the rig, so that the caller
-/// can name them. Contracts see the volumes' tables, each with the entries that it began with, and the queue.
+/// Tables and first passes for the volumes of a rig, and its queue of tickets. They are made before the rig, so that the caller
+/// can name them. Contracts see the tables, the queue, and how many passes of it are left.
 #[derive(Drop)]
 pub struct Opened {
     pub(crate) volumes: Vec<OpenedVolume>,
@@ -38,10 +38,9 @@ impl Model for Opened {
 
     ghost Value = { OpenedShape };
 
-    ghost use Rattle.std.specs.Prelude.{◌≡◌, [], map};
-    ghost use Rattle.copier.specs.Passes.{passed};
+    ghost use Rattle.std.specs.Prelude.{◌≡◌, []};
 
-    ghost view = { λ o. record { tables = map (λ v. v.table) o.volumes.items; entries = map (λ v. v.entries) o.volumes.items; queue = o.tickets } };
+    ghost view = { λ o. record { volumes = o.volumes.items; queue = o.tickets; parts = o.pass.parts } };
 
-    ghost invariant = { λ o. o.pass ≡ passed o.tickets 1024 [] [] };
+    ghost invariant = { λ o. o.pass.queue ≡ o.tickets };
 }

@@ -1,51 +1,64 @@
-// A rig is made.
-ghost use Rattle.std.specs.Prelude.{◌≡◌, ◌<◌, [], length, map, IfOk, IfErr};
-ghost use Rattle.std.specs.List.{All};
-ghost use Rattle.sector.specs.declared.refusal.Refusal.TheVariants.{NoMemory};
-ghost use Rattle.rig.specs.Rigs.{AreNewSeats, IsRoomOf};
+// What a rig is made from is made, and seats and passes are dealt.
+ghost use Rattle.std.specs.Prelude.{◌≡◌, ◌+◌, ◌-◌, ◌<◌, ℕ, [], length, slice_index_or, map, IfOk};
+ghost use Rattle.rig.specs.Rigs.{AreOpened};
+ghost use Rattle.rig.specs.Sittings.{IsSeat};
 
-use crate::opened::Opened;
-use crate::rig::Rig;
+use crate::opened::{Opened, OpenedVolume};
+use crate::queue::QueuePass;
 use crate::room::Room;
 use crate::seat::Seat;
-use crate::worker::Worker;
-use copier::Gate;
-use journal::Audit;
-use layers::Layered;
-use sector::Refusal;
+use crate::sitting::Sitting;
+use copier::Tickets;
+use history::{History, Pass};
 use std::alloc::{AllocError, Global};
+use std::marker::PhantomData;
 
-impl Opened {
-    /// Tables for these audits, and a queue. `AllocError` where memory is refused.
-    pub fn new<B: Layered>(alloc: Global, audits: &Vec<Audit<B>>) -> Result<Opened, AllocError>
-        ensures { IfOk result (λ o. o.entries ≡ map (λ a. a.entries) audits.now.items) }
+impl OpenedVolume {
+    /// A history that begins with no entry.
+    fn new(alloc: Global) -> Result<OpenedVolume, AllocError>
+        ensures { IfOk result (λ o. o.next ≡ 1) }
     {
-        let _ = alloc;
-        let _ = audits;
-        Err(AllocError)
+        let none = Vec::new(alloc);
+        let (history, keeper) = History::new(alloc, &none)?;
+        Ok(OpenedVolume { history, keeper })
+    }
+
+    /// The pass of the next seat.
+    fn deal(&mut self) -> Pass
+        ensures dealt { self.new ≡ record { table = self.old.table; next = self.old.next + 1 } }
+        ensures seat { IsSeat self.old.table self.old.next result }
+        ensures none { (result.me.0.old ≡ []) × (result.me.0.mine ≡ []) × (result.me.0.waits ≡ []) }
+    {
+        self.history.deal(&mut self.keeper)
     }
 }
 
-impl<B: Layered, G: Gate + Drop, J: Room> Rig<B, G, J> {
-    /// A rig over audited volumes that have no request in flight, with so many workers, 4 at most, and so many seats, 8 at most.
-    /// `NoMemory` where memory is refused, with the audits as they were.
-    pub fn new(
-        alloc: Global,
-        audits: Vec<Audit<B>>,
-        workers: usize,
-        seats: usize,
-        gate: G,
-        opened: Opened,
-    ) -> Result<(Rig<B, G, J>, Vec<Worker<J>>, Vec<Seat<J>>), (Refusal, Vec<Audit<B>>)>
-        requires many { (workers < 5) × (seats < 9) }
-        requires room { IsRoomOf B.size B.layers audits.items opened J.volumes J.history J.start J.queue J.fixed }
-        requires quiet { All (λ a. a.held ≡ []) audits.items }
-        ensures ok { IfOk result (λ r. (r.0.workers ≡ workers) × (length r.1.items ≡ workers) × AreNewSeats seats r.2.items) }
-        ensures err { IfErr result (λ e. e ≡ record { 0 = NoMemory; 1 = audits }) }
+impl Opened {
+    /// Tables for so many volumes, and a queue. `AllocError` where memory is refused.
+    pub fn new(alloc: Global, volumes: usize) -> Result<Opened, AllocError>
+        ensures { IfOk result (λ o. AreOpened volumes o) }
     {
-        let _ = (alloc, workers, seats);
-        drop(gate);
-        drop(opened);
-        Err((Refusal::NoMemory, audits))
+        let (tickets, pass) = Tickets::new(alloc)?;
+        let mut opened = Vec::new(alloc);
+        for _ in 0..volumes {
+            opened.push(OpenedVolume::new(alloc)?)?;
+        }
+        Ok(Opened {
+            volumes: opened,
+            tickets,
+            pass,
+        })
+    }
+
+    /// A pass to the queue.
+    pub(crate) fn queue_pass<J: Room>(&mut self) -> QueuePass<J>
+        requires queue { self.old.queue ≡ J.queue }
+        requires parts { 1 < self.old.parts }
+        ensures { self.new ≡ record self.old { parts = self.old.parts - 1 } }
+    {
+        QueuePass {
+            pass: self.tickets.another(&mut self.pass),
+            room: PhantomData,
+        }
     }
 }

@@ -29,5 +29,5 @@ impl<B: Layered, G: Gate + Drop, J: Room> Model for Rig<B, G, J> {
 
     ghost view = { λ r. record { workers = r.workers } };
 
-    ghost invariant = { λ r. AreNumbered r.places.items × (length r.places.items ≡ J.volumes) × (r.audits.items ≡ []) × (length r.places.items ≤ vec_capacity r.audits) };
+    ghost invariant = { λ r. AreNumbered (λ p. p.volume) r.places.items × (length r.places.items ≡ J.volumes) × (r.audits.items ≡ []) × (length r.places.items ≤ vec_capacity r.audits) };
 }

@@ -25,5 +25,5 @@ impl<J: Room> Model for Sitting<J> {
 
     ghost view = { λ s. record { volume = s.volume; seat = s.seat; receipts = s.receipts.items; waits = waits_of s.pass.views; room = vec_capacity s.receipts } };
 
-    ghost invariant = { λ s. SittingHolds (J.history s.volume) (J.start s.volume) s.seat s.pass s.receipts.items };
+    ghost invariant = { λ s. SittingHolds (J.history s.volume) s.seat s.pass s.receipts.items };
 }

@@ -23,7 +23,7 @@ use std::mem;
 impl<J: Room> Sitting<J> {
     /// A seat at a volume, with no receipts.
     pub(crate) fn new(alloc: Global, volume: usize, seat: u8, pass: Pass) -> Sitting<J>
-        requires { IsSeat (J.history volume) seat pass × (pass.me.0.old ≡ J.start volume) × (pass.me.0.mine ≡ []) × (pass.me.0.waits ≡ []) }
+        requires { IsSeat (J.history volume) seat pass × (pass.me.0.old ≡ []) × (pass.me.0.mine ≡ []) × (pass.me.0.waits ≡ []) }
         ensures { (result.volume ≡ volume) × (result.seat ≡ seat) × (result.receipts ≡ []) × (result.waits ≡ []) }
     {
         Sitting {

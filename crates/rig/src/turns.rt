@@ -1,5 +1,5 @@
 // What a seat or a worker does while it holds a volume's lock once.
-ghost use Rattle.std.specs.Prelude.{◌≡◌, ◌≢◌, ◌*◌, ◌<◌, ◌∷◌, ℕ, List, [], length, IfSome, IfNone, MatchOption, MatchResult};
+ghost use Rattle.std.specs.Prelude.{◌≡◌, ◌≢◌, ◌*◌, ◌<◌, ◌∷◌, ℕ, List, [], length, true, IfSome, IfNone, MatchOption, MatchResult};
 ghost use Rattle.std.specs.Sync.Mutex.{mutex_guard_value};
 ghost use Rattle.plain.specs.declared.event.Event.TheVariants.{Issue};
 ghost use Rattle.plain.specs.declared.request.Op.TheVariants.{Write};
@@ -78,7 +78,7 @@ pub(crate) fn turn<B: Layered, J: Room, R: Wait>(
     let mut post = locked(rt, place);
     let after = post.last_copy();
     let reply = sitting.issue(&mut post, &place.history, number);
-    if reply.is_none() && !post.advance(&place.history) {
+    if reply.is_none() && !post.advance(rt, &place.history) {
         let _post = place.moved.wait(rt, post);
         return (None, Started { after, last: after });
     }
@@ -92,7 +92,7 @@ pub(crate) fn copy<B: Layered, J: Room, R: Wait>(rt: &R, place: &Place<B, J>, ev
     requires { (n : ℕ) → event ≢ Issue n }
 {
     let mut post = locked(rt, place);
-    post.work(&place.history, event);
+    post.work(rt, &place.history, event);
     place.moved.notify_all();
 }
 
@@ -105,7 +105,7 @@ pub(crate) fn begin<B: Layered, J: Room, R: Wait>(
     let mut post = locked(rt, place);
     let after = post.last_copy();
     let got = post.begin_merge(&place.history, number);
-    if got == Err(Refusal::NotQuiet) && !post.advance(&place.history) {
+    if got == Err(Refusal::NotQuiet) && !post.advance(rt, &place.history) {
         let _post = place.moved.wait(rt, post);
         return (got, Started { after, last: after });
     }
@@ -124,7 +124,7 @@ pub(crate) fn merge_turn<B: Layered, J: Room, R: Wait>(
     if post.is_merge_over() {
         return (true, Started { after, last: after });
     }
-    if !post.advance(&place.history) {
+    if !post.advance(rt, &place.history) {
         let _post = place.moved.wait(rt, post);
         return (false, Started { after, last: after });
     }

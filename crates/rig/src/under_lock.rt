@@ -10,7 +10,7 @@ ghost use Rattle.history.specs.Ties.{table_of};
 ghost use Rattle.rig.specs.Fixed.{StaysFrom, fixed_of};
 ghost use Rattle.rig.specs.Sittings.{IsAsked, IsReceipted, IsSameSeat, IsSeat};
 
-use crate::noting::note_from;
+use crate::noting::note_all;
 use crate::post::Post;
 use crate::room::Room;
 use history::{History, Pass};
@@ -20,6 +20,7 @@ use plain::{CopyId, Event, NotDue, Outcome, Reply, ReqId, Request, SnapId};
 use sector::Refusal;
 use std::marker::PhantomData;
 use std::snapshot::Snapshot;
+use std::sync::Wait;
 
 /// The last entry of a journal that has one.
 fn last_of(entries: &[Entry]) -> &Entry
@@ -68,12 +69,12 @@ impl<B: Layered, J: Room> Post<B, J> {
         let from = self.audit.entries().len();
         match self.audit.submit(seat, request) {
             Ok(number) => {
-                note_from(history, &mut self.keeper, self.audit.entries(), from);
+                note_all(history, &mut self.keeper, &self.audit.entries()[from..]);
                 let me = history.ask(&mut self.keeper, me, number, said);
                 (me, Ok(number))
             }
             Err(refusal) => {
-                note_from(history, &mut self.keeper, self.audit.entries(), from);
+                note_all(history, &mut self.keeper, &self.audit.entries()[from..]);
                 (me, Err(refusal))
             }
         }
@@ -111,16 +112,21 @@ impl<B: Layered, J: Room> Post<B, J> {
     }
 
     /// Does an event that is no seat's, where it is due.
-    pub(crate) fn work(&mut self, history: &History, event: Event) -> bool
+    pub(crate) fn work<R: Wait>(&mut self, rt: &R, history: &History, event: Event) -> bool
         requires history { table_of history.now ≡ J.history self.old.volume }
         requires event { (n : ℕ) → event ≢ Issue n }
         ensures volume { self.new.volume ≡ self.old.volume }
     {
         let from = self.audit.entries().len();
-        match self.audit.other(event) {
-            Ok(_) => {
-                note_from(history, &mut self.keeper, self.audit.entries(), from);
+        match self.audit.apply(0, event) {
+            Ok((_, None)) => {
+                note_all(history, &mut self.keeper, &self.audit.entries()[from..]);
                 true
+            }
+            Ok((_, Some(_))) => {
+                // Seat 0 has no request.
+                for _ in rt.forever() {}
+                unreachable!()
             }
             Err(NotDue) => false,
         }
@@ -128,7 +134,7 @@ impl<B: Layered, J: Room> Post<B, J> {
 
     /// Does the event that is due first, where any thread may do it: a request is issued by its seat, and a copy is done by
     /// the worker that has its ticket. Tells whether it did one.
-    pub(crate) fn advance(&mut self, history: &History) -> bool
+    pub(crate) fn advance<R: Wait>(&mut self, rt: &R, history: &History) -> bool
         requires history { table_of history.now ≡ J.history self.old.volume }
         ensures volume { self.new.volume ≡ self.old.volume }
     {
@@ -139,17 +145,17 @@ impl<B: Layered, J: Room> Post<B, J> {
             Event::Issue(_) => false,
             Event::CopyRead(_) => false,
             Event::CopyWrite(_) => false,
-            Event::ZeroNext(number) => self.work(history, Event::ZeroNext(number)),
-            Event::WriteArea(number) => self.work(history, Event::WriteArea(number)),
-            Event::Publish(number) => self.work(history, Event::Publish(number)),
-            Event::WriteInvalid(number) => self.work(history, Event::WriteInvalid(number)),
-            Event::MergeGroup => self.work(history, Event::MergeGroup),
-            Event::MergeAreaRead => self.work(history, Event::MergeAreaRead),
-            Event::MergeRead => self.work(history, Event::MergeRead),
-            Event::MergeWrite => self.work(history, Event::MergeWrite),
-            Event::MergeFlush => self.work(history, Event::MergeFlush),
-            Event::MergeCommit => self.work(history, Event::MergeCommit),
-            Event::MergeRelease => self.work(history, Event::MergeRelease),
+            Event::ZeroNext(number) => self.work(rt, history, Event::ZeroNext(number)),
+            Event::WriteArea(number) => self.work(rt, history, Event::WriteArea(number)),
+            Event::Publish(number) => self.work(rt, history, Event::Publish(number)),
+            Event::WriteInvalid(number) => self.work(rt, history, Event::WriteInvalid(number)),
+            Event::MergeGroup => self.work(rt, history, Event::MergeGroup),
+            Event::MergeAreaRead => self.work(rt, history, Event::MergeAreaRead),
+            Event::MergeRead => self.work(rt, history, Event::MergeRead),
+            Event::MergeWrite => self.work(rt, history, Event::MergeWrite),
+            Event::MergeFlush => self.work(rt, history, Event::MergeFlush),
+            Event::MergeCommit => self.work(rt, history, Event::MergeCommit),
+            Event::MergeRelease => self.work(rt, history, Event::MergeRelease),
         }
     }
 
@@ -161,7 +167,7 @@ impl<B: Layered, J: Room> Post<B, J> {
         let from = self.audit.entries().len();
         match self.audit.begin_merge(number) {
             Ok(()) => {
-                note_from(history, &mut self.keeper, self.audit.entries(), from);
+                note_all(history, &mut self.keeper, &self.audit.entries()[from..]);
                 Ok(())
             }
             Err(refusal) => Err(refusal),
@@ -180,7 +186,7 @@ impl<B: Layered, J: Room> Post<B, J> {
         requires seat { IsSeat (J.history self.old.volume) seat me }
         ensures same { self.new ≡ self.old }
         ensures seat { IsSameSeat (J.history self.old.volume) seat me result }
-        ensures own { entries_by seat self.old.audit.entries ≡ entries_by seat me.me.0.old ++ me.me.0.mine }
+        ensures own { entries_by seat self.old.audit.entries ≡ entries_by seat (J.start self.old.volume) ++ (entries_by seat me.me.0.old ++ me.me.0.mine) }
         ensures waits { held_by seat self.old.audit.held ≡ me.me.0.waits }
     {
         history.settle(&mut self.keeper, me)
