@@ -1,22 +1,23 @@
 -- What a rig leaves of a volume as it was.
 use Rattle.std.proofs.Common.{◌≡◌, ◌⊎◌, inl, inr, ℕ, ◌<◌, ◌==◌, if◌then◌else◌, Bool, true, false, List, [], ◌∷◌, ◌++◌, length, get_or, map, Option, Some, None, refl, sym, ap, ◌∙◌, subst}
 use Rattle.std.specs.Prelude.{◌&&◌, not}
-use Rattle.std.specs.List.{remove}
+use Rattle.std.specs.List.{list_all, remove}
 use Rattle.std.proofs.lemmas.List.{get_or-map, length-map}
-use Rattle.device.specs.Layers.{Layer}
+use Rattle.device.specs.Layers.{Layer, is_loud}
+use Rattle.sector.specs.declared.refusal.Refusal.{Refusal}
 use Rattle.merge.specs.Merging.{Merging}
-use Rattle.merge_beside.specs.Keeping.{kept_back, kept_for}
+use Rattle.merge_beside.specs.Keeping.{kept_back, kept_for, unkept}
 use Rattle.snapshot.specs.Kept.{Kept}
 use Rattle.snapshots.specs.Finding.{place_of_snap}
 use Rattle.snapshots.specs.Numbers.{number_of_snap}
 use Rattle.snapshots.proofs.Finds.{position_within}
 use Rattle.volume_laws.proofs.Lists.{map-remove}
-use Rattle.volume.specs.Beginning.{IsMergeBegun, begin_with, begin_refusal, merging_from}
+use Rattle.volume.specs.Beginning.{IsMergeBegun, IsNotBegun, SameButKept, begin_with, begin_refusal}
 use Rattle.volume.specs.Causes.{counts_with, counts_of}
 use Rattle.volume.specs.Stepping.{KeepsAll, merged_of}
-use Rattle.volume.specs.Volumed.{Volumed, is_loud_in_all}
+use Rattle.volume.specs.Volumed.{Volumed, is_loud_in_all, is_loud_with}
 use Rattle.journal.specs.Books.{AuditShape}
-use Rattle.journal.specs.Journaled.{KeepsBase}
+use Rattle.journal.specs.Journaled.{KeepsBase, KeepsJournal}
 use Rattle.rig.specs.Fixed.{Fixed, HasBegun, HasSame, StaysFrom, fixed_of}
 
 -- device 0 is the origin disk
@@ -103,3 +104,43 @@ stays_begun {B} size layers f a b number stays admitted begun sound loud base =
       loud = loud ∙ stays.loud;
       base = base ∙ stays.base;
     }
+
+unkept_numbers : {B : Type 0} (xs : List (Kept B)) → map number_of_snap (map unkept xs) ≡ map number_of_snap xs
+unkept_numbers [] = refl
+unkept_numbers (x ∷ xs) = ap (λ (l : List ℕ). x.number ∷ l) (unkept_numbers xs)
+
+unkept_chunks : {B : Type 0} (xs : List (Kept B)) → map (λ s. s.state.chunk) (map unkept xs) ≡ map (λ s. s.state.chunk) xs
+unkept_chunks [] = refl
+unkept_chunks (x ∷ xs) = ap (λ (l : List ℕ). x.state.chunk ∷ l) (unkept_chunks xs)
+
+unkept_devices : {B : Type 0} (layers : B → List Layer) (xs : List (Kept B)) → list_all (λ s. is_loud (layers s.device)) (map unkept xs) ≡ list_all (λ s. is_loud (layers s.device)) xs
+unkept_devices layers [] = refl
+unkept_devices layers (x ∷ xs) = ap (λ b. is_loud (layers x.device) && b) (unkept_devices layers xs)
+
+-- snapshots that may keep nothing back any more
+kept_same : {B : Type 0} (size : B → ℕ) (layers : B → List Layer) (a : AuditShape B) (snaps : List (Kept B)) → (snaps ≡ a.volume.snaps) ⊎ (snaps ≡ map unkept a.volume.snaps)
+    → fixed_of size layers (record a { volume = record a.volume { snaps = snaps } }) ≡ fixed_of size layers a
+kept_same size layers a snaps (inl same) = ap (λ ss. fixed_of size layers (record a { volume = record a.volume { snaps = ss } })) same
+kept_same size layers a snaps (inr freed) =
+    ap (λ ss. fixed_of size layers (record a { volume = record a.volume { snaps = ss } })) freed ∙ (λ i. record {
+      attached = a.volume.attached;
+      sectors = size a.volume.origin;
+      numbers = unkept_numbers a.volume.snaps i;
+      chunks = unkept_chunks a.volume.snaps i;
+      merged = merged_of a.volume.merge;
+      sound = is_loud_with layers a.volume.merge (is_loud (layers a.volume.origin) && unkept_devices layers a.volume.snaps i);
+      loud = a.loud;
+      base = a.base;
+    })
+
+-- a merge did not begin
+pub stays_not_begun : {B : Type 0} (size : B → ℕ) (layers : B → List Layer) (f : Fixed) (a b : AuditShape B) (number : ℕ) (refusal : Refusal) → StaysFrom f (fixed_of size layers a)
+    → IsNotBegun number refusal a.volume b.volume → KeepsJournal a b → StaysFrom f (fixed_of size layers b)
+stays_not_begun {B} size layers f a b number refusal stays (inl refused) kept =
+    let same : fixed_of size layers b ≡ fixed_of size layers a = ap (fixed_of size layers) kept.becomes ∙ ap (λ (v : Volumed B). fixed_of size layers (record a { volume = v })) refused.1 in
+    subst (StaysFrom f) (sym same) stays
+stays_not_begun {B} size layers f a b number refusal stays (inr starved) kept =
+    let freed : SameButKept a.volume b.volume = starved.2 in
+    let same : fixed_of size layers b ≡ fixed_of size layers a =
+        ap (fixed_of size layers) kept.becomes ∙ ap (λ (v : Volumed B). fixed_of size layers (record a { volume = v })) freed.becomes ∙ kept_same size layers a b.volume.snaps freed.kept in
+    subst (StaysFrom f) (sym same) stays

@@ -161,6 +161,37 @@ impl<J: Room> Seat<J> {
         Ok(Buf::from_vec(out))
     }
 
+    /// Writes a range of a device, piece after piece.
+    fn write_all<B: Layered, G: Gate + Drop, R: Wait>(
+        &mut self,
+        rt: &R,
+        rig: &Rig<B, G, J>,
+        volume: usize,
+        dev: Dev,
+        range: Range,
+        bytes: &[u8],
+    ) -> Result<(), Refusal>
+        requires volume { volume < J.volumes }
+        requires bytes { length bytes.now ≡ 512 * range.count }
+        ensures ok { OnOk result ((more : List Receipt) × HasAdded volume more self.old self.new × IsWrittenBy dev (span_of range) more bytes.now) }
+        ensures err { IfErr result (λ refusal. (more : List Receipt) × HasAdded volume more self.old self.new × IsWriteCut dev (span_of range) more refusal) }
+    {
+        let geometry = Geometry {
+            chunk: piece(rt, &rig.places[volume]),
+            sectors: range.size,
+        };
+        let mut from = 0;
+        for part in geometry.pieces(range) {
+            let to = from + part.count as usize * SECTOR_BYTES;
+            match self.write_piece(rt, rig, volume, dev, part, &bytes[from..to]) {
+                Ok(()) => {}
+                Err(refusal) => return Err(refusal),
+            }
+            from = to;
+        }
+        Ok(())
+    }
+
     /// Writes a range of a device, piece after piece. The first piece that is refused, or that is answered by a failure, ends
     /// it, and those before it stand.
     pub fn write<B: Layered, G: Gate + Drop, R: Wait>(
@@ -177,20 +208,7 @@ impl<J: Room> Seat<J> {
         ensures ok { OnOk result ((more : List Receipt) × HasAdded volume more self.old self.new × IsWrittenBy dev (span_of range) more bytes) }
         ensures err { IfErr result (λ refusal. (more : List Receipt) × HasAdded volume more self.old self.new × IsWriteCut dev (span_of range) more refusal) }
     {
-        let geometry = Geometry {
-            chunk: piece(rt, &rig.places[volume]),
-            sectors: range.size,
-        };
-        let mut from = 0;
-        for part in geometry.pieces(range) {
-            let to = from + part.count as usize * SECTOR_BYTES;
-            match self.write_piece(rt, rig, volume, dev, part, &bytes.as_slice()[from..to]) {
-                Ok(()) => {}
-                Err(refusal) => return Err(refusal),
-            }
-            from = to;
-        }
-        Ok(())
+        self.write_all(rt, rig, volume, dev, range, bytes.as_slice())
     }
 
     /// Merges a snapshot into its origin: begins the merge once the volume is quiet, and works until it can be finished or has

@@ -6,8 +6,6 @@ ghost use Rattle.rig.specs.Sittings.{IsSeat};
 use crate::opened::{Opened, OpenedVolume};
 use crate::queue::QueuePass;
 use crate::room::Room;
-use crate::seat::Seat;
-use crate::sitting::Sitting;
 use copier::Tickets;
 use history::{History, Pass};
 use std::alloc::{AllocError, Global};
@@ -24,7 +22,7 @@ impl OpenedVolume {
     }
 
     /// The pass of the next seat.
-    fn deal(&mut self) -> Pass
+    pub(crate) fn deal(&mut self) -> Pass
         ensures dealt { self.new ≡ record { table = self.old.table; next = self.old.next + 1 } }
         ensures seat { IsSeat self.old.table self.old.next result }
         ensures none { (result.me.0.old ≡ []) × (result.me.0.mine ≡ []) × (result.me.0.waits ≡ []) }

@@ -50,7 +50,14 @@ impl<J: Room> Queue<J> {
     }
 
     /// Tells a worker to stop.
-    pub(crate) fn stop_one<R: Wait>(&self, rt: &R, pass: &mut QueuePass<J>) {
+    fn stop_one<R: Wait>(&self, rt: &R, pass: &mut QueuePass<J>) {
         let _ = self.tickets.put(rt, &mut pass.pass, Ticket::Stop);
+    }
+
+    /// Tells so many workers to stop.
+    pub(crate) fn stop<R: Wait>(&self, rt: &R, pass: &mut QueuePass<J>, workers: usize) {
+        for _ in 0..workers {
+            self.stop_one(rt, pass);
+        }
     }
 }

@@ -19,6 +19,7 @@ use sector::Refusal;
 use std::alloc::{AllocError, Global};
 use std::marker::PhantomData;
 use std::mem;
+use std::sync::Wait;
 
 impl<J: Room> Sitting<J> {
     /// A seat at a volume, with no receipts.
@@ -71,8 +72,9 @@ impl<J: Room> Sitting<J> {
     }
 
     /// Issues the request of this seat that is in flight, if it is due.
-    pub(crate) fn issue<B: Layered>(
+    pub(crate) fn issue<B: Layered, R: Wait>(
         &mut self,
+        rt: &R,
         post: &mut Post<B, J>,
         history: &History,
         number: ReqId,
@@ -86,7 +88,7 @@ impl<J: Room> Sitting<J> {
         ensures none { IfNone result (IsSameSitting self.old self.new × (self.new.room ≡ self.old.room)) }
     {
         let badge = mem::replace(&mut self.pass, Badge::blank());
-        let (pass, got) = post.issue(history, badge.into_seat(), self.seat, number);
+        let (pass, got) = post.issue(rt, history, badge.into_seat(), self.seat, number);
         self.pass = pass.into_badge();
         match got {
             Some(pair) => {

@@ -61,6 +61,28 @@ pub(crate) fn submit<B: Layered, J: Room, R: Wait>(
     (got, Started { after, last })
 }
 
+/// What a seat that waits for its request does under the lock: its own Issue, or another event that is due and that any thread
+/// may do. Tells the reply, and whether it did anything.
+fn act<B: Layered, J: Room, R: Wait>(
+    rt: &R,
+    place: &Place<B, J>,
+    post: &mut Post<B, J>,
+    sitting: &mut Sitting<J>,
+    number: ReqId,
+) -> (Option<Reply>, bool)
+    requires post { post.old.volume ≡ place.now.volume }
+    requires volume { sitting.old.volume ≡ place.now.volume }
+    requires room { length sitting.old.receipts < sitting.old.room }
+    requires one { (x : Seated) × (sitting.old.waits ≡ x ∷ []) }
+    ensures some { IfSome result.0 (λ reply. (r : Receipt) × IsAnswered reply r sitting.old sitting.new) }
+    ensures none { IfNone result.0 (IsSameSitting sitting.old sitting.new × (sitting.new.room ≡ sitting.old.room)) }
+{
+    match sitting.issue(rt, post, &place.history, number) {
+        Some(reply) => (Some(reply), true),
+        None => (None, post.advance(rt, &place.history)),
+    }
+}
+
 /// One turn of a seat that waits for its request: its own Issue, or another event that is due and that any thread may do, or
 /// a wait until something happened.
 pub(crate) fn turn<B: Layered, J: Room, R: Wait>(
@@ -77,10 +99,10 @@ pub(crate) fn turn<B: Layered, J: Room, R: Wait>(
 {
     let mut post = locked(rt, place);
     let after = post.last_copy();
-    let reply = sitting.issue(&mut post, &place.history, number);
-    if reply.is_none() && !post.advance(rt, &place.history) {
+    let (reply, has_moved) = act(rt, place, &mut post, sitting, number);
+    if !has_moved {
         let _post = place.moved.wait(rt, post);
-        return (None, Started { after, last: after });
+        return (reply, Started { after, last: after });
     }
     let last = post.last_copy();
     place.moved.notify_all();

@@ -81,8 +81,9 @@ impl<B: Layered, J: Room> Post<B, J> {
     }
 
     /// Issues a request of a seat, where it is due. Its entry is one more of the journal, and of the seat's own.
-    pub(crate) fn issue(
+    pub(crate) fn issue<R: Wait>(
         &mut self,
+        rt: &R,
         history: &History,
         me: Pass,
         seat: u8,
@@ -106,7 +107,11 @@ impl<B: Layered, J: Room> Post<B, J> {
                 }
                 None => unreachable!(),
             },
-            Outcome::Done => unreachable!(),
+            Outcome::Done => {
+                // An Issue that is done replies.
+                for _ in rt.forever() {}
+                unreachable!()
+            }
             Outcome::Fault => unreachable!(),
         }
     }

@@ -42,7 +42,7 @@ impl<B: Layered, G: Gate + Drop, J: Room> Rig<B, G, J> {
         let mut copies = Copying {
             places: self.places.as_slice(),
         };
-        let _ended = copier::work(
+        let _ = copier::work(
             rt,
             &self.queue.tickets,
             &mut worker.pass.pass,
@@ -55,8 +55,6 @@ impl<B: Layered, G: Gate + Drop, J: Room> Rig<B, G, J> {
     pub fn end<R: Wait>(&self, rt: &R, seat: &mut Seat<J>)
         ensures { seat.new ≡ seat.old }
     {
-        for _ in 0..self.workers {
-            self.queue.stop_one(rt, &mut seat.pass);
-        }
+        self.queue.stop(rt, &mut seat.pass, self.workers);
     }
 }
