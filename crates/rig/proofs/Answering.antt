@@ -24,6 +24,7 @@ one_found n x y e = go (x.number == n) e
         or_else : Option Seated → Seated
         or_else (Some z) = z
         or_else None = x
+
     go : (b : Bool) → (if b then Some x else None) ≡ Some y → (x ≡ y) × ((if b then [] else (x ∷ [])) ≡ [])
     go true h = (some_is h, refl)
     go false h = absurd (let f : None ≡ Some y = h in cc)

@@ -68,7 +68,7 @@ module _ {B : Type 0} (size : B → ℕ) (layers : B → List Layer) (history : 
   not_begun_holds a b keeper number refusal h (inr other) =
       let kept : KeepsJournal a b = other.2 in
       same_holds a b keeper h (ap (λ (x : AuditShape B). x.entries) kept.becomes) (ap (λ (x : AuditShape B). x.held) kept.becomes)
-          (stays_not_begun size layers fixed a b number refusal h.stays other.1 kept)
+      (stays_not_begun size layers fixed a b number refusal h.stays other.1 kept)
 
 -- an event that gave no reply
 pub silent_of : {B : Type 0} (seat : ℕ) (outcome : Outcome) (receipt : Option Receipt) (a b : AuditShape B) → receipt ≡ None → IsNoted seat outcome receipt a b → IsSilent a b

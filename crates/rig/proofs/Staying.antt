@@ -81,14 +81,14 @@ stays_begun {B} size layers f a b number stays admitted begun sound loud base =
     let within : k < length a.volume.snaps = position_within _ a.volume.snaps k begun.found in
     let merge_now : merged_of b.volume.merge ≡ Some (s.number, s.state.chunk) = ap (λ (v : Volumed B). merged_of v.merge) begun.becomes in
     let numbers_now : map number_of_snap b.volume.snaps ≡ remove (map number_of_snap a.volume.snaps) k =
-        ap (λ (v : Volumed B). map number_of_snap v.snaps) begun.becomes ∙ numbers_kept number _ (remove a.volume.snaps k) ∙ map-remove number_of_snap a.volume.snaps k in
+    ap (λ (v : Volumed B). map number_of_snap v.snaps) begun.becomes ∙ numbers_kept number _ (remove a.volume.snaps k) ∙ map-remove number_of_snap a.volume.snaps k in
     let chunks_now : map (λ (t : Kept B). t.state.chunk) b.volume.snaps ≡ remove (map (λ t. t.state.chunk) a.volume.snaps) k =
-        ap (λ (v : Volumed B). map (λ (t : Kept B). t.state.chunk) v.snaps) begun.becomes ∙ chunks_kept number _ (remove a.volume.snaps k) ∙ map-remove (λ (t : Kept B). t.state.chunk) a.volume.snaps k in
+    ap (λ (v : Volumed B). map (λ (t : Kept B). t.state.chunk) v.snaps) begun.becomes ∙ chunks_kept number _ (remove a.volume.snaps k) ∙ map-remove (λ (t : Kept B). t.state.chunk) a.volume.snaps k in
     record {
       attached = ap (λ (v : Volumed B). v.attached) begun.becomes ∙ stays.attached;
       sectors = ap (λ (v : Volumed B). size v.origin) begun.becomes ∙ stays.sectors;
       snaps = elim stays.snaps [
-        inl same ↦ inr (
+        | inl same ↦ inr (
           sym same.2 ∙ ap merged_of alone,
           (
             k,
@@ -98,7 +98,7 @@ stays_begun {B} size layers f a b number stays admitted begun sound loud base =
             merge_now ∙ (λ i. Some (at_mapped number_of_snap a.volume.snaps f.numbers k s same.0 within begun.is i, at_mapped (λ t. t.state.chunk) a.volume.snaps f.chunks k s same.1 within begun.is i)),
           ),
         )
-      | inr other ↦ absurd (no_merge _ (sym (ap merged_of alone) ∙ other.1.4))
+        | inr other ↦ absurd (no_merge _ (sym (ap merged_of alone) ∙ other.1.4))
       ];
       sound = sound ∙ stays.sound;
       loud = loud ∙ stays.loud;
@@ -142,5 +142,5 @@ stays_not_begun {B} size layers f a b number refusal stays (inl refused) kept =
 stays_not_begun {B} size layers f a b number refusal stays (inr starved) kept =
     let freed : SameButKept a.volume b.volume = starved.2 in
     let same : fixed_of size layers b ≡ fixed_of size layers a =
-        ap (fixed_of size layers) kept.becomes ∙ ap (λ (v : Volumed B). fixed_of size layers (record a { volume = v })) freed.becomes ∙ kept_same size layers a b.volume.snaps freed.kept in
+    ap (fixed_of size layers) kept.becomes ∙ ap (λ (v : Volumed B). fixed_of size layers (record a { volume = v })) freed.becomes ∙ kept_same size layers a b.volume.snaps freed.kept in
     subst (StaysFrom f) (sym same) stays

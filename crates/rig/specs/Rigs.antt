@@ -107,7 +107,7 @@ abbrev pub IsPieceCut : (List ℕ → Op) → (List ℕ → Reply) → Dev → S
 IsPieceCut op reply dev piece refusal volume old new =
     HasAdded volume [] old new
     ⊎ ((own : List ℕ) × (r : Receipt) × IsOf dev (op own) piece r × HasAdded volume (r ∷ []) old new
-        × ((r.reply ≡ reply own) ⊎ ((failure : Failure) × (r.reply ≡ Refused failure) × (refusal ≡ refusal_of failure))))
+    × ((r.reply ≡ reply own) ⊎ ((failure : Failure) × (r.reply ≡ Refused failure) × (refusal ≡ refusal_of failure))))
 
 -- A seat's receipts of a volume are its entries in the journal after those that it had, in their order, and there are as
 -- many.

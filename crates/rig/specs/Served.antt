@@ -35,8 +35,8 @@ module _ (op : List ℕ → Op) (reply : List ℕ → Reply) (dev : Dev) where
   IsCut pieces receipts refusal =
       (done : List Span) × (rest : List Span) × (firsts : List Receipt) × (bytes : List ℕ) × (pieces ≡ done ++ rest) × AreServed done firsts bytes
       × ((receipts ≡ firsts)
-          ⊎ ((p : Span) × (ps : List Span) × (r : Receipt) × (own : List ℕ) × (failure : Failure)
-              × (rest ≡ p ∷ ps) × (receipts ≡ firsts ++ r ∷ []) × IsOf dev (op own) p r × (r.reply ≡ Refused failure) × (refusal ≡ refusal_of failure)))
+      ⊎ ((p : Span) × (ps : List Span) × (r : Receipt) × (own : List ℕ) × (failure : Failure)
+      × (rest ≡ p ∷ ps) × (receipts ≡ firsts ++ r ∷ []) × IsOf dev (op own) p r × (r.reply ≡ Refused failure) × (refusal ≡ refusal_of failure)))
 
   abbrev pub IsCutShort : Span → List Receipt → Refusal → Type 0
   IsCutShort span receipts refusal = (chunk : ℕ) × IsCut (pieces_of chunk span) receipts refusal

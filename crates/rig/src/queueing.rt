@@ -17,13 +17,7 @@ pub(crate) struct Started {
 
 impl<J: Room> Queue<J> {
     /// Counts and puts a ticket for each copy that was started. No volume's lock is held: a put may wait.
-    pub(crate) fn put_by<R: Wait>(
-        &self,
-        rt: &R,
-        pass: &mut Pass,
-        volume: usize,
-        started: Started,
-    )
+    pub(crate) fn put_by<R: Wait>(&self, rt: &R, pass: &mut Pass, volume: usize, started: Started)
         requires { pass.old.queue ≡ J.queue }
         ensures put { HasPut pass.old pass.new }
     {

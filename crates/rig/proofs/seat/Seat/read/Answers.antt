@@ -24,7 +24,7 @@ loop-part-init g c = record {
   under = (
     c.piece.result,
     let all = pieces_of c.piece.result (span_of c.args.range) in
-    subst (λ (x : List Span × List ℕ). IsUnderWay read_op Data c.args.dev c.args.volume all x.0 c.args.self.now c.args.self.now x.1)
+        subst (λ (x : List Span × List ℕ). IsUnderWay read_op Data c.args.dev c.args.volume all x.0 c.args.self.now c.args.self.now x.1)
         (λ i. (sym (c.into_iter-part-iterator.ensures.into_iter_gives ∙ c.pieces-part-items.ensures.pieces) i, sym c.in-Ok.ensures.items i))
         (begins read_op Data c.args.dev c.args.volume all c.args.self.now),
   );
@@ -42,8 +42,8 @@ loop-part-preserved g c =
         under.0,
         subst (λ (bytes : List ℕ). IsUnderWay read_op Data c.args.dev c.args.volume all c.next.new.self c.args.self.now c.read_piece.new.self bytes) (sym done.5)
             (goes read_op Data c.args.dev c.args.volume all c.next.new.self (span_of c.in-Some.part) c.args.self.now c.loop-part.self c.read_piece.new.self c.loop-part.out.items done.0 done.1
-                (subst (λ (left : List Span). IsUnderWay read_op Data c.args.dev c.args.volume all left c.args.self.now c.loop-part.self c.loop-part.out.items) c.in-Some.ensures.steps under.1)
-                done.2 done.3 done.4),
+            (subst (λ (left : List Span). IsUnderWay read_op Data c.args.dev c.args.volume all left c.args.self.now c.loop-part.self c.loop-part.out.items) c.in-Some.ensures.steps under.1)
+            done.2 done.3 done.4),
       );
     }
 
@@ -52,8 +52,8 @@ returns-in-Err-clause-err g c =
     let under = c.loop-part.invariant.under in
     let all = pieces_of under.0 (span_of c.args.range) in
     let cut = stops read_op Data c.args.dev c.args.volume all c.next.new.self (span_of c.in-Some.part) c.args.self.now c.loop-part.self c.read_piece.new.self c.loop-part.out.items c.in-Err.refusal
-        (subst (λ (left : List Span). IsUnderWay read_op Data c.args.dev c.args.volume all left c.args.self.now c.loop-part.self c.loop-part.out.items) c.in-Some.ensures.steps under.1)
-        c.in-Err.ensures.err in
+    (subst (λ (left : List Span). IsUnderWay read_op Data c.args.dev c.args.volume all left c.args.self.now c.loop-part.self c.loop-part.out.items) c.in-Some.ensures.steps under.1)
+    c.in-Err.ensures.err in
     (cut.0, cut.1, (under.0, cut.2))
 
 pub returns-clause-ok : goal.returns-clause-ok
@@ -61,6 +61,6 @@ returns-clause-ok g c =
     let under = c.loop-part.invariant.under in
     let all = pieces_of under.0 (span_of c.args.range) in
     let end = ends read_op Data c.args.dev c.args.volume all c.args.self.now c.loop-part.self c.loop-part.out.items
-        (subst (λ (left : List Span). IsUnderWay read_op Data c.args.dev c.args.volume all left c.args.self.now c.loop-part.self c.loop-part.out.items) c.in-None.ensures.steps.0 under.1) in
+    (subst (λ (left : List Span). IsUnderWay read_op Data c.args.dev c.args.volume all left c.args.self.now c.loop-part.self c.loop-part.out.items) c.in-None.ensures.steps.0 under.1) in
     subst (λ (bytes : List ℕ). (more : List Receipt) × HasAdded c.args.volume more c.args.self.now c.loop-part.self × IsReadBy c.args.dev (span_of c.args.range) more bytes) (sym c.from_vec.ensures)
-        (end.0, end.1, (under.0, end.2))
+    (end.0, end.1, (under.0, end.2))

@@ -22,7 +22,7 @@ loop-part-init g c = record {
     c.piece.result,
     stands_first c.piece.result (span_of c.args.range) _ _ c.pieces-part-items.ensures.cut c.into_iter-part-iterator.ensures.into_iter_gives,
     (let all = pieces_of c.piece.result (span_of c.args.range) in
-    subst (λ (left : List Span). IsUnderWay Write written_reply c.args.dev c.args.volume all left c.args.self.now c.args.self.now [])
+        subst (λ (left : List Span). IsUnderWay Write written_reply c.args.dev c.args.volume all left c.args.self.now c.args.self.now [])
         (sym (c.into_iter-part-iterator.ensures.into_iter_gives ∙ c.pieces-part-items.ensures.pieces))
         (begins Write written_reply c.args.dev c.args.volume all c.args.self.now)),
   );
@@ -62,8 +62,8 @@ loop-part-preserved g c =
         stands_next _ _ _ _ _ _ _ under.1 c.in-Some.ensures.steps,
         subst (λ (bytes : List ℕ). IsUnderWay Write written_reply c.args.dev c.args.volume all c.next.new.self c.args.self.now c.write_piece.new.self bytes) (part_more c.loop-part.from (c.in-Some.part.count * 512) c.args.bytes.now)
             (goes Write written_reply c.args.dev c.args.volume all c.next.new.self (span_of c.in-Some.part) c.args.self.now c.loop-part.self c.write_piece.new.self (take c.loop-part.from c.args.bytes.now) own done.0
-                (subst (λ (left : List Span). IsUnderWay Write written_reply c.args.dev c.args.volume all left c.args.self.now c.loop-part.self (take c.loop-part.from c.args.bytes.now)) c.in-Some.ensures.steps under.2)
-                done.1 done.2 done.3),
+            (subst (λ (left : List Span). IsUnderWay Write written_reply c.args.dev c.args.volume all left c.args.self.now c.loop-part.self (take c.loop-part.from c.args.bytes.now)) c.in-Some.ensures.steps under.2)
+            done.1 done.2 done.3),
       );
     }
 
@@ -72,8 +72,8 @@ returns-in-Err-clause-err g c =
     let under = c.loop-part.invariant.under in
     let all = pieces_of under.0 (span_of c.args.range) in
     let cut = stops Write written_reply c.args.dev c.args.volume all c.next.new.self (span_of c.in-Some.part) c.args.self.now c.loop-part.self c.write_piece.new.self (take c.loop-part.from c.args.bytes.now) c.in-Err.refusal
-        (subst (λ (left : List Span). IsUnderWay Write written_reply c.args.dev c.args.volume all left c.args.self.now c.loop-part.self (take c.loop-part.from c.args.bytes.now)) c.in-Some.ensures.steps under.2)
-        c.in-Err.ensures.err in
+    (subst (λ (left : List Span). IsUnderWay Write written_reply c.args.dev c.args.volume all left c.args.self.now c.loop-part.self (take c.loop-part.from c.args.bytes.now)) c.in-Some.ensures.steps under.2)
+    c.in-Err.ensures.err in
     (cut.0, cut.1, (under.0, cut.2))
 
 pub returns-clause-ok : goal.returns-clause-ok
@@ -81,8 +81,8 @@ returns-clause-ok g c =
     let under = c.loop-part.invariant.under in
     let all = pieces_of under.0 (span_of c.args.range) in
     let end = ends Write written_reply c.args.dev c.args.volume all c.args.self.now c.loop-part.self (take c.loop-part.from c.args.bytes.now)
-        (subst (λ (left : List Span). IsUnderWay Write written_reply c.args.dev c.args.volume all left c.args.self.now c.loop-part.self (take c.loop-part.from c.args.bytes.now)) c.in-None.ensures.steps.0 under.2) in
+    (subst (λ (left : List Span). IsUnderWay Write written_reply c.args.dev c.args.volume all left c.args.self.now c.loop-part.self (take c.loop-part.from c.args.bytes.now)) c.in-None.ensures.steps.0 under.2) in
     let last = stands_last _ _ _ _ _ under.1 c.in-None.ensures.steps.0 (omega arith) in
     subst (λ (bytes : List ℕ). (more : List Receipt) × HasAdded c.args.volume more c.args.self.now c.loop-part.self × IsWrittenBy c.args.dev (span_of c.args.range) more bytes)
-        (part_all c.loop-part.from c.args.range.count c.args.bytes.now c.requires.bytes (omega (arith, last)))
-        (end.0, end.1, (under.0, end.2))
+    (part_all c.loop-part.from c.args.range.count c.args.bytes.now c.requires.bytes (omega (arith, last)))
+    (end.0, end.1, (under.0, end.2))
