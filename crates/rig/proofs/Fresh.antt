@@ -1,0 +1,46 @@
+-- What is new in a journal after a call, and what the keeper then knows.
+use Rattle.std.proofs.Common.{◌≡◌, ℕ, zero, suc, ◌+◌, ◌-◌, ◌<◌, ◌≤◌, true, false, List, [], ◌∷◌, ◌++◌, length, map, take, drop, get_or, refl, sym, ap, ◌∙◌, subst, arith, append_assoc, append-nil}
+use Rattle.journal.specs.declared.entry.Entry.{Entry}
+use Rattle.journal.specs.declared.entry.Entry.TheVariants.{Spoiled}
+use Rattle.history.specs.Keeping.{is_silent}
+
+-- what stands after the front, as a slice of all
+abbrev pub fresh_in : List Entry → List Entry → List Entry
+fresh_in es fs = take (length es - length fs) (drop (length fs) es)
+
+take_all : (xs : List Entry) (n : ℕ) → n ≡ length xs → take n xs ≡ xs
+take_all xs n long = (λ i. take (long i) xs) ∙ go xs
+  where
+    go : (ys : List Entry) → take (length ys) ys ≡ ys
+    go [] = refl
+    go (y ∷ ys) = ap (λ (l : List Entry). y ∷ l) (go ys)
+
+rest_is : (old more : List Entry) → drop (length old) (old ++ more) ≡ more
+rest_is [] more = refl
+rest_is (e ∷ old) more = rest_is old more
+
+rest_long : (old more : List Entry) → length (old ++ more) - length old ≡ length more
+rest_long [] more = omega arith
+rest_long (e ∷ old) more = let h = rest_long old more in omega (arith, h)
+
+-- what is new is what was added
+pub fresh_is : (es fs old new more : List Entry) → es ≡ new → fs ≡ old → new ≡ old ++ more → fresh_in es fs ≡ more
+fresh_is es fs old new more is was now =
+    (λ i. fresh_in ((is ∙ now) i) (was i)) ∙ ap (λ (l : List Entry). take (length (old ++ more) - length old) l) (rest_is old more) ∙ take_all more _ (rest_long old more)
+
+-- the entries since the rig was made, with what is new
+pub knows_more : (start all es fs old new more : List Entry) → es ≡ new → fs ≡ old → old ≡ start ++ all → new ≡ old ++ more → new ≡ start ++ (all ++ fresh_in es fs)
+knows_more start all es fs old new more is was had now =
+    now ∙ ap (λ (l : List Entry). l ++ more) had ∙ append_assoc start all more ∙ ap (λ (l : List Entry). start ++ (all ++ l)) (sym (fresh_is es fs old new more is was now))
+
+-- spoils answer no request
+spoils_silent : (which : List ℕ) (k : ℕ) (d : Entry) → k < length (map Spoiled which) → is_silent (get_or (map Spoiled which) k d) ≡ true
+spoils_silent [] k d high = absurd (omega (arith, high))
+spoils_silent (n ∷ ns) zero d high = refl
+spoils_silent (n ∷ ns) (suc k) d high = spoils_silent ns k d (omega (arith, high))
+
+pub fresh_spoils : (es fs old new : List Entry) (which : List ℕ) → es ≡ new → fs ≡ old → new ≡ old ++ map Spoiled which
+    → (k : ℕ) (d : Entry) → k < length (fresh_in es fs) → is_silent (get_or (fresh_in es fs) k d) ≡ true
+fresh_spoils es fs old new which is was now k d high =
+    let same = fresh_is es fs old new (map Spoiled which) is was now in
+    ap (λ (l : List Entry). is_silent (get_or l k d)) same ∙ spoils_silent which k d (subst (λ (l : List Entry). k < length l) same high)

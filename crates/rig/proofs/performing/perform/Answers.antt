@@ -1,0 +1,18 @@
+use Rattle.std.proofs.Common.{[], ◌∷◌, ◌++◌, ap, ◌∙◌}
+use Rattle.rig.proofs.performing.perform.Goals as goal
+
+pub returns-in-Some-reply-clause-ok : goal.returns-in-Some-reply-clause-ok
+returns-in-Some-reply-clause-ok g c =
+    let h = rw c.in-Some-reply.is at c.turn-reply.ensures.some in
+    let was = c.loop.invariant in (
+      h.0,
+      record {
+        volume = h.1.volume ∙ was.0;
+        seat = h.1.seat ∙ was.1;
+        receipts = h.1.receipts ∙ ap (λ l. l ++ h.0 ∷ []) was.2;
+        waits = h.1.waits;
+        answer = h.1.answer;
+        by = h.1.by ∙ was.1;
+        asked = h.1.asked _ was.3;
+      },
+    )

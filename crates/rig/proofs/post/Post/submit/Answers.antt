@@ -1,0 +1,12 @@
+use Rattle.rig.proofs.Fresh.{fresh_spoils}
+use Rattle.rig.proofs.post.Post.submit.Goals as goal
+
+pub note_all-requires-clause-silent : goal.note_all-requires-clause-silent
+note_all-requires-clause-silent g c =
+    let spoils = c.in-Ok.ensures.held.spoils in
+    fresh_spoils c.entries.result.now c.entries-from.result.now c.self.inside.audit.entries c.submit.new.self.entries spoils.which c.entries.ensures.value c.entries-from.ensures.value spoils.entries
+
+pub note_all-requires-in-Err-clause-silent : goal.note_all-requires-in-Err-clause-silent
+note_all-requires-in-Err-clause-silent g c =
+    let spoils = c.in-Err.ensures.spoils.0 in
+    fresh_spoils c.entries-in-Err.result.now c.entries-from.result.now c.self.inside.audit.entries c.submit.new.self.entries spoils.which c.entries-in-Err.ensures.value c.entries-from.ensures.value spoils.entries

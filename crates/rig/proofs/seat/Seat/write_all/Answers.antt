@@ -1,0 +1,88 @@
+-- One piece more is written, and where the write ends.
+use Rattle.std.proofs.Common.{ℕ, List, ◌+◌, ◌-◌, ◌*◌, [], ◌∷◌, take, drop, refl, sym, ap, ◌∙◌, subst, arith}
+use Rattle.chunk.specs.Pieces.{Span, pieces_of, span_of}
+use Rattle.chunk.proofs.Limits.{is_chunk-some, is_chunk-small}
+use Rattle.chunk.proofs.Runs.{StandsAt, first_piece, stands_first, stands_last, stands_next}
+use Rattle.plain.specs.declared.request.Op.TheVariants.{Write}
+use Rattle.rig.specs.Rigs.{HasAdded}
+use Rattle.rig.specs.Served.{IsWrittenBy, written_reply}
+use Rattle.journal.specs.declared.entry.Receipt.{Receipt}
+use Rattle.rig.proofs.Parts.{part_all, part_fits, part_more}
+use Rattle.rig.proofs.UnderWay.{IsUnderWay, begins, ends, goes, stops}
+use Rattle.rig.proofs.seat.Seat.write_all.Goals as goal
+
+pub invariant_of-geometry : goal.invariant_of-geometry
+invariant_of-geometry g c = let ok = c.piece.ensures in record { allowed = ok; some = is_chunk-some c.piece.result ok; small = is_chunk-small c.piece.result ok }
+
+pub loop-part-init : goal.loop-part-init
+loop-part-init g c = record {
+  can = tt;
+  finite = tt;
+  under = (
+    c.piece.result,
+    stands_first c.piece.result (span_of c.args.range) _ _ c.pieces-part-items.ensures.cut c.into_iter-part-iterator.ensures.into_iter_gives,
+    (let all = pieces_of c.piece.result (span_of c.args.range) in
+        subst (λ (left : List Span). IsUnderWay Write written_reply c.args.dev c.args.volume all left c.args.self.now c.args.self.now [])
+        (sym (c.into_iter-part-iterator.ensures.into_iter_gives ∙ c.pieces-part-items.ensures.pieces))
+        (begins Write written_reply c.args.dev c.args.volume all c.args.self.now)),
+  );
+}
+
+pub overflow_add-to : goal.overflow_add-to
+overflow_add-to g c =
+    let is = first_piece _ _ _ _ _ _ _ c.loop-part.invariant.under.1 c.in-Some.ensures.steps in
+    let bytes = is.bytes in
+    let room = c.requires.bytes in
+    omega arith
+
+pub slice_bounds-write_piece-end : goal.slice_bounds-write_piece-end
+slice_bounds-write_piece-end g c =
+    let is = first_piece _ _ _ _ _ _ _ c.loop-part.invariant.under.1 c.in-Some.ensures.steps in
+    let bytes = is.bytes in
+    let room = c.requires.bytes in
+    omega arith
+
+pub write_piece-requires-clause-bytes : goal.write_piece-requires-clause-bytes
+write_piece-requires-clause-bytes g c =
+    let is = first_piece _ _ _ _ _ _ _ c.loop-part.invariant.under.1 c.in-Some.ensures.steps in
+    let bytes = is.bytes in
+    part_fits c.loop-part.from c.in-Some.part.count c.args.range.count c.args.bytes.now c.requires.bytes (omega arith)
+
+pub loop-part-preserved : goal.loop-part-preserved
+loop-part-preserved g c =
+    let under = c.loop-part.invariant.under in
+    let done = c.in-Ok.ensures.ok in
+    let all = pieces_of under.0 (span_of c.args.range) in
+    let own = take (c.loop-part.from + c.in-Some.part.count * 512 - c.loop-part.from) (drop c.loop-part.from c.args.bytes.now) in
+    record {
+      can = tt;
+      finite = tt;
+      under = (
+        under.0,
+        stands_next _ _ _ _ _ _ _ under.1 c.in-Some.ensures.steps,
+        subst (λ (bytes : List ℕ). IsUnderWay Write written_reply c.args.dev c.args.volume all c.next.new.self c.args.self.now c.write_piece.new.self bytes) (part_more c.loop-part.from (c.in-Some.part.count * 512) c.args.bytes.now)
+            (goes Write written_reply c.args.dev c.args.volume all c.next.new.self (span_of c.in-Some.part) c.args.self.now c.loop-part.self c.write_piece.new.self (take c.loop-part.from c.args.bytes.now) own done.0
+            (subst (λ (left : List Span). IsUnderWay Write written_reply c.args.dev c.args.volume all left c.args.self.now c.loop-part.self (take c.loop-part.from c.args.bytes.now)) c.in-Some.ensures.steps under.2)
+            done.1 done.2 done.3),
+      );
+    }
+
+pub returns-in-Err-clause-err : goal.returns-in-Err-clause-err
+returns-in-Err-clause-err g c =
+    let under = c.loop-part.invariant.under in
+    let all = pieces_of under.0 (span_of c.args.range) in
+    let cut = stops Write written_reply c.args.dev c.args.volume all c.next.new.self (span_of c.in-Some.part) c.args.self.now c.loop-part.self c.write_piece.new.self (take c.loop-part.from c.args.bytes.now) c.in-Err.refusal
+    (subst (λ (left : List Span). IsUnderWay Write written_reply c.args.dev c.args.volume all left c.args.self.now c.loop-part.self (take c.loop-part.from c.args.bytes.now)) c.in-Some.ensures.steps under.2)
+    c.in-Err.ensures.err in
+    (cut.0, cut.1, (under.0, cut.2))
+
+pub returns-clause-ok : goal.returns-clause-ok
+returns-clause-ok g c =
+    let under = c.loop-part.invariant.under in
+    let all = pieces_of under.0 (span_of c.args.range) in
+    let end = ends Write written_reply c.args.dev c.args.volume all c.args.self.now c.loop-part.self (take c.loop-part.from c.args.bytes.now)
+    (subst (λ (left : List Span). IsUnderWay Write written_reply c.args.dev c.args.volume all left c.args.self.now c.loop-part.self (take c.loop-part.from c.args.bytes.now)) c.in-None.ensures.steps.0 under.2) in
+    let last = stands_last _ _ _ _ _ under.1 c.in-None.ensures.steps.0 (omega arith) in
+    subst (λ (bytes : List ℕ). (more : List Receipt) × HasAdded c.args.volume more c.args.self.now c.loop-part.self × IsWrittenBy c.args.dev (span_of c.args.range) more bytes)
+    (part_all c.loop-part.from c.args.range.count c.args.bytes.now c.requires.bytes (omega (arith, last)))
+    (end.0, end.1, (under.0, end.2))

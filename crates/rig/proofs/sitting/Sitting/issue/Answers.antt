@@ -1,0 +1,18 @@
+use Rattle.std.proofs.Common.{[], ◌∷◌, ◌++◌, sym, ap, ◌∙◌}
+use Rattle.rig.specs.Sittings.{waits_of}
+use Rattle.rig.proofs.Answering.{answered_at}
+use Rattle.rig.proofs.sitting.Sitting.issue.Goals as goal
+
+pub returns-in-Some-clause-some : goal.returns-in-Some-clause-some
+returns-in-Some-clause-some g c =
+    let h = rw c.in-Some.is at c.issue-pass.ensures.seat in (
+      c.in-Some.pair.1,
+      answered_at _ c.self.inside.seat c.into_seat.result c.issue-pass.result.0 c.in-Some.pair.0 c.in-Some.pair.1 c.args.self.now _ h
+          (sym (ap (λ s. s.waits) c.self.view_is) ∙ ap (λ b. waits_of b.views) (sym c.replace-badge.ensures.value) ∙ ap waits_of c.into_seat.ensures.2)
+          (ap waits_of c.into_badge.ensures.2)
+          (ap (λ s. s.volume) c.self.view_is)
+          (ap (λ s. s.seat) c.self.view_is)
+          (sym (ap (λ s. s.seat) c.self.view_is))
+          (c.push_reserved.ensures.items ∙ ap (λ s. s.receipts ++ c.in-Some.pair.1 ∷ []) c.self.view_is)
+          c.requires.one,
+    )

@@ -1,0 +1,121 @@
+-- What callers see of a rig, of its seats and of what it is made from. This project's own.
+use Rattle.std.specs.Prelude.{◌≡◌, ◌⊎◌, ◌+◌, ◌<◌, ◌≤◌, ℕ, List, [], ◌∷◌, ◌++◌, length, map, slice_index_or}
+use Rattle.std.specs.List.{All}
+use Rattle.atomic_table.specs.Seated.{TableId}
+use Rattle.copier.specs.Passes.{Queue}
+use Rattle.device.specs.Layers.{Layer}
+use Rattle.journal.specs.declared.entry.Entry.{Entry}
+use Rattle.journal.specs.declared.entry.Receipt.{Receipt}
+use Rattle.journal.specs.Books.{AuditShape}
+use Rattle.journal.specs.Entries.{answered_of, entries_by}
+use Rattle.chunk.specs.Pieces.{Span}
+use Rattle.plain.specs.Failures.{refusal_of}
+use Rattle.plain.specs.declared.request.Dev.{Dev}
+use Rattle.plain.specs.declared.request.Failure.{Failure}
+use Rattle.plain.specs.declared.request.Op.{Op}
+use Rattle.plain.specs.declared.request.Reply.{Reply}
+use Rattle.plain.specs.declared.request.Reply.TheVariants.{Refused}
+use Rattle.sector.specs.declared.refusal.Refusal.{Refusal}
+use Rattle.rig.specs.Served.{IsOf}
+use Rattle.rig.specs.Fixed.{Fixed, StaysFrom, fixed_of}
+use Rattle.rig.specs.Names.{no_table, nothing_fixed}
+use Rattle.rig.specs.Sittings.{SittingShape}
+
+-- how many workers there are
+pub record RigShape : Type 0 where
+  pub workers : ℕ
+
+-- What callers see of a seat: its number, from 1 to 8, and how it sits at each volume.
+pub record SeatShape : Type 0 where
+  pub number : ℕ
+  pub sittings : List SittingShape
+
+-- a seat at a volume between two of its calls
+pub record IsIdle (number k : ℕ) (s : SittingShape) : Type 0 where
+  pub seat : s.seat ≡ number
+  pub volume : s.volume ≡ k
+  pub waits : s.waits ≡ []
+
+-- it sits at each volume, the volume's place being its own
+abbrev pub AreIdle : ℕ → List SittingShape → Type 0
+AreIdle number sittings = (k : ℕ) (d : SittingShape) → k < length sittings → IsIdle number k (slice_index_or sittings k d)
+
+-- the table of a new history, and the number of the next seat
+pub record OpenedAt : Type 0 where
+  pub table : TableId
+  pub next : ℕ
+
+-- the new histories, the queue of tickets, and the parts of the right to it that are not dealt
+pub record OpenedShape : Type 0 where
+  pub volumes : List OpenedAt
+  pub queue : Queue
+  pub parts : ℕ
+
+-- so many volumes were opened, and nobody was dealt a seat or a pass
+pub record AreOpened (volumes : ℕ) (o : OpenedShape) : Type 0 where
+  pub many : length o.volumes ≡ volumes
+  pub nexts : (k : ℕ) (d : OpenedAt) → k < volumes → (slice_index_or o.volumes k d).next ≡ 1
+  pub all_parts : o.parts ≡ 1024
+
+-- The first volumes have dealt a seat more than the others, whose next one has this number.
+pub record AreDealt (history : ℕ → TableId) (volumes next front : ℕ) (opened : List OpenedAt) : Type 0 where
+  pub many : length opened ≡ volumes
+  pub tables : (k : ℕ) (d : OpenedAt) → k < volumes → (slice_index_or opened k d).table ≡ history k
+  pub firsts : (k : ℕ) (d : OpenedAt) → k < volumes → k < front → (slice_index_or opened k d).next ≡ next + 1
+  pub others : (k : ℕ) (d : OpenedAt) → k < volumes → front ≤ k → (slice_index_or opened k d).next ≡ next
+
+-- no receipts yet
+abbrev pub HasNoReceipts : List SittingShape → Type 0
+HasNoReceipts sittings = (k : ℕ) (d : SittingShape) → k < length sittings → (slice_index_or sittings k d).receipts ≡ []
+
+abbrev pub histories_in : OpenedShape → ℕ → TableId
+histories_in o k = (slice_index_or o.volumes k (record { table = no_table; next = 0 })).table
+
+abbrev pub start_in : {B : Type 0} → List (AuditShape B) → ℕ → List Entry
+start_in audits k = slice_index_or (map (λ a. a.entries) audits) k []
+
+abbrev pub fixed_in : {B : Type 0} → (B → ℕ) → (B → List Layer) → List (AuditShape B) → ℕ → Fixed
+fixed_in size layers audits k = slice_index_or (map (fixed_of size layers) audits) k nothing_fixed
+
+-- an audit with no request in flight, as its volume was when the rig was made
+pub record IsStart {B : Type 0} (start : List Entry) (fixed now : Fixed) (a : AuditShape B) : Type 0 where
+  pub entries : a.entries ≡ start
+  pub held : a.held ≡ []
+  pub fixed_is : now ≡ fixed
+
+-- The room is that of these audits and of what was opened for them.
+pub record IsRoomOf {B : Type 0} (size : B → ℕ) (layers : B → List Layer) (audits : List (AuditShape B)) (opened : OpenedShape) (volumes : ℕ) (history : ℕ → TableId) (start : ℕ → List Entry) (queue : Queue) (fixed : ℕ → Fixed) : Type 0 where
+  pub is_opened : AreOpened (length audits) opened
+  pub volumes_are : volumes ≡ length audits
+  pub histories : history ≡ histories_in opened
+  pub starts : start ≡ start_in audits
+  pub queue_is : queue ≡ opened.queue
+  pub fixed_is : fixed ≡ fixed_in size layers audits
+
+-- the receipts of the volume at a place
+abbrev pub receipts_at : SeatShape → ℕ → List Receipt
+receipts_at s k = (slice_index_or s.sittings k (record { volume = k; seat = s.number; receipts = []; waits = []; room = 0 })).receipts
+
+-- A call added these receipts at one volume, and left the seat as it was at the others.
+pub record HasAdded (volume : ℕ) (more : List Receipt) (old new : SeatShape) : Type 0 where
+  pub number : new.number ≡ old.number
+  pub here : receipts_at new volume ≡ receipts_at old volume ++ more
+  pub others : (k : ℕ) → (k ≡ volume → ⊥) → receipts_at new k ≡ receipts_at old k
+
+-- One piece was not done. There is a receipt of its failure; or of its being done, and then memory was refused; or none.
+abbrev pub IsPieceCut : (List ℕ → Op) → (List ℕ → Reply) → Dev → Span → Refusal → ℕ → SeatShape → SeatShape → Type 0
+IsPieceCut op reply dev piece refusal volume old new =
+    HasAdded volume [] old new
+    ⊎ ((own : List ℕ) × (r : Receipt) × IsOf dev (op own) piece r × HasAdded volume (r ∷ []) old new
+    × ((r.reply ≡ reply own) ⊎ ((failure : Failure) × (r.reply ≡ Refused failure) × (refusal ≡ refusal_of failure))))
+
+-- A seat's receipts of a volume are its entries in the journal after those that it had, in their order, and there are as
+-- many.
+abbrev pub IsSettledAt : {B : Type 0} → List Entry → AuditShape B → ℕ → SeatShape → Type 0
+IsSettledAt start audit k s = entries_by s.number audit.entries ≡ entries_by s.number start ++ map answered_of (receipts_at s k)
+
+-- seat i, from 0, has number i + 1 and no receipts
+pub record AreNewSeats (seats : ℕ) (all : List SeatShape) : Type 0 where
+  pub many : length all ≡ seats
+  pub numbers : (i : ℕ) (d : SeatShape) → i < seats → (slice_index_or all i d).number ≡ i + 1
+  pub none : (i : ℕ) (d : SeatShape) (k : ℕ) → i < seats → receipts_at (slice_index_or all i d) k ≡ []

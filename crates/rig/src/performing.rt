@@ -1,0 +1,50 @@
+// One request of a seat, from its submission to its reply.
+ghost use Rattle.std.specs.Prelude.{◌≡◌, ◌*◌, ◌<◌, ℕ, List, [], length, IfOk, OnErr};
+ghost use Rattle.plain.specs.declared.request.Op.TheVariants.{Write};
+ghost use Rattle.journal.specs.declared.entry.Receipt.{Receipt};
+ghost use Rattle.rig.specs.Sittings.{IsPerformed, IsSameSitting};
+
+use crate::place::Place;
+use crate::queue::{Queue, QueuePass};
+use crate::room::Room;
+use crate::sitting::Sitting;
+use crate::turns::{submit, turn};
+use layers::Layered;
+use plain::{Reply, Request};
+use sector::Refusal;
+use std::sync::Wait;
+
+/// Submits a request, and works until it is answered. The answer is the reply of the receipt that came with it.
+pub(crate) fn perform<B: Layered, J: Room, R: Wait>(
+    rt: &R,
+    queue: &Queue<J>,
+    place: &Place<B, J>,
+    pass: &mut QueuePass<J>,
+    sitting: &mut Sitting<J>,
+    request: Request,
+) -> Result<Reply, Refusal>
+    requires volume { sitting.old.volume ≡ place.now.volume }
+    requires few { sitting.old.seat < 9 }
+    requires idle { sitting.old.waits ≡ [] }
+    requires bytes { (bytes : List ℕ) → request.op ≡ Write bytes → length bytes ≡ 512 * request.range.count }
+    ensures ok { IfOk result (λ reply. (r : Receipt) × IsPerformed request reply r sitting.old sitting.new) }
+    ensures err { OnErr result (IsSameSitting sitting.old sitting.new) }
+{
+    if sitting.reserve().is_err() {
+        return Err(Refusal::NoMemory);
+    }
+    let (got, started) = submit(rt, place, sitting, request);
+    queue.put(rt, pass, place.volume, started);
+    let number = match got {
+        Ok(number) => number,
+        Err(refusal) => return Err(refusal),
+    };
+    for _ in rt.forever() {
+        let (reply, started) = turn(rt, place, sitting, number);
+        queue.put(rt, pass, place.volume, started);
+        if let Some(reply) = reply {
+            return Ok(reply);
+        }
+    }
+    unreachable!()
+}

@@ -1,0 +1,116 @@
+// What a seat does at one volume, under its lock.
+ghost use Rattle.std.specs.Prelude.{◌≡◌, ◌*◌, ◌<◌, ◌++◌, ◌∷◌, ℕ, List, [], length, map, IfOk, IfSome, IfNone, OnErr, MatchResult};
+ghost use Rattle.plain.specs.declared.request.Op.TheVariants.{Write};
+ghost use Rattle.journal.specs.Entries.{answered_of, entries_by};
+ghost use Rattle.journal.specs.Seats.{Seated};
+ghost use Rattle.journal.specs.declared.entry.Receipt.{Receipt};
+ghost use Rattle.history.specs.Ties.{table_of};
+ghost use Rattle.rig.specs.Sittings.{IsAnswered, IsSameSitting, IsSeat, IsWaiting};
+
+use crate::post::Post;
+use crate::room::Room;
+use crate::sitting::Sitting;
+use atomic_table::Badge;
+use history::{History, Pass};
+use journal::Receipt;
+use layers::Layered;
+use plain::{Reply, ReqId, Request};
+use sector::Refusal;
+use std::alloc::{AllocError, Global};
+use std::marker::PhantomData;
+use std::mem;
+use std::sync::Wait;
+
+impl<J: Room> Sitting<J> {
+    /// A seat at a volume, with no receipts.
+    pub(crate) fn new(alloc: Global, volume: usize, seat: u8, pass: Pass) -> Sitting<J>
+        requires { IsSeat (J.history volume) seat pass × (pass.me.0.old ≡ []) × (pass.me.0.mine ≡ []) × (pass.me.0.waits ≡ []) }
+        ensures { (result.volume ≡ volume) × (result.seat ≡ seat) × (result.receipts ≡ []) × (result.waits ≡ []) }
+    {
+        Sitting {
+            volume,
+            seat,
+            pass: pass.into_badge(),
+            receipts: Vec::new(alloc),
+            room: PhantomData,
+        }
+    }
+
+    pub(crate) fn receipts(&self) -> &[Receipt]
+        ensures { result.now ≡ self.now.receipts }
+    {
+        self.receipts.as_slice()
+    }
+
+    /// Room for one receipt more.
+    pub(crate) fn reserve(&mut self) -> Result<(), AllocError>
+        ensures same { IsSameSitting self.old self.new }
+        ensures room { IfOk result (λ _. length self.new.receipts < self.new.room) }
+    {
+        self.receipts.reserve(1)
+    }
+
+    /// Submits a request of this seat, which has none in flight.
+    pub(crate) fn submit<B: Layered>(
+        &mut self,
+        post: &mut Post<B, J>,
+        history: &History,
+        request: Request,
+    ) -> Result<ReqId, Refusal>
+        requires history { table_of history.now ≡ J.history post.old.volume }
+        requires volume { post.old.volume ≡ self.old.volume }
+        requires few { self.old.seat < 9 }
+        requires idle { self.old.waits ≡ [] }
+        requires bytes { (bytes : List ℕ) → request.op ≡ Write bytes → length bytes ≡ 512 * request.range.count }
+        ensures post { post.new.volume ≡ post.old.volume }
+        ensures seat { MatchResult result (λ number. IsWaiting number request self.old self.new) (λ _. IsSameSitting self.old self.new) }
+    {
+        let badge = mem::replace(&mut self.pass, Badge::blank());
+        let (pass, got) = post.submit(history, badge.into_seat(), self.seat, request);
+        self.pass = pass.into_badge();
+        got
+    }
+
+    /// Issues the request of this seat that is in flight, if it is due.
+    pub(crate) fn issue<B: Layered, R: Wait>(
+        &mut self,
+        rt: &R,
+        post: &mut Post<B, J>,
+        history: &History,
+        number: ReqId,
+    ) -> Option<Reply>
+        requires history { table_of history.now ≡ J.history post.old.volume }
+        requires volume { post.old.volume ≡ self.old.volume }
+        requires room { length self.old.receipts < self.old.room }
+        requires one { (x : Seated) × (self.old.waits ≡ x ∷ []) }
+        ensures post { post.new.volume ≡ post.old.volume }
+        ensures some { IfSome result (λ reply. (r : Receipt) × IsAnswered reply r self.old self.new) }
+        ensures none { IfNone result (IsSameSitting self.old self.new × (self.new.room ≡ self.old.room)) }
+    {
+        let badge = mem::replace(&mut self.pass, Badge::blank());
+        let (pass, got) = post.issue(rt, history, badge.into_seat(), self.seat, number);
+        self.pass = pass.into_badge();
+        match got {
+            Some(pair) => {
+                let (reply, receipt) = pair;
+                self.receipts.push_reserved(receipt);
+                Some(reply)
+            }
+            None => None,
+        }
+    }
+
+    /// The receipts of this seat are its entries in the journal after those that it had, in their order, and there are as
+    /// many.
+    pub(crate) fn settle<B: Layered>(&mut self, post: &mut Post<B, J>, history: &History)
+        requires history { table_of history.now ≡ J.history post.old.volume }
+        requires volume { post.old.volume ≡ self.old.volume }
+        ensures seat { self.new ≡ self.old }
+        ensures post { post.new ≡ post.old }
+        ensures own { entries_by self.old.seat post.old.audit.entries ≡ entries_by self.old.seat (J.start self.old.volume) ++ map answered_of self.old.receipts }
+    {
+        let badge = mem::replace(&mut self.pass, Badge::blank());
+        let pass = post.settle(history, badge.into_seat(), self.seat);
+        self.pass = pass.into_badge();
+    }
+}
