@@ -1,6 +1,6 @@
 -- What a line does to what volumes show, by its outcome.
 use Rattle.std.proofs.Common.{◌≡◌, inl, inr, ℕ, List, [], ◌∷◌, refl, ap, sym, subst}
-use Rattle.std.specs.Prelude.{◌≢◌, ◌⊎◌, Option, Some, None, Result, Ok, Err}
+use Rattle.std.specs.Prelude.{◌≢◌, Option, Some, None, Result, Ok, Err}
 use Rattle.sector.specs.declared.refusal.Refusal.{Refusal}
 use Rattle.sector.specs.declared.refusal.Refusal.TheVariants.{NoMemory}
 use Rattle.command.specs.Line.{said_of}
@@ -10,9 +10,6 @@ use Rattle.reply.specs.declared.Reply.{Reply}
 use Rattle.reply.specs.declared.Reply.TheVariants.{Done, Refused}
 use Rattle.named.specs.State.{Table}
 use Rattle.named.specs.Changes.{Did}
-use Rattle.named.specs.Disks.{make}
-use Rattle.named.specs.Messages.{ticked}
-use Rattle.named.specs.Raw.{load}
 use Rattle.shown.specs.Arrays.{Arrays, arrays_in}
 use Rattle.shown.specs.Commands.{IsAnswered, IsRefused, IsShown}
 use Rattle.shown.specs.Well.{IsWellOf}

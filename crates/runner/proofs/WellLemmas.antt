@@ -1,6 +1,6 @@
 -- Where a command's rule speaks, the volume that it changes is well.
 use Rattle.std.proofs.Common.{◌≡◌, ℕ, true, List, sym, subst}
-use Rattle.std.specs.Prelude.{Option, Some, None, Result, Ok}
+use Rattle.std.specs.Prelude.{Option, Some, Result, Ok}
 use Rattle.sector.specs.declared.refusal.Refusal.{Refusal}
 use Rattle.table.specs.declared.lines.Target.{Target}
 use Rattle.table.specs.declared.lines.Target.TheVariants as targets
