@@ -15,3 +15,4 @@ pub mod Resumes
 pub mod Closes
 pub mod Stops
 pub mod Orders
+pub mod Statuses

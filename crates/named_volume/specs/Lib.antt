@@ -2,3 +2,4 @@ pub mod Names
 pub mod Held
 pub mod Flights
 pub mod Stopping
+pub mod Status
