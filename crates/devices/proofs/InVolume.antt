@@ -22,6 +22,7 @@ use Rattle.plain.specs.declared.event.NotDue.{NotDue}
 use Rattle.named_volume.specs.Flights.{IsNotDue, IsStepped}
 use Rattle.devices.specs.Flights.{IsNotDueIn}
 use Rattle.devices.specs.Ruled.{is_quiet_in, rests_at}
+use Rattle.devices.specs.Status.{IsStatusIn}
 use Rattle.named.proofs.AtPlace.{put_back, volume_here}
 
 -- where memory ran out: nothing changed, or this holds of the volume
@@ -128,6 +129,10 @@ rests_in v table old new (Ok done) lt quiet =
 pub shown_in : (r : Result (List ℕ) Refusal) (v : ℕ) (role : Role) (table : Table) (old : Volume) → v < length table.volumes → old ≡ get_or table.volumes v old → Gives r (status_in role old) → Gives r (status_at (In v role) table)
 unfolding status_at
 shown_in r v role table old lt at did = let there = volume_here table v old lt at in rw there did
+
+-- whatever is in flight
+pub among_in : (r : Result (List ℕ) Refusal) (role : Role) (v : ℕ) (table : Table) (old : Volume) → v < length table.volumes → old ≡ get_or table.volumes v old → IsStatusIn r role (Ok old) → IsStatusIn r role (volume_at v table)
+among_in r role v table old lt at did = let there = volume_here table v old lt at in rw there did
 
 -- a disk of it is not written
 pub load_refused : (name : List ℕ) (first : ℕ) (bytes : List ℕ) (table : Table) (count v : ℕ) (role : Role) (old : Volume) (e : Refusal) → whole bytes ≡ Ok count → found (place_of name table) ≡ Ok (In v role) → v < length table.volumes → old ≡ get_or table.volumes v old → in_use role first count old ≡ Err e → load name first bytes table ≡ Err e

@@ -5,3 +5,4 @@ pub mod Flights
 pub mod Merging
 pub mod Stopping
 pub mod Order
+pub mod Status

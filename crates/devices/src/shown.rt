@@ -6,6 +6,7 @@ ghost use Rattle.named.specs.Status.{status_at, status_text};
 ghost use Rattle.named.specs.declared.place.Place.TheVariants.{In};
 ghost use Rattle.devices.specs.Devices.{table_of};
 ghost use Rattle.devices.specs.Ruled.{is_sound_in, volume_for};
+ghost use Rattle.devices.specs.Status.{IsStatusAmong, IsStatusIn};
 
 use crate::find::find_device;
 use crate::held::Held;
@@ -18,16 +19,18 @@ use words::{Name, Text};
 #[tactic(auto, unfolding(named::specs::Status::status_at))]
 fn status_at(alloc: Global, held: &Held, v: usize, role: Role) -> Result<Text, Refusal>
     requires { IsPlaceIn (In v role) (table_of held.now) }
-    ensures { is_sound_in (volume_at v (table_of held.now)) ≡ true → Gives result (status_at (In v role) (table_of held.now)) }
+    ensures done { is_sound_in (volume_at v (table_of held.now)) ≡ true → Gives result (status_at (In v role) (table_of held.now)) }
+    ensures among { IsStatusIn result role (volume_at v (table_of held.now)) }
 {
     held.volumes[v].status(alloc, role)
 }
 
-/// `status DEV`: the status line of an origin or of a snapshot. In this order: `NoSuchDevice` for a name that no device
-/// has, `BadTable` for a disk or a layer, `NoMemory` where the allocator refuses the bytes.
+/// `status DEV`: the status line of an origin or of a snapshot, whatever is in flight. In this order: `NoSuchDevice` for a
+/// name that no device has, `BadTable` for a disk or a layer, `NoMemory` where the allocator refuses the bytes.
 #[tactic(auto, unfolding(named::specs::Status::status_text, named::specs::Status::status_at))]
 pub fn status_text(alloc: Global, held: &Held, name: &Name) -> Result<Text, Refusal>
-    ensures { is_sound_in (volume_for name.now (table_of held.now)) ≡ true → Gives result (status_text name.now (table_of held.now)) }
+    ensures done { is_sound_in (volume_for name.now (table_of held.now)) ≡ true → Gives result (status_text name.now (table_of held.now)) }
+    ensures among { IsStatusAmong result name.now (table_of held.now) }
 {
     match find_device(held, name)? {
         Place::Free(_, _) => Err(Refusal::BadTable),

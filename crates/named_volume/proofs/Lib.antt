@@ -16,3 +16,4 @@ pub mod Closes
 pub mod Stops
 pub mod Orders
 pub mod Begun
+pub mod Statuses

@@ -3,3 +3,4 @@ pub mod Held
 pub mod Flights
 pub mod Stopping
 pub mod Parting
+pub mod Status

@@ -2,12 +2,14 @@
 ghost use Rattle.std.specs.Prelude.{◌≡◌, ◌<◌, true, is_some, length, Some, None, MatchResult, Ok, Err};
 ghost use Rattle.device.specs.Disk.{disk_contents};
 ghost use Rattle.words.specs.Given.{Gives};
+ghost use Rattle.event_machine.specs.Held.{Moving};
 ghost use Rattle.named.specs.Places.{IsRoleIn, IsRoleMerging};
 ghost use Rattle.named.specs.declared.place.Role.TheVariants.{MergingStore};
 ghost use Rattle.named.specs.State.{Merging as Begun, names_in};
 ghost use Rattle.named.specs.Lines.{line_in_merging, line_of_role, merging_line as merging_line_of, origin_line as origin_line_of, snapshot_line as snapshot_line_of};
 ghost use Rattle.named.specs.Raw.{raw_in_merging, raw_under};
 ghost use Rattle.named.specs.Status.{status_in};
+ghost use Rattle.named_volume.specs.Status.{status_flying};
 
 use crate::names::SnapNames;
 use crate::origin::NamedVolume;
@@ -177,12 +179,13 @@ impl NamedVolume {
         }
     }
 
-    /// The status line of a device of this role. In this order: `BadTable` for disks and layers, `NoMemory` where the
-    /// allocator refuses room.
-    #[tactic(auto, unfolding(named::specs::Status::status_in))]
+    /// The status line of a device of this role. Where something is in flight, that of a snapshot is by what is in memory of
+    /// it. In this order: `BadTable` for disks and layers, `NoMemory` where the allocator refuses room.
+    #[tactic(auto, unfolding(named::specs::Status::status_in, crate::specs::Status::status_flying))]
     pub fn status(&self, alloc: Global, role: Role) -> Result<Text, Refusal>
         requires { IsRoleIn role self.now }
-        ensures { self.now.sound ≡ true → self.now.quiet ≡ true → Gives result (status_in role self.now) }
+        ensures done { self.now.sound ≡ true → self.now.quiet ≡ true → Gives result (status_in role self.now) }
+        ensures among { (moving : Moving) → self.now.flying ≡ Some moving → Gives result (status_flying role self.now moving) }
     {
         look(&self.volume);
         let sectors = u64::from(sectors_of(self.volume.origin()));

@@ -4,10 +4,12 @@ ghost use Rattle.layers.specs.Stack.{stack_layers};
 ghost use Rattle.settled.specs.Merges.{Merge};
 ghost use Rattle.settled.specs.Snaps.{Snap};
 ghost use Rattle.volume.specs.Leaving.{is_quiet_of};
+ghost use Rattle.resting.specs.Flying.{IsWhole};
 ghost use Rattle.resting.specs.Rested.{is_loud_in};
 ghost use Rattle.named.specs.Stacks.{device_of};
 ghost use Rattle.named.specs.Status.{merge_state, state_of};
 ghost use Rattle.named_volume.specs.Held.{merged_inside, settled_in, IsSettledIn};
+ghost use Rattle.named_volume.specs.Status.{IsStateAt};
 
 use layers::Stack;
 use named_stack::sectors_of;
@@ -46,10 +48,12 @@ pub(crate) fn number_at(volume: &Resting<Stack>, k: usize) -> SnapId
     volume.number(k)
 }
 
-/// What its status line says of it.
+/// What its status line says of it, whatever is in flight.
 pub(crate) fn state_at(volume: &Resting<Stack>, k: usize) -> State
     requires { k < length volume.now.snaps }
-    ensures { IsSettledIn volume.now → (d : Snap) → result ≡ state_of (get_or (settled_in volume.now).snaps k d) }
+    ensures settled { IsSettledIn volume.now → (d : Snap) → result ≡ state_of (get_or (settled_in volume.now).snaps k d) }
+    ensures held { IsStateAt result k volume.now }
+    ensures whole { IsWhole volume.now }
 {
     match volume.usage(k) {
         None => State::Invalid,

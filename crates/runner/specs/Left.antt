@@ -12,7 +12,7 @@ use Rattle.plain.specs.declared.event.Outcome.TheVariants as outcomes
 use Rattle.plain.specs.declared.request.Op.{Op}
 use Rattle.plain.specs.declared.request.Op.TheVariants.{Read as ReadOp, Write as WriteOp}
 use Rattle.reply.specs.declared.Reply.{Reply}
-use Rattle.reply.specs.declared.Reply.TheVariants.{Data, Done, Fault, Number}
+use Rattle.reply.specs.declared.Reply.TheVariants.{Data, Done, Fault, Number, Said}
 use Rattle.plain.specs.Replies.{reply_in}
 use Rattle.plain.specs.declared.request.Replied.{Replied}
 use Rattle.named.specs.State.{Table}
@@ -25,6 +25,7 @@ use Rattle.devices.specs.Devices.{Flies, KeepsOthers}
 use Rattle.devices.specs.Flights.{IsDoneFor, IsEventDoneFor, IsNotDueIn, IsReadAmong, IsStartedAs, IsWrittenAmong, event_of, is_about_merging}
 use Rattle.devices.specs.Merging.{IsBegunIn, IsFinishedIn, IsUnfinishedIn}
 use Rattle.devices.specs.Ruled.{is_alone_in, is_quiet_in, volume_for}
+use Rattle.devices.specs.Status.{IsStatusAmong}
 use Rattle.named_volume.specs.Flights.{IsSettledBy}
 use Rattle.runner.specs.Steps.{reworded}
 
@@ -92,6 +93,14 @@ pub record IsFinishLeft (volume : List ℕ) (answer : Result Reply Refusal) (old
   pub stays : OnErr answer (new ≡ old)
   pub alone : after ≡ before
 
+-- a status line changes nothing, and says what is in memory of a snapshot while something is in flight in its volume
+pub record IsStatusLeft (device : List ℕ) (answer : Result Reply Refusal) (old new : Table) (before after : List Replied) : Type 0 where
+  pub text : Result (List ℕ) Refusal
+  pub answer_is : answer ≡ reworded Said text
+  pub among : IsStatusAmong text device old
+  pub stays : new ≡ old
+  pub alone : after ≡ before
+
 -- what a command leaves, with this answer; one that has its rule in any case is left to that
 abbrev pub IsLeft : Command → Result Reply Refusal → Table → Table → List Replied → List Replied → Type 0
 IsLeft (commands.Read device first count) answer old new before after = IsReadLeft device first count answer old new before after
@@ -102,7 +111,7 @@ IsLeft (commands.Step volume event) answer old new before after = IsStepLeft vol
 IsLeft (commands.Settle volume) answer old new before after = IsSettleLeft volume answer old new before after
 IsLeft (commands.Merge name) answer old new before after = IsMergeLeft name answer old new before after
 IsLeft (commands.Finish volume) answer old new before after = IsFinishLeft volume answer old new before after
-IsLeft (commands.Status device) answer old new before after = (new ≡ old) × (after ≡ before)
+IsLeft (commands.Status device) answer old new before after = IsStatusLeft device answer old new before after
 IsLeft (commands.Table device) answer old new before after = (new ≡ old) × (after ≡ before)
 IsLeft (commands.Save disk first count) answer old new before after = (new ≡ old) × (after ≡ before)
 IsLeft (commands.Create name line) answer old new before after = after ≡ before

@@ -1,11 +1,15 @@
 use Rattle.devices.specs.Devices.{table_of}
-use Rattle.devices.proofs.InVolume.{shown_in}
+use Rattle.devices.proofs.InVolume.{among_in, shown_in}
 use Rattle.devices.proofs.Ruled.{sound_here}
 use Rattle.devices.proofs.shown.status_at.Goals as goal
 
-pub returns : goal.returns
-returns c = λ sound.
+pub returns-clause-done : goal.returns-clause-done
+returns-clause-done c = λ sound.
     shown_in c.status.result c.args.v c.args.role (table_of c.args.held.now) c.index.result.now
-    c.requires.0 c.index.ensures (c.status.ensures
+    c.requires.0 c.index.ensures (c.status.ensures.done
     (sound_here (table_of c.args.held.now) c.args.v c.index.result.now sound c.requires.0 c.index.ensures).0
     (sound_here (table_of c.args.held.now) c.args.v c.index.result.now sound c.requires.0 c.index.ensures).1)
+
+pub returns-clause-among : goal.returns-clause-among
+returns-clause-among c =
+    among_in c.status.result c.args.role c.args.v (table_of c.args.held.now) c.index.result.now c.requires.0 c.index.ensures c.status.ensures.among

@@ -185,3 +185,9 @@ pub returns-in-Step-clause-sound : goal.returns-in-Step-clause-sound
 returns-in-Step-clause-sound c =
     let P : Command → Type 0 = λ command. is_sound (table_of c.args.held.now) ≡ true → is_sound_command command ≡ true → is_sound (table_of c.step_volume.new.held) ≡ true in
     subst P (sym c.in-Step.is) (λ sound makes. c.step_volume.ensures.sound (not_true (is_merge_event c.in-Step.event) makes) sound)
+
+pub returns-in-Status-clause-left : goal.returns-in-Status-clause-left
+returns-in-Status-clause-left c =
+    let table = table_of c.args.held.now in
+    let P : Command → Type 0 = λ command. IsLeft command c.text.result table table c.args.ended.now.items c.args.ended.now.items in
+    subst P (sym c.in-Status.is) (record { text = c.status_text.result; answer_is = c.text.ensures; among = c.status_text.ensures.among; stays = refl; alone = refl })
