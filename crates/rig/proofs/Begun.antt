@@ -1,5 +1,5 @@
 -- What a new rig's room says of what was opened for it and of its audits.
-use Rattle.std.proofs.Common.{◌≡◌, ℕ, zero, suc, ◌+◌, ◌<◌, List, [], ◌∷◌, length, map, get_or, slice_index_or, refl, sym, ap, ◌∙◌, subst, arith}
+use Rattle.std.proofs.Common.{◌≡◌, ℕ, zero, suc, ◌<◌, List, [], ◌∷◌, length, get_or, slice_index_or, refl, sym, ap, ◌∙◌, arith}
 use Rattle.std.proofs.lemmas.List.{get_or-map}
 use Rattle.atomic_table.specs.Seated.{TableId}
 use Rattle.copier.specs.Passes.{Queue}
@@ -8,7 +8,7 @@ use Rattle.journal.specs.declared.entry.Entry.{Entry}
 use Rattle.journal.specs.Books.{AuditShape}
 use Rattle.rig.specs.Fixed.{Fixed, fixed_of}
 use Rattle.rig.specs.Names.{no_table, nothing_fixed}
-use Rattle.rig.specs.Rigs.{AreDealt, IsRoomOf, IsStart, OpenedAt, OpenedShape, histories_in, start_in, fixed_in}
+use Rattle.rig.specs.Rigs.{AreDealt, IsRoomOf, IsStart, OpenedShape}
 
 -- an item is the same, whatever stands for those that are not there
 same_at : {A : Type 0} (xs : List A) (k : ℕ) (d e : A) → k < length xs → get_or xs k d ≡ get_or xs k e

@@ -1,6 +1,5 @@
 -- The first volume that is left gets its place.
-use Rattle.std.proofs.Common.{◌≡◌, ◌+◌, ◌∷◌, ◌++◌, [], ℕ, length, subst, sym, ap, ◌∙◌, arith}
-use Rattle.std.specs.List.{remove}
+use Rattle.std.proofs.Common.{◌≡◌, ◌+◌, subst, sym, ◌∙◌, arith}
 use Rattle.rig.specs.Fixed.{fixed_of}
 use Rattle.rig.specs.Rigs.{IsStart}
 use Rattle.rig.proofs.Rows.{AreFrom, AreUpTo, grown, taken, first_is}

@@ -1,5 +1,5 @@
 -- The tables, the queue and the audits are those of the room.
-use Rattle.std.proofs.Common.{◌≡◌, ◌≤◌, length, slice_index_or, vec_capacity, sym, ap, ◌∙◌, subst}
+use Rattle.std.proofs.Common.{◌≤◌, length, slice_index_or, vec_capacity, sym, ap, ◌∙◌, subst}
 use Rattle.rig.proofs.Begun.{dealt_first, starts_are}
 use Rattle.rig.proofs.Rows.{has_room}
 use Rattle.rig.proofs.rig.Rig.new.Goals as goal
