@@ -1,9 +1,9 @@
 -- One call of a seat at one of its volumes.
-use Rattle.std.proofs.Common.{◌≡◌, ◌≢◌, ◌==◌, ◌<◌, ℕ, Bool, true, false, List, [], ◌∷◌, ◌++◌, length, set, get_or, refl, sym, ap, ◌∙◌, subst, append-nil, Result, Ok, Err, IfOk}
+use Rattle.std.proofs.Common.{◌≡◌, ◌==◌, ◌<◌, ℕ, Bool, true, false, List, ◌++◌, length, set, get_or, refl, sym, ap, ◌∙◌, subst, Result, Ok, Err, IfOk}
 use Rattle.std.proofs.lemmas.Bool.{eqb-true, eqb-false}
 use Rattle.std.proofs.lemmas.List.{get_or-set_same, get_or-set_other, length-set}
 use Rattle.journal.specs.declared.entry.Receipt.{Receipt}
-use Rattle.rig.specs.Rigs.{AreIdle, HasAdded, IsIdle, SeatShape, receipts_at}
+use Rattle.rig.specs.Rigs.{AreIdle, HasAdded, IsIdle}
 use Rattle.rig.specs.Sittings.{SittingShape}
 
 -- the seat is idle at each volume still

@@ -5,3 +5,5 @@ mod Answering
 mod UnderWay
 mod Asking
 mod Parts
+mod Rows
+mod Begun

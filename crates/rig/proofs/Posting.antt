@@ -1,5 +1,5 @@
 -- What is true under a lock stays true.
-use Rattle.std.proofs.Common.{◌≡◌, ◌⊎◌, inl, inr, ℕ, ◌+◌, true, false, List, [], ◌∷◌, ◌++◌, length, map, Option, Some, None, refl, sym, ap, ◌∙◌, subst, append_assoc}
+use Rattle.std.proofs.Common.{◌≡◌, inl, inr, ℕ, List, [], ◌∷◌, ◌++◌, Option, Some, None, sym, ap, ◌∙◌, subst}
 use Rattle.atomic_table.specs.Seated.{TableId}
 use Rattle.atomic_table.specs.declared.shared.Seat.{Seat}
 use Rattle.device.specs.Layers.{Layer}
@@ -9,13 +9,12 @@ use Rattle.plain.specs.declared.request.Reply.{Reply}
 use Rattle.plain.specs.declared.request.Request.{Request}
 use Rattle.sector.specs.declared.refusal.Refusal.{Refusal}
 use Rattle.journal.specs.declared.entry.Entry.{Entry}
-use Rattle.journal.specs.declared.entry.Entry.TheVariants.{Answered}
 use Rattle.journal.specs.declared.entry.Receipt.{Receipt}
 use Rattle.journal.specs.Books.{AuditShape}
-use Rattle.journal.specs.Entries.{answered_of, entries_by}
+use Rattle.journal.specs.Entries.{entries_by}
 use Rattle.journal.specs.Journaled.{HasReceipt, IsNotMerged, IsNoted, IsSilent, KeepsJournal}
 use Rattle.journal.specs.Seats.{Seated, seated_under}
-use Rattle.history.specs.Keeping.{HasAsked, answered_by, asked_by, keeper_of, seated_with}
+use Rattle.history.specs.Keeping.{asked_by, keeper_of, seated_with}
 use Rattle.history.specs.declared.rule.View.{View}
 use Rattle.history.specs.declared.told.Told.{Told}
 use Rattle.history.proofs.Moves.{entries_by-append}

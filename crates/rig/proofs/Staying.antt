@@ -1,5 +1,5 @@
 -- What a rig leaves of a volume as it was.
-use Rattle.std.proofs.Common.{◌≡◌, ◌⊎◌, inl, inr, ℕ, ◌<◌, ◌==◌, if◌then◌else◌, Bool, true, false, List, [], ◌∷◌, ◌++◌, length, get_or, map, Option, Some, None, refl, sym, ap, ◌∙◌, subst}
+use Rattle.std.proofs.Common.{◌≡◌, ◌⊎◌, inl, inr, ℕ, ◌<◌, ◌==◌, if◌then◌else◌, Bool, true, false, List, [], ◌∷◌, length, get_or, map, Option, Some, None, refl, sym, ap, ◌∙◌, subst}
 use Rattle.std.specs.Prelude.{◌&&◌, not}
 use Rattle.std.specs.List.{list_all, remove}
 use Rattle.std.proofs.lemmas.List.{get_or-map, length-map}
@@ -8,7 +8,6 @@ use Rattle.sector.specs.declared.refusal.Refusal.{Refusal}
 use Rattle.merge.specs.Merging.{Merging}
 use Rattle.merge_beside.specs.Keeping.{kept_back, kept_for, unkept}
 use Rattle.snapshot.specs.Kept.{Kept}
-use Rattle.snapshots.specs.Finding.{place_of_snap}
 use Rattle.snapshots.specs.Numbers.{number_of_snap}
 use Rattle.snapshots.proofs.Finds.{position_within}
 use Rattle.volume_laws.proofs.Lists.{map-remove}
@@ -18,7 +17,7 @@ use Rattle.volume.specs.Stepping.{KeepsAll, merged_of}
 use Rattle.volume.specs.Volumed.{Volumed, is_loud_in_all, is_loud_with}
 use Rattle.journal.specs.Books.{AuditShape}
 use Rattle.journal.specs.Journaled.{KeepsBase, KeepsJournal}
-use Rattle.rig.specs.Fixed.{Fixed, HasBegun, HasSame, StaysFrom, fixed_of}
+use Rattle.rig.specs.Fixed.{Fixed, StaysFrom, fixed_of}
 
 -- device 0 is the origin disk
 first_count : {B : Type 0} (size : B → ℕ) (merge : Option (Merging B)) (n : ℕ) (ns : List ℕ) → get_or (counts_with size merge (n ∷ ns)) 0 0 ≡ n

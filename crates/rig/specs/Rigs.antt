@@ -1,6 +1,5 @@
 -- What callers see of a rig, of its seats and of what it is made from. This project's own.
 use Rattle.std.specs.Prelude.{◌≡◌, ◌⊎◌, ◌+◌, ◌<◌, ◌≤◌, ℕ, List, [], ◌∷◌, ◌++◌, length, map, slice_index_or}
-use Rattle.std.specs.List.{All}
 use Rattle.atomic_table.specs.Seated.{TableId}
 use Rattle.copier.specs.Passes.{Queue}
 use Rattle.device.specs.Layers.{Layer}
@@ -17,7 +16,7 @@ use Rattle.plain.specs.declared.request.Reply.{Reply}
 use Rattle.plain.specs.declared.request.Reply.TheVariants.{Refused}
 use Rattle.sector.specs.declared.refusal.Refusal.{Refusal}
 use Rattle.rig.specs.Served.{IsOf}
-use Rattle.rig.specs.Fixed.{Fixed, StaysFrom, fixed_of}
+use Rattle.rig.specs.Fixed.{Fixed, fixed_of}
 use Rattle.rig.specs.Names.{no_table, nothing_fixed}
 use Rattle.rig.specs.Sittings.{SittingShape}
 

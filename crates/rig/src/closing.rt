@@ -1,13 +1,21 @@
 // A rig is closed.
-ghost use Rattle.std.specs.Prelude.{◌≡◌, ◌++◌, ◌<◌, ℕ, [], length, map, slice_index_or};
+ghost use Rattle.std.specs.Prelude.{◌≡◌, ◌<◌, ℕ, [], length, slice_index_or};
 ghost use Rattle.history.specs.Ties.{table_of};
+ghost use Rattle.journal.specs.Books.{AuditShape};
+ghost use Rattle.rig.specs.Fixed.{StaysFrom, fixed_of};
 ghost use Rattle.rig.specs.Rigs.{IsSettledAt, SeatShape};
 
+use crate::place::Place;
 use crate::post::Post;
+use crate::rig::Rig;
 use crate::room::Room;
 use crate::seat::Seat;
+use crate::worker::Worker;
+use copier::Gate;
 use history::History;
+use journal::Audit;
 use layers::Layered;
+use std::sync::Wait;
 
 impl<J: Room> Seat<J> {
     /// Compares what the seat knows of a volume with its journal.
@@ -39,5 +47,69 @@ fn settle_all<B: Layered, J: Room>(
     for i in 0..seats.len() {
         let seat = &mut seats[i];
         seat.settle(post, history, volume);
+    }
+}
+
+/// What stood under a volume's lock. Every request was issued, so none is in flight; else it would wait for ever.
+fn checked<B: Layered, J: Room, R: Wait>(rt: &R, post: Post<B, J>, volume: usize) -> Post<B, J>
+    ensures { (result.volume ≡ volume) × (result.audit.held ≡ []) }
+{
+    if post.volume() != volume || post.in_flight() != 0 {
+        for _ in rt.forever() {}
+        unreachable!()
+    }
+    post
+}
+
+/// Takes the audit out of its place.
+fn close_one<B: Layered, J: Room, R: Wait>(
+    rt: &R,
+    place: Place<B, J>,
+    seats: &mut [Seat<J>],
+) -> Audit<B>
+    requires { place.volume < J.volumes }
+    ensures quiet { result.held ≡ [] }
+    ensures stays { StaysFrom (J.fixed place.volume) (fixed_of B.size B.layers result) }
+    ensures seats { seats.new ≡ seats.old }
+    ensures settled { (i : ℕ) (s : SeatShape) → i < length seats.new → IsSettledAt (J.start place.volume) result place.volume (slice_index_or seats.new i s) }
+{
+    let Place {
+        volume,
+        lock,
+        moved: _,
+        history,
+    } = place;
+    let mut post = checked(rt, lock.into_inner(), volume);
+    settle_all(&mut post, &history, volume, seats);
+    post.into_audit()
+}
+
+impl<B: Layered + Drop, G: Gate + Drop, J: Room> Rig<B, G, J> {
+    /// Gives the audits back, in their order. Each seat's receipts of a volume are then its entries in the journal after those
+    /// that stood there when the rig was made, in their order, and there are as many.
+    pub fn close<R: Wait>(
+        self,
+        rt: &R,
+        workers: &mut [Worker<J>],
+        seats: &mut [Seat<J>],
+    ) -> Vec<Audit<B>>
+        ensures many { length result.items ≡ J.volumes }
+        ensures quiet { (k : ℕ) (d : AuditShape B) → k < J.volumes → (slice_index_or result.items k d).held ≡ [] }
+        ensures stays { (k : ℕ) (d : AuditShape B) → k < J.volumes → StaysFrom (J.fixed k) (fixed_of B.size B.layers (slice_index_or result.items k d)) }
+        ensures seats { seats.new ≡ seats.old }
+        ensures settled { (k : ℕ) (d : AuditShape B) (i : ℕ) (s : SeatShape) → k < J.volumes → i < length seats.new → IsSettledAt (J.start k) (slice_index_or result.items k d) k (slice_index_or seats.new i s) }
+    {
+        let _ = workers;
+        let Rig {
+            mut places,
+            mut audits,
+            queue: _,
+            workers: _,
+            gate: _,
+        } = self;
+        for _ in 0..places.len() {
+            audits.push_reserved(close_one(rt, places.remove(0), seats));
+        }
+        audits
     }
 }

@@ -14,6 +14,7 @@
 
 mod calls;
 mod closing;
+mod making;
 mod noting;
 mod opened;
 mod opening;

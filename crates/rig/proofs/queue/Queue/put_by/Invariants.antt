@@ -1,5 +1,4 @@
 -- Tickets were put so far, and none was taken.
-use Rattle.std.proofs.Common.{◌≡◌}
 use Rattle.copier.specs.Working.{HasPut}
 use Rattle.rig.proofs.queue.Queue.put_by.Given as goal
 

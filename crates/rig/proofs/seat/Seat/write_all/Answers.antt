@@ -1,8 +1,8 @@
 -- One piece more is written, and where the write ends.
-use Rattle.std.proofs.Common.{ℕ, List, ◌+◌, ◌-◌, ◌*◌, [], ◌∷◌, take, drop, refl, sym, ap, ◌∙◌, subst, arith}
+use Rattle.std.proofs.Common.{ℕ, List, ◌+◌, ◌-◌, ◌*◌, [], take, drop, sym, ◌∙◌, subst, arith}
 use Rattle.chunk.specs.Pieces.{Span, pieces_of, span_of}
 use Rattle.chunk.proofs.Limits.{is_chunk-some, is_chunk-small}
-use Rattle.chunk.proofs.Runs.{StandsAt, first_piece, stands_first, stands_last, stands_next}
+use Rattle.chunk.proofs.Runs.{first_piece, stands_first, stands_last, stands_next}
 use Rattle.plain.specs.declared.request.Op.TheVariants.{Write}
 use Rattle.rig.specs.Rigs.{HasAdded}
 use Rattle.rig.specs.Served.{IsWrittenBy, written_reply}

@@ -1,0 +1,189 @@
+// A rig is made of audits.
+ghost use Rattle.std.specs.Prelude.{◌≡◌, ◌+◌, ◌-◌, ◌<◌, ◌≤◌, ℕ, [], length, slice_index_or, vec_capacity, IfErr, IfOk};
+ghost use Rattle.sector.specs.declared.refusal.Refusal.TheVariants.{NoMemory};
+ghost use Rattle.journal.specs.Books.{AuditShape};
+ghost use Rattle.rig.specs.Fixed.{fixed_of};
+ghost use Rattle.rig.specs.Placed.{AreNumbered};
+ghost use Rattle.rig.specs.Rigs.{AreDealt, AreIdle, AreNewSeats, IsRoomOf, OpenedAt, HasNoReceipts, IsStart};
+
+use crate::opened::{Opened, OpenedVolume};
+use crate::place::Place;
+use crate::post::Post;
+use crate::queue::Queue;
+use crate::rig::Rig;
+use crate::room::Room;
+use crate::seat::Seat;
+use crate::sitting::Sitting;
+use crate::worker::Worker;
+use copier::{Count, Gate};
+use journal::Audit;
+use layers::Layered;
+use sector::Refusal;
+use std::alloc::{AllocError, Global};
+use std::marker::PhantomData;
+use std::sync::{Condvar, Mutex};
+
+/// A seat at each volume.
+fn seat_row<J: Room>(
+    alloc: Global,
+    number: u8,
+    volumes: &mut Vec<OpenedVolume>,
+) -> Result<Vec<Sitting<J>>, AllocError>
+    requires { AreDealt J.history J.volumes number 0 volumes.old.items }
+    ensures dealt { IfOk result (λ _. AreDealt J.history J.volumes (number + 1) 0 volumes.new.items) }
+    ensures row { IfOk result (λ row. (length row.items ≡ J.volumes) × AreIdle number row.items × HasNoReceipts row.items) }
+{
+    let mut row = Vec::new(alloc);
+    for k in 0..volumes.len() {
+        let volume = &mut volumes[k];
+        let pass = volume.deal();
+        row.push(Sitting::new(alloc, k, number, pass))?;
+    }
+    Ok(row)
+}
+
+/// Seats 1, 2 and so on, so many.
+fn seats_of<J: Room>(
+    alloc: Global,
+    seats: usize,
+    opened: &mut Opened,
+) -> Result<Vec<Seat<J>>, AllocError>
+    requires few { seats < 9 }
+    requires dealt { AreDealt J.history J.volumes 1 0 opened.old.volumes }
+    requires queue { (opened.old.queue ≡ J.queue) × (opened.old.parts ≡ 1024) }
+    ensures queue { IfOk result (λ _. (opened.new.queue ≡ J.queue) × (opened.new.parts ≡ 1024 - seats)) }
+    ensures volumes { IfOk result (λ _. AreDealt J.history J.volumes (seats + 1) 0 opened.new.volumes) }
+    ensures new { IfOk result (λ all. AreNewSeats seats all.items) }
+{
+    let mut all = Vec::new(alloc);
+    for i in 0..seats {
+        let number = (i + 1) as u8;
+        let sittings = seat_row(alloc, number, &mut opened.volumes)?;
+        let pass = opened.queue_pass();
+        all.push(Seat {
+            number,
+            sittings,
+            pass,
+            alloc,
+        })?;
+    }
+    Ok(all)
+}
+
+/// So many workers.
+fn workers_of<J: Room>(
+    alloc: Global,
+    workers: usize,
+    opened: &mut Opened,
+) -> Result<Vec<Worker<J>>, AllocError>
+    requires few { workers < 5 }
+    requires queue { (opened.old.queue ≡ J.queue) × (1000 < opened.old.parts) }
+    ensures queue { IfOk result (λ _. opened.new.queue ≡ J.queue) }
+    ensures same { IfOk result (λ _. opened.new.volumes ≡ opened.old.volumes) }
+    ensures many { IfOk result (λ all. length all.items ≡ workers) }
+{
+    let mut all = Vec::new(alloc);
+    for _ in 0..workers {
+        let pass = opened.queue_pass();
+        all.push(Worker { pass })?;
+    }
+    Ok(all)
+}
+
+/// The place of a volume.
+fn place_one<B: Layered, J: Room>(
+    volume: usize,
+    audit: Audit<B>,
+    opened: OpenedVolume,
+) -> Place<B, J>
+    requires history { opened.table ≡ J.history volume }
+    requires start { audit.entries ≡ J.start volume }
+    requires held { audit.held ≡ [] }
+    requires fixed { fixed_of B.size B.layers audit ≡ J.fixed volume }
+    ensures { result.volume ≡ volume }
+{
+    let OpenedVolume { history, keeper } = opened;
+    let post = Post {
+        volume,
+        audit,
+        keeper,
+        room: PhantomData,
+    };
+    Place {
+        volume,
+        lock: Mutex::new(post),
+        moved: Condvar::new(),
+        history,
+    }
+}
+
+/// The places of all volumes, in their order. The vector of the audits keeps its room.
+fn place_all<B: Layered, J: Room>(
+    audits: &mut Vec<Audit<B>>,
+    volumes: Vec<OpenedVolume>,
+    places: &mut Vec<Place<B, J>>,
+)
+    requires many { (length audits.old.items ≡ J.volumes) × (length volumes.items ≡ J.volumes) }
+    requires room { (places.old.items ≡ []) × (J.volumes ≤ vec_capacity places.old) }
+    requires tables { (k : ℕ) (d : OpenedAt) → k < J.volumes → (slice_index_or volumes.items k d).table ≡ J.history k }
+    requires audits { (k : ℕ) (d : AuditShape B) → k < J.volumes → IsStart (J.start k) (J.fixed k) (fixed_of B.size B.layers (slice_index_or audits.old.items k d)) (slice_index_or audits.old.items k d) }
+    ensures places { AreNumbered (λ p. p.volume) places.new.items × (length places.new.items ≡ J.volumes) }
+    ensures audits { (audits.new.items ≡ []) × (vec_capacity audits.new ≡ vec_capacity audits.old) }
+{
+    let mut volumes = volumes;
+    for volume in 0..audits.len() {
+        let audit = audits.remove(0);
+        let opened = volumes.remove(0);
+        places.push_reserved(place_one(volume, audit, opened));
+    }
+}
+
+impl<B: Layered + Drop, G: Gate + Drop, J: Room> Rig<B, G, J> {
+    /// A rig over audited volumes that have no request in flight, with so many workers, 4 at most, and so many seats, 8 at most.
+    /// `NoMemory` where memory is refused, with the audits as they were.
+    pub fn new(
+        alloc: Global,
+        audits: Vec<Audit<B>>,
+        workers: usize,
+        seats: usize,
+        gate: G,
+        opened: Opened,
+    ) -> Result<(Rig<B, G, J>, Vec<Worker<J>>, Vec<Seat<J>>), (Refusal, Vec<Audit<B>>)>
+        requires many { (workers < 5) × (seats < 9) }
+        requires room { IsRoomOf B.size B.layers audits.items opened J.volumes J.history J.start J.queue J.fixed }
+        requires quiet { (k : ℕ) (d : AuditShape B) → k < length audits.items → (slice_index_or audits.items k d).held ≡ [] }
+        ensures ok { IfOk result (λ r. (r.0.workers ≡ workers) × (length r.1.items ≡ workers) × AreNewSeats seats r.2.items) }
+        ensures err { IfErr result (λ e. e ≡ record { 0 = NoMemory; 1 = audits }) }
+    {
+        let mut opened = opened;
+        let Ok(all) = seats_of(alloc, seats, &mut opened) else {
+            return Err((Refusal::NoMemory, audits));
+        };
+        let Ok(team) = workers_of(alloc, workers, &mut opened) else {
+            return Err((Refusal::NoMemory, audits));
+        };
+        let Ok(mut places) = Vec::with_capacity(alloc, audits.len()) else {
+            return Err((Refusal::NoMemory, audits));
+        };
+        let Opened {
+            volumes,
+            tickets,
+            pass: _,
+        } = opened;
+        let mut audits = audits;
+        place_all(&mut audits, volumes, &mut places);
+        let queue = Queue {
+            tickets,
+            count: Mutex::new(Count::new()),
+            room: PhantomData,
+        };
+        let rig = Rig {
+            places,
+            audits,
+            queue,
+            workers,
+            gate,
+        };
+        Ok((rig, team, all))
+    }
+}
