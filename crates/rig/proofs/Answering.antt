@@ -12,7 +12,8 @@ use Rattle.copier.specs.Working.{IsEnded, IsWorked}
 use Rattle.copier.specs.declared.worker.Ended.{Ended}
 use Rattle.copier.specs.declared.worker.Ended.TheVariants.{Stopped, NoTicket}
 use Rattle.copier.specs.declared.ticket.PendingCopy.{PendingCopy}
-use Rattle.rig.specs.Sittings.{IsAnswered, IsReceipted, SittingShape}
+use Rattle.post.specs.Seats.{IsReceipted}
+use Rattle.rig.specs.Sittings.{IsAnswered, SittingShape}
 
 -- the one request in flight is the one that is found
 one_found : (n : ℕ) (x y : Seated) → seated_under n (x ∷ []) ≡ Some y → (x ≡ y) × (without_seated n (x ∷ []) ≡ [])

@@ -2,6 +2,7 @@
 use Rattle.std.proofs.Common.{◌≡◌, ◌==◌, ◌<◌, ℕ, Bool, true, false, List, ◌++◌, length, set, get_or, refl, sym, ap, ◌∙◌, subst, Result, Ok, Err, IfOk}
 use Rattle.std.proofs.lemmas.Bool.{eqb-true, eqb-false}
 use Rattle.std.proofs.lemmas.List.{get_or-set_same, get_or-set_other, length-set}
+use Rattle.board.specs.Passes.{Seen}
 use Rattle.journal.specs.declared.entry.Receipt.{Receipt}
 use Rattle.rig.specs.Rigs.{AreIdle, HasAdded, IsIdle}
 use Rattle.rig.specs.Sittings.{SittingShape}
@@ -17,13 +18,14 @@ idle_still number volume ss now within idle is k d low = go (k == volume) refl
     go false e =
         subst (IsIdle number k) (sym (get_or-set_other ss volume k now d (eqb-false k volume e))) (idle k d (subst (λ n. k < n) (length-set ss volume now) low))
 
-pub added_at : (number volume : ℕ) (more : List Receipt) (ss : List SittingShape) (now : SittingShape) → volume < length ss
+pub added_at : (number volume : ℕ) (watches : List (List Seen)) (more : List Receipt) (ss : List SittingShape) (now : SittingShape) → volume < length ss
     → ((d : SittingShape) → now.receipts ≡ (get_or ss volume d).receipts ++ more)
-    → HasAdded volume more (record { number = number; sittings = ss }) (record { number = number; sittings = set ss volume now })
-added_at number volume more ss now within grows = record {
+    → HasAdded volume more (record { number = number; sittings = ss; watches = watches }) (record { number = number; sittings = set ss volume now; watches = watches })
+added_at number volume watches more ss now within grows = record {
   number = refl;
   here = ap (λ (s : SittingShape). s.receipts) (get_or-set_same ss volume now _ within) ∙ grows _;
   others = λ k apart. ap (λ (s : SittingShape). s.receipts) (get_or-set_other ss volume k now _ apart);
+  watches = refl;
 }
 
 -- what an Ok says

@@ -2,12 +2,13 @@
 use Rattle.std.proofs.Common.{◌≡◌, ℕ, zero, suc, ◌<◌, List, [], ◌∷◌, length, get_or, slice_index_or, refl, sym, ap, ◌∙◌, arith}
 use Rattle.std.proofs.lemmas.List.{get_or-map}
 use Rattle.atomic_table.specs.Seated.{TableId}
+use Rattle.board.specs.Passes.{BoardId}
 use Rattle.copier.specs.Passes.{Queue}
 use Rattle.device.specs.Layers.{Layer}
 use Rattle.journal.specs.declared.entry.Entry.{Entry}
 use Rattle.journal.specs.Books.{AuditShape}
-use Rattle.rig.specs.Fixed.{Fixed, fixed_of}
-use Rattle.rig.specs.Names.{no_table, nothing_fixed}
+use Rattle.post.specs.Fixed.{Fixed, fixed_of}
+use Rattle.post.specs.Names.{no_table, nothing_fixed}
 use Rattle.rig.specs.Rigs.{AreDealt, IsRoomOf, IsStart, OpenedShape}
 
 -- an item is the same, whatever stands for those that are not there
@@ -16,14 +17,17 @@ same_at [] k d e low = absurd (omega (arith, low))
 same_at (x ∷ xs) zero d e low = refl
 same_at (x ∷ xs) (suc k) d e low = same_at xs k d e (omega (arith, low))
 
-module _ {B : Type 0} (size : B → ℕ) (layers : B → List Layer) (audits : List (AuditShape B)) (opened : OpenedShape) (volumes : ℕ) (history : ℕ → TableId) (start : ℕ → List Entry) (queue : Queue) (fixed : ℕ → Fixed) (room : IsRoomOf size layers audits opened volumes history start queue fixed) where
+module _ {B : Type 0} (size : B → ℕ) (layers : B → List Layer) (audits : List (AuditShape B)) (opened : OpenedShape) (volumes : ℕ) (history : ℕ → TableId) (boards : ℕ → List BoardId) (start : ℕ → List Entry) (queue : Queue) (fixed : ℕ → Fixed) (room : IsRoomOf size layers audits opened volumes history boards start queue fixed) where
   -- no seat is dealt
-  pub dealt_first : AreDealt history volumes 1 0 opened.volumes
+  pub dealt_first : AreDealt history boards volumes 1 0 opened.volumes
   dealt_first = record {
     many = room.is_opened.many ∙ sym room.volumes_are;
     tables = λ k d low.
-        ap (λ o. o.table) (same_at opened.volumes k d (record { table = no_table; next = 0 }) (omega (arith, low, room.is_opened.many, room.volumes_are)))
+        ap (λ o. o.table) (same_at opened.volumes k d (record { table = no_table; boards = []; next = 0 }) (omega (arith, low, room.is_opened.many, room.volumes_are)))
         ∙ sym (ap (λ (f : ℕ → TableId). f k) room.histories);
+    boards_are = λ k d low.
+        ap (λ o. o.boards) (same_at opened.volumes k d (record { table = no_table; boards = []; next = 0 }) (omega (arith, low, room.is_opened.many, room.volumes_are)))
+        ∙ sym (ap (λ (f : ℕ → List BoardId). f k) room.boards_are);
     firsts = λ k d low none. absurd (omega (arith, none));
     others = λ k d low all. room.is_opened.nexts k d (omega (arith, low, room.volumes_are));
   }

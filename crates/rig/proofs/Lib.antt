@@ -1,6 +1,3 @@
-mod Fresh
-mod Staying
-mod Posting
 mod Answering
 mod UnderWay
 mod Asking

@@ -10,13 +10,14 @@ use Rattle.rig.specs.Rigs.{HasAdded, IsPieceCut, SeatShape, receipts_at}
 use Rattle.rig.specs.Served.{AreServed, IsCut, IsOf}
 
 pub added_none : (volume : ℕ) (s : SeatShape) → HasAdded volume [] s s
-added_none volume s = record { number = refl; here = sym (append-nil (receipts_at s volume)); others = λ k apart. refl }
+added_none volume s = record { number = refl; here = sym (append-nil (receipts_at s volume)); others = λ k apart. refl; watches = refl }
 
 pub added_more : (volume : ℕ) (xs ys : List Receipt) (a b c : SeatShape) → HasAdded volume xs a b → HasAdded volume ys b c → HasAdded volume (xs ++ ys) a c
 added_more volume xs ys a b c f g = record {
   number = g.number ∙ f.number;
   here = g.here ∙ ap (λ (l : List Receipt). l ++ ys) f.here ∙ append_assoc (receipts_at a volume) xs ys;
   others = λ k apart. g.others k apart ∙ f.others k apart;
+  watches = g.watches ∙ f.watches;
 }
 
 module _ (op : List ℕ → Op) (reply : List ℕ → Reply) (dev : Dev) where

@@ -16,18 +16,21 @@ use Rattle.plain.specs.declared.request.Reply.{Reply}
 use Rattle.plain.specs.declared.request.Reply.TheVariants.{Refused}
 use Rattle.sector.specs.declared.refusal.Refusal.{Refusal}
 use Rattle.rig.specs.Served.{IsOf}
-use Rattle.rig.specs.Fixed.{Fixed, fixed_of}
-use Rattle.rig.specs.Names.{no_table, nothing_fixed}
+use Rattle.post.specs.Fixed.{Fixed, fixed_of}
+use Rattle.board.specs.Passes.{BoardId, Seen}
+use Rattle.post.specs.Beside.{OpenedAt}
+use Rattle.post.specs.Names.{no_table, nothing_fixed}
 use Rattle.rig.specs.Sittings.{SittingShape}
 
 -- how many workers there are
 pub record RigShape : Type 0 where
   pub workers : ℕ
 
--- What callers see of a seat: its number, from 1 to 8, and how it sits at each volume.
+-- What callers see of a seat: its number, from 1 to 8, how it sits at each volume, and its passes to each volume's boards.
 pub record SeatShape : Type 0 where
   pub number : ℕ
   pub sittings : List SittingShape
+  pub watches : List (List Seen)
 
 -- a seat at a volume between two of its calls
 pub record IsIdle (number k : ℕ) (s : SittingShape) : Type 0 where
@@ -39,12 +42,7 @@ pub record IsIdle (number k : ℕ) (s : SittingShape) : Type 0 where
 abbrev pub AreIdle : ℕ → List SittingShape → Type 0
 AreIdle number sittings = (k : ℕ) (d : SittingShape) → k < length sittings → IsIdle number k (slice_index_or sittings k d)
 
--- the table of a new history, and the number of the next seat
-pub record OpenedAt : Type 0 where
-  pub table : TableId
-  pub next : ℕ
-
--- the new histories, the queue of tickets, and the parts of the right to it that are not dealt
+-- the new histories and boards, the queue of tickets, and the parts of the right to it that are not dealt
 pub record OpenedShape : Type 0 where
   pub volumes : List OpenedAt
   pub queue : Queue
@@ -57,9 +55,10 @@ pub record AreOpened (volumes : ℕ) (o : OpenedShape) : Type 0 where
   pub all_parts : o.parts ≡ 1024
 
 -- The first volumes have dealt a seat more than the others, whose next one has this number.
-pub record AreDealt (history : ℕ → TableId) (volumes next front : ℕ) (opened : List OpenedAt) : Type 0 where
+pub record AreDealt (history : ℕ → TableId) (boards : ℕ → List BoardId) (volumes next front : ℕ) (opened : List OpenedAt) : Type 0 where
   pub many : length opened ≡ volumes
   pub tables : (k : ℕ) (d : OpenedAt) → k < volumes → (slice_index_or opened k d).table ≡ history k
+  pub boards_are : (k : ℕ) (d : OpenedAt) → k < volumes → (slice_index_or opened k d).boards ≡ boards k
   pub firsts : (k : ℕ) (d : OpenedAt) → k < volumes → k < front → (slice_index_or opened k d).next ≡ next + 1
   pub others : (k : ℕ) (d : OpenedAt) → k < volumes → front ≤ k → (slice_index_or opened k d).next ≡ next
 
@@ -68,7 +67,10 @@ abbrev pub HasNoReceipts : List SittingShape → Type 0
 HasNoReceipts sittings = (k : ℕ) (d : SittingShape) → k < length sittings → (slice_index_or sittings k d).receipts ≡ []
 
 abbrev pub histories_in : OpenedShape → ℕ → TableId
-histories_in o k = (slice_index_or o.volumes k (record { table = no_table; next = 0 })).table
+histories_in o k = (slice_index_or o.volumes k (record { table = no_table; boards = []; next = 0 })).table
+
+abbrev pub boards_in : OpenedShape → ℕ → List BoardId
+boards_in o k = (slice_index_or o.volumes k (record { table = no_table; boards = []; next = 0 })).boards
 
 abbrev pub start_in : {B : Type 0} → List (AuditShape B) → ℕ → List Entry
 start_in audits k = slice_index_or (map (λ a. a.entries) audits) k []
@@ -83,10 +85,11 @@ pub record IsStart {B : Type 0} (start : List Entry) (fixed now : Fixed) (a : Au
   pub fixed_is : now ≡ fixed
 
 -- The room is that of these audits and of what was opened for them.
-pub record IsRoomOf {B : Type 0} (size : B → ℕ) (layers : B → List Layer) (audits : List (AuditShape B)) (opened : OpenedShape) (volumes : ℕ) (history : ℕ → TableId) (start : ℕ → List Entry) (queue : Queue) (fixed : ℕ → Fixed) : Type 0 where
+pub record IsRoomOf {B : Type 0} (size : B → ℕ) (layers : B → List Layer) (audits : List (AuditShape B)) (opened : OpenedShape) (volumes : ℕ) (history : ℕ → TableId) (boards : ℕ → List BoardId) (start : ℕ → List Entry) (queue : Queue) (fixed : ℕ → Fixed) : Type 0 where
   pub is_opened : AreOpened (length audits) opened
   pub volumes_are : volumes ≡ length audits
   pub histories : history ≡ histories_in opened
+  pub boards_are : boards ≡ boards_in opened
   pub starts : start ≡ start_in audits
   pub queue_is : queue ≡ opened.queue
   pub fixed_is : fixed ≡ fixed_in size layers audits
@@ -100,6 +103,7 @@ pub record HasAdded (volume : ℕ) (more : List Receipt) (old new : SeatShape) :
   pub number : new.number ≡ old.number
   pub here : receipts_at new volume ≡ receipts_at old volume ++ more
   pub others : (k : ℕ) → (k ≡ volume → ⊥) → receipts_at new k ≡ receipts_at old k
+  pub watches : new.watches ≡ old.watches
 
 -- One piece was not done. There is a receipt of its failure; or of its being done, and then memory was refused; or none.
 abbrev pub IsPieceCut : (List ℕ → Op) → (List ℕ → Reply) → Dev → Span → Refusal → ℕ → SeatShape → SeatShape → Type 0

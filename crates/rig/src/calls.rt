@@ -11,7 +11,6 @@ use crate::performing::perform;
 use crate::place::Place;
 use crate::queue::{Queue, QueuePass};
 use crate::rig::Rig;
-use crate::room::Room;
 use crate::seat::Seat;
 use crate::turns::{begin, merge_turn, piece};
 use chunk::Geometry;
@@ -19,6 +18,7 @@ use copier::Gate;
 use journal::Receipt;
 use layers::Layered;
 use plain::{Dev, Op, Reply, Request, SnapId, refusal_for};
+use post::Room;
 use sector::{Buf, Range, Refusal, SECTOR_BYTES};
 use std::sync::Wait;
 

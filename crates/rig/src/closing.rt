@@ -1,52 +1,50 @@
 // A rig is closed.
 ghost use Rattle.std.specs.Prelude.{◌≡◌, ◌<◌, ℕ, [], length, slice_index_or};
-ghost use Rattle.history.specs.Ties.{table_of};
 ghost use Rattle.journal.specs.Books.{AuditShape};
-ghost use Rattle.rig.specs.Fixed.{StaysFrom, fixed_of};
+ghost use Rattle.post.specs.Beside.{IsBeside};
+ghost use Rattle.post.specs.Fixed.{StaysFrom, fixed_of};
 ghost use Rattle.rig.specs.Rigs.{IsSettledAt, SeatShape};
 
 use crate::place::Place;
-use crate::post::Post;
 use crate::rig::Rig;
-use crate::room::Room;
 use crate::seat::Seat;
 use crate::worker::Worker;
 use copier::Gate;
-use history::History;
 use journal::Audit;
 use layers::Layered;
+use post::{Beside, Post, Room};
 use std::sync::Wait;
 
 impl<J: Room> Seat<J> {
     /// Compares what the seat knows of a volume with its journal.
-    fn settle<B: Layered>(&mut self, post: &mut Post<B, J>, history: &History, volume: usize)
+    fn settle<B: Layered>(&mut self, post: &mut Post<B, J>, beside: &Beside, volume: usize)
         requires volume { (volume < J.volumes) × (post.old.volume ≡ volume) }
-        requires history { table_of history.now ≡ J.history volume }
+        requires beside { IsBeside (J.history volume) (J.boards volume) beside.now }
         ensures seat { self.new ≡ self.old }
         ensures post { post.new ≡ post.old }
         ensures settled { IsSettledAt (J.start volume) post.old.audit volume self.new }
     {
         let sitting = &mut self.sittings[volume];
-        sitting.settle(post, history);
+        sitting.settle(post, beside);
     }
 }
 
 /// Compares what each seat knows of a volume with its journal.
 fn settle_all<B: Layered, J: Room>(
     post: &mut Post<B, J>,
-    history: &History,
+    beside: &Beside,
     volume: usize,
     seats: &mut [Seat<J>],
 )
     requires volume { (volume < J.volumes) × (post.old.volume ≡ volume) }
-    requires history { table_of history.now ≡ J.history volume }
+    requires beside { IsBeside (J.history volume) (J.boards volume) beside.now }
     ensures seats { seats.new ≡ seats.old }
     ensures post { post.new ≡ post.old }
     ensures settled { (i : ℕ) (s : SeatShape) → i < length seats.new → IsSettledAt (J.start volume) post.old.audit volume (slice_index_or seats.new i s) }
 {
     for i in 0..seats.len() {
         let seat = &mut seats[i];
-        seat.settle(post, history, volume);
+        seat.settle(post, beside, volume);
     }
 }
 
@@ -77,10 +75,10 @@ fn close_one<B: Layered, J: Room, R: Wait>(
         volume,
         lock,
         moved: _,
-        history,
+        beside,
     } = place;
     let mut post = checked(rt, lock.into_inner(), volume);
-    settle_all(&mut post, &history, volume, seats);
+    settle_all(&mut post, &beside, volume, seats);
     post.into_audit()
 }
 

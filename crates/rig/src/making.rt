@@ -2,22 +2,23 @@
 ghost use Rattle.std.specs.Prelude.{◌≡◌, ◌+◌, ◌-◌, ◌<◌, ◌≤◌, ℕ, [], length, slice_index_or, vec_capacity, IfErr, IfOk};
 ghost use Rattle.sector.specs.declared.refusal.Refusal.TheVariants.{NoMemory};
 ghost use Rattle.journal.specs.Books.{AuditShape};
-ghost use Rattle.rig.specs.Fixed.{fixed_of};
+ghost use Rattle.post.specs.Fixed.{fixed_of};
 ghost use Rattle.rig.specs.Placed.{AreNumbered};
-ghost use Rattle.rig.specs.Rigs.{AreDealt, AreIdle, AreNewSeats, IsRoomOf, OpenedAt, HasNoReceipts, IsStart};
+ghost use Rattle.post.specs.Beside.{OpenedAt};
+ghost use Rattle.rig.specs.Rigs.{AreDealt, AreIdle, AreNewSeats, IsRoomOf, HasNoReceipts, IsStart};
+ghost use Rattle.rig.specs.Watching.{AreWatching};
 
-use crate::opened::{Opened, OpenedVolume};
+use crate::opened::Opened;
 use crate::place::Place;
-use crate::post::Post;
 use crate::queue::Queue;
 use crate::rig::Rig;
-use crate::room::Room;
 use crate::seat::Seat;
 use crate::sitting::Sitting;
 use crate::worker::Worker;
 use copier::{Count, Gate};
 use journal::Audit;
 use layers::Layered;
+use post::{OpenedVolume, Readers, Room};
 use sector::Refusal;
 use std::alloc::{AllocError, Global};
 use std::marker::PhantomData;
@@ -29,8 +30,8 @@ fn seat_row<J: Room>(
     number: u8,
     volumes: &mut Vec<OpenedVolume>,
 ) -> Result<Vec<Sitting<J>>, AllocError>
-    requires { AreDealt J.history J.volumes number 0 volumes.old.items }
-    ensures dealt { IfOk result (λ _. AreDealt J.history J.volumes (number + 1) 0 volumes.new.items) }
+    requires { AreDealt J.history J.boards J.volumes number 0 volumes.old.items }
+    ensures dealt { IfOk result (λ _. AreDealt J.history J.boards J.volumes (number + 1) 0 volumes.new.items) }
     ensures row { IfOk result (λ row. (length row.items ≡ J.volumes) × AreIdle number row.items × HasNoReceipts row.items) }
 {
     let mut row = Vec::new(alloc);
@@ -42,6 +43,24 @@ fn seat_row<J: Room>(
     Ok(row)
 }
 
+/// Passes to the boards of each volume.
+fn watch_row<J: Room>(
+    alloc: Global,
+    volumes: &mut Vec<OpenedVolume>,
+) -> Result<Vec<Readers>, AllocError>
+    requires many { length volumes.old.items ≡ J.volumes }
+    requires boards { (k : ℕ) (d : OpenedAt) → k < J.volumes → (slice_index_or volumes.old.items k d).boards ≡ J.boards k }
+    ensures same { volumes.new.items ≡ volumes.old.items }
+    ensures row { IfOk result (λ row. AreWatching J.boards J.volumes row.items) }
+{
+    let mut row = Vec::new(alloc);
+    for k in 0..volumes.len() {
+        let volume = &mut volumes[k];
+        row.push(volume.readers(alloc)?)?;
+    }
+    Ok(row)
+}
+
 /// Seats 1, 2 and so on, so many.
 fn seats_of<J: Room>(
     alloc: Global,
@@ -49,20 +68,22 @@ fn seats_of<J: Room>(
     opened: &mut Opened,
 ) -> Result<Vec<Seat<J>>, AllocError>
     requires few { seats < 9 }
-    requires dealt { AreDealt J.history J.volumes 1 0 opened.old.volumes }
+    requires dealt { AreDealt J.history J.boards J.volumes 1 0 opened.old.volumes }
     requires queue { (opened.old.queue ≡ J.queue) × (opened.old.parts ≡ 1024) }
     ensures queue { IfOk result (λ _. (opened.new.queue ≡ J.queue) × (opened.new.parts ≡ 1024 - seats)) }
-    ensures volumes { IfOk result (λ _. AreDealt J.history J.volumes (seats + 1) 0 opened.new.volumes) }
+    ensures volumes { IfOk result (λ _. AreDealt J.history J.boards J.volumes (seats + 1) 0 opened.new.volumes) }
     ensures new { IfOk result (λ all. AreNewSeats seats all.items) }
 {
     let mut all = Vec::new(alloc);
     for i in 0..seats {
         let number = (i + 1) as u8;
         let sittings = seat_row(alloc, number, &mut opened.volumes)?;
+        let watches = watch_row::<J>(alloc, &mut opened.volumes)?;
         let pass = opened.queue_pass();
         all.push(Seat {
             number,
             sittings,
+            watches,
             pass,
             alloc,
         })?;
@@ -97,23 +118,18 @@ fn place_one<B: Layered, J: Room>(
     opened: OpenedVolume,
 ) -> Place<B, J>
     requires history { opened.table ≡ J.history volume }
+    requires boards { opened.boards ≡ J.boards volume }
     requires start { audit.entries ≡ J.start volume }
     requires held { audit.held ≡ [] }
     requires fixed { fixed_of B.size B.layers audit ≡ J.fixed volume }
     ensures { result.volume ≡ volume }
 {
-    let OpenedVolume { history, keeper } = opened;
-    let post = Post {
-        volume,
-        audit,
-        keeper,
-        room: PhantomData,
-    };
+    let (beside, post) = opened.into_post(volume, audit);
     Place {
         volume,
         lock: Mutex::new(post),
         moved: Condvar::new(),
-        history,
+        beside,
     }
 }
 
@@ -126,6 +142,7 @@ fn place_all<B: Layered, J: Room>(
     requires many { (length audits.old.items ≡ J.volumes) × (length volumes.items ≡ J.volumes) }
     requires room { (places.old.items ≡ []) × (J.volumes ≤ vec_capacity places.old) }
     requires tables { (k : ℕ) (d : OpenedAt) → k < J.volumes → (slice_index_or volumes.items k d).table ≡ J.history k }
+    requires boards { (k : ℕ) (d : OpenedAt) → k < J.volumes → (slice_index_or volumes.items k d).boards ≡ J.boards k }
     requires audits { (k : ℕ) (d : AuditShape B) → k < J.volumes → IsStart (J.start k) (J.fixed k) (fixed_of B.size B.layers (slice_index_or audits.old.items k d)) (slice_index_or audits.old.items k d) }
     ensures places { AreNumbered (λ p. p.volume) places.new.items × (length places.new.items ≡ J.volumes) }
     ensures audits { (audits.new.items ≡ []) × (vec_capacity audits.new ≡ vec_capacity audits.old) }
@@ -150,7 +167,7 @@ impl<B: Layered + Drop, G: Gate + Drop, J: Room> Rig<B, G, J> {
         opened: Opened,
     ) -> Result<(Rig<B, G, J>, Vec<Worker<J>>, Vec<Seat<J>>), (Refusal, Vec<Audit<B>>)>
         requires many { (workers < 5) × (seats < 9) }
-        requires room { IsRoomOf B.size B.layers audits.items opened J.volumes J.history J.start J.queue J.fixed }
+        requires room { IsRoomOf B.size B.layers audits.items opened J.volumes J.history J.boards J.start J.queue J.fixed }
         requires quiet { (k : ℕ) (d : AuditShape B) → k < length audits.items → (slice_index_or audits.items k d).held ≡ [] }
         ensures ok { IfOk result (λ r. (r.0.workers ≡ workers) × (length r.1.items ≡ workers) × AreNewSeats seats r.2.items) }
         ensures err { IfErr result (λ e. e ≡ record { 0 = NoMemory; 1 = audits }) }

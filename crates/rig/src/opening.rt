@@ -1,35 +1,13 @@
 // What a rig is made from is made, and seats and passes are dealt.
-ghost use Rattle.std.specs.Prelude.{◌≡◌, ◌+◌, ◌-◌, ◌<◌, ℕ, [], length, slice_index_or, map, IfOk};
+ghost use Rattle.std.specs.Prelude.{◌≡◌, ◌-◌, ◌<◌, IfOk};
 ghost use Rattle.rig.specs.Rigs.{AreOpened};
-ghost use Rattle.rig.specs.Sittings.{IsSeat};
 
-use crate::opened::{Opened, OpenedVolume};
+use crate::opened::Opened;
 use crate::queue::QueuePass;
-use crate::room::Room;
 use copier::Tickets;
-use history::{History, Pass};
+use post::{OpenedVolume, Room};
 use std::alloc::{AllocError, Global};
 use std::marker::PhantomData;
-
-impl OpenedVolume {
-    /// A history that begins with no entry.
-    fn new(alloc: Global) -> Result<OpenedVolume, AllocError>
-        ensures { IfOk result (λ o. o.next ≡ 1) }
-    {
-        let none = Vec::new(alloc);
-        let (history, keeper) = History::new(alloc, &none)?;
-        Ok(OpenedVolume { history, keeper })
-    }
-
-    /// The pass of the next seat.
-    pub(crate) fn deal(&mut self) -> Pass
-        ensures dealt { self.new ≡ record { table = self.old.table; next = self.old.next + 1 } }
-        ensures seat { IsSeat self.old.table self.old.next result }
-        ensures none { (result.me.0.old ≡ []) × (result.me.0.mine ≡ []) × (result.me.0.waits ≡ []) }
-    {
-        self.history.deal(&mut self.keeper)
-    }
-}
 
 impl Opened {
     /// Tables for so many volumes, and a queue. `AllocError` where memory is refused.

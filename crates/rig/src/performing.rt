@@ -6,11 +6,11 @@ ghost use Rattle.rig.specs.Sittings.{IsPerformed, IsSameSitting};
 
 use crate::place::Place;
 use crate::queue::{Queue, QueuePass};
-use crate::room::Room;
 use crate::sitting::Sitting;
 use crate::turns::{submit, turn};
 use layers::Layered;
 use plain::{Reply, Request};
+use post::Room;
 use sector::Refusal;
 use std::sync::Wait;
 

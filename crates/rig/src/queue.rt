@@ -1,8 +1,8 @@
 // The tickets of a rig.
 ghost use Rattle.std.specs.Prelude.{◌≡◌};
 
-use crate::room::Room;
 use copier::{Count, Pass, Tickets};
+use post::Room;
 use std::marker::PhantomData;
 use std::sync::Mutex;
 

@@ -3,9 +3,9 @@ ghost use Rattle.std.specs.Prelude.{◌≡◌};
 ghost use Rattle.copier.specs.Working.{HasPut};
 
 use crate::queue::{Queue, QueuePass};
-use crate::room::Room;
 use copier::{Pass, PendingCopy, Ticket};
 use plain::CopyId;
+use post::Room;
 use std::sync::Wait;
 
 /// The copies that a call under a volume's lock started: those after the first number, up to the second.

@@ -1,10 +1,10 @@
 // A rig.
 use crate::place::Place;
 use crate::queue::Queue;
-use crate::room::Room;
 use copier::Gate;
 use journal::Audit;
 use layers::Layered;
+use post::Room;
 use std::marker::Model;
 
 /// Volumes that threads share, each under a lock of its own, and the tickets of their copies. Contracts see how many
@@ -24,7 +24,7 @@ impl<B: Layered, G: Gate + Drop, J: Room> Model for Rig<B, G, J> {
 
     ghost Value = { RigShape };
 
-    ghost use Rattle.std.specs.Prelude.{◌≡◌, ◌≤◌, ℕ, [], length, vec_capacity};
+    ghost use Rattle.std.specs.Prelude.{◌≡◌, ◌≤◌, [], length, vec_capacity};
     ghost use Rattle.rig.specs.Placed.{AreNumbered};
 
     ghost view = { λ r. record { workers = r.workers } };

@@ -1,8 +1,8 @@
 // A seat at one volume.
-use crate::room::Room;
 use atomic_table::Badge;
 use history::View;
 use journal::Receipt;
+use post::Room;
 use std::marker::{Model, PhantomData};
 
 /// The receipts of a seat at one volume, and the pass that knows that its journal has no other entries of it.

@@ -1,20 +1,20 @@
 // What a seat does at one volume, under its lock.
-ghost use Rattle.std.specs.Prelude.{◌≡◌, ◌*◌, ◌<◌, ◌++◌, ◌∷◌, ℕ, List, [], length, map, IfOk, IfSome, IfNone, OnErr, MatchResult};
+ghost use Rattle.std.specs.Prelude.{◌≡◌, ◌*◌, ◌<◌, ◌++◌, ◌∷◌, ℕ, List, [], length, map, IfOk, IfSome, IfNone, MatchResult};
 ghost use Rattle.plain.specs.declared.request.Op.TheVariants.{Write};
 ghost use Rattle.journal.specs.Entries.{answered_of, entries_by};
 ghost use Rattle.journal.specs.Seats.{Seated};
 ghost use Rattle.journal.specs.declared.entry.Receipt.{Receipt};
-ghost use Rattle.history.specs.Ties.{table_of};
-ghost use Rattle.rig.specs.Sittings.{IsAnswered, IsSameSitting, IsSeat, IsWaiting};
+ghost use Rattle.post.specs.Beside.{IsBeside};
+ghost use Rattle.post.specs.Seats.{IsSeat};
+ghost use Rattle.rig.specs.Sittings.{IsAnswered, IsSameSitting, IsWaiting};
 
-use crate::post::Post;
-use crate::room::Room;
 use crate::sitting::Sitting;
 use atomic_table::Badge;
-use history::{History, Pass};
+use history::Pass;
 use journal::Receipt;
 use layers::Layered;
 use plain::{Reply, ReqId, Request};
+use post::{Beside, Post, Room};
 use sector::Refusal;
 use std::alloc::{AllocError, Global};
 use std::marker::PhantomData;
@@ -54,10 +54,10 @@ impl<J: Room> Sitting<J> {
     pub(crate) fn submit<B: Layered>(
         &mut self,
         post: &mut Post<B, J>,
-        history: &History,
+        beside: &Beside,
         request: Request,
     ) -> Result<ReqId, Refusal>
-        requires history { table_of history.now ≡ J.history post.old.volume }
+        requires beside { IsBeside (J.history post.old.volume) (J.boards post.old.volume) beside.now }
         requires volume { post.old.volume ≡ self.old.volume }
         requires few { self.old.seat < 9 }
         requires idle { self.old.waits ≡ [] }
@@ -66,7 +66,7 @@ impl<J: Room> Sitting<J> {
         ensures seat { MatchResult result (λ number. IsWaiting number request self.old self.new) (λ _. IsSameSitting self.old self.new) }
     {
         let badge = mem::replace(&mut self.pass, Badge::blank());
-        let (pass, got) = post.submit(history, badge.into_seat(), self.seat, request);
+        let (pass, got) = post.submit(beside, badge.into_seat(), self.seat, request);
         self.pass = pass.into_badge();
         got
     }
@@ -76,10 +76,10 @@ impl<J: Room> Sitting<J> {
         &mut self,
         rt: &R,
         post: &mut Post<B, J>,
-        history: &History,
+        beside: &Beside,
         number: ReqId,
     ) -> Option<Reply>
-        requires history { table_of history.now ≡ J.history post.old.volume }
+        requires beside { IsBeside (J.history post.old.volume) (J.boards post.old.volume) beside.now }
         requires volume { post.old.volume ≡ self.old.volume }
         requires room { length self.old.receipts < self.old.room }
         requires one { (x : Seated) × (self.old.waits ≡ x ∷ []) }
@@ -88,7 +88,7 @@ impl<J: Room> Sitting<J> {
         ensures none { IfNone result (IsSameSitting self.old self.new × (self.new.room ≡ self.old.room)) }
     {
         let badge = mem::replace(&mut self.pass, Badge::blank());
-        let (pass, got) = post.issue(rt, history, badge.into_seat(), self.seat, number);
+        let (pass, got) = post.issue(rt, beside, badge.into_seat(), self.seat, number);
         self.pass = pass.into_badge();
         match got {
             Some(pair) => {
@@ -102,15 +102,15 @@ impl<J: Room> Sitting<J> {
 
     /// The receipts of this seat are its entries in the journal after those that it had, in their order, and there are as
     /// many.
-    pub(crate) fn settle<B: Layered>(&mut self, post: &mut Post<B, J>, history: &History)
-        requires history { table_of history.now ≡ J.history post.old.volume }
+    pub(crate) fn settle<B: Layered>(&mut self, post: &mut Post<B, J>, beside: &Beside)
+        requires beside { IsBeside (J.history post.old.volume) (J.boards post.old.volume) beside.now }
         requires volume { post.old.volume ≡ self.old.volume }
         ensures seat { self.new ≡ self.old }
         ensures post { post.new ≡ post.old }
         ensures own { entries_by self.old.seat post.old.audit.entries ≡ entries_by self.old.seat (J.start self.old.volume) ++ map answered_of self.old.receipts }
     {
         let badge = mem::replace(&mut self.pass, Badge::blank());
-        let pass = post.settle(history, badge.into_seat(), self.seat);
+        let pass = post.settle(beside, badge.into_seat(), self.seat);
         self.pass = pass.into_badge();
     }
 }

@@ -1,5 +1,5 @@
 // What a seat or a worker does while it holds a volume's lock once.
-ghost use Rattle.std.specs.Prelude.{◌≡◌, ◌≢◌, ◌*◌, ◌<◌, ◌∷◌, ℕ, List, [], length, true, IfSome, IfNone, MatchOption, MatchResult};
+ghost use Rattle.std.specs.Prelude.{◌≡◌, ◌≢◌, ◌*◌, ◌<◌, ◌∷◌, ℕ, List, [], length, true, IfSome, IfNone, MatchResult};
 ghost use Rattle.std.specs.Sync.Mutex.{mutex_guard_value};
 ghost use Rattle.plain.specs.declared.event.Event.TheVariants.{Issue};
 ghost use Rattle.plain.specs.declared.request.Op.TheVariants.{Write};
@@ -9,12 +9,11 @@ ghost use Rattle.chunk.specs.Sizes.{is_chunk};
 ghost use Rattle.rig.specs.Sittings.{IsAnswered, IsSameSitting, IsWaiting};
 
 use crate::place::Place;
-use crate::post::Post;
 use crate::queueing::Started;
-use crate::room::Room;
 use crate::sitting::Sitting;
 use layers::Layered;
 use plain::{Event, Reply, ReqId, Request, SnapId};
+use post::{Post, Room};
 use sector::Refusal;
 use std::sync::{MutexGuard, Wait};
 
@@ -55,7 +54,7 @@ pub(crate) fn submit<B: Layered, J: Room, R: Wait>(
 {
     let mut post = locked(rt, place);
     let after = post.last_copy();
-    let got = sitting.submit(&mut post, &place.history, request);
+    let got = sitting.submit(&mut post, &place.beside, request);
     let last = post.last_copy();
     place.moved.notify_all();
     (got, Started { after, last })
@@ -77,9 +76,9 @@ fn act<B: Layered, J: Room, R: Wait>(
     ensures some { IfSome result.0 (λ reply. (r : Receipt) × IsAnswered reply r sitting.old sitting.new) }
     ensures none { IfNone result.0 (IsSameSitting sitting.old sitting.new × (sitting.new.room ≡ sitting.old.room)) }
 {
-    match sitting.issue(rt, post, &place.history, number) {
+    match sitting.issue(rt, post, &place.beside, number) {
         Some(reply) => (Some(reply), true),
-        None => (None, post.advance(rt, &place.history)),
+        None => (None, post.advance(rt, &place.beside)),
     }
 }
 
@@ -114,7 +113,7 @@ pub(crate) fn copy<B: Layered, J: Room, R: Wait>(rt: &R, place: &Place<B, J>, ev
     requires { (n : ℕ) → event ≢ Issue n }
 {
     let mut post = locked(rt, place);
-    post.work(rt, &place.history, event);
+    post.work(rt, &place.beside, event);
     place.moved.notify_all();
 }
 
@@ -126,8 +125,8 @@ pub(crate) fn begin<B: Layered, J: Room, R: Wait>(
 ) -> (Result<(), Refusal>, Started) {
     let mut post = locked(rt, place);
     let after = post.last_copy();
-    let got = post.begin_merge(&place.history, number);
-    if got == Err(Refusal::NotQuiet) && !post.advance(rt, &place.history) {
+    let got = post.begin_merge(&place.beside, number);
+    if got == Err(Refusal::NotQuiet) && !post.advance(rt, &place.beside) {
         let _post = place.moved.wait(rt, post);
         return (got, Started { after, last: after });
     }
@@ -146,7 +145,7 @@ pub(crate) fn merge_turn<B: Layered, J: Room, R: Wait>(
     if post.is_merge_over() {
         return (true, Started { after, last: after });
     }
-    if !post.advance(rt, &place.history) {
+    if !post.advance(rt, &place.beside) {
         let _post = place.moved.wait(rt, post);
         return (false, Started { after, last: after });
     }

@@ -4,12 +4,12 @@ ghost use Rattle.std.specs.Prelude.{◌≡◌, ⊤};
 use crate::place::Place;
 use crate::queue::QueuePass;
 use crate::rig::Rig;
-use crate::room::Room;
 use crate::seat::Seat;
 use crate::turns::copy;
 use copier::{Copies, Gate, Pass, PendingCopy, Tickets};
 use layers::Layered;
 use plain::Event;
+use post::Room;
 use std::sync::Wait;
 
 /// A worker of a rig, which one thread has at a time.

@@ -1,6 +1,6 @@
 -- The first volume that is left gets its place.
 use Rattle.std.proofs.Common.{◌≡◌, ◌+◌, subst, sym, ◌∙◌, arith}
-use Rattle.rig.specs.Fixed.{fixed_of}
+use Rattle.post.specs.Fixed.{fixed_of}
 use Rattle.rig.specs.Rigs.{IsStart}
 use Rattle.rig.proofs.Rows.{AreFrom, AreUpTo, grown, taken, first_is}
 use Rattle.rig.proofs.making.place_all.Goals as goal
@@ -8,6 +8,10 @@ use Rattle.rig.proofs.making.place_all.Goals as goal
 pub place_one-requires-clause-history : goal.place_one-requires-clause-history
 place_one-requires-clause-history g c =
     first_is (λ k o. o.table ≡ g.J.Room.history k) c.loop-volume.volume c.loop-volume.volumes.items c.remove-opened.result (omega arith) c.remove-opened.ensures.value c.loop-volume.invariant.tables
+
+pub place_one-requires-clause-boards : goal.place_one-requires-clause-boards
+place_one-requires-clause-boards g c =
+    first_is (λ k o. o.boards ≡ g.J.Room.boards k) c.loop-volume.volume c.loop-volume.volumes.items c.remove-opened.result (omega arith) c.remove-opened.ensures.value c.loop-volume.invariant.boards
 
 pub place_one-requires-clause-start : goal.place_one-requires-clause-start
 place_one-requires-clause-start g c =
@@ -28,6 +32,8 @@ loop-volume-preserved g c = record {
   many = omega arith;
   tables = subst (AreFrom (λ k o. o.table ≡ g.J.Room.history k) (c.loop-volume.volume + 1)) (sym c.remove-opened.ensures.items)
       (taken (λ k o. o.table ≡ g.J.Room.history k) c.loop-volume.volume c.loop-volume.volumes.items (omega arith) c.loop-volume.invariant.tables);
+  boards = subst (AreFrom (λ k o. o.boards ≡ g.J.Room.boards k) (c.loop-volume.volume + 1)) (sym c.remove-opened.ensures.items)
+      (taken (λ k o. o.boards ≡ g.J.Room.boards k) c.loop-volume.volume c.loop-volume.volumes.items (omega arith) c.loop-volume.invariant.boards);
   starts = subst (AreFrom (λ k a. IsStart (g.J.Room.start k) (g.J.Room.fixed k) (fixed_of g.B.Block.size g.B.Block.layers a) a) (c.loop-volume.volume + 1)) (sym c.remove-audit.ensures.items)
       (taken (λ k a. IsStart (g.J.Room.start k) (g.J.Room.fixed k) (fixed_of g.B.Block.size g.B.Block.layers a) a) c.loop-volume.volume c.loop-volume.audits.items (omega arith) c.loop-volume.invariant.starts);
   places = subst (AreUpTo (λ k p. p.volume ≡ k) (c.loop-volume.volume + 1)) (sym c.push_reserved.ensures.items)

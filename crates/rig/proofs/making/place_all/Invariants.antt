@@ -1,6 +1,6 @@
 -- The first volumes have their places, and the others are left.
 use Rattle.std.proofs.Common.{◌≡◌, ◌+◌, length, vec_capacity}
-use Rattle.rig.specs.Fixed.{fixed_of}
+use Rattle.post.specs.Fixed.{fixed_of}
 use Rattle.rig.specs.Rigs.{IsStart}
 use Rattle.rig.proofs.Rows.{AreFrom, AreUpTo}
 use Rattle.rig.proofs.making.place_all.Given as goal
@@ -11,6 +11,7 @@ invariant-loop-volume g l = record {
   volumes_left : length l.volumes.items + l.volume ≡ g.J.Room.volumes;
   many : length l.places.items ≡ l.volume;
   tables : AreFrom (λ k o. o.table ≡ g.J.Room.history k) l.volume l.volumes.items;
+  boards : AreFrom (λ k o. o.boards ≡ g.J.Room.boards k) l.volume l.volumes.items;
   starts : AreFrom (λ k a. IsStart (g.J.Room.start k) (g.J.Room.fixed k) (fixed_of g.B.Block.size g.B.Block.layers a) a) l.volume l.audits.items;
   places : AreUpTo (λ k p. p.volume ≡ k) l.volume l.places.items;
   room : vec_capacity l.places ≡ vec_capacity l.fn.places;

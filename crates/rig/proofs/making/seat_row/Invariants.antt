@@ -6,4 +6,4 @@ use Rattle.rig.proofs.making.seat_row.Given as goal
 abbrev pub invariant-loop-k : goal.invariant-loop-k
 invariant-loop-k g l =
     (length l.row.items ≡ l.k) × AreIdle l.number l.row.items × HasNoReceipts l.row.items
-    × AreDealt g.J.Room.history g.J.Room.volumes l.number l.k l.volumes.items
+    × AreDealt g.J.Room.history g.J.Room.boards g.J.Room.volumes l.number l.k l.volumes.items

@@ -1,6 +1,6 @@
 -- So many histories are there.
 use Rattle.std.proofs.Common.{◌≡◌, ◌<◌, ℕ, length, slice_index_or}
-use Rattle.rig.specs.Rigs.{OpenedAt}
+use Rattle.post.specs.Beside.{OpenedAt}
 use Rattle.rig.proofs.opened.Opened.new.Given as goal
 
 abbrev pub invariant-loop : goal.invariant-loop

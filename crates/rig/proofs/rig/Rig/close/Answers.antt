@@ -1,6 +1,6 @@
 -- The first volume that is left is closed.
 use Rattle.std.proofs.Common.{◌≡◌, ◌+◌, ◌<◌, ◌≤◌, ℕ, [], List, length, slice_index_or, vec_capacity, refl, sym, ap, ◌∙◌, subst}
-use Rattle.rig.specs.Fixed.{StaysFrom, fixed_of}
+use Rattle.post.specs.Fixed.{StaysFrom, fixed_of}
 use Rattle.rig.specs.Rigs.{IsSettledAt, SeatShape}
 use Rattle.rig.proofs.Rows.{AreFrom, AreUpTo, grown, taken, first_is, all_from, none_yet, long_more, one_less, none_done, some_left, below_end, at_end}
 use Rattle.rig.proofs.rig.Rig.close.Goals as goal

@@ -1,6 +1,6 @@
 -- The first volumes are closed, and the places of the others are left.
 use Rattle.std.proofs.Common.{◌≡◌, ◌+◌, ◌<◌, ◌≤◌, ℕ, [], length, slice_index_or, vec_capacity}
-use Rattle.rig.specs.Fixed.{StaysFrom, fixed_of}
+use Rattle.post.specs.Fixed.{StaysFrom, fixed_of}
 use Rattle.rig.specs.Rigs.{IsSettledAt, SeatShape}
 use Rattle.rig.proofs.Rows.{AreFrom, AreUpTo}
 use Rattle.rig.proofs.rig.Rig.close.Given as goal

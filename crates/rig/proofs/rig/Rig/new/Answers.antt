@@ -6,7 +6,7 @@ use Rattle.rig.proofs.rig.Rig.new.Goals as goal
 
 pub seats_of-requires-clause-dealt : goal.seats_of-requires-clause-dealt
 seats_of-requires-clause-dealt g c =
-    dealt_first g.B.Block.size g.B.Block.layers c.args.audits.items c.args.opened g.J.Room.volumes g.J.Room.history g.J.Room.start g.J.Room.queue g.J.Room.fixed c.requires.room
+    dealt_first g.B.Block.size g.B.Block.layers c.args.audits.items c.args.opened g.J.Room.volumes g.J.Room.history g.J.Room.boards g.J.Room.start g.J.Room.queue g.J.Room.fixed c.requires.room
 
 pub place_all-requires-clause-many : goal.place_all-requires-clause-many
 place_all-requires-clause-many g c =
@@ -20,9 +20,13 @@ pub place_all-requires-clause-tables : goal.place_all-requires-clause-tables
 place_all-requires-clause-tables g c k d low =
     ap (λ l. (slice_index_or l k d).table) (ap (λ o. o.volumes) c.opened-2.view_is ∙ c.in-Ok-workers_of.ensures.same) ∙ c.in-Ok.ensures.volumes.tables k d low
 
+pub place_all-requires-clause-boards : goal.place_all-requires-clause-boards
+place_all-requires-clause-boards g c k d low =
+    ap (λ l. (slice_index_or l k d).boards) (ap (λ o. o.volumes) c.opened-2.view_is ∙ c.in-Ok-workers_of.ensures.same) ∙ c.in-Ok.ensures.volumes.boards_are k d low
+
 pub place_all-requires-clause-audits : goal.place_all-requires-clause-audits
 place_all-requires-clause-audits g c =
-    starts_are g.B.Block.size g.B.Block.layers c.args.audits.items c.args.opened g.J.Room.volumes g.J.Room.history g.J.Room.start g.J.Room.queue g.J.Room.fixed c.requires.room c.requires.quiet
+    starts_are g.B.Block.size g.B.Block.layers c.args.audits.items c.args.opened g.J.Room.volumes g.J.Room.history g.J.Room.boards g.J.Room.start g.J.Room.queue g.J.Room.fixed c.requires.room c.requires.quiet
 
 pub invariant_of-rig : goal.invariant_of-rig
 invariant_of-rig g c = (

@@ -12,8 +12,8 @@ returns-clause-ok g c =
       h.0,
       h.1.asked,
       h.1.answer,
-      subst (λ s. HasAdded c.args.volume (h.0 ∷ []) s (record { number = c.self.inside.number; sittings = set c.self.inside.sittings.items c.args.volume c.perform.new.sitting })) c.self.view_is
-          (added_at c.self.inside.number c.args.volume (h.0 ∷ []) c.self.inside.sittings.items c.perform.new.sitting within
+      subst (λ s. HasAdded c.args.volume (h.0 ∷ []) s (record { number = c.self.inside.number; sittings = set c.self.inside.sittings.items c.args.volume c.perform.new.sitting; watches = c.self.inside.watches.items })) c.self.view_is
+          (added_at c.self.inside.number c.args.volume c.self.inside.watches.items (h.0 ∷ []) c.self.inside.sittings.items c.perform.new.sitting within
           (λ d. h.1.receipts ∙ ap (λ s. s.receipts ++ h.0 ∷ []) (c.index_mut.ensures.value ∙ get_or_default c.self.inside.sittings.items c.args.volume c.index_mut.result.now d within))),
     ))
     c.perform.ensures.ok

@@ -1,0 +1,6 @@
+mod Fresh
+mod Staying
+mod Matched
+mod Passes
+mod Shown
+mod Posting

@@ -1,0 +1,95 @@
+-- What is true under a lock stays true.
+use Rattle.std.proofs.Common.{◌≡◌, inl, inr, ℕ, List, [], ◌∷◌, ◌++◌, Option, Some, None, sym, ap, ◌∙◌, subst}
+use Rattle.atomic_table.specs.Seated.{TableId}
+use Rattle.atomic_table.specs.declared.shared.Seat.{Seat}
+use Rattle.device.specs.Layers.{Layer}
+use Rattle.plain.specs.declared.event.Outcome.{Outcome}
+use Rattle.plain.specs.declared.event.Outcome.TheVariants.{Done, Fault, Reply as Replied}
+use Rattle.plain.specs.declared.request.Reply.{Reply}
+use Rattle.plain.specs.declared.request.Request.{Request}
+use Rattle.sector.specs.declared.refusal.Refusal.{Refusal}
+use Rattle.journal.specs.declared.entry.Entry.{Entry}
+use Rattle.journal.specs.declared.entry.Receipt.{Receipt}
+use Rattle.journal.specs.Books.{AuditShape}
+use Rattle.journal.specs.Entries.{entries_by}
+use Rattle.journal.specs.Journaled.{HasReceipt, IsNotMerged, IsNoted, IsSilent, KeepsJournal}
+use Rattle.journal.specs.Seats.{Seated, seated_under}
+use Rattle.history.specs.Keeping.{asked_by, keeper_of, seated_with}
+use Rattle.history.specs.declared.rule.View.{View}
+use Rattle.history.specs.declared.told.Told.{Told}
+use Rattle.history.proofs.Moves.{entries_by-append}
+use Rattle.post.specs.Fixed.{Fixed, StaysFrom, fixed_of}
+use Rattle.post.specs.Posts.{IsKeeper, PostHolds, with_more}
+use Rattle.post.proofs.Fresh.{fresh_in, knows_more}
+use Rattle.post.proofs.Staying.{stays_not_begun}
+
+module _ {B : Type 0} (size : B → ℕ) (layers : B → List Layer) (history : TableId) (start : List Entry) (fixed : Fixed) where
+  -- new entries were told, none of which answers a request
+  pub noted_holds : (a b : AuditShape B) (keeper after : Seat Told View) (es fs more : List Entry) → PostHolds size layers history start fixed a keeper
+      → IsKeeper history after → after.me.0 ≡ with_more (fresh_in es fs) keeper.me.0 → es ≡ b.entries → fs ≡ a.entries → b.entries ≡ a.entries ++ more → b.held ≡ a.held
+      → StaysFrom fixed (fixed_of size layers b) → PostHolds size layers history start fixed b after
+  noted_holds a b keeper after es fs more h is told now was added held stays = record {
+    is_keeper = is;
+    knows = knows_more start keeper.me.0.all es fs a.entries b.entries more now was h.knows added ∙ ap (λ (v : View). start ++ v.all) (sym told);
+    flying = ap (λ (v : View). v.flying) told ∙ h.flying ∙ sym held;
+    stays = stays;
+  }
+
+  -- the same, and a request is in flight
+  pub asked_holds : (a b : AuditShape B) (keeper told after : Seat Told View) (me : View) (es fs more : List Entry) (number seat : ℕ) (request said : Request) → PostHolds size layers history start fixed a keeper
+      → IsKeeper history told → told.me.0 ≡ with_more (fresh_in es fs) keeper.me.0 → es ≡ b.entries → fs ≡ a.entries → b.entries ≡ a.entries ++ more
+      → b.held ≡ a.held ++ record { number = number; seat = seat; request = request } ∷ []
+      → after.table_id ≡ history → after.me.1 ≡ [] → after.me.0 ≡ keeper_of (asked_by number said (seated_with told.me.0 me)) → me.seat ≡ seat → said ≡ request
+      → StaysFrom fixed (fixed_of size layers b) → PostHolds size layers history start fixed b after
+  asked_holds a b keeper told after me es fs more number seat request said h is tells now was added held table bare asks by same stays = record {
+    is_keeper = record {
+      table = table;
+      bare = bare;
+      keeps = ap (λ (v : View). v.keeps) asks ∙ is.keeps;
+      stands = ap (λ (v : View). v.sits) asks;
+    };
+    knows = knows_more start keeper.me.0.all es fs a.entries b.entries more now was h.knows added ∙ ap (λ (v : View). start ++ v.all) (sym tells) ∙ ap (λ (v : View). start ++ v.all) (sym asks);
+    flying =
+        ap (λ (v : View). v.flying) asks
+        ∙ (λ i. (tells i).flying ++ record { number = number; seat = by i; request = same i } ∷ []) ∙ ap (λ (l : List Seated). l ++ record { number = number; seat = seat; request = request } ∷ []) h.flying ∙ sym held;
+    stays = stays;
+  }
+
+  -- nothing but the volume changed
+  pub same_holds : (a b : AuditShape B) (keeper : Seat Told View) → PostHolds size layers history start fixed a keeper → b.entries ≡ a.entries → b.held ≡ a.held
+      → StaysFrom fixed (fixed_of size layers b) → PostHolds size layers history start fixed b keeper
+  same_holds a b keeper h entries held stays = record { is_keeper = h.is_keeper; knows = entries ∙ h.knows; flying = h.flying ∙ sym held; stays = stays }
+
+  -- a merge did not begin
+  pub not_begun_holds : (a b : AuditShape B) (keeper : Seat Told View) (number : ℕ) (refusal : Refusal) → PostHolds size layers history start fixed a keeper → IsNotMerged number refusal a b
+      → PostHolds size layers history start fixed b keeper
+  not_begun_holds a b keeper number refusal h (inl full) = subst (λ (x : AuditShape B). PostHolds size layers history start fixed x keeper) (sym full.2) h
+  not_begun_holds a b keeper number refusal h (inr other) =
+      let kept : KeepsJournal a b = other.2 in
+      same_holds a b keeper h (ap (λ (x : AuditShape B). x.entries) kept.becomes) (ap (λ (x : AuditShape B). x.held) kept.becomes)
+      (stays_not_begun size layers fixed a b number refusal h.stays other.1 kept)
+
+-- an event that gave no reply
+pub silent_of : {B : Type 0} (seat : ℕ) (outcome : Outcome) (receipt : Option Receipt) (a b : AuditShape B) → receipt ≡ None → IsNoted seat outcome receipt a b → IsSilent a b
+silent_of seat outcome receipt a b none noted = go outcome (subst (λ (r : Option Receipt). IsNoted seat outcome r a b) none noted)
+  where
+    go : (o : Outcome) → IsNoted seat o None a b → IsSilent a b
+    go (Replied n reply) s = absurd s
+    go Done s = s
+    go Fault s = s
+
+-- a reply has a receipt
+pub receipt_of : {B : Type 0} (seat number : ℕ) (reply : Reply) (r : Receipt) (outcome : Outcome) (receipt : Option Receipt) (a b : AuditShape B) → outcome ≡ Replied number reply → receipt ≡ Some r
+    → IsNoted seat outcome receipt a b → HasReceipt seat number reply r a b
+receipt_of seat number reply r outcome receipt a b replied some noted =
+    subst (λ (x : Outcome × Option Receipt). IsNoted seat x.0 x.1 a b) (λ i. (replied i, some i)) noted
+
+pub has_asked : {B : Type 0} (seat number : ℕ) (reply : Reply) (r : Receipt) (a b : AuditShape B) (flying : List Seated) (s : ℕ) → flying ≡ a.held → s ≡ seat → HasReceipt seat number reply r a b
+    → (x : Seated) × (seated_under number flying ≡ Some x) × (x.seat ≡ s)
+has_asked seat number reply r a b flying s flies by h = (record { number = number; seat = seat; request = r.request }, ap (seated_under number) flies ∙ h.asked, sym by)
+
+-- a seat's entries are those of the start, and then its own
+pub settled_own : (start all entries old : List Entry) (mine : List _) (seat s : ℕ) → entries ≡ start ++ all → s ≡ seat → entries_by s all ≡ entries_by s old ++ mine
+    → entries_by seat entries ≡ entries_by seat start ++ (entries_by seat old ++ mine)
+settled_own start all entries old mine seat s is by own =
+    ap (entries_by seat) is ∙ entries_by-append seat start all ∙ ap (λ l. entries_by seat start ++ l) (subst (λ n. entries_by n all ≡ entries_by n old ++ mine) by own)

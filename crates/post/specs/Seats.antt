@@ -1,0 +1,43 @@
+-- The pass of a seat to a volume's history, and what the calls under its lock make of it. This project's own.
+use Rattle.std.specs.Prelude.{◌≡◌, ℕ, true, [], ◌∷◌, ◌++◌, Some}
+use Rattle.atomic_table.specs.Seated.{TableId}
+use Rattle.atomic_table.specs.declared.shared.Seat.{Seat}
+use Rattle.plain.specs.declared.request.Reply.{Reply}
+use Rattle.plain.specs.declared.request.Request.{Request}
+use Rattle.journal.specs.declared.entry.Receipt.{Receipt}
+use Rattle.journal.specs.Entries.{answered_of}
+use Rattle.journal.specs.Seats.{seated_under, without_seated}
+use Rattle.history.specs.declared.rule.View.{View}
+use Rattle.history.specs.declared.told.Told.{Told}
+
+-- the pass of a seat to a history
+pub record IsSeat (history : TableId) (seat : ℕ) (me : Seat Told View) : Type 0 where
+  pub table : me.table_id ≡ history
+  pub bare : me.me.1 ≡ []
+  pub sits : me.me.0.sits ≡ true
+  pub number : me.me.0.seat ≡ seat
+
+-- the same seat, which knows the same
+pub record IsSameSeat (history : TableId) (seat : ℕ) (before after : Seat Told View) : Type 0 where
+  pub is_seat : IsSeat history seat after
+  pub old : after.me.0.old ≡ before.me.0.old
+  pub mine : after.me.0.mine ≡ before.me.0.mine
+  pub waits : after.me.0.waits ≡ before.me.0.waits
+
+-- one request more is in flight for the seat
+pub record IsAsked (history : TableId) (seat number : ℕ) (request : Request) (before after : Seat Told View) : Type 0 where
+  pub is_seat : IsSeat history seat after
+  pub old : after.me.0.old ≡ before.me.0.old
+  pub mine : after.me.0.mine ≡ before.me.0.mine
+  pub waits : after.me.0.waits ≡ before.me.0.waits ++ record { number = number; seat = seat; request = request } ∷ []
+
+-- The seat has one entry more, which the receipt is for: it answers the request that the seat waited for.
+pub record IsReceipted (history : TableId) (seat : ℕ) (before after : Seat Told View) (answer : Reply) (receipt : Receipt) : Type 0 where
+  pub is_seat : IsSeat history seat after
+  pub old : after.me.0.old ≡ before.me.0.old
+  pub mine : after.me.0.mine ≡ before.me.0.mine ++ answered_of receipt ∷ []
+  pub reply : receipt.reply ≡ answer
+  pub by : receipt.seat ≡ seat
+  pub number : ℕ
+  pub asked : seated_under number before.me.0.waits ≡ Some (record { number = number; seat = seat; request = receipt.request })
+  pub waits : after.me.0.waits ≡ without_seated number before.me.0.waits

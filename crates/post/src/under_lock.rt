@@ -1,0 +1,230 @@
+// What threads do with an audit while they hold its lock: each call tells the history what is new in the journal, and publishes
+// each usage that changed.
+ghost use Rattle.std.specs.Prelude.{◌≡◌, ◌≢◌, ◌*◌, ◌<◌, ◌++◌, ◌∷◌, [], ℕ, List, length, MatchOption, MatchResult, Some, None, true};
+ghost use Rattle.chunk.specs.Sizes.{is_chunk};
+ghost use Rattle.plain.specs.declared.event.Event.TheVariants.{Issue};
+ghost use Rattle.plain.specs.declared.request.Op.TheVariants.{Write};
+ghost use Rattle.journal.specs.Entries.{entries_by};
+ghost use Rattle.journal.specs.declared.entry.Entry.{Entry};
+ghost use Rattle.history.specs.Keeping.{held_by};
+ghost use Rattle.post.specs.Beside.{IsBeside};
+ghost use Rattle.post.specs.Fixed.{StaysFrom, fixed_of};
+ghost use Rattle.post.specs.Seats.{IsAsked, IsReceipted, IsSameSeat, IsSeat};
+
+use crate::beside::Beside;
+use crate::post::Post;
+use crate::room::Room;
+use history::Pass;
+use journal::{Audit, Entry, Receipt};
+use layers::Layered;
+use plain::{CopyId, Event, NotDue, Outcome, Reply, ReqId, Request, SnapId};
+use sector::Refusal;
+use std::marker::PhantomData;
+use std::snapshot::Snapshot;
+use std::sync::Wait;
+
+/// The last entry of a journal that has one.
+fn last_of(entries: &[Entry]) -> &Entry
+    requires { 0 < length entries.now }
+    ensures { (before : List Entry) (e : Entry) → entries.now ≡ before ++ e ∷ [] → result.now ≡ e }
+{
+    &entries[entries.len() - 1]
+}
+
+impl<B: Layered, J: Room> Post<B, J> {
+    /// The place of its volume in the rig.
+    pub fn volume(&self) -> usize
+        ensures { result ≡ self.now.volume }
+    {
+        self.volume
+    }
+
+    /// The sectors of a piece of its volume.
+    pub fn piece(&self) -> u32
+        ensures { is_chunk result ≡ true }
+    {
+        self.audit.volume().piece()
+    }
+
+    /// The number of the copy that was started last.
+    pub fn last_copy(&self) -> CopyId {
+        self.audit.volume().last_copy()
+    }
+
+    /// Submits a request of a seat. Where it is accepted, it is one more that the seat waits for.
+    pub fn submit(
+        &mut self,
+        beside: &Beside,
+        me: Pass,
+        seat: u8,
+        request: Request,
+    ) -> (Pass, Result<ReqId, Refusal>)
+        requires beside { IsBeside (J.history self.old.volume) (J.boards self.old.volume) beside.now }
+        requires seat { IsSeat (J.history self.old.volume) seat me }
+        requires few { seat < 9 }
+        requires bytes { (bytes : List ℕ) → request.op ≡ Write bytes → length bytes ≡ 512 * request.range.count }
+        ensures volume { self.new.volume ≡ self.old.volume }
+        ensures seat { MatchResult result.1 (λ number. IsAsked (J.history self.old.volume) seat number request me result.0) (λ _. IsSameSeat (J.history self.old.volume) seat me result.0) }
+    {
+        let said = Snapshot::of(&request);
+        let from = self.audit.entries().len();
+        match self.audit.submit(seat, request) {
+            Ok(number) => {
+                beside.note(&mut self.keeper, &self.audit.entries()[from..]);
+                let me = beside.history.ask(&mut self.keeper, me, number, said);
+                beside.keep_up(&mut self.publishers, &self.audit);
+                (me, Ok(number))
+            }
+            Err(refusal) => {
+                beside.note(&mut self.keeper, &self.audit.entries()[from..]);
+                beside.keep_up(&mut self.publishers, &self.audit);
+                (me, Err(refusal))
+            }
+        }
+    }
+
+    /// Issues a request of a seat, where it is due. Its entry is one more of the journal, and of the seat's own.
+    pub fn issue<R: Wait>(
+        &mut self,
+        rt: &R,
+        beside: &Beside,
+        me: Pass,
+        seat: u8,
+        number: ReqId,
+    ) -> (Pass, Option<(Reply, Receipt)>)
+        requires beside { IsBeside (J.history self.old.volume) (J.boards self.old.volume) beside.now }
+        requires seat { IsSeat (J.history self.old.volume) seat me }
+        ensures volume { self.new.volume ≡ self.old.volume }
+        ensures seat { MatchOption result.1 (IsSameSeat (J.history self.old.volume) seat me result.0) (λ r. IsReceipted (J.history self.old.volume) seat me result.0 r.0 r.1) }
+    {
+        let (outcome, receipt) = match self.audit.apply(seat, Event::Issue(number)) {
+            Ok(pair) => pair,
+            Err(NotDue) => return (me, None),
+        };
+        beside.keep_up(&mut self.publishers, &self.audit);
+        match outcome {
+            Outcome::Reply(which, reply) => match receipt {
+                Some(receipt) => {
+                    let entry = last_of(self.audit.entries());
+                    let me = beside.history.answer(&mut self.keeper, me, which, entry);
+                    (me, Some((reply, receipt)))
+                }
+                None => unreachable!(),
+            },
+            Outcome::Done => {
+                // An Issue that is done replies.
+                for _ in rt.forever() {}
+                unreachable!()
+            }
+            Outcome::Fault => unreachable!(),
+        }
+    }
+
+    /// Does an event that is no seat's, where it is due.
+    pub fn work<R: Wait>(&mut self, rt: &R, beside: &Beside, event: Event) -> bool
+        requires beside { IsBeside (J.history self.old.volume) (J.boards self.old.volume) beside.now }
+        requires event { (n : ℕ) → event ≢ Issue n }
+        ensures volume { self.new.volume ≡ self.old.volume }
+    {
+        let from = self.audit.entries().len();
+        match self.audit.apply(0, event) {
+            Ok((_, None)) => {
+                beside.note(&mut self.keeper, &self.audit.entries()[from..]);
+                beside.keep_up(&mut self.publishers, &self.audit);
+                true
+            }
+            Ok((_, Some(_))) => {
+                // Seat 0 has no request.
+                for _ in rt.forever() {}
+                unreachable!()
+            }
+            Err(NotDue) => false,
+        }
+    }
+
+    /// Does the event that is due first, where any thread may do it: a request is issued by its seat, and a copy is done by
+    /// the worker that has its ticket. Tells whether it did one.
+    pub fn advance<R: Wait>(&mut self, rt: &R, beside: &Beside) -> bool
+        requires beside { IsBeside (J.history self.old.volume) (J.boards self.old.volume) beside.now }
+        ensures volume { self.new.volume ≡ self.old.volume }
+    {
+        let Some(event) = self.audit.volume().due() else {
+            return false;
+        };
+        match event {
+            Event::Issue(_) => false,
+            Event::CopyRead(_) => false,
+            Event::CopyWrite(_) => false,
+            Event::ZeroNext(number) => self.work(rt, beside, Event::ZeroNext(number)),
+            Event::WriteArea(number) => self.work(rt, beside, Event::WriteArea(number)),
+            Event::Publish(number) => self.work(rt, beside, Event::Publish(number)),
+            Event::WriteInvalid(number) => self.work(rt, beside, Event::WriteInvalid(number)),
+            Event::MergeGroup => self.work(rt, beside, Event::MergeGroup),
+            Event::MergeAreaRead => self.work(rt, beside, Event::MergeAreaRead),
+            Event::MergeRead => self.work(rt, beside, Event::MergeRead),
+            Event::MergeWrite => self.work(rt, beside, Event::MergeWrite),
+            Event::MergeFlush => self.work(rt, beside, Event::MergeFlush),
+            Event::MergeCommit => self.work(rt, beside, Event::MergeCommit),
+            Event::MergeRelease => self.work(rt, beside, Event::MergeRelease),
+        }
+    }
+
+    /// Begins a merge.
+    pub fn begin_merge(&mut self, beside: &Beside, number: SnapId) -> Result<(), Refusal>
+        requires beside { IsBeside (J.history self.old.volume) (J.boards self.old.volume) beside.now }
+        ensures volume { self.new.volume ≡ self.old.volume }
+    {
+        let from = self.audit.entries().len();
+        match self.audit.begin_merge(number) {
+            Ok(()) => {
+                beside.note(&mut self.keeper, &self.audit.entries()[from..]);
+                beside.keep_up(&mut self.publishers, &self.audit);
+                Ok(())
+            }
+            Err(refusal) => {
+                beside.keep_up(&mut self.publishers, &self.audit);
+                Err(refusal)
+            }
+        }
+    }
+
+    /// Whether a merge that is begun has come to its end, or stopped at a fault.
+    pub fn is_merge_over(&self) -> bool {
+        let volume = self.audit.volume();
+        volume.is_merge_finished() || volume.is_merge_failed()
+    }
+
+    /// Compares a seat's pass with the journal.
+    pub fn settle(&mut self, beside: &Beside, me: Pass, seat: u8) -> Pass
+        requires beside { IsBeside (J.history self.old.volume) (J.boards self.old.volume) beside.now }
+        requires seat { IsSeat (J.history self.old.volume) seat me }
+        ensures same { self.new ≡ self.old }
+        ensures seat { IsSameSeat (J.history self.old.volume) seat me result }
+        ensures own { entries_by seat self.old.audit.entries ≡ entries_by seat (J.start self.old.volume) ++ (entries_by seat me.me.0.old ++ me.me.0.mine) }
+        ensures waits { held_by seat self.old.audit.held ≡ me.me.0.waits }
+    {
+        beside.history.settle(&mut self.keeper, me)
+    }
+
+    /// How many requests are in flight.
+    pub fn in_flight(&self) -> usize
+        ensures { result ≡ length self.now.audit.held }
+    {
+        self.audit.in_flight()
+    }
+
+    /// Gives the audit back.
+    pub fn into_audit(self) -> Audit<B>
+        ensures same { result ≡ self.audit }
+        ensures stays { StaysFrom (J.fixed self.volume) (fixed_of B.size B.layers result) }
+    {
+        let Post {
+            volume: _,
+            audit,
+            keeper: _,
+            publishers: _,
+            room: _,
+        } = self;
+        audit
+    }
+}
