@@ -16,7 +16,7 @@ use Rattle.table.specs.Grammar.{line_in}
 use Rattle.command.specs.Messages.{message_in}
 use Rattle.command.specs.Events.{event_in}
 use Rattle.command.specs.declared.grammar.Command.{Command}
-use Rattle.command.specs.declared.grammar.Command.TheVariants.{Disk, Create, Remove, Load, Save, Message, Tick, Read, Write, StartRead, StartWrite, Step, Settle, Merge, Resume, Finish, Stop, Status, Table}
+use Rattle.command.specs.declared.grammar.Command.TheVariants.{Disk, Create, Remove, Load, Save, Message, Tick, Read, Write, StartRead, StartWrite, Step, Settle, Merge, Resume, Finish, Checkpoint, Stop, Status, Table}
 
 -- a name and a first sector
 abbrev pub place_of : List ℕ → List ℕ → Result (List ℕ × ℕ) Refusal
@@ -149,6 +149,10 @@ resume_of words = alone_of words >>= λ volume. Ok (Resume volume)
 abbrev pub finish_of : List (List ℕ) → Result Command Refusal
 finish_of words = alone_of words >>= λ volume. Ok (Finish volume)
 
+-- `checkpoint VOL`
+abbrev pub checkpoint_of : List (List ℕ) → Result Command Refusal
+checkpoint_of words = alone_of words >>= λ volume. Ok (Checkpoint volume)
+
 -- `stop VOL`
 abbrev pub stop_of : List (List ℕ) → Result Command Refusal
 stop_of words = alone_of words >>= λ volume. Ok (Stop volume)
@@ -180,6 +184,7 @@ command_of (verb ∷ words) =
     if bytes_eq verb (codes "merge") then merge_of words else
     if bytes_eq verb (codes "resume") then resume_of words else
     if bytes_eq verb (codes "finish") then finish_of words else
+    if bytes_eq verb (codes "checkpoint") then checkpoint_of words else
     if bytes_eq verb (codes "stop") then stop_of words else
     if bytes_eq verb (codes "status") then status_of words else
     if bytes_eq verb (codes "table") then table_of words else

@@ -2,7 +2,7 @@
 ghost use Rattle.std.specs.Prelude.{◌≡◌, ◌≤◌, ◌∷◌, length};
 ghost use Rattle.words.specs.Given.{Gives};
 ghost use Rattle.words.specs.Texts.{texts};
-ghost use Rattle.command.specs.Grammar.{place_of, amount_of, span_of, patch_of, alone_of, disk_of, is_merge, made_line_of, create_of, remove_of, load_of, save_of, message_of, tick_of, read_of, write_of, start_read_of, start_write_of, start_of, step_of, settle_of, merge_of, resume_of, finish_of, stop_of, status_of, table_of, command_of};
+ghost use Rattle.command.specs.Grammar.{place_of, amount_of, span_of, patch_of, alone_of, disk_of, is_merge, made_line_of, create_of, remove_of, load_of, save_of, message_of, tick_of, read_of, write_of, start_read_of, start_write_of, start_of, step_of, settle_of, merge_of, resume_of, finish_of, checkpoint_of, stop_of, status_of, table_of, command_of};
 
 use super::data_words::{payload, sectors};
 use super::events::{Event, event_in};
@@ -48,6 +48,8 @@ pub enum Command {
     Resume { volume: Name },
     /// `finish VOL`: ends the merge of the volume of an origin that has come to its end.
     Finish { volume: Name },
+    /// `checkpoint VOL`: the journal of the volume of an origin is folded.
+    Checkpoint { volume: Name },
     /// `stop VOL`: the volume of an origin ends, whatever is in flight in it.
     Stop { volume: Name },
     /// `status DEV`: prints the status line.
@@ -321,6 +323,13 @@ fn finish(words: &[&[u8]]) -> Result<Command, Refusal>
     Ok(Command::Finish { volume })
 }
 
+fn checkpoint(words: &[&[u8]]) -> Result<Command, Refusal>
+    ensures { result ≡ checkpoint_of (texts words.now) }
+{
+    let volume = alone(words)?;
+    Ok(Command::Checkpoint { volume })
+}
+
 fn stop(words: &[&[u8]]) -> Result<Command, Refusal>
     ensures { result ≡ stop_of (texts words.now) }
 {
@@ -380,6 +389,8 @@ pub fn command_in(alloc: Global, words: &[&[u8]]) -> Result<Command, Refusal>
         resume(words)
     } else if *verb == b"finish".as_slice() {
         finish(words)
+    } else if *verb == b"checkpoint".as_slice() {
+        checkpoint(words)
     } else if *verb == b"stop".as_slice() {
         stop(words)
     } else if *verb == b"status".as_slice() {

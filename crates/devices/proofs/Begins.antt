@@ -1,19 +1,19 @@
 -- A merge of the volume at a place begins, or goes on after a fault.
-use Rattle.std.proofs.Common.{◌≡◌, ◌≢◌, ℕ, ◌<◌, true, List, length, get_or, refl, sym, ap, ◌∙◌, subst}
+use Rattle.std.proofs.Common.{◌≡◌, ℕ, ◌<◌, true, false, List, length, get_or, refl, sym, ap, ◌∙◌, subst}
 use Rattle.std.specs.Prelude.{Result, Ok, Err, IfErr, OnOk}
 use Rattle.sector.specs.declared.refusal.Refusal.{Refusal}
-use Rattle.sector.specs.declared.refusal.Refusal.TheVariants.{NoMemory}
+use Rattle.served.specs.Refusals.{is_starved}
 use Rattle.named.specs.declared.place.Role.TheVariants.{Snapshot}
 use Rattle.named.specs.declared.place.Place.TheVariants.{In}
 use Rattle.named.specs.State.{Volume, Table}
 use Rattle.named.specs.Places.{volume_at}
-use Rattle.named.specs.Changes.{Changes}
+use Rattle.named.specs.Changes.{Changes, Enters}
 use Rattle.named.specs.Messages.{put_volume}
 use Rattle.named.specs.Merging.{begun, begun_at, resumed}
 use Rattle.named.specs.Naming.{AreNamed}
 use Rattle.named.specs.Sectors.{IsInVolume}
 use Rattle.named.specs.Sound.{is_sound, is_sound_volume}
-use Rattle.named.proofs.AtPlace.{changes_at, volume_here}
+use Rattle.named.proofs.AtPlace.{changes_at, enters_at, volume_here}
 use Rattle.named.proofs.Keeping.{names_there}
 use Rattle.named.proofs.MergingRules.{resumed_as}
 use Rattle.named.proofs.NamedFrames.{begun_named, put_volume_named}
@@ -23,14 +23,14 @@ use Rattle.devices.specs.Merging.{IsBegunIn, resumed_at}
 use Rattle.devices.proofs.InVolume.{changed_in, idle_in}
 
 -- it begins, or is refused
-pub begins : (r : Result (Unit {0}) Refusal) (v k : ℕ) (table : Table) (old new : Volume) → v < length table.volumes → old ≡ get_or table.volumes v old → Changes r old new (begun k old) → Changes r table (put_volume v new table) (begun_at (In v (Snapshot k)) table)
+pub begins : (r : Result (Unit {0}) Refusal) (v k : ℕ) (table : Table) (old new : Volume) → v < length table.volumes → old ≡ get_or table.volumes v old → Enters r old new (begun k old) → Enters r table (put_volume v new table) (begun_at (In v (Snapshot k)) table)
 unfolding begun_at
 begins r v k table old new lt at h =
     let there = volume_here table v old lt at in
-    rw there (changes_at (λ (volumes : List Volume). record { stacks = table.stacks; volumes = volumes }) table.volumes v old new r (begun k old) at h)
+    rw there (enters_at (λ (volumes : List Volume). record { stacks = table.stacks; volumes = volumes }) table.volumes v old new r (begun k old) at h)
 
 -- it is refused, whatever its devices do
-pub not_begun : (r : Result (Unit {0}) Refusal) (v k : ℕ) (table : Table) (old new : Volume) → v < length table.volumes → old ≡ get_or table.volumes v old → IfErr r (λ e. (new ≡ old) × (e ≢ NoMemory → begun k old ≡ Err e)) → IfErr r (λ e. (put_volume v new table ≡ table) × (e ≢ NoMemory → begun_at (In v (Snapshot k)) table ≡ Err e))
+pub not_begun : (r : Result (Unit {0}) Refusal) (v k : ℕ) (table : Table) (old new : Volume) → v < length table.volumes → old ≡ get_or table.volumes v old → IfErr r (λ e. (new ≡ old) × (is_starved e ≡ false → begun k old ≡ Err e)) → IfErr r (λ e. (put_volume v new table ≡ table) × (is_starved e ≡ false → begun_at (In v (Snapshot k)) table ≡ Err e))
 unfolding begun_at
 not_begun (Ok done) v k table old new lt at h = tt
 not_begun (Err e) v k table old new lt at h = (
@@ -43,7 +43,7 @@ pub begun_in : (r : Result (Unit {0}) Refusal) (v k : ℕ) (table : Table) (old 
 begun_in (Ok done) v k table old new lt at h = changed_in IsBegunIn v table old new lt at (k, h)
 begun_in (Err e) v k table old new lt at h = tt
 
-pub begins_named : (r : Result (Unit {0}) Refusal) (v k : ℕ) (table : Table) (old new : Volume) → v < length table.volumes → old ≡ get_or table.volumes v old → OnOk r (IsNamedBegun k old new) → IfErr r (λ e. (new ≡ old) × (e ≢ NoMemory → begun k old ≡ Err e)) → AreNamed table → AreNamed (put_volume v new table)
+pub begins_named : (r : Result (Unit {0}) Refusal) (v k : ℕ) (table : Table) (old new : Volume) → v < length table.volumes → old ≡ get_or table.volumes v old → OnOk r (IsNamedBegun k old new) → IfErr r (λ e. (new ≡ old) × (is_starved e ≡ false → begun k old ≡ Err e)) → AreNamed table → AreNamed (put_volume v new table)
 begins_named (Ok done) v k table old new lt at h refused named =
     let there = names_there k old h.names h.named in
     begun_named table v k h.names old new lt at there.0 there.1 h.origin h.under h.snaps h.before h.merging named

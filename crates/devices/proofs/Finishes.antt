@@ -1,16 +1,18 @@
 -- The merge of the volume at a place is finished, and its store is left.
-use Rattle.std.proofs.Common.{◌≡◌, ℕ, ◌<◌, List, [], ◌∷◌, ◌++◌, true, length, get_or, set, refl, sym, ap, ◌∙◌, subst}
+use Rattle.std.proofs.Common.{◌≡◌, ◌≢◌, ℕ, ◌<◌, List, [], ◌∷◌, ◌++◌, true, length, get_or, set, refl, sym, ap, ◌∙◌, subst}
 use Rattle.std.specs.Prelude.{Err}
 use Rattle.sector.specs.declared.refusal.Refusal.{Refusal}
+use Rattle.sector.specs.declared.refusal.Refusal.TheVariants.{JournalFull}
 use Rattle.device.specs.Layers.{is_loud}
 use Rattle.named.specs.State.{Stacked, Volume, Table}
 use Rattle.named.specs.Places.{volume_at}
-use Rattle.named.specs.Changes.{Changes}
+use Rattle.named.specs.Changes.{Enters}
 use Rattle.named.specs.Merging.{finished}
 use Rattle.named.specs.Naming.{AreNamed}
 use Rattle.named.specs.Sound.{is_sound}
 use Rattle.named.proofs.AtPlace.{put_back, volume_here}
 use Rattle.named.proofs.NamedFrames.{finished_named}
+use Rattle.served.proofs.Starved.{other_full}
 use Rattle.named.proofs.SoundFrames.{given_by_sound, of_both, volume_sound}
 use Rattle.named_volume.specs.Flights.{IsUnfinished}
 use Rattle.named_volume.specs.Names.{IsNamedLess}
@@ -22,9 +24,9 @@ stays_as table v stacks old new at same kept =
     ap (λ (ss : List Stacked). record { stacks = ss; volumes = set table.volumes v new }) kept
     ∙ ap (λ (ws : List Volume). record { stacks = table.stacks; volumes = ws }) (put_back table.volumes v old new at same)
 
-pub finished_stays : (table : Table) (v : ℕ) (e : Refusal) (stacks : List Stacked) (old new : Volume) → v < length table.volumes → old ≡ get_or table.volumes v old → finished old ≡ Err e → new ≡ old → stacks ≡ table.stacks → Changes (Err e) table (record { stacks = stacks; volumes = set table.volumes v new }) (finished_at v table)
+pub finished_stays : (table : Table) (v : ℕ) (e : Refusal) (stacks : List Stacked) (old new : Volume) → v < length table.volumes → old ≡ get_or table.volumes v old → (e ≢ JournalFull → finished old ≡ Err e) → new ≡ old → stacks ≡ table.stacks → Enters (Err e) table (record { stacks = stacks; volumes = set table.volumes v new }) (finished_at v table)
 finished_stays table v e stacks old new lt at refused same kept =
-    (stays_as table v stacks old new at same kept, λ other. let there = volume_here table v old lt at in rw there (rw refused refl))
+    (stays_as table v stacks old new at same kept, λ other. let there = volume_here table v old lt at in rw there (let is = refused (other_full e other) in rw is refl))
 
 pub unfinished_in : (table : Table) (v : ℕ) (e : Refusal) (old : Volume) → v < length table.volumes → old ≡ get_or table.volumes v old → IsUnfinished e old → IsUnfinishedIn e (volume_at v table)
 unfinished_in table v e old lt at why = let there = volume_here table v old lt at in rw there why

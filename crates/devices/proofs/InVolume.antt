@@ -11,7 +11,7 @@ use Rattle.named.specs.Places.{place_of, found, volume_at}
 use Rattle.named.specs.Sound.{is_sound, is_sound_volume}
 use Rattle.named.proofs.SoundFrames.{put_volume_sound, volume_quiet, volume_whole}
 use Rattle.named.specs.Raw.{whole, in_use, load, loaded_at}
-use Rattle.named.specs.Changes.{Did, Does}
+use Rattle.named.specs.Changes.{Did, Serves}
 use Rattle.named.specs.Messages.{put_volume}
 use Rattle.named.specs.Sectors.{Asked, asked_of, in_volume, IsInVolume}
 use Rattle.named.specs.Starting.{asked_at}
@@ -25,7 +25,7 @@ use Rattle.devices.specs.Ruled.{is_quiet_in, rests_at}
 use Rattle.devices.specs.Status.{IsStatusIn}
 use Rattle.named.proofs.AtPlace.{put_back, volume_here}
 
--- where memory ran out: nothing changed, or this holds of the volume
+-- where memory or room ran out: nothing changed, or this holds of the volume
 abbrev pub Starved : (Volume → Volume → Type 0) → ℕ → Table → Table → Type 0
 Starved holds v table t = (t ≡ table) ⊎ IsInVolume holds v table t (volume_at v table)
 
@@ -35,10 +35,10 @@ starved_in holds v table old new lt at (inl same) =
 starved_in holds v table old new lt at (inr did) = let there = volume_here table v old lt at in rw there (inr (new, did, refl))
 
 -- what it answers and leaves of the table is what it answers and leaves of the volume
-pub does_in : {A : Type 0} (r : Result A Refusal) (holds : Volume → Volume → Type 0) (command : Volume → Did A Volume) (v : ℕ) (table : Table) (old new : Volume) → v < length table.volumes → old ≡ get_or table.volumes v old → Does r new (λ w. (w ≡ old) ⊎ holds old w) (command old) → Does r (put_volume v new table) (Starved holds v table) (in_volume v table command (volume_at v table))
-does_in {A = A} (Ok answer) holds command v table old new lt at did =
+pub serves_in : {A : Type 0} (r : Result A Refusal) (holds : Volume → Volume → Type 0) (command : Volume → Did A Volume) (v : ℕ) (table : Table) (old new : Volume) → v < length table.volumes → old ≡ get_or table.volumes v old → Serves r new (λ w. (w ≡ old) ⊎ holds old w) (command old) → Serves r (put_volume v new table) (Starved holds v table) (in_volume v table command (volume_at v table))
+serves_in {A = A} (Ok answer) holds command v table old new lt at did =
     let there = volume_here table v old lt at in rw there (ap (λ (d : Did A Volume). record { answer = d.answer; left = put_volume v d.left table }) did)
-does_in {A = A} (Err e) holds command v table old new lt at did = (
+serves_in {A = A} (Err e) holds command v table old new lt at did = (
   λ other.
       let there = volume_here table v old lt at in
       let h = did.0 other in rw there (ap (λ (d : Did A Volume). record { answer = d.answer; left = put_volume v d.left table }) h),

@@ -1,11 +1,12 @@
 -- A snapshot that leaves a volume, and whose store is left.
-use Rattle.std.proofs.Common.{◌≡◌, ℕ, ◌<◌, List, [], ◌∷◌, ◌++◌, true, length, get_or, set, refl, sym, ap, ◌∙◌, subst}
+use Rattle.std.proofs.Common.{◌≡◌, ◌≢◌, ℕ, ◌<◌, List, [], ◌∷◌, ◌++◌, true, length, get_or, set, refl, sym, ap, ◌∙◌, subst}
 use Rattle.std.specs.Prelude.{Result, Ok, Err}
 use Rattle.sector.specs.declared.refusal.Refusal.{Refusal}
+use Rattle.sector.specs.declared.refusal.Refusal.TheVariants.{JournalFull}
 use Rattle.device.specs.Layers.{is_loud}
 use Rattle.named.specs.State.{Stacked, Volume, Table}
 use Rattle.settled.specs.Attaching.{given_back}
-use Rattle.named.specs.Changes.{Changes}
+use Rattle.named.specs.Changes.{Enters}
 use Rattle.named.specs.Messages.{snap_at}
 use Rattle.named.specs.Origins.{still}
 use Rattle.named.specs.Raw.{names_at}
@@ -13,6 +14,7 @@ use Rattle.named.specs.Snapshots.{stack_of, without_snapshot, parted, left_by}
 use Rattle.named.specs.Sound.{is_sound}
 use Rattle.named.proofs.AtPlace.{put_back, volume_here}
 use Rattle.named.proofs.Keeping.{came_by, same_ok}
+use Rattle.served.proofs.Starved.{other_full}
 use Rattle.named.proofs.SoundFrames.{of_both, given_by_sound, volume_sound, volume_quiet}
 
 pub left_by_is : (table : Table) (v k : ℕ) (stacked : Stacked) (stacks : List Stacked) (old new : Volume) → v < length table.volumes → old ≡ get_or table.volumes v old → parted k old ≡ Ok (stacked, new) → stacks ≡ table.stacks ++ stacked ∷ [] → left_by v k table ≡ Ok (record { stacks = stacks; volumes = set table.volumes v new })
@@ -23,12 +25,12 @@ left_by_is table v k stacked stacks old new lt at did more =
     rw there (rw did (ap left (sym more)))
 
 -- a snapshot that does not leave
-pub left_by_stays : (table : Table) (v k : ℕ) (e : Refusal) (stacks : List Stacked) (old new : Volume) → v < length table.volumes → old ≡ get_or table.volumes v old → parted k old ≡ Err e → new ≡ old → stacks ≡ table.stacks → Changes (Err e) table (record { stacks = stacks; volumes = set table.volumes v new }) (left_by v k table)
+pub left_by_stays : (table : Table) (v k : ℕ) (e : Refusal) (stacks : List Stacked) (old new : Volume) → v < length table.volumes → old ≡ get_or table.volumes v old → (e ≢ JournalFull → parted k old ≡ Err e) → new ≡ old → stacks ≡ table.stacks → Enters (Err e) table (record { stacks = stacks; volumes = set table.volumes v new }) (left_by v k table)
 unfolding left_by
 left_by_stays table v k e stacks old new lt at refused same kept = (
   ap (λ (ss : List Stacked). record { stacks = ss; volumes = set table.volumes v new }) kept
       ∙ ap (λ (ws : List Volume). record { stacks = table.stacks; volumes = ws }) (put_back table.volumes v old new at same),
-  λ other. let there = volume_here table v old lt at in rw there (rw refused refl),
+  λ other. let there = volume_here table v old lt at in rw there (let is = refused (other_full e other) in rw is refl),
 )
 
 -- the volume that it leaves is as quiet as it was

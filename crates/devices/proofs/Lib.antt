@@ -9,3 +9,4 @@ pub mod Finishes
 pub mod Settles
 pub mod Stops
 pub mod Orders
+pub mod Folds

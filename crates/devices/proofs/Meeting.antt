@@ -1,14 +1,14 @@
 -- A stack that was taken out of the table, and a volume that it is attached to or not.
-use Rattle.std.proofs.Common.{◌≡◌, ◌≢◌, ◌⊎◌, ℕ, ◌<◌, Bool, List, true, false, length, get_or, set, refl, sym, ap, ◌∙◌, subst, inl, inr}
-use Rattle.std.specs.Prelude.{Result, Ok, Err, Some, None, nat_le}
+use Rattle.std.proofs.Common.{◌≡◌, ◌⊎◌, ℕ, ◌<◌, Bool, List, true, false, length, get_or, set, refl, sym, ap, ◌∙◌, subst}
+use Rattle.std.specs.Prelude.{Ok, Err, Some, None, nat_le}
 use Rattle.std.specs.List.{remove}
 use Rattle.sector.specs.declared.refusal.Refusal.{Refusal}
-use Rattle.sector.specs.declared.refusal.Refusal.TheVariants.{NoMemory}
+use Rattle.served.specs.Refusals.{is_starved}
 use Rattle.named.specs.State.{Stacked, Volume, Table}
 use Rattle.named.specs.Places.{place_of}
 use Rattle.named.specs.Disks.{device_count}
 use Rattle.named.specs.Naming.{AreNamed}
-use Rattle.named.specs.Changes.{Does}
+use Rattle.named.specs.Changes.{Serves}
 use Rattle.named.specs.Snapshots.{meet, snapshot_left, snapshot_met, snapshot_by}
 use Rattle.named.proofs.AtPlace.{put_back, stack_here, volume_here}
 use Rattle.named.proofs.NamedFrames.{taken_by_named, put_named}
@@ -44,7 +44,7 @@ nothing_met i table stacked back stacks volumes i_at put same kept =
     ap (λ (ws : List Volume). record { stacks = stacks; volumes = ws }) same
     ∙ ap (λ (ss : List Stacked). record { stacks = ss; volumes = table.volumes }) (put ∙ put_back table.stacks i stacked back i_at kept)
 
-pub met_err : (name : List ℕ) (chunk i v : ℕ) (table : Table) (stacked back : Stacked) (old : Volume) (stacks : List Stacked) (volumes : List Volume) (e : Refusal) → i < length table.stacks → stacked ≡ get_or table.stacks i stacked → v < length table.volumes → old ≡ get_or table.volumes v old → stacks ≡ set table.stacks i back → volumes ≡ table.volumes → (e ≢ NoMemory → ((meet name chunk stacked old).refused ≡ Some e) × ((meet name chunk stacked old).stacked ≡ back)) → (e ≡ NoMemory → back ≡ stacked) → Does (Err e) (record { stacks = stacks; volumes = volumes }) (λ t. t ≡ table) (snapshot_by name chunk table (named_at v i table))
+pub met_err : (name : List ℕ) (chunk i v : ℕ) (table : Table) (stacked back : Stacked) (old : Volume) (stacks : List Stacked) (volumes : List Volume) (e : Refusal) → i < length table.stacks → stacked ≡ get_or table.stacks i stacked → v < length table.volumes → old ≡ get_or table.volumes v old → stacks ≡ set table.stacks i back → volumes ≡ table.volumes → (is_starved e ≡ false → ((meet name chunk stacked old).refused ≡ Some e) × ((meet name chunk stacked old).stacked ≡ back)) → (is_starved e ≡ true → back ≡ stacked) → Serves (Err e) (record { stacks = stacks; volumes = volumes }) (λ t. t ≡ table) (snapshot_by name chunk table (named_at v i table))
 met_err name chunk i v table stacked back old stacks volumes e i_lt i_at v_lt v_at put same met kept = (
   λ other. refused_left name chunk i v table stacked back old stacks volumes e i_lt i_at v_lt v_at put same (met other),
   λ none. nothing_met i table stacked back stacks volumes i_at put same (kept none),
@@ -62,19 +62,13 @@ busy_ok i v table new stacked old i_lt i_at v_lt v_at quiet =
 
 -- and the stack goes back to its place as it was
 pub busy_err : (i v : ℕ) (table : Table) (stacked back : Stacked) (old : Volume) (stacks : List Stacked) (volumes : List Volume) (e : Refusal) → i < length table.stacks → stacked ≡ get_or table.stacks i stacked → v < length table.volumes → old ≡ get_or table.volumes v old → stacks ≡ set table.stacks i back → volumes ≡ table.volumes
-    → (old.quiet ≡ false → ((e ≡ NoMemory) ⊎ (e ≡ busy_with stacked old)) × (back ≡ stacked))
+    → (old.quiet ≡ false → ((is_starved e ≡ true) ⊎ (e ≡ busy_with stacked old)) × (back ≡ stacked))
     → IsBusyRefused (Err e) table (record { stacks = stacks; volumes = volumes }) (named_at v i table)
 busy_err i v table stacked back old stacks volumes e i_lt i_at v_lt v_at put same why =
     let below = stack_here table i stacked i_lt i_at in
     let here = volume_here table v old v_lt v_at in
     rw below (rw here (λ busy.
-    let got = why busy in (
-      nothing_met i table stacked back stacks volumes i_at put same got.1,
-      elim got.0 [
-        | inl none ↦ inl (ap (λ (r : Refusal). let x : Result (Unit {0}) Refusal = Err r in x) none)
-        | inr is ↦ inr (ap (λ (r : Refusal). let x : Result (Unit {0}) Refusal = Err r in x) is)
-      ],
-    )))
+    let got = why busy in (nothing_met i table stacked back stacks volumes i_at put same got.1, (e, refl, got.0))))
 
 -- the names, where it is attached
 pub attached_named : (table : Table) (name : List ℕ) (i v : ℕ) (stacked : Stacked) (old new : Volume) (stacks : List Stacked) → place_of name table ≡ None → nat_le 64 (device_count table) ≡ false → i < length table.stacks → stacked ≡ get_or table.stacks i stacked → v < length table.volumes → old ≡ get_or table.volumes v old → stacks ≡ remove table.stacks i → IsNamedMore name stacked old new → AreNamed table → AreNamed (record { stacks = stacks; volumes = set table.volumes v new })

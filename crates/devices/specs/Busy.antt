@@ -1,9 +1,10 @@
 -- A snapshot of a volume with requests in flight, in which a merge may be begun too. That none is taken is this project's own.
-use Rattle.std.specs.Prelude.{◌≡◌, ◌⊎◌, ℕ, false, is_some, Result, Ok, Err, if◌then◌else◌}
+use Rattle.std.specs.Prelude.{◌≡◌, ◌⊎◌, ℕ, true, false, is_some, Result, Ok, Err, if◌then◌else◌}
 use Rattle.sector.specs.declared.refusal.Refusal.{Refusal}
-use Rattle.sector.specs.declared.refusal.Refusal.TheVariants.{NoMemory, NotQuiet, Stale, MergeInProgress}
+use Rattle.sector.specs.declared.refusal.Refusal.TheVariants.{NotQuiet, Stale, MergeInProgress}
 use Rattle.table.specs.declared.lines.Target.{Target}
 use Rattle.table.specs.declared.lines.Target.TheVariants.{Origin, Snapshot, Merge, Flakey, Dust, Error}
+use Rattle.served.specs.Refusals.{is_starved}
 use Rattle.named.specs.State.{Stacked, Volume, Table}
 use Rattle.named.specs.Snapshots.{Named, named_in}
 
@@ -14,7 +15,7 @@ busy_with stacked volume = if stacked.stale then Stale else (if is_some volume.m
 -- Of a volume with anything left to do no snapshot is taken, and nothing changes.
 abbrev pub IsBusyRefused : Result (Unit {0}) Refusal → Table → Table → Result Named Refusal → Type 0
 IsBusyRefused result old new (Err e) = Unit {0}
-IsBusyRefused result old new (Ok n) = n.volume.quiet ≡ false → (new ≡ old) × ((result ≡ Err NoMemory) ⊎ (result ≡ Err (busy_with n.stacked n.volume)))
+IsBusyRefused result old new (Ok n) = n.volume.quiet ≡ false → (new ≡ old) × ((e : Refusal) × (result ≡ Err e) × ((is_starved e ≡ true) ⊎ (e ≡ busy_with n.stacked n.volume)))
 
 -- the same of a table line
 abbrev pub IsBusyTarget : Result (Unit {0}) Refusal → Table → Table → ℕ → Target → Type 0

@@ -1,6 +1,6 @@
 // Snapshots: taken over an origin, and taken away again.
 ghost use Rattle.std.specs.Prelude.{◌≡◌, ◌<◌, length, nat_le, true, false, slice_get, None, IfOk};
-ghost use Rattle.named.specs.Changes.{Changes, Does};
+ghost use Rattle.named.specs.Changes.{Enters, Serves};
 ghost use Rattle.named.specs.Disks.{device_count};
 ghost use Rattle.named.specs.Naming.{AreNamed};
 ghost use Rattle.named.specs.Places.{IsPlaceIn, place_of};
@@ -44,7 +44,7 @@ fn meet(
 ) -> Result<(), Refusal>
     requires stack { i < length held.old.stacks.items }
     requires volume { v < length held.old.volumes.items }
-    ensures done { is_sound_for (named_at v i (table_of held.old)) ≡ true → Does result (table_of held.new) (λ t. t ≡ table_of held.old) (snapshot_by name chunk (table_of held.old) (named_at v i (table_of held.old))) }
+    ensures done { is_sound_for (named_at v i (table_of held.old)) ≡ true → Serves result (table_of held.new) (λ t. t ≡ table_of held.old) (snapshot_by name chunk (table_of held.old) (named_at v i (table_of held.old))) }
     ensures busy { IsBusyRefused result (table_of held.old) (table_of held.new) (named_at v i (table_of held.old)) }
     ensures named { place_of name (table_of held.old) ≡ None → nat_le 64 (device_count (table_of held.old)) ≡ false → AreNamed (table_of held.old) → AreNamed (table_of held.new) }
 {
@@ -69,7 +69,7 @@ pub fn make_snapshot(
     store: &Name,
     chunk: u32,
 ) -> Result<(), Refusal>
-    ensures done { is_sound_for (named_in sectors device.now store.now (table_of held.old)) ≡ true → Does result (table_of held.new) (λ t. t ≡ table_of held.old) (snapshot_made name sectors device.now store.now chunk (table_of held.old)) }
+    ensures done { is_sound_for (named_in sectors device.now store.now (table_of held.old)) ≡ true → Serves result (table_of held.new) (λ t. t ≡ table_of held.old) (snapshot_made name sectors device.now store.now chunk (table_of held.old)) }
     ensures busy { IsBusyRefused result (table_of held.old) (table_of held.new) (named_in sectors device.now store.now (table_of held.old)) }
     ensures named { place_of name (table_of held.old) ≡ None → nat_le 64 (device_count (table_of held.old)) ≡ false → AreNamed (table_of held.old) → AreNamed (table_of held.new) }
 {
@@ -79,10 +79,11 @@ pub fn make_snapshot(
     meet(alloc, held, name, chunk, v, i)
 }
 
-/// A snapshot goes, and nothing uses its store any more. `NotQuiet` where its volume has something left to do.
+/// A snapshot goes, and nothing uses its store any more. `NoMemory`, `JournalFull` where the journal of its volume has no room,
+/// `NotQuiet` where it has something left to do.
 pub fn detach(held: &mut Held, v: usize, k: usize) -> Result<(), Refusal>
     requires { IsPlaceIn (In v (Snapshot k)) (table_of held.old) }
-    ensures done { Changes result (table_of held.old) (table_of held.new) (left_by v k (table_of held.old)) }
+    ensures done { Enters result (table_of held.old) (table_of held.new) (left_by v k (table_of held.old)) }
     ensures sound { is_sound (table_of held.old) ≡ true → is_sound (table_of held.new) ≡ true }
 {
     held.stacks.reserve(1).map_err(|_| Refusal::NoMemory)?;

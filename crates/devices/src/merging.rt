@@ -1,7 +1,7 @@
 // A snapshot is merged into its origin: the merge begins, goes on after a fault, and is finished.
-ghost use Rattle.std.specs.Prelude.{◌≡◌, ◌≢◌, ◌<◌, length, true, false, Err, IfErr, IfOk, OnErr, OnOk};
-ghost use Rattle.sector.specs.declared.refusal.Refusal.TheVariants.{NoMemory};
-ghost use Rattle.named.specs.Changes.{Changes};
+ghost use Rattle.std.specs.Prelude.{◌≡◌, ◌<◌, length, true, false, Err, IfErr, IfOk, OnErr, OnOk};
+ghost use Rattle.served.specs.Refusals.{is_starved};
+ghost use Rattle.named.specs.Changes.{Changes, Enters};
 ghost use Rattle.named.specs.Events.{origin_by};
 ghost use Rattle.named.specs.Merging.{begun_at, merge_begun, merge_finished, merge_resumed};
 ghost use Rattle.named.specs.Naming.{AreNamed};
@@ -40,8 +40,8 @@ fn to_merge(held: &Held, place: Place) -> Result<(usize, usize), Refusal>
 /// The merge of a snapshot of a volume begins.
 fn begin_at(alloc: Global, held: &mut Held, v: usize, k: usize) -> Result<(), Refusal>
     requires { IsPlaceIn (In v (Snapshot k)) (table_of held.old) }
-    ensures done { is_sound_in (volume_at v (table_of held.old)) ≡ true → Changes result (table_of held.old) (table_of held.new) (begun_at (In v (Snapshot k)) (table_of held.old)) }
-    ensures refused { IfErr result (λ e. (table_of held.new ≡ table_of held.old) × (e ≢ NoMemory → begun_at (In v (Snapshot k)) (table_of held.old) ≡ Err e)) }
+    ensures done { is_sound_in (volume_at v (table_of held.old)) ≡ true → Enters result (table_of held.old) (table_of held.new) (begun_at (In v (Snapshot k)) (table_of held.old)) }
+    ensures refused { IfErr result (λ e. (table_of held.new ≡ table_of held.old) × (is_starved e ≡ false → begun_at (In v (Snapshot k)) (table_of held.old) ≡ Err e)) }
     ensures begun { OnOk result (IsInVolume IsBegunIn v (table_of held.old) (table_of held.new) (volume_at v (table_of held.old))) }
     ensures sound { is_sound (table_of held.old) ≡ true → is_sound (table_of held.new) ≡ true }
     ensures named { AreNamed (table_of held.old) → AreNamed (table_of held.new) }
@@ -53,11 +53,12 @@ fn begin_at(alloc: Global, held: &mut Held, v: usize, k: usize) -> Result<(), Re
 /// of the snapshots any more. No device is asked for anything: `settle` merges, or the merge's events do. In this order:
 /// `NoSuchDevice` for a name that no device has, `MergeInProgress` for a snapshot that is being merged, `BadTable` for another
 /// device than a snapshot, `MergeInProgress` where another snapshot of the volume is being merged, `Invalid` for a spoiled one,
-/// `NotQuiet` where its volume has something left to do, `NoMemory` where the allocator refuses what the merge will need.
+/// `NotQuiet` where its volume has something left to do, `NoMemory` where the allocator refuses what the merge will need. Where
+/// the journal of its volume has no room, `JournalFull` may stand in place of the last three.
 #[tactic(auto, unfolding(named::specs::Merging::merge_begun))]
 pub fn merge_device(alloc: Global, held: &mut Held, name: &Name) -> Result<(), Refusal>
-    ensures done { is_sound_in (volume_for name.now (table_of held.old)) ≡ true → Changes result (table_of held.old) (table_of held.new) (merge_begun name.now (table_of held.old)) }
-    ensures refused { IfErr result (λ e. (table_of held.new ≡ table_of held.old) × (e ≢ NoMemory → merge_begun name.now (table_of held.old) ≡ Err e)) }
+    ensures done { is_sound_in (volume_for name.now (table_of held.old)) ≡ true → Enters result (table_of held.old) (table_of held.new) (merge_begun name.now (table_of held.old)) }
+    ensures refused { IfErr result (λ e. (table_of held.new ≡ table_of held.old) × (is_starved e ≡ false → merge_begun name.now (table_of held.old) ≡ Err e)) }
     ensures begun { OnOk result (IsDoneFor name.now IsBegunIn (table_of held.old) (table_of held.new)) }
     ensures sound { is_sound (table_of held.old) ≡ true → is_sound (table_of held.new) ≡ true }
     ensures named { AreNamed (table_of held.old) → AreNamed (table_of held.new) }
@@ -94,8 +95,8 @@ pub fn resume_device(held: &mut Held, name: &Name) -> Result<(), Refusal>
 /// The merge of a volume is finished, and nothing uses its store any more.
 fn finish_at(held: &mut Held, v: usize) -> Result<(), Refusal>
     requires { v < length held.old.volumes.items }
-    ensures done { is_sound_in (volume_at v (table_of held.old)) ≡ true → Changes result (table_of held.old) (table_of held.new) (finished_at v (table_of held.old)) }
-    ensures unfinished { IfErr result (λ e. e ≢ NoMemory → IsUnfinishedIn e (volume_at v (table_of held.old))) }
+    ensures done { is_sound_in (volume_at v (table_of held.old)) ≡ true → Enters result (table_of held.old) (table_of held.new) (finished_at v (table_of held.old)) }
+    ensures unfinished { IfErr result (λ e. is_starved e ≡ false → IsUnfinishedIn e (volume_at v (table_of held.old))) }
     ensures finished { OnOk result (IsFinishedIn v (table_of held.old) (table_of held.new) (volume_at v (table_of held.old))) }
     ensures err { OnErr result (table_of held.new ≡ table_of held.old) }
     ensures sound { is_sound (table_of held.old) ≡ true → is_sound (table_of held.new) ≡ true }
@@ -114,12 +115,13 @@ fn finish_at(held: &mut Held, v: usize) -> Result<(), Refusal>
 /// `finish VOL`: ends the merge of an origin's volume that has no pair left: the snapshot's name goes, and nothing uses its
 /// store any more. In this order: `NoSuchDevice` for a name that no device has, `BadTable` for a device that is no origin,
 /// `NotFinished` where no merge is begun or something of it is left, `NotQuiet` where its volume has something else left to do,
-/// `NoMemory` where the allocator refuses room for what is left; it may come before these two. A refusal changes nothing.
+/// `NoMemory` where the allocator refuses room for what is left, `JournalFull` where the journal has none; these may come before
+/// those two. A refusal changes nothing.
 #[tactic(auto, unfolding(named::specs::Events::origin_by, named::specs::Merging::merge_finished))]
 pub fn finish_device(held: &mut Held, name: &Name) -> Result<(), Refusal>
     ensures asks { IfErr (origin_by name.now (table_of held.old)) (λ e. result ≡ Err e) }
-    ensures done { is_sound_in (volume_for name.now (table_of held.old)) ≡ true → Changes result (table_of held.old) (table_of held.new) (merge_finished name.now (table_of held.old)) }
-    ensures unfinished { IfErr result (λ e. IfOk (origin_by name.now (table_of held.old)) (λ v. e ≢ NoMemory → IsUnfinishedIn e (volume_at v (table_of held.old)))) }
+    ensures done { is_sound_in (volume_for name.now (table_of held.old)) ≡ true → Enters result (table_of held.old) (table_of held.new) (merge_finished name.now (table_of held.old)) }
+    ensures unfinished { IfErr result (λ e. IfOk (origin_by name.now (table_of held.old)) (λ v. is_starved e ≡ false → IsUnfinishedIn e (volume_at v (table_of held.old)))) }
     ensures finished { OnOk result (IfOk (origin_by name.now (table_of held.old)) (λ v. IsFinishedIn v (table_of held.old) (table_of held.new) (volume_at v (table_of held.old)))) }
     ensures err { OnErr result (table_of held.new ≡ table_of held.old) }
     ensures sound { is_sound (table_of held.old) ≡ true → is_sound (table_of held.new) ≡ true }

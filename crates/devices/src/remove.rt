@@ -1,6 +1,6 @@
 // Taking devices away.
 ghost use Rattle.std.specs.Prelude.{◌≡◌, ◌<◌, length, true};
-ghost use Rattle.named.specs.Changes.{Changes};
+ghost use Rattle.named.specs.Changes.{Enters};
 ghost use Rattle.named.specs.Naming.{AreNamed};
 ghost use Rattle.named.specs.Places.{IsPlaceIn};
 ghost use Rattle.named.specs.Removing.{lowered, take_away};
@@ -31,10 +31,11 @@ fn take_top(held: &mut Held, i: usize)
 /// `remove NAME`: takes a device away that no other uses; what an origin or a snapshot stood on is left as it is. In this
 /// order: `NoSuchDevice` for a name that no device has, `Busy` where another device uses it, `MergeInProgress` for a snapshot that
 /// is being merged, `NotQuiet` for an origin or a snapshot whose volume has something left to do, `NoMemory` where the
-/// allocator refuses room for what is left.
-#[tactic(auto, unfolding(named::specs::Removing::take_away))]
+/// allocator refuses room for what is left, `JournalFull` for a snapshot where the journal of its volume has none; these two may
+/// come before `NotQuiet`.
+#[tactic(auto, unfolding(named::specs::Removing::take_away), using(named::proofs::Starving::changes_enter))]
 pub fn remove_device(held: &mut Held, name: &Name) -> Result<(), Refusal>
-    ensures done { Changes result (table_of held.old) (table_of held.new) (take_away name.now (table_of held.old)) }
+    ensures done { Enters result (table_of held.old) (table_of held.new) (take_away name.now (table_of held.old)) }
     ensures sound { is_sound (table_of held.old) ≡ true → is_sound (table_of held.new) ≡ true }
     ensures named { AreNamed (table_of held.old) → AreNamed (table_of held.new) }
 {

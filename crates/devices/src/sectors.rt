@@ -1,6 +1,6 @@
 // Reading and writing origins and snapshots.
 ghost use Rattle.std.specs.Prelude.{◌≡◌, ◌⊎◌, ◌<◌, ◌≤◌, ◌*◌, length, true, Err, IfErr, IfOk};
-ghost use Rattle.named.specs.Changes.{Does};
+ghost use Rattle.named.specs.Changes.{Serves};
 ghost use Rattle.named.specs.Naming.{AreNamed};
 ghost use Rattle.named.specs.Places.{IsPlaceIn, volume_at};
 ghost use Rattle.named.specs.Sectors.{IsInVolume, IsPartWritten, IsReadAsked, IsReadStarved, IsWriteStarved, in_volume, read, read_in, write, written_in};
@@ -34,7 +34,7 @@ fn read_at(
     requires place { IsPlaceIn (In v role) (table_of held.old) }
     requires some { 0 < count }
     requires few { count ≤ 2048 }
-    ensures done { is_sound_in (volume_at v (table_of held.old)) ≡ true → Does result (table_of held.new) (λ t. (t ≡ table_of held.old) ⊎ IsInVolume (IsReadAsked count) v (table_of held.old) t (volume_at v (table_of held.old))) (in_volume v (table_of held.old) (read_in role first count) (volume_at v (table_of held.old))) }
+    ensures done { is_sound_in (volume_at v (table_of held.old)) ≡ true → Serves result (table_of held.new) (λ t. (t ≡ table_of held.old) ⊎ IsInVolume (IsReadAsked count) v (table_of held.old) t (volume_at v (table_of held.old))) (in_volume v (table_of held.old) (read_in role first count) (volume_at v (table_of held.old))) }
     ensures told { is_quiet_in (volume_at v (table_of held.old)) ≡ true → ended.new.items ≡ ended.old.items }
     ensures asks { IfErr (asked_at (In v role) first count (table_of held.old)) (λ e. result ≡ Err e) }
     ensures stays { IfErr (asked_at (In v role) first count (table_of held.old)) (λ _. (table_of held.new ≡ table_of held.old) × (ended.new.items ≡ ended.old.items)) }
@@ -49,8 +49,9 @@ fn read_at(
 /// `read DEV S N`: so many sectors of an origin or of a snapshot. In this order: `OutOfRange` for a number of sectors
 /// outside 1 to 2048, `NoSuchDevice` for a name that no device has, `BadTable` for a disk or a layer, `OutOfRange` where
 /// the sectors don't lie inside the origin, `MergingSnapshot` for a snapshot that is being merged, `TooMany` where the volume
-/// has taken too many, then what its devices answer. Devices are met also where they answer with an error; `NoMemory` may come before and after that. Requests that are in
-/// flight may end in it: their replies go to the end of `ended`.
+/// has taken too many, then what its devices answer. Devices are met also where they answer with an error; `NoMemory`, and
+/// `JournalFull` where the volume's journal has no room for a piece, may come before and after that. Requests that are in flight
+/// may end in it: their replies go to the end of `ended`.
 #[tactic(auto, unfolding(named::specs::Starting::read_asked, named::specs::Starting::asked_by, named::specs::Sectors::read, named::specs::Sectors::IsReadStarved, crate::specs::Devices::KeepsOthers))]
 pub fn read_device(
     alloc: Global,
@@ -60,7 +61,7 @@ pub fn read_device(
     count: u32,
     ended: &mut Vec<Replied>,
 ) -> Result<Buf, Refusal>
-    ensures done { is_sound_in (volume_for name.now (table_of held.old)) ≡ true → Does result (table_of held.new) (λ t. (t ≡ table_of held.old) ⊎ IsReadStarved name.now first count (table_of held.old) t) (read name.now first count (table_of held.old)) }
+    ensures done { is_sound_in (volume_for name.now (table_of held.old)) ≡ true → Serves result (table_of held.new) (λ t. (t ≡ table_of held.old) ⊎ IsReadStarved name.now first count (table_of held.old) t) (read name.now first count (table_of held.old)) }
     ensures told { is_quiet_in (volume_for name.now (table_of held.old)) ≡ true → ended.new.items ≡ ended.old.items }
     ensures asks { IfErr (read_asked name.now first count (table_of held.old)) (λ e. result ≡ Err e) }
     ensures stays { IfErr (read_asked name.now first count (table_of held.old)) (λ _. (table_of held.new ≡ table_of held.old) × (ended.new.items ≡ ended.old.items)) }
@@ -91,7 +92,7 @@ fn write_at(
     requires some { 0 < count }
     requires few { count ≤ 2048 }
     requires room { length bytes.now ≡ 512 * count }
-    ensures done { is_sound_in (volume_at v (table_of held.old)) ≡ true → Does result (table_of held.new) (λ t. (t ≡ table_of held.old) ⊎ IsInVolume (IsPartWritten role first count bytes.now) v (table_of held.old) t (volume_at v (table_of held.old))) (in_volume v (table_of held.old) (written_in role first count bytes.now) (volume_at v (table_of held.old))) }
+    ensures done { is_sound_in (volume_at v (table_of held.old)) ≡ true → Serves result (table_of held.new) (λ t. (t ≡ table_of held.old) ⊎ IsInVolume (IsPartWritten role first count bytes.now) v (table_of held.old) t (volume_at v (table_of held.old))) (in_volume v (table_of held.old) (written_in role first count bytes.now) (volume_at v (table_of held.old))) }
     ensures told { is_quiet_in (volume_at v (table_of held.old)) ≡ true → ended.new.items ≡ ended.old.items }
     ensures asks { IfErr (asked_at (In v role) first count (table_of held.old)) (λ e. result ≡ Err e) }
     ensures stays { IfErr (asked_at (In v role) first count (table_of held.old)) (λ _. (table_of held.new ≡ table_of held.old) × (ended.new.items ≡ ended.old.items)) }
@@ -106,8 +107,8 @@ fn write_at(
 /// `write DEV S DATA`: writes sectors of an origin or of a snapshot. In this order: `BadTable` for bytes that are no whole
 /// sectors, `OutOfRange` where they are not 1 to 2048, `NoSuchDevice` for a name that no device has, `BadTable` for a disk
 /// or a layer, `OutOfRange` where the sectors don't lie inside the origin, `MergingSnapshot` for a snapshot that is being
-/// merged, `TooMany` where the volume has taken too many, then what its devices answer. `NoMemory` may come where some first pieces were written. Requests that are in flight may
-/// end in it: their replies go to the end of `ended`.
+/// merged, `TooMany` where the volume has taken too many, then what its devices answer. `NoMemory` and `JournalFull` may come
+/// where some first pieces were written. Requests that are in flight may end in it: their replies go to the end of `ended`.
 #[tactic(auto, unfolding(named::specs::Starting::write_asked, named::specs::Starting::asked_by, named::specs::Sectors::write, named::specs::Sectors::IsWriteStarved, crate::specs::Devices::KeepsOthers))]
 pub fn write_device(
     alloc: Global,
@@ -117,7 +118,7 @@ pub fn write_device(
     bytes: &Buf,
     ended: &mut Vec<Replied>,
 ) -> Result<(), Refusal>
-    ensures done { is_sound_in (volume_for name.now (table_of held.old)) ≡ true → Does result (table_of held.new) (λ t. (t ≡ table_of held.old) ⊎ IsWriteStarved name.now first bytes.now (table_of held.old) t) (write name.now first bytes.now (table_of held.old)) }
+    ensures done { is_sound_in (volume_for name.now (table_of held.old)) ≡ true → Serves result (table_of held.new) (λ t. (t ≡ table_of held.old) ⊎ IsWriteStarved name.now first bytes.now (table_of held.old) t) (write name.now first bytes.now (table_of held.old)) }
     ensures told { is_quiet_in (volume_for name.now (table_of held.old)) ≡ true → ended.new.items ≡ ended.old.items }
     ensures asks { IfErr (write_asked name.now first bytes.now (table_of held.old)) (λ e. result ≡ Err e) }
     ensures stays { IfErr (write_asked name.now first bytes.now (table_of held.old)) (λ _. (table_of held.new ≡ table_of held.old) × (ended.new.items ≡ ended.old.items)) }

@@ -7,7 +7,7 @@ use Rattle.sector.specs.declared.refusal.Refusal.{Refusal}
 use Rattle.words.specs.Given.{◌>>=◌}
 use Rattle.named.specs.State.{Stacked, Volume, Table}
 use Rattle.named.specs.Places.{stack_at, volume_at}
-use Rattle.named.specs.Changes.{Changes, Steps}
+use Rattle.named.specs.Changes.{Changes, Enters, Steps}
 
 -- one that is as it was leaves the list as it was
 pub put_back : {X : Type 0} (xs : List X) (i : ℕ) (old new : X) → old ≡ get_or xs i old → new ≡ old → set xs i new ≡ xs
@@ -27,6 +27,11 @@ volume_here table v old lt at =
 pub changes_at : {X T : Type 0} (whole : List X → T) (xs : List X) (i : ℕ) (old new : X) (r : Result (Unit {0}) Refusal) (rule : Result X Refusal) → old ≡ get_or xs i old → Changes r old new rule → Changes r (whole xs) (whole (set xs i new)) (rule >>= λ x. Ok (whole (set xs i x)))
 changes_at whole xs i old new (Ok done) rule at h = rw h refl
 changes_at whole xs i old new (Err e) rule at h = (ap whole (put_back xs i old new at h.0), λ other. rw (h.1 other) refl)
+
+-- the same of a call that takes a place in a journal
+pub enters_at : {X T : Type 0} (whole : List X → T) (xs : List X) (i : ℕ) (old new : X) (r : Result (Unit {0}) Refusal) (rule : Result X Refusal) → old ≡ get_or xs i old → Enters r old new rule → Enters r (whole xs) (whole (set xs i new)) (rule >>= λ x. Ok (whole (set xs i x)))
+enters_at whole xs i old new (Ok done) rule at h = rw h refl
+enters_at whole xs i old new (Err e) rule at h = (ap whole (put_back xs i old new at h.0), λ other. rw (h.1 other) refl)
 
 -- the same of a call that answers
 pub steps_at : {A X T : Type 0} (whole : List X → T) (xs : List X) (i : ℕ) (old new : X) (r : Result A Refusal) (rule : Result (A × X) Refusal) → old ≡ get_or xs i old → Steps r old new rule → Steps r (whole xs) (whole (set xs i new)) (rule >>= λ done. Ok (done.0, whole (set xs i done.1)))

@@ -8,12 +8,17 @@ use Rattle.words.specs.Given.{◌>>=◌}
 use Rattle.named.specs.State.{Stacked, Names, Volume, Table}
 use Rattle.named.specs.Places.{stack_at, volume_at}
 use Rattle.named.specs.Raw.{names_at}
-use Rattle.named.specs.Changes.{Changes, Steps, kept, changed}
+use Rattle.named.specs.Changes.{Changes, Enters, Steps, kept, changed}
 
 -- what a call left, by the table before it and the one that its rule leaves
 pub changes_keep : {T : Type 0} (P : T → Type 0) (r : Result (Unit {0}) Refusal) (old new : T) (rule : Result T Refusal) → Changes r old new rule → P old → P (changed old rule).left → P new
 changes_keep P (Ok done) old new rule h before after = subst (λ x. P (changed old x).left) h after
 changes_keep P (Err e) old new rule h before after = subst P (sym h.0) before
+
+-- the same of a call that takes a place in a journal
+pub enters_keep : {T : Type 0} (P : T → Type 0) (r : Result (Unit {0}) Refusal) (old new : T) (rule : Result T Refusal) → Enters r old new rule → P old → P (changed old rule).left → P new
+enters_keep P (Ok done) old new rule h before after = subst (λ x. P (changed old x).left) h after
+enters_keep P (Err e) old new rule h before after = subst P (sym h.0) before
 
 -- the same of a call that answers
 pub steps_keep : {A T : Type 0} (P : T → Type 0) (r : Result A Refusal) (old new : T) (rule : Result (A × T) Refusal) → Steps r old new rule → P old → P (kept old rule).left → P new

@@ -19,3 +19,4 @@ pub mod Status
 pub mod Sound
 pub mod Naming
 pub mod Stopping
+pub mod Journal

@@ -100,7 +100,7 @@ write_by count bytes volume (Ok asks) = written_as count (written_beside asks.de
 unfoldable pub written_in : Role → ℕ → ℕ → List ℕ → Volume → Did (Unit {0}) Volume
 written_in role first count bytes volume = write_by count bytes volume (asked_of role first count volume)
 
--- Where memory ran out in a write: it was not begun, or some first pieces were written, but not all.
+-- Where memory, or the room of a journal, ran out in a write: it was not begun, or some first pieces were written, but not all.
 pub record ArePartWritten (count : ℕ) (bytes : List ℕ) (asks : Asked) (old new : Volume) : Type 0 where
   pub pieces : ℕ
   pub fewer : pieces < count_beside asks.span (merged_in old)
@@ -114,7 +114,7 @@ IsPartWrittenBy count bytes old new (Ok asks) = ArePartWritten count bytes asks 
 unfoldable pub IsPartWritten : Role → ℕ → ℕ → List ℕ → Volume → Volume → Type 0
 IsPartWritten role first count bytes old new = IsPartWrittenBy count bytes old new (asked_of role first count old)
 
--- where memory ran out in a read: no device was changed
+-- where memory or room ran out in a read: no device was changed
 abbrev pub IsReadAsked : ℕ → Volume → Volume → Type 0
 IsReadAsked count old new = new ≡ after_asking count (merged_in old) old
 
@@ -145,7 +145,7 @@ write_some name first bytes table (Ok count) = at_role table (λ role volume. wr
 unfoldable pub write : List ℕ → ℕ → List ℕ → Table → Did (Unit {0}) Table
 write name first bytes table = write_some name first bytes table (whole bytes)
 
--- where memory ran out in a command on the device of a name: nothing changed, or this holds of one volume
+-- where it ran out in a command on the device of a name: nothing changed, or this holds of one volume
 abbrev pub IsInVolume : (Volume → Volume → Type 0) → ℕ → Table → Table → Result Volume Refusal → Type 0
 IsInVolume holds v old new (Err refusal) = ⊥
 IsInVolume holds v old new (Ok volume) = (after : Volume) × holds volume after × (new ≡ put_volume v after old)
@@ -155,11 +155,11 @@ IsAtRole holds old new (Err refusal) = ⊥
 IsAtRole holds old new (Ok (Free i depth)) = ⊥
 IsAtRole holds old new (Ok (In v role)) = IsInVolume (holds role) v old new (volume_at v old)
 
--- where memory ran out in a read: no device was changed
+-- where memory or room ran out in a read: no device was changed
 unfoldable pub IsReadStarved : List ℕ → ℕ → ℕ → Table → Table → Type 0
 IsReadStarved name first count old new = IsAtRole (λ role. IsReadAsked count) old new (found (place_of name old))
 
--- where memory ran out in a write: some first pieces stand
+-- where memory or room ran out in a write: some first pieces stand
 abbrev pub IsWriteStarvedBy : List ℕ → ℕ → List ℕ → Table → Table → Result ℕ Refusal → Type 0
 IsWriteStarvedBy name first bytes old new (Err refusal) = ⊥
 IsWriteStarvedBy name first bytes old new (Ok count) = IsAtRole (λ role. IsPartWritten role first count bytes) old new (found (place_of name old))

@@ -1,5 +1,5 @@
 -- What a call did to the volume of events, as the volume with names shows it.
-use Rattle.std.proofs.Common.{◌≡◌, ℕ, true, List, refl, sym, ap, ◌∙◌, subst}
+use Rattle.std.proofs.Common.{◌≡◌, ◌⊎◌, ℕ, true, List, refl, sym, ap, ◌∙◌, inl, inr, subst}
 use Rattle.std.specs.Prelude.{Result, Ok, Err, IfOk, IfErr, OnOk, is_ok}
 use Rattle.sector.specs.declared.range.Range.{Range}
 use Rattle.sector.specs.declared.refusal.Refusal.{Refusal}
@@ -10,6 +10,7 @@ use Rattle.plain.specs.declared.event.Event.{Event}
 use Rattle.plain.specs.declared.event.Outcome.{Outcome}
 use Rattle.plain.specs.declared.event.NotDue.{NotDue}
 use Rattle.plain.specs.Legal.{IsLegalStep}
+use Rattle.served.specs.Refusals.{IsStarved}
 use Rattle.volume.specs.Volumed.{is_due_of, is_loud_in_all, plain_of}
 use Rattle.volume.specs.Causes.{HasCause, IsOneAtMost}
 use Rattle.volume.specs.Exact.{IsExact}
@@ -47,11 +48,20 @@ module _ (before after : Rested Stack) (old new : Volume) (was : IsBehind before
       let P : Result Asked Refusal → Type 0 = λ x. IfOk x (IsStarted op number old new) in
       subst P (sym asks) (record { before = before.events; after = after.events; was = was; is = is; did = (record { dev = dev; op = op; range = range }, record { dev_is = refl; op_is = refl; range_is = refl }, did) })
 
-  pub not_started : (op : Op) (r : Result ℕ Refusal) → IfErr r (λ e. IsRefusedAs stack_contents stack_layers stack_size (record { dev = dev; op = op; range = range }) e before.events after.events) → IfErr r (λ e. IfOk asked (IsNotStarted op e old new))
+  pub not_started : (op : Op) (r : Result ℕ Refusal) → IfErr r (λ e. IsStarved e before.events after.events ⊎ IsRefusedAs stack_contents stack_layers stack_size (record { dev = dev; op = op; range = range }) e before.events after.events) → IfErr r (λ e. IfOk asked (IsNotStarted op e old new))
   not_started op (Ok number) did = tt
   not_started op (Err e) did =
       let P : Result Asked Refusal → Type 0 = λ x. IfOk x (IsNotStarted op e old new) in
-      subst P (sym asks) (record { before = before.events; after = after.events; was = was; is = is; did = (record { dev = dev; op = op; range = range }, record { dev_is = refl; op_is = refl; range_is = refl }, did) })
+      subst P (sym asks) (record {
+        before = before.events;
+        after = after.events;
+        was = was;
+        is = is;
+        did = elim did [
+          | inl starved ↦ inl starved
+          | inr why ↦ inr (record { dev = dev; op = op; range = range }, record { dev_is = refl; op_is = refl; range_is = refl }, why)
+        ];
+      })
 
   module _ (whole_before : IsWhole before) (whole_after : IsWhole after) (earlier later : List Replied) where
     -- what was read among requests in flight

@@ -1,8 +1,9 @@
 -- A merge is taken out of a volume with its names, goes on after a fault, or is merged to its end.
-use Rattle.std.proofs.Common.{◌≡◌, ◌<◌, Bool, true, false, length, refl, sym, ap, ◌∙◌, inl, inr, arith}
+use Rattle.std.proofs.Common.{◌≡◌, ◌<◌, Bool, true, false, length, refl, sym, ap, ◌∙◌, inl, inr, subst, arith}
 use Rattle.std.specs.Prelude.{Option, Ok, Err, Some, None, nat_lt, ◌&&◌, if◌then◌else◌}
 use Rattle.std.specs.List.{list_all}
 use Rattle.sector.specs.declared.refusal.Refusal.{Refusal}
+use Rattle.sector.specs.declared.refusal.Refusal.TheVariants.{NotQuiet, NotFinished}
 use Rattle.device.specs.Layers.{is_loud}
 use Rattle.layers.specs.declared.stack.Stack.{Stack}
 use Rattle.layers.specs.Stack.{stack_contents, stack_layers}
@@ -10,9 +11,12 @@ use Rattle.snapshot.specs.declared.opening.StoreDev.{StoreDev}
 use Rattle.settled.specs.Snaps.{Volume as Settled}
 use Rattle.settled.specs.Attaching.{Store}
 use Rattle.settled.specs.Merges.{Merge, Finished, finished as finished_in_big_steps, finished_by as finished_in_big_steps_by, pairs_in}
+use Rattle.served.specs.Refusals.{is_starved}
+use Rattle.merge.specs.Due.{is_finished_of}
 use Rattle.merge.specs.Merging.{Merging}
 use Rattle.resting.specs.Merging.{IsTakenOutAs, IsUnfinished}
 use Rattle.resting.specs.Rested.{Rested}
+use Rattle.volume.specs.Finishing.{finish_with}
 use Rattle.volume.specs.Volumed.{is_loud_with}
 use Rattle.named.specs.Stacks.{device_of}
 use Rattle.named.specs.State.{Stacked, Names, Volume}
@@ -88,3 +92,19 @@ unfinished_is volume before (Some names) e merging why = elim why.1 [
   | inl none ↦ (let here : volume.merging ≡ None = merging ∙ ap (with_names names) (ap merge_by none) in rw here (rw why.0 refl))
   | inr some ↦ (let here : volume.merging ≡ Some (record { names = names; merge = some.0 }) = merging ∙ ap (with_names names) some.1 in rw here (rw (left_of some.0 some.2) (rw why.0 refl)))
 ]
+
+-- why it is not taken out is no want of room
+because : (e why : Refusal) → is_starved why ≡ false → Some why ≡ Some e → is_starved e ≡ false
+because e why other is = subst (λ (r : Refusal). is_starved r ≡ false) (same why e is) other
+  where
+    same : (a b : Refusal) → Some a ≡ Some b → a ≡ b
+    same a b is = cc
+
+pub unfinished_served : (o : Option (Merging Stack)) (quiet : Bool) (e : Refusal) → finish_with o quiet ≡ Some e → is_starved e ≡ false
+unfinished_served None quiet e is = because e NotFinished refl is
+unfinished_served (Some m) quiet e is = by (is_finished_of m) quiet is
+  where
+    by : (finished quiet : Bool) → (if finished then (if quiet then None else Some NotQuiet) else Some NotFinished) ≡ Some e → is_starved e ≡ false
+    by true true is = absurd (cc)
+    by true false is = because e NotQuiet refl is
+    by false quiet is = because e NotFinished refl is

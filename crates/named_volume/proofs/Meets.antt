@@ -11,6 +11,7 @@ use Rattle.layers.specs.Beneath.{stack_reads}
 use Rattle.snapshot.specs.declared.opening.StoreDev.{StoreDev}
 use Rattle.store.specs.Reading.{layers_read, AreRead}
 use Rattle.settled.specs.Snaps.{Volume as Settled}
+use Rattle.served.specs.Refusals.{is_starved}
 use Rattle.settled.specs.Attaching.{Store, attached, refused_attach}
 use Rattle.volume.specs.Volumed.{Volumed}
 use Rattle.volume.specs.Leaving.{is_quiet_of}
@@ -113,7 +114,7 @@ module _ (chunk origin size : ℕ) (bytes : List ℕ) (names : List (List ℕ)) 
 
   -- a volume that is not quiet takes none, and the stack comes back as it was
   pub busy_back : (begun : Bool) → begun ≡ is_some v.merge → is_quiet_of v ≡ false
-      → ((e ≡ NoMemory) ⊎ (e ≡ (if stacked.stale then Stale else (if begun then MergeInProgress else NotQuiet)))) × (back ≡ stacked)
+      → ((is_starved e ≡ true) ⊎ (e ≡ (if stacked.stale then Stale else (if begun then MergeInProgress else NotQuiet)))) × (back ≡ stacked)
   busy_back begun merged busy =
       elim why [
         | inl first ↦ (inr (rw is (rw merged (busy_is stale (is_some v.merge) (is_quiet_of v) (length v.snaps) v.attached chunk e busy first))), rw back_is (rw (same first) (rw is refl)))

@@ -1,8 +1,7 @@
 -- A read and a write, as the volume does them.
-use Rattle.std.proofs.Common.{◌≡◌, ◌≢◌, ◌⊎◌, ℕ, true, List, refl, sym, ap, ◌∙◌, inl, inr, subst, ◌<◌}
-use Rattle.std.specs.Prelude.{Result, Ok, Err, IfOk, IfErr, OnOk}
+use Rattle.std.proofs.Common.{◌≡◌, ◌⊎◌, ℕ, true, false, List, refl, sym, ap, ◌∙◌, inl, inr, subst, ◌<◌}
+use Rattle.std.specs.Prelude.{Bool, Result, Ok, Err, IfOk, IfErr, OnOk}
 use Rattle.sector.specs.declared.refusal.Refusal.{Refusal}
-use Rattle.sector.specs.declared.refusal.Refusal.TheVariants.{NoMemory}
 use Rattle.layers.specs.declared.stack.Stack.{Stack}
 use Rattle.layers.specs.Stack.{stack_contents, stack_layers}
 use Rattle.layers.specs.Beneath.{stack_reads}
@@ -14,13 +13,14 @@ use Rattle.plain.specs.declared.request.Failure.{Failure}
 use Rattle.plain.specs.declared.request.Failure.TheVariants.{Invalid, Io}
 use Rattle.settled.specs.Merges.{Merged}
 use Rattle.served.specs.Beside.{Served, read_beside, written_beside, written_first_beside, count_beside}
+use Rattle.served.specs.Refusals.{is_starved}
 use Rattle.resting.specs.Rested.{Rested, has_dev}
 use Rattle.plain.specs.Failures.{refusal_of}
 use Rattle.resting.specs.Commands.{IsDoneBy, IsReadRefused, IsWriteRefused}
 use Rattle.resting.proofs.Unread.{read_leaves, refused_read_leaves}
 use Rattle.named.specs.declared.place.Role.{Role}
 use Rattle.named.specs.State.{Volume, merged_in}
-use Rattle.named.specs.Changes.{Did, Does}
+use Rattle.named.specs.Changes.{Did, Serves}
 use Rattle.named.specs.Sectors.{Asked, asked_of, after_asking, read_answer, read_by, read_in, IsReadAsked, write_answer, write_by, written_in, ArePartWritten, IsPartWritten, IsPartWrittenBy}
 use Rattle.named_volume.specs.Held.{merged_inside, IsSettledIn}
 
@@ -28,19 +28,23 @@ use Rattle.named_volume.specs.Held.{merged_inside, IsSettledIn}
 did : {A T : Type 0} (a b : Result A Refusal) (x y : T) → a ≡ b → x ≡ y → (let d : Did A T = record { answer = a; left = x } in d) ≡ record { answer = b; left = y }
 did a b x y ab xy = rw ab (rw xy refl)
 
-memory : (failure : Failure) → refusal_of failure ≢ NoMemory
-memory Invalid none = absurd (cc)
-memory Io none = absurd (cc)
+-- a piece that failed does not want for room
+served : (failure : Failure) → is_starved (refusal_of failure) ≡ false
+served Invalid = refl
+served Io = refl
+
+not_both : (b : Bool) → b ≡ true → b ≡ false → ⊥
+not_both b is isnt = absurd (cc)
 
 -- what a command asks for is refused, and nothing changed
-pub read_refused : (role : Role) (first count : ℕ) (volume new : Volume) (e : Refusal) → asked_of role first count volume ≡ Err e → new ≡ volume → e ≢ NoMemory → Does {A = List ℕ} (Err e) new (λ v. (v ≡ volume) ⊎ IsReadAsked count volume v) (read_in role first count volume)
+pub read_refused : (role : Role) (first count : ℕ) (volume new : Volume) (e : Refusal) → asked_of role first count volume ≡ Err e → new ≡ volume → Serves {A = List ℕ} (Err e) new (λ v. (v ≡ volume) ⊎ IsReadAsked count volume v) (read_in role first count volume)
 unfolding read_in
-read_refused role first count volume new e why same known =
+read_refused role first count volume new e why same =
     (λ other. ap (read_by count volume) why ∙ did (Err e) (Err e) volume new refl (sym same), λ none. inl same)
 
-pub write_refused : (role : Role) (first count : ℕ) (bytes : List ℕ) (volume new : Volume) (e : Refusal) → asked_of role first count volume ≡ Err e → new ≡ volume → e ≢ NoMemory → Does {A = Unit {0}} (Err e) new (λ v. (v ≡ volume) ⊎ IsPartWritten role first count bytes volume v) (written_in role first count bytes volume)
+pub write_refused : (role : Role) (first count : ℕ) (bytes : List ℕ) (volume new : Volume) (e : Refusal) → asked_of role first count volume ≡ Err e → new ≡ volume → Serves {A = Unit {0}} (Err e) new (λ v. (v ≡ volume) ⊎ IsPartWritten role first count bytes volume v) (written_in role first count bytes volume)
 unfolding written_in
-write_refused role first count bytes volume new e why same known =
+write_refused role first count bytes volume new e why same =
     (λ other. ap (write_by count bytes volume) why ∙ did (Err e) (Err e) volume new refl (sym same), λ none. inl same)
 
 -- A command that asks for these sectors of a settled volume.
@@ -58,7 +62,7 @@ module _ (role : Role) (first count : ℕ) (volume new : Volume) (dev : Dev) (sp
       (read_left (read_leaves stack_contents stack_layers stack_reads dev span reply before after done settled))
 
   pub read_does : (result : Result (List ℕ) Refusal) → IfOk result (λ bytes. IsDoneBy stack_contents stack_layers (read_beside dev span) (Data bytes) before after) → IfErr result (λ refusal. IsReadRefused stack_contents stack_layers dev span refusal before after)
-      → Does result new (λ v. (v ≡ volume) ⊎ IsReadAsked count volume v) (read_in role first count volume)
+      → Serves result new (λ v. (v ≡ volume) ⊎ IsReadAsked count volume v) (read_in role first count volume)
   read_does (Ok bytes) done why = read_by_reply (Data bytes) (Ok bytes) done refl
   read_does (Err e) done why =
       let same = sym (read_left (refused_read_leaves stack_contents stack_layers stack_reads dev span e before after why settled)) in (
@@ -66,7 +70,7 @@ module _ (role : Role) (first count : ℕ) (volume new : Volume) (dev : Dev) (sp
           | inl missing ↦ absurd (cc)
           | inr more ↦ elim more [
             | inl failed ↦ read_by_reply (Refused failed.1.0) (Err e) failed.1.2 (ap (λ (r : Refusal). let x : Result (List ℕ) Refusal = Err r in x) (sym failed.1.1))
-            | inr starved ↦ absurd (other starved.1)
+            | inr starved ↦ absurd (not_both (is_starved e) starved.1 other)
           ]
         ],
         λ none. inr same,
@@ -95,12 +99,12 @@ module _ (role : Role) (first count : ℕ) (volume new : Volume) (dev : Dev) (sp
       subst (λ (r : Result Asked Refusal). IsPartWrittenBy count bytes volume new r) (sym asked) some
 
   pub write_does : (bytes : List ℕ) (result : Result (Unit {0}) Refusal) → OnOk result (IsDoneBy stack_contents stack_layers (written_beside dev span bytes) Written before after) → IfErr result (λ refusal. IsWriteRefused stack_contents stack_layers dev span bytes refusal before after)
-      → Does result new (λ v. (v ≡ volume) ⊎ IsPartWritten role first count bytes volume v) (written_in role first count bytes volume)
+      → Serves result new (λ v. (v ≡ volume) ⊎ IsPartWritten role first count bytes volume v) (written_in role first count bytes volume)
   write_does bytes (Ok unit) done why = write_by_reply bytes Written (Ok unit) done refl
   write_does bytes (Err e) done why = elim why [
     | inl missing ↦ absurd (cc)
     | inr more ↦ elim more [
-      | inl failed ↦ (λ other. write_by_reply bytes (Refused failed.1.0) (Err e) failed.1.2 (ap (λ (r : Refusal). let x : Result (Unit {0}) Refusal = Err r in x) (sym failed.1.1)), λ none. absurd (memory failed.1.0 (sym failed.1.1 ∙ none)))
-      | inr starved ↦ (λ other. absurd (other starved.1), λ none. inr (part bytes starved.2.0 starved.2.1 starved.2.2))
+      | inl failed ↦ (λ other. write_by_reply bytes (Refused failed.1.0) (Err e) failed.1.2 (ap (λ (r : Refusal). let x : Result (Unit {0}) Refusal = Err r in x) (sym failed.1.1)), λ none. absurd (not_both (is_starved e) none (ap is_starved failed.1.1 ∙ served failed.1.0)))
+      | inr starved ↦ (λ other. absurd (not_both (is_starved e) starved.1 other), λ none. inr (part bytes starved.2.0 starved.2.1 starved.2.2))
     ]
   ]

@@ -1,5 +1,5 @@
 -- What calls do to a volume whatever is in flight in it: that of the volume of events behind its names.
-use Rattle.std.specs.Prelude.{◌≡◌, ◌≢◌, ℕ, true, List, Some, MatchResult, Result}
+use Rattle.std.specs.Prelude.{◌≡◌, ◌≢◌, ◌⊎◌, ℕ, true, List, Some, MatchResult, Result}
 use Rattle.sector.specs.declared.refusal.Refusal.{Refusal}
 use Rattle.chunk.specs.Pieces.{pieces_of}
 use Rattle.layers.specs.declared.stack.Stack.{Stack}
@@ -9,6 +9,7 @@ use Rattle.plain.specs.declared.event.Outcome.{Outcome}
 use Rattle.plain.specs.declared.request.Op.{Op}
 use Rattle.plain.specs.declared.request.Request.{Request}
 use Rattle.plain.specs.Legal.{IsLegalStep}
+use Rattle.served.specs.Refusals.{IsStarved}
 use Rattle.volume.specs.Volumed.{Volumed, is_due_of, is_loud_in_all, piece_with, plain_of}
 use Rattle.volume.specs.Causes.{HasCause, IsOneAtMost}
 use Rattle.volume.specs.Exact.{IsExact}
@@ -43,10 +44,11 @@ abbrev pub IsStarted : Op → ℕ → Volume → Volume → Asked → Type 0
 IsStarted op number old new asks =
     InEvents (λ before after. (request : Request) × IsRequestOf asks.dev op asks.span request × IsAcceptedAs stack_contents stack_layers request number before after) old new
 
--- or was refused by the volume
+-- or there was no room for it, or it was refused by the volume
 abbrev pub IsNotStarted : Op → Refusal → Volume → Volume → Asked → Type 0
 IsNotStarted op refusal old new asks =
-    InEvents (λ before after. (request : Request) × IsRequestOf asks.dev op asks.span request × IsRefusedAs stack_contents stack_layers stack_size request refusal before after) old new
+    InEvents (λ before after. IsStarved refusal before after
+    ⊎ ((request : Request) × IsRequestOf asks.dev op asks.span request × IsRefusedAs stack_contents stack_layers stack_size request refusal before after)) old new
 
 -- an event that was due was done
 pub record IsEventDone (event : Event) (outcome : Outcome) (before after : Volumed Stack) : Type 0 where

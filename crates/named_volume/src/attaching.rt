@@ -1,7 +1,8 @@
 // Snapshots are taken and leave.
 ghost use Rattle.std.specs.Prelude.{◌≡◌, ◌≢◌, ◌⊎◌, ◌&&◌, ◌<◌, true, false, length, Some, None, is_some, Ok, Err, IfOk, IfErr, OnOk, OnErr, if◌then◌else◌};
-ghost use Rattle.sector.specs.declared.refusal.Refusal.TheVariants.{NoMemory, Stale, MergeInProgress, NotQuiet};
+ghost use Rattle.sector.specs.declared.refusal.Refusal.TheVariants.{JournalFull, Stale, MergeInProgress, NotQuiet};
 ghost use Rattle.device.specs.Layers.{is_loud};
+ghost use Rattle.served.specs.Refusals.{is_starved};
 ghost use Rattle.named.specs.Snapshots.{meet, parted};
 ghost use Rattle.named_volume.specs.Names.{IsNamedMore};
 
@@ -17,7 +18,7 @@ use words::Name;
 impl NamedVolume {
     /// Takes a snapshot of the origin, with a stack as its store, by a table line with this chunk size. Where a request is in
     /// flight or anything is left to do, `Stale` for a stack with a mark, `MergeInProgress` beside a merge, and else `NotQuiet`,
-    /// but for `NoMemory`; then the stack is given back as it was.
+    /// but for `NoMemory` and `JournalFull`; then the stack is given back as it was.
     pub fn attach(
         &mut self,
         alloc: Global,
@@ -26,9 +27,9 @@ impl NamedVolume {
         chunk: u32,
     ) -> Result<(), (Refusal, NamedStack)>
         ensures ok { OnOk result (self.old.sound ≡ true → self.old.quiet ≡ true → is_loud stack.device.layers ≡ true → ((meet name chunk stack self.old).refused ≡ None) × ((meet name chunk stack self.old).volume ≡ self.new)) }
-        ensures err { IfErr result (λ e. e.0 ≢ NoMemory → self.old.sound ≡ true → self.old.quiet ≡ true → is_loud stack.device.layers ≡ true → ((meet name chunk stack self.old).refused ≡ Some e.0) × ((meet name chunk stack self.old).stacked ≡ e.1)) }
-        ensures busy { IfErr result (λ e. self.old.quiet ≡ false → ((e.0 ≡ NoMemory) ⊎ (e.0 ≡ (if stack.stale then Stale else (if is_some self.old.merging then MergeInProgress else NotQuiet)))) × (e.1 ≡ stack)) }
-        ensures starved { IfErr result (λ e. e.0 ≡ NoMemory → e.1 ≡ stack) }
+        ensures err { IfErr result (λ e. is_starved e.0 ≡ false → self.old.sound ≡ true → self.old.quiet ≡ true → is_loud stack.device.layers ≡ true → ((meet name chunk stack self.old).refused ≡ Some e.0) × ((meet name chunk stack self.old).stacked ≡ e.1)) }
+        ensures busy { IfErr result (λ e. self.old.quiet ≡ false → ((is_starved e.0 ≡ true) ⊎ (e.0 ≡ (if stack.stale then Stale else (if is_some self.old.merging then MergeInProgress else NotQuiet)))) × (e.1 ≡ stack)) }
+        ensures starved { IfErr result (λ e. is_starved e.0 ≡ true → e.1 ≡ stack) }
         ensures named { OnOk result (IsNamedMore name stack self.old self.new) }
         ensures names { IfErr result (λ e. e.1.names ≡ stack.names) }
         ensures same { OnErr result (self.new ≡ self.old) }
@@ -61,23 +62,22 @@ impl NamedVolume {
     }
 
     /// Takes the snapshot at a place away, and gives its store back, with a mark where the invalid mark failed. `NotQuiet`
-    /// where a request is in flight or anything is left to do, and then nothing changed.
+    /// where a request is in flight or anything is left to do, `JournalFull` where the journal has no room; then nothing changed.
     pub fn detach(&mut self, k: usize) -> Result<NamedStack, Refusal>
         requires { k < length self.old.snaps }
         ensures parted { IfOk result (λ stack. parted k self.old ≡ Ok (stack, self.new)) }
-        ensures busy { IfErr result (λ e. parted k self.old ≡ Err e) }
+        ensures busy { IfErr result (λ e. e ≢ JournalFull → parted k self.old ≡ Err e) }
         ensures same { OnErr result (self.new ≡ self.old) }
         ensures loud { IfOk result (λ stack. self.old.sound ≡ true → is_loud stack.device.layers ≡ true) }
         ensures sound { self.new.sound ≡ self.old.sound }
     {
-        if !self.volume.is_quiet() {
-            return Err(Refusal::NotQuiet);
-        }
+        look(&self.volume);
         let number = self.volume.number(k);
+        let given = match self.volume.detach(number) {
+            Ok(given) => given,
+            Err(refusal) => return Err(refusal),
+        };
         let SnapNames { snapshot: _, store } = self.snaps.remove(k);
-        match self.volume.detach(number) {
-            Ok(given) => Ok(NamedStack::of_parts(store, given.device, given.stale)),
-            Err(_) => unreachable!(),
-        }
+        Ok(NamedStack::of_parts(store, given.device, given.stale))
     }
 }

@@ -38,8 +38,8 @@ impl NamedVolume {
 
     /// Starts a read or a write of so many sectors from `first` on, and tells its number; it is in flight from then on. Refused
     /// in this order: `BadTable` for disks and layers, `OutOfRange` for sectors past the end, `MergingSnapshot` for the snapshot
-    /// that is being merged, `TooMany` where 2^60 sectors were asked for in all; then, as the volume submits, `Invalid` for a spoiled snapshot, `OutOfRange` for sectors of two chunks,
-    /// `TooMany`, `NoMemory`, and `Invalid` for a snapshot whose store is full, which is spoiled by it.
+    /// that is being merged, `TooMany` where 2^60 sectors were asked for in all; then, as the volume submits, `JournalFull`, `Invalid` for a spoiled snapshot, `OutOfRange` for sectors of
+    /// two chunks, `TooMany`, `NoMemory`, and `Invalid` for a snapshot whose store is full, which is spoiled by it.
     pub fn start(
         &mut self,
         alloc: Global,

@@ -7,6 +7,7 @@
 
 mod attaching;
 mod flights;
+mod journal;
 mod merging;
 mod names;
 mod order;

@@ -1,8 +1,9 @@
 // The merge of a snapshot into the origin: it begins, goes on after a fault, and is finished. No device is touched.
-ghost use Rattle.std.specs.Prelude.{◌≡◌, ◌≢◌, ◌<◌, length, true, Ok, Err, IfErr, IfOk, OnErr, OnOk};
-ghost use Rattle.sector.specs.declared.refusal.Refusal.TheVariants.{NoMemory};
+ghost use Rattle.std.specs.Prelude.{◌≡◌, ◌≢◌, ◌<◌, length, true, false, Ok, Err, IfErr, IfOk, OnErr, OnOk};
+ghost use Rattle.sector.specs.declared.refusal.Refusal.TheVariants.{JournalFull};
 ghost use Rattle.device.specs.Layers.{is_loud};
-ghost use Rattle.named.specs.Changes.{Changes};
+ghost use Rattle.served.specs.Refusals.{is_starved};
+ghost use Rattle.named.specs.Changes.{Changes, Enters};
 ghost use Rattle.named.specs.Merging.{begun, finished, resumed};
 ghost use Rattle.named_volume.specs.Flights.{IsUnfinished};
 ghost use Rattle.named_volume.specs.Names.{IsNamedBegun, IsNamedLess};
@@ -16,11 +17,12 @@ use std::alloc::Global;
 
 impl NamedVolume {
     /// Begins to merge the snapshot at a place, which is none of the others any more. In this order: `MergeInProgress` where a
-    /// merge is begun, `Invalid` for a spoiled snapshot, `NotQuiet`, `NoMemory`; then nothing that is seen changed.
+    /// merge is begun, `Invalid` for a spoiled snapshot, `NotQuiet`, `NoMemory`; then nothing that is seen changed. `JournalFull`
+    /// may come before all but the first.
     pub fn begin_merge(&mut self, alloc: Global, k: usize) -> Result<(), Refusal>
         requires { k < length self.old.snaps }
-        ensures done { self.old.sound ≡ true → Changes result self.old self.new (begun k self.old) }
-        ensures err { IfErr result (λ e. (self.new ≡ self.old) × (e ≢ NoMemory → begun k self.old ≡ Err e)) }
+        ensures done { self.old.sound ≡ true → Enters result self.old self.new (begun k self.old) }
+        ensures err { IfErr result (λ e. (self.new ≡ self.old) × (is_starved e ≡ false → begun k self.old ≡ Err e)) }
         ensures named { OnOk result (IsNamedBegun k self.old self.new) }
         ensures sound { self.new.sound ≡ self.old.sound }
         ensures quiet { self.new.quiet ≡ self.old.quiet }
@@ -47,11 +49,12 @@ impl NamedVolume {
     }
 
     /// Takes a merge that has no pair left out, and gives the stack of its store back, under its names. In this order:
-    /// `NotFinished` where none is begun, or a pair or a group is left, `NotQuiet`; then nothing changed.
+    /// `JournalFull` where the journal has no room, `NotFinished` where none is begun, or a pair or a group is left, `NotQuiet`; then
+    /// nothing changed.
     pub fn finish_merge(&mut self) -> Result<NamedStack, Refusal>
         ensures parted { self.old.sound ≡ true → IfOk result (λ stack. finished self.old ≡ Ok (stack, self.new)) }
-        ensures refused { self.old.sound ≡ true → self.old.quiet ≡ true → IfErr result (λ e. finished self.old ≡ Err e) }
-        ensures unfinished { IfErr result (λ e. IsUnfinished e self.old) }
+        ensures refused { self.old.sound ≡ true → self.old.quiet ≡ true → IfErr result (λ e. e ≢ JournalFull → finished self.old ≡ Err e) }
+        ensures unfinished { IfErr result (λ e. e ≢ JournalFull → IsUnfinished e self.old) }
         ensures named { IfOk result (λ stack. IsNamedLess stack self.old self.new) }
         ensures same { OnErr result (self.new ≡ self.old) }
         ensures loud { IfOk result (λ stack. self.old.sound ≡ true → is_loud stack.device.layers ≡ true) }

@@ -5,7 +5,7 @@ ghost use Rattle.chunk.specs.Pieces.{span_of};
 ghost use Rattle.layers.specs.Stack.{stack_size};
 ghost use Rattle.resting.specs.Rested.{has_dev};
 ghost use Rattle.named.specs.State.{Volume};
-ghost use Rattle.named.specs.Changes.{Does};
+ghost use Rattle.named.specs.Changes.{Serves};
 ghost use Rattle.named.specs.Places.{HasRole, IsRoleIn};
 ghost use Rattle.named.specs.Sectors.{asked_of, dev_of, serves, takes, read_in, written_in, IsReadAsked, IsPartWritten};
 ghost use Rattle.named_volume.specs.Flights.{IsReadServed, IsWriteServed};
@@ -107,9 +107,8 @@ pub(crate) fn ask(
 impl NamedVolume {
     /// Reads so many sectors of the origin or of a snapshot, from `first` on. In this order: `BadTable` for disks and layers,
     /// `OutOfRange` for sectors past the end, `MergingSnapshot` for the snapshot that is being merged, `TooMany` where 2^60
-    /// sectors were asked for in all; then, as the volume reads,
-    /// `Invalid`, `Io` and `NoMemory`. Where requests are in flight, those that end in the meantime are told at the end of
-    /// `ended`.
+    /// sectors were asked for in all; then, as the volume reads, `JournalFull`, `Invalid`, `Io` and `NoMemory`. Where requests
+    /// are in flight, those that end in the meantime are told at the end of `ended`.
     pub fn read(
         &mut self,
         alloc: Global,
@@ -121,7 +120,7 @@ impl NamedVolume {
         requires role { IsRoleIn role self.old }
         requires some { 0 < count }
         requires few { count ≤ 2048 }
-        ensures done { self.old.sound ≡ true → self.old.quiet ≡ true → Does result self.new (λ v. (v ≡ self.old) ⊎ IsReadAsked count self.old v) (read_in role first count self.old) }
+        ensures done { self.old.sound ≡ true → self.old.quiet ≡ true → Serves result self.new (λ v. (v ≡ self.old) ⊎ IsReadAsked count self.old v) (read_in role first count self.old) }
         ensures among { self.old.quiet ≡ false → IfOk (asked_of role first count self.old) (IsReadServed result ended.old.items ended.new.items self.old self.new) }
         ensures counts { IfOk (asked_of role first count self.old) (λ _. self.new.asked ≡ self.old.asked + count) }
         ensures told { self.old.quiet ≡ true → ended.new.items ≡ ended.old.items }
@@ -154,7 +153,7 @@ impl NamedVolume {
         requires some { 0 < count }
         requires few { count ≤ 2048 }
         requires room { length bytes.now ≡ 512 * count }
-        ensures done { self.old.sound ≡ true → self.old.quiet ≡ true → Does result self.new (λ v. (v ≡ self.old) ⊎ IsPartWritten role first count bytes.now self.old v) (written_in role first count bytes.now self.old) }
+        ensures done { self.old.sound ≡ true → self.old.quiet ≡ true → Serves result self.new (λ v. (v ≡ self.old) ⊎ IsPartWritten role first count bytes.now self.old v) (written_in role first count bytes.now self.old) }
         ensures among { self.old.quiet ≡ false → IfOk (asked_of role first count self.old) (IsWriteServed bytes.now result ended.old.items ended.new.items self.old self.new) }
         ensures counts { IfOk (asked_of role first count self.old) (λ _. self.new.asked ≡ self.old.asked + count) }
         ensures told { self.old.quiet ≡ true → ended.new.items ≡ ended.old.items }

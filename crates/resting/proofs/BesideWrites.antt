@@ -1,5 +1,5 @@
 -- A write of many sectors of a settled volume is one of plain arrays, whether a merge is begun or not.
-use Rattle.std.proofs.Common.{◌≡◌, inl, inr, ℕ, zero, suc, ◌+◌, ◌*◌, ◌/◌, ◌<◌, ◌≤◌, List, [], ◌∷◌, Option, Some, None, length, take, drop, arith, refl, ap, ◌∙◌, sym, subst, length-take, length-drop}
+use Rattle.std.proofs.Common.{◌≡◌, inl, inr, ℕ, zero, suc, ◌+◌, ◌*◌, ◌/◌, ◌<◌, ◌≤◌, true, List, [], ◌∷◌, Option, Some, None, length, take, drop, arith, refl, ap, ◌∙◌, sym, subst, length-take, length-drop}
 use Rattle.std.specs.List.{All}
 use Rattle.std.proofs.lemmas.List.{take_all}
 use Rattle.std.proofs.lemmas.Bool.{cases_Bool, cond-true, cond-false}
@@ -12,6 +12,8 @@ use Rattle.model.proofs.Pictures.{length-picture}
 use Rattle.plain.specs.Plain.{Saved, Live, Invalid}
 use Rattle.plain.specs.declared.request.Dev.{Dev}
 use Rattle.plain.specs.declared.request.Dev.TheVariants.{Origin, Snap as ToSnap}
+use Rattle.served.specs.Refusals.{is_starved}
+use Rattle.served.proofs.Starved.{starved_by}
 use Rattle.plain.specs.declared.request.Reply.{Reply}
 use Rattle.plain.specs.declared.request.Reply.TheVariants.{Data, Written, Refused}
 use Rattle.plain.specs.declared.request.Failure.{Failure}
@@ -32,7 +34,7 @@ use Rattle.settled.specs.MergeShown.{IsMerging, array_of, shown_through}
 use Rattle.resting.specs.Rested.{rested_of, merged_of, IsSettled}
 use Rattle.plain.specs.Failures.{refusal_of}
 use Rattle.resting.specs.Commands.{IsDoneBy, IsWriteRefused}
-use Rattle.resting.specs.Showing.{Arrays, arrays_of, arrays_in, saved_of, AreKept, IsWritten, IsPlainWrite, IsPlainWriteRefused, pieces_for, sectors_in}
+use Rattle.resting.specs.Showing.{Arrays, arrays_of, arrays_in, saved_of, AreKept, IsWritten, IsPlainWrite, IsPlainWriteRefused, IsWrittenInPart, pieces_for, sectors_in}
 use Rattle.resting.proofs.Shown.{arrays_by, arrays_with, seen}
 use Rattle.resting.proofs.Rests.{IsInside, IsWell}
 use Rattle.resting.proofs.Parts.{with_sectors_none, kept_none, written_none}
@@ -43,6 +45,13 @@ use Rattle.resting.proofs.BesideReads.{with_merge}
 use Rattle.resting.proofs.WriteRuns.{answer, parts_written, served_parts}
 use Rattle.resting.proofs.Writing.{write_whole, write_first}
 use Rattle.resting.proofs.PlainWrites.{IsPieceShown, AreWritten, kept_saved, write_more, pieces_written}
+
+-- some first pieces stand, where there was no room for all
+written_starved : (dev : Dev) (span : Span) (pieces : List Span) (bytes : List ℕ) (refusal : Refusal) (old new : Arrays) → is_starved refusal ≡ true → IsWrittenInPart dev span pieces bytes old new → IsPlainWriteRefused dev span pieces bytes refusal old new
+written_starved dev span pieces bytes refusal old new starved part = elim (starved_by refusal starved) [
+  | inl memory ↦ subst (λ (r : Refusal). IsPlainWriteRefused dev span pieces bytes r old new) (sym memory) part
+  | inr full ↦ subst (λ (r : Refusal). IsPlainWriteRefused dev span pieces bytes r old new) (sym full) part
+]
 
 module _ (sectors chunk : ℕ) (pos : 0 < chunk) where
   -- one piece of the origin beside a merge
@@ -216,7 +225,7 @@ module _ {B : Type 0} (contents : B → List ℕ) (layers : B → List Layer) (s
     | inl missing ↦ subst (λ (r : Refusal). IsPlainWriteRefused dev (span_of range) pieces bytes r old new) (sym missing.0) (missing_by contents layers dev (rested_of v) missing.1, ap (arrays_by contents layers) missing.2)
     | inr there ↦ elim there [
       | inl failed ↦ subst (λ (r : Refusal). IsPlainWriteRefused dev (span_of range) pieces bytes r old new) (sym failed.1.1) (failed_write failed.1.0 (whole_written (Refused failed.1.0) failed.1.2 settled))
-      | inr starved ↦ subst (λ (r : Refusal). IsPlainWriteRefused dev (span_of range) pieces bytes r old new) (sym starved.1) (
+      | inr starved ↦ written_starved dev (span_of range) pieces bytes refusal old new starved.1 (
         starved.2.0,
         subst (λ (n : ℕ). starved.2.0 < length (pieces_of n (span_of range))) least starved.2.1,
         (first_written starved.2.0 Written (ap (λ n. parts_written dev (take starved.2.0 (pieces_of n (span_of range))) bytes start) (sym least) ∙ sym (write_first starved.2.0 dev (span_of range) bytes start) ∙ starved.2.2 settled)).1,

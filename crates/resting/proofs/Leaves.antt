@@ -18,7 +18,7 @@ use Rattle.resting.specs.Rested.{Attached, attached_of, rested_of, snap_of, merg
 use Rattle.resting.specs.Leaving.{IsDetachedAs}
 use Rattle.resting.proofs.Seen.{loud_same, dev_found, dev_missing}
 use Rattle.sector.specs.declared.refusal.Refusal.{Refusal}
-use Rattle.sector.specs.declared.refusal.Refusal.TheVariants.{NoSuchDevice, NotQuiet, MergeInProgress}
+use Rattle.sector.specs.declared.refusal.Refusal.TheVariants.{JournalFull, NoSuchDevice, NotQuiet, MergeInProgress}
 use Rattle.plain.specs.declared.request.Dev.TheVariants.{Snap as ToSnap}
 use Rattle.volume.proofs.Quieted.{quiet_done, quiet_flights, quiet_free}
 use Rattle.volume.proofs.Shown.{loud_others}
@@ -138,14 +138,14 @@ module _ {B : Type 0} (number : ℕ) (old new : Volumed B) (store : StoreDev B) 
 
 -- why none leaves a volume
 abbrev pub WhyNone : {B : Type 0} → ℕ → Volumed B → Bool → Refusal → Type 0
-WhyNone number v quiet refusal = ((refusal ≡ NoSuchDevice) × (has_dev (ToSnap number) (rested_of v) ≡ false)) ⊎ ((refusal ≡ MergeInProgress) × (is_merging number v.merge ≡ true)) ⊎ ((refusal ≡ NotQuiet) × (quiet ≡ false))
+WhyNone number v quiet refusal = ((refusal ≡ NoSuchDevice) × (has_dev (ToSnap number) (rested_of v) ≡ false)) ⊎ ((refusal ≡ MergeInProgress) × (is_merging number v.merge ≡ true)) ⊎ ((refusal ≡ NotQuiet) × (quiet ≡ false)) ⊎ (refusal ≡ JournalFull)
 
 refused_at : {B : Type 0} (number : ℕ) (v : Volumed B) (o : Option ℕ) (quiet mine : Bool) (refusal : Refusal) → place_of_snap number v.snaps ≡ o → is_merging number v.merge ≡ mine → (if mine then Some MergeInProgress else leaving_refusal o quiet) ≡ Some refusal
     → WhyNone number v quiet refusal × (refusal ≡ NotQuiet → has_dev (ToSnap number) (rested_of v) ≡ true)
 refused_at number v o quiet true refusal at is e = (let same : refusal ≡ MergeInProgress = cc in (inr (inl (same, is)), λ other. absurd (cc)))
 refused_at number v None quiet false refusal none is e = (let same : refusal ≡ NoSuchDevice = cc in (inl (same, dev_missing number v none), λ other. absurd (cc)))
 refused_at number v (Some k) true false refusal at is e = absurd (cc)
-refused_at number v (Some k) false false refusal at is e = (let same : refusal ≡ NotQuiet = cc in (inr (inr (same, refl)), λ other. dev_found number k v at))
+refused_at number v (Some k) false false refusal at is e = (let same : refusal ≡ NotQuiet = cc in (inr (inr (inl (same, refl))), λ other. dev_found number k v at))
 
 pub not_left : {B : Type 0} (number : ℕ) (v : Volumed B) → (refusal : Refusal) → detach_refusal number v ≡ Some refusal → WhyNone number v (is_quiet_of v) refusal × (refusal ≡ NotQuiet → has_dev (ToSnap number) (rested_of v) ≡ true)
 not_left number v refusal e = refused_at number v (place_of_snap number v.snaps) (is_quiet_of v) (is_merging number v.merge) refusal refl refl e

@@ -146,7 +146,7 @@ module _ {B : Type 0} (contents : B → List ℕ) (layers : B → List Layer) (n
 
   pub not_begun_as : (refusal : Refusal) → IsNotBegunIn number refusal old new → moving_of contents layers None new ≡ moving_of contents layers None old → IsNotBegun contents layers number refusal (rested_of old) (rested_of new)
   not_begun_as refusal (inl first) still = inl (first.0, ap (λ (v : Volumed B). rested_of v) first.1)
-  not_begun_as refusal (inr starved) still = inr (starved.0, starved.1, alike starved.2 still)
+  not_begun_as refusal (inr starved) still = inr (inl (starved.0, starved.1, alike starved.2 still))
 
   pub not_begun_quiet : (refusal : Refusal) → IsNotBegunIn number refusal old new → is_quiet_of new ≡ is_quiet_of old
   not_begun_quiet refusal (inl first) = ap (λ (v : Volumed B). is_quiet_of v) first.1

@@ -1,5 +1,5 @@
 -- A read of many sectors of a settled volume is one of plain arrays, whether a merge is begun or not.
-use Rattle.std.proofs.Common.{◌≡◌, ◌⊎◌, inl, inr, ℕ, ◌+◌, ◌-◌, ◌<◌, ◌≤◌, false, List, [], ◌∷◌, length, map, take, Option, Some, None, arith, refl, ap, ◌∙◌, sym, subst}
+use Rattle.std.proofs.Common.{◌≡◌, ◌⊎◌, inl, inr, ℕ, ◌+◌, ◌-◌, ◌<◌, ◌≤◌, true, false, List, [], ◌∷◌, length, map, take, Option, Some, None, arith, refl, ap, ◌∙◌, sym, subst}
 use Rattle.std.specs.Prelude.{◌==◌, ◌||◌}
 use Rattle.std.specs.List.{All, list_any}
 use Rattle.std.proofs.lemmas.Bool.{cases_Bool, cond-false, true≢false}
@@ -13,6 +13,8 @@ use Rattle.chunk.proofs.Whole.{cut_pieces}
 use Rattle.plain.specs.Plain.{Saved, Live, Invalid}
 use Rattle.plain.specs.declared.request.Dev.{Dev}
 use Rattle.plain.specs.declared.request.Dev.TheVariants.{Origin, Snap as ToSnap}
+use Rattle.served.specs.Refusals.{is_starved}
+use Rattle.served.proofs.Starved.{starved_by}
 use Rattle.plain.specs.declared.request.Reply.{Reply}
 use Rattle.plain.specs.declared.request.Reply.TheVariants.{Data, Written, Refused}
 use Rattle.plain.specs.declared.request.Failure.TheVariants.{Invalid as Declined, Io}
@@ -61,6 +63,13 @@ abbrev IsPlainReply : Dev → Span → Arrays → Reply → Type 0
 IsPlainReply dev span old (Data bytes) = (array : List ℕ) × (saved_of dev old ≡ Live array) × (bytes ≡ sectors_at array span.first span.count)
 IsPlainReply dev span old Written = ⊥
 IsPlainReply dev span old (Refused failure) = IsReadLost dev (refusal_of failure) old
+
+-- there was no room for it
+read_starved : (dev : Dev) (refusal : Refusal) (old : Arrays) → is_starved refusal ≡ true → IsReadLost dev refusal old
+read_starved dev refusal old starved = elim (starved_by refusal starved) [
+  | inl memory ↦ subst (λ (r : Refusal). IsReadLost dev r old) (sym memory) tt
+  | inr full ↦ subst (λ (r : Refusal). IsReadLost dev r old) (sym full) tt
+]
 
 plain_reply : (dev : Dev) (span : Span) (old : Arrays) (array : List ℕ) (reply : Reply) → saved_of dev old ≡ Live array → IsReadTo array span.first span.count [] reply → IsPlainReply dev span old reply
 plain_reply dev span old array (Data bytes) live read = (array, live, read)
@@ -205,8 +214,7 @@ module _ {B : Type 0} (contents : B → List ℕ) (layers : B → List Layer) (s
         | inl missing ↦ subst (λ (r : Refusal). IsPlainReadRefused dev r before after) (sym missing.0) (missing_by contents layers dev (rested_of v) missing.1, ap (arrays_by contents layers) missing.2)
         | inr there ↦ elim there [
           | inl failed ↦ subst (λ (r : Refusal). IsPlainReadRefused dev r before after) (sym failed.1.1) (done_plain (Refused failed.1.0) failed.1.2 settled)
-          | inr starved ↦ subst (λ (r : Refusal). IsPlainReadRefused dev r before after) (sym starved.1)
-              (tt, ap (λ (a : Served). arrays_with a.state) (sym (starved.2.3 settled)) ∙ ap (λ (a : Served). arrays_with a.state) (read_first_parts starved.2.0 dev (span_of range) old) ∙ parts_shown dev (take starved.2.0 (pieces_of (chunk_beside old) (span_of range))) [] old)
+          | inr starved ↦ (read_starved dev refusal before starved.1, ap (λ (a : Served). arrays_with a.state) (sym (starved.2.3 settled)) ∙ ap (λ (a : Served). arrays_with a.state) (read_first_parts starved.2.0 dev (span_of range) old) ∙ parts_shown dev (take starved.2.0 (pieces_of (chunk_beside old) (span_of range))) [] old)
         ]
       ]
 

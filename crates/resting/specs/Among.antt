@@ -14,6 +14,7 @@ use Rattle.plain.specs.declared.request.Reply.TheVariants.{Refused}
 use Rattle.plain.specs.declared.request.Failure.{Failure}
 use Rattle.plain.specs.declared.request.Request.{Request}
 use Rattle.settled.specs.Commands.{bytes_in}
+use Rattle.served.specs.Refusals.{is_starved}
 use Rattle.volume.specs.Volumed.{Volumed, piece_with}
 use Rattle.volume.specs.Submitting.{IsAcceptedAs, IsRefusedAs}
 use Rattle.plain.specs.declared.request.Replied.{Replied}
@@ -50,10 +51,10 @@ pub record IsTurnedAway {B : Type 0} (contents : B → List ℕ) (layers : B →
   pub other : refusal ≢ InvalidRefusal → (new ≡ mid) × (after ≡ before)
   pub idle : is_live_dev request.dev (rested_of old) ≡ true → refusal ≡ InvalidRefusal → is_idle_of contents layers new ≡ true
 
--- or memory was, and nothing changed
+-- or there was no room for it, and nothing changed
 abbrev pub IsRefusedAmong : {B : Type 0} → (B → List ℕ) → (B → List Layer) → (B → ℕ) → Request → Refusal → Volumed B → Volumed B → List Replied → List Replied → Type 0
 IsRefusedAmong contents layers size request refusal old new before after =
-    ((refusal ≡ NoMemory) × (new ≡ old) × (after ≡ before)) ⊎ IsTurnedAway contents layers size request refusal old new before after
+    ((is_starved refusal ≡ true) × (new ≡ old) × (after ≡ before)) ⊎ IsTurnedAway contents layers size request refusal old new before after
 
 -- the request of a piece
 pub record IsRequestOf (dev : Dev) (op : Op) (piece : Span) (request : Request) : Type 0 where
@@ -68,10 +69,10 @@ pub record IsPieceServed {B : Type 0} (contents : B → List ℕ) (layers : B �
   pub good : IsGood reply
   pub served : IsServedAmong contents layers request reply old new before after
 
--- a piece failed, or its request was refused, or memory was, and then nothing changed
+-- a piece failed, or its request was refused, or there was no room for it, and then nothing changed
 abbrev pub IsPieceFailed : {B : Type 0} → (B → List ℕ) → (B → List Layer) → (B → ℕ) → Dev → Op → Span → Refusal → Volumed B → Volumed B → List Replied → List Replied → Type 0
 IsPieceFailed contents layers size dev op piece refusal old new before after =
-    ((refusal ≡ NoMemory) × (new ≡ old) × (after ≡ before))
+    ((is_starved refusal ≡ true) × (new ≡ old) × (after ≡ before))
     ⊎ ((request : Request) × IsRequestOf dev op piece request × (failure : Failure) × (refusal ≡ refusal_of failure) × IsServedAmong contents layers request (Refused failure) old new before after)
     ⊎ ((request : Request) × IsRequestOf dev op piece request × IsTurnedAway contents layers size request refusal old new before after)
 

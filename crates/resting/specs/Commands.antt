@@ -2,7 +2,7 @@
 -- answers Invalid or Io, is the settled machine's (`settled`).
 use Rattle.std.specs.Prelude.{◌≡◌, ◌⊎◌, ℕ, ◌<◌, true, false, List}
 use Rattle.sector.specs.declared.refusal.Refusal.{Refusal}
-use Rattle.sector.specs.declared.refusal.Refusal.TheVariants.{NoSuchDevice, NoMemory}
+use Rattle.sector.specs.declared.refusal.Refusal.TheVariants.{NoSuchDevice}
 use Rattle.device.specs.Layers.{Layer}
 use Rattle.chunk.specs.Pieces.{Span}
 use Rattle.plain.specs.declared.request.Dev.{Dev}
@@ -11,6 +11,7 @@ use Rattle.plain.specs.declared.request.Reply.TheVariants.{Data, Written, Refuse
 use Rattle.plain.specs.declared.request.Failure.{Failure}
 use Rattle.settled.specs.Merges.{Merged}
 use Rattle.served.specs.Beside.{Served, written_beside, read_beside, written_first_beside, read_first_beside, count_beside}
+use Rattle.served.specs.Refusals.{is_starved}
 use Rattle.resting.specs.Rested.{Rested, merged_of, IsSettled, has_dev}
 use Rattle.plain.specs.Failures.{refusal_of}
 
@@ -19,17 +20,17 @@ abbrev pub IsDoneBy : {B : Type 0} → (B → List ℕ) → (B → List Layer) �
 IsDoneBy contents layers command reply old new =
     IsSettled layers old → command (merged_of contents layers old) ≡ record { state = merged_of contents layers new; reply = reply }
 
--- Why a write is refused: its device is not there, and nothing changed; or a piece failed; or memory was refused, and some
--- first pieces stand, but not all.
+-- Why a write is refused: its device is not there, and nothing changed; or a piece failed; or there was no room for the
+-- rest, and some first pieces stand, but not all.
 abbrev pub IsWriteRefused : {B : Type 0} → (B → List ℕ) → (B → List Layer) → Dev → Span → List ℕ → Refusal → Rested B → Rested B → Type 0
 IsWriteRefused contents layers dev span bytes refusal old new =
     ((refusal ≡ NoSuchDevice) × (has_dev dev old ≡ false) × (new ≡ old))
     ⊎ ((has_dev dev old ≡ true) × ((failure : Failure) × (refusal ≡ refusal_of failure) × IsDoneBy contents layers (written_beside dev span bytes) (Refused failure) old new))
-    ⊎ ((has_dev dev old ≡ true) × (refusal ≡ NoMemory) × ((count : ℕ) × (count < count_beside span (merged_of contents layers old)) × IsDoneBy contents layers (written_first_beside count dev span bytes) Written old new))
+    ⊎ ((has_dev dev old ≡ true) × (is_starved refusal ≡ true) × ((count : ℕ) × (count < count_beside span (merged_of contents layers old)) × IsDoneBy contents layers (written_first_beside count dev span bytes) Written old new))
 
 -- and a read
 abbrev pub IsReadRefused : {B : Type 0} → (B → List ℕ) → (B → List Layer) → Dev → Span → Refusal → Rested B → Rested B → Type 0
 IsReadRefused contents layers dev span refusal old new =
     ((refusal ≡ NoSuchDevice) × (has_dev dev old ≡ false) × (new ≡ old))
     ⊎ ((has_dev dev old ≡ true) × ((failure : Failure) × (refusal ≡ refusal_of failure) × IsDoneBy contents layers (read_beside dev span) (Refused failure) old new))
-    ⊎ ((has_dev dev old ≡ true) × (refusal ≡ NoMemory) × ((count : ℕ) × (bytes : List ℕ) × (count < count_beside span (merged_of contents layers old)) × IsDoneBy contents layers (read_first_beside count dev span) (Data bytes) old new))
+    ⊎ ((has_dev dev old ≡ true) × (is_starved refusal ≡ true) × ((count : ℕ) × (bytes : List ℕ) × (count < count_beside span (merged_of contents layers old)) × IsDoneBy contents layers (read_first_beside count dev span) (Data bytes) old new))

@@ -2,7 +2,7 @@
 use Rattle.std.specs.Prelude.{◌≡◌, ◌⊎◌, ℕ, ◌<◌, true, false, List, length, Some, None}
 use Rattle.device.specs.Layers.{Layer}
 use Rattle.sector.specs.declared.refusal.Refusal.{Refusal}
-use Rattle.sector.specs.declared.refusal.Refusal.TheVariants.{NoMemory, NotFinished}
+use Rattle.sector.specs.declared.refusal.Refusal.TheVariants.{JournalFull, NoMemory, NotFinished}
 use Rattle.settled.specs.Merges.{Merge, pairs_in}
 use Rattle.snapshot.specs.declared.opening.StoreDev.{StoreDev}
 use Rattle.merge.specs.Merging.{Merging}
@@ -39,11 +39,12 @@ pub record IsBegunAs {B : Type 0} (number : ℕ) (old new : Rested B) : Type 0 w
   pub copies : new.copies ≡ old.copies
   pub attached : new.attached ≡ old.attached
 
--- a merge does not begin: for the first reason, or for want of memory
+-- a merge does not begin: for the first reason, or for want of memory; or the journal is full
 abbrev pub IsNotBegun : {B : Type 0} → (B → List ℕ) → (B → List Layer) → ℕ → Refusal → Rested B → Rested B → Type 0
 IsNotBegun contents layers number refusal old new =
     ((begin_refusal number old.events ≡ Some refusal) × (new ≡ old))
     ⊎ ((begin_refusal number old.events ≡ None) × (refusal ≡ NoMemory) × IsAlike contents layers old new)
+    ⊎ ((refusal ≡ JournalFull) × (new ≡ old))
 
 -- The merge is taken out, and its store, which is not stale, is given back.
 pub record IsTakenOutAs {B : Type 0} (store : StoreDev B) (old new : Rested B) : Type 0 where

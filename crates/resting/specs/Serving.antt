@@ -3,7 +3,6 @@ use Rattle.std.specs.Prelude.{◌≡◌, ◌⊎◌, ℕ, ◌+◌, ◌-◌, ◌/�
 use Rattle.std.specs.List.{All}
 use Rattle.sector.specs.declared.range.Range.{Range}
 use Rattle.sector.specs.declared.refusal.Refusal.{Refusal}
-use Rattle.sector.specs.declared.refusal.Refusal.TheVariants.{NoMemory}
 use Rattle.device.specs.Layers.{Layer}
 use Rattle.plain.specs.declared.request.Dev.{Dev}
 use Rattle.plain.specs.declared.request.Reply.{Reply}
@@ -13,6 +12,7 @@ use Rattle.chunk.specs.Pieces.{Span, span_of}
 use Rattle.settled.specs.Commands.{bytes_in, write_piece, read_piece}
 use Rattle.settled.specs.Merges.{Merged, write_part, read_part}
 use Rattle.served.specs.Beside.{Served, served}
+use Rattle.served.specs.Refusals.{is_starved}
 use Rattle.plain.specs.declared.request.Op.{Op}
 use Rattle.plain.specs.declared.request.Request.{Request}
 use Rattle.settled.specs.Requests.{FitsRange, answer_of}
@@ -63,11 +63,11 @@ part_done request m = served (answer_of request) (part_of request.dev request.op
 abbrev pub IsPieceDone : {B : Type 0} → (B → List ℕ) → (B → List Layer) → (Merged → Served) → Rested B → Rested B → Type 0
 IsPieceDone contents layers command old new = (got : Reply) × IsGood got × IsDoneBy contents layers command got old new
 
--- or failed, or memory was refused and nothing changed
+-- or failed, or there was no room for it and nothing changed
 abbrev pub IsPieceRefused : {B : Type 0} → (B → List ℕ) → (B → List Layer) → (Merged → Served) → Refusal → Rested B → Rested B → Type 0
 IsPieceRefused contents layers command refusal old new =
     ((failure : Failure) × (refusal ≡ refusal_of failure) × IsDoneBy contents layers command (Refused failure) old new)
-    ⊎ ((refusal ≡ NoMemory) × (merged_of contents layers new ≡ merged_of contents layers old))
+    ⊎ ((is_starved refusal ≡ true) × (merged_of contents layers new ≡ merged_of contents layers old))
 
 -- what was read comes after these bytes
 abbrev pub IsPieceRead : {B : Type 0} → (B → List ℕ) → (B → List Layer) → (Merged → Served) → List ℕ → List ℕ → Rested B → Rested B → Type 0

@@ -3,7 +3,7 @@
 use Rattle.std.specs.Prelude.{◌≡◌, ◌⊎◌, ◌==◌, ℕ, ◌+◌, ◌*◌, ◌<◌, List, [], ◌∷◌, length, map, take, Option, Some, None, if◌then◌else◌}
 use Rattle.sector.specs.Bytes.{sectors_at, with_sectors}
 use Rattle.sector.specs.declared.refusal.Refusal.{Refusal}
-use Rattle.sector.specs.declared.refusal.Refusal.TheVariants.{NoSuchDevice, NoMemory, Invalid as InvalidRefusal, Io as IoRefusal}
+use Rattle.sector.specs.declared.refusal.Refusal.TheVariants.{NoSuchDevice, NoMemory, JournalFull, Invalid as InvalidRefusal, Io as IoRefusal}
 use Rattle.chunk.specs.Pieces.{Span}
 use Rattle.plain.specs.Plain.{Saved, Live, Invalid, Entry}
 use Rattle.plain.specs.declared.request.Dev.{Dev}
@@ -58,11 +58,13 @@ pub record IsPlainRead (dev : Dev) (span : Span) (bytes : List ℕ) (old new : A
   pub read : bytes ≡ sectors_at array span.first span.count
   pub same : new ≡ old
 
--- why a read is refused: its snapshot is not live, or a device failed, or memory was refused, or its device is not there
+-- why a read is refused: its snapshot is not live, or a device failed, or there was no room for it, or its device is not
+-- there
 abbrev pub IsReadLost : Dev → Refusal → Arrays → Type 0
 IsReadLost dev InvalidRefusal old = saved_of dev old ≡ Invalid
 IsReadLost dev IoRefusal old = IsLive dev old
 IsReadLost dev NoMemory old = Unit {0}
+IsReadLost dev JournalFull old = Unit {0}
 IsReadLost dev NoSuchDevice old = saved_of dev old ≡ Invalid
 IsReadLost dev other old = ⊥
 
@@ -122,12 +124,13 @@ abbrev pub IsWrittenInPart : Dev → Span → List Span → List ℕ → Arrays 
 IsWrittenInPart dev span pieces bytes old new =
     (count : ℕ) × (count < length pieces) × IsWritten dev span.first (take (512 * sectors_in (take count pieces)) bytes) old new
 
--- A write in these pieces is refused: its snapshot is lost; or a device failed, or memory was refused, and some first pieces
--- stand; or its device is not there.
+-- A write in these pieces is refused: its snapshot is lost; or a device failed, or there was no room for it, and some first
+-- pieces stand; or its device is not there.
 abbrev pub IsPlainWriteRefused : Dev → Span → List Span → List ℕ → Refusal → Arrays → Arrays → Type 0
 IsPlainWriteRefused dev span pieces bytes InvalidRefusal old new = IsLost dev old new
 IsPlainWriteRefused dev span pieces bytes IoRefusal old new = IsLive dev old × IsWrittenInPart dev span pieces bytes old new
 IsPlainWriteRefused dev span pieces bytes NoMemory old new = IsWrittenInPart dev span pieces bytes old new
+IsPlainWriteRefused dev span pieces bytes JournalFull old new = IsWrittenInPart dev span pieces bytes old new
 IsPlainWriteRefused dev span pieces bytes NoSuchDevice old new = (saved_of dev old ≡ Invalid) × (new ≡ old)
 IsPlainWriteRefused dev span pieces bytes other old new = ⊥
 

@@ -1,9 +1,10 @@
 // A snapshot is taken or leaves, and the volume is closed.
 ghost use Rattle.std.specs.Prelude.{◌≡◌, ◌≢◌, ◌⊎◌, ℕ, ◌+◌, [], length, None, Some, Option, IfErr, IfOk, OnOk, OnErr, Ok, Err, is_some, true, false};
-ghost use Rattle.sector.specs.declared.refusal.Refusal.TheVariants.{Busy, MergeInProgress, NoMemory, NoSuchDevice, NotQuiet};
+ghost use Rattle.sector.specs.declared.refusal.Refusal.TheVariants.{Busy, JournalFull, MergeInProgress, NoSuchDevice, NotQuiet};
 ghost use Rattle.device.specs.Layers.{is_loud};
 ghost use Rattle.plain.specs.declared.request.Dev.TheVariants.{Snap};
 ghost use Rattle.settled.specs.Attaching.{attached, refused_attach};
+ghost use Rattle.served.specs.Refusals.{is_starved};
 ghost use Rattle.resting.specs.Rested.{Attached, rested_of, settled_of, IsSettled, has_dev, snap_at};
 ghost use Rattle.resting.specs.Leaving.{IsDetachedAs};
 ghost use Rattle.resting.specs.Taking.{IsTakenAs};
@@ -35,10 +36,10 @@ fn take<B: Block>(
     ensures taken { IfOk result (λ number. IsTakenAs B.layers B.size number store (rested_of volume.old) (rested_of volume.new)) }
     ensures settled { IfOk result (λ number. IsSettled B.layers (rested_of volume.old) → is_loud (B.layers store.device) ≡ true → IsSettled B.layers (rested_of volume.new)) }
     ensures exact { IfOk result (λ number. IsSettled B.layers (rested_of volume.old) → is_loud (B.layers store.device) ≡ true → attached number chunk (store_of B.contents B.layers store) (settled_of B.contents B.layers (rested_of volume.old)) ≡ record { volume = settled_of B.contents B.layers (rested_of volume.new); refused = None; back = None }) }
-    ensures back { IfErr result (λ e. e.0 ≢ NoMemory → e.0 ≢ MergeInProgress → IsSettled B.layers (rested_of volume.old) → is_loud (B.layers store.device) ≡ true → attached (volume.old.attached + 1) chunk (store_of B.contents B.layers store) (settled_of B.contents B.layers (rested_of volume.old)) ≡ refused_attach e.0 (store_of B.contents B.layers e.1) (settled_of B.contents B.layers (rested_of volume.old))) }
-    ensures refused { IfErr result (λ e. IsNotTaken store.stale chunk (B.size volume.old.origin) (B.size store.device) (B.contents store.device) volume.old e.0) }
+    ensures back { IfErr result (λ e. is_starved e.0 ≡ false → e.0 ≢ MergeInProgress → IsSettled B.layers (rested_of volume.old) → is_loud (B.layers store.device) ≡ true → attached (volume.old.attached + 1) chunk (store_of B.contents B.layers store) (settled_of B.contents B.layers (rested_of volume.old)) ≡ refused_attach e.0 (store_of B.contents B.layers e.1) (settled_of B.contents B.layers (rested_of volume.old))) }
+    ensures refused { IfErr result (λ e. ((is_starved e.0 ≡ true) × (e.1 ≡ store)) ⊎ IsNotTaken store.stale chunk (B.size volume.old.origin) (B.size store.device) (B.contents store.device) volume.old e.0) }
     ensures unread { IfErr result (λ e. attach_refusal store.stale chunk volume.old ≡ Some e.0 → e.1 ≡ store) }
-    ensures starved { IfErr result (λ e. e.0 ≡ NoMemory → (B.contents e.1.device ≡ B.contents store.device) × AreRead (B.layers store.device) (B.layers e.1.device)) }
+    ensures starved { IfErr result (λ e. is_starved e.0 ≡ true → (B.contents e.1.device ≡ B.contents store.device) × AreRead (B.layers store.device) (B.layers e.1.device)) }
     ensures same { OnErr result (volume.new ≡ volume.old) }
     ensures stale { IfErr result (λ e. e.1.stale ≡ store.stale) }
     ensures size { IfErr result (λ e. B.size e.1.device ≡ B.size store.device) }
@@ -55,7 +56,7 @@ fn leave<B: Block>(volume: &mut Volume<B>, number: SnapId) -> Result<StoreDev<B>
     ensures quiet { OnOk result ((is_quiet_of volume.old ≡ true) × (is_quiet_of volume.new ≡ true)) }
     ensures settled { IsSettled B.layers (rested_of volume.old) → IsSettled B.layers (rested_of volume.new) }
     ensures left { IfOk result (λ store. IsDetachedAs B.contents B.layers number store (rested_of volume.old) (rested_of volume.new)) }
-    ensures err { IfErr result (λ refusal. (((refusal ≡ NoSuchDevice) × (has_dev (Snap number) (rested_of volume.old) ≡ false)) ⊎ ((refusal ≡ MergeInProgress) × (is_merging number volume.old.merge ≡ true)) ⊎ ((refusal ≡ NotQuiet) × (is_quiet_of volume.old ≡ false))) × (volume.new ≡ volume.old)) }
+    ensures err { IfErr result (λ refusal. (((refusal ≡ NoSuchDevice) × (has_dev (Snap number) (rested_of volume.old) ≡ false)) ⊎ ((refusal ≡ MergeInProgress) × (is_merging number volume.old.merge ≡ true)) ⊎ ((refusal ≡ NotQuiet) × (is_quiet_of volume.old ≡ false)) ⊎ (refusal ≡ JournalFull)) × (volume.new ≡ volume.old)) }
     ensures there { IfErr result (λ refusal. refusal ≡ NotQuiet → has_dev (Snap number) (rested_of volume.old) ≡ true) }
 {
     match volume.detach(number) {
@@ -67,7 +68,7 @@ fn leave<B: Block>(volume: &mut Volume<B>, number: SnapId) -> Result<StoreDev<B>
 impl<B: Block> Resting<B> {
     /// Takes a snapshot of a quiet volume over a store, by a table line with this chunk size, and tells its number: over a
     /// settled volume, and a store that drops no writes, it is the settled machine's attach. Where it is refused the store is
-    /// given back, and nothing else changed; after `NoMemory` some of the store's sectors were read. A volume with a
+    /// given back, and nothing else changed; after `NoMemory` some of the store's sectors may have been read. A volume with a
     /// merge begun refuses with `MergeInProgress`, after `Stale`, and one that is not quiet with `NotQuiet`, after both.
     pub fn attach(
         &mut self,
@@ -80,10 +81,10 @@ impl<B: Block> Resting<B> {
         ensures taken { IfOk result (λ number. IsTakenAs B.layers B.size number store self.old self.new) }
         ensures settled { IfOk result (λ number. IsSettled B.layers self.old → is_loud (B.layers store.device) ≡ true → IsSettled B.layers self.new) }
         ensures exact { IfOk result (λ number. IsSettled B.layers self.old → is_loud (B.layers store.device) ≡ true → attached number chunk (store_of B.contents B.layers store) (settled_of B.contents B.layers self.old) ≡ record { volume = settled_of B.contents B.layers self.new; refused = None; back = None }) }
-        ensures back { IfErr result (λ e. e.0 ≢ NoMemory → e.0 ≢ MergeInProgress → IsSettled B.layers self.old → is_loud (B.layers store.device) ≡ true → attached (self.old.attached + 1) chunk (store_of B.contents B.layers store) (settled_of B.contents B.layers self.old) ≡ refused_attach e.0 (store_of B.contents B.layers e.1) (settled_of B.contents B.layers self.old)) }
-        ensures refused { IfErr result (λ e. IsNotTaken store.stale chunk (B.size self.old.origin) (B.size store.device) (B.contents store.device) self.old.events e.0) }
+        ensures back { IfErr result (λ e. is_starved e.0 ≡ false → e.0 ≢ MergeInProgress → IsSettled B.layers self.old → is_loud (B.layers store.device) ≡ true → attached (self.old.attached + 1) chunk (store_of B.contents B.layers store) (settled_of B.contents B.layers self.old) ≡ refused_attach e.0 (store_of B.contents B.layers e.1) (settled_of B.contents B.layers self.old)) }
+        ensures refused { IfErr result (λ e. ((is_starved e.0 ≡ true) × (e.1 ≡ store)) ⊎ IsNotTaken store.stale chunk (B.size self.old.origin) (B.size store.device) (B.contents store.device) self.old.events e.0) }
         ensures unread { IfErr result (λ e. attach_refusal store.stale chunk self.old.events ≡ Some e.0 → e.1 ≡ store) }
-        ensures starved { IfErr result (λ e. e.0 ≡ NoMemory → (B.contents e.1.device ≡ B.contents store.device) × AreRead (B.layers store.device) (B.layers e.1.device)) }
+        ensures starved { IfErr result (λ e. is_starved e.0 ≡ true → (B.contents e.1.device ≡ B.contents store.device) × AreRead (B.layers store.device) (B.layers e.1.device)) }
         ensures same { OnErr result (self.new ≡ self.old) }
         ensures stale { IfErr result (λ e. e.1.stale ≡ store.stale) }
         ensures size { IfErr result (λ e. B.size e.1.device ≡ B.size store.device) }
@@ -98,7 +99,7 @@ impl<B: Block> Resting<B> {
     pub fn detach(&mut self, number: SnapId) -> Result<StoreDev<B>, Refusal>
         ensures settled { IsSettled B.layers self.old → IsSettled B.layers self.new }
         ensures left { IfOk result (λ store. IsDetachedAs B.contents B.layers number store self.old self.new) }
-        ensures err { IfErr result (λ refusal. (((refusal ≡ NoSuchDevice) × (has_dev (Snap number) self.old ≡ false)) ⊎ ((refusal ≡ MergeInProgress) × (is_merging number self.old.events.merge ≡ true)) ⊎ ((refusal ≡ NotQuiet) × (is_quiet_of self.old.events ≡ false))) × (self.new ≡ self.old)) }
+        ensures err { IfErr result (λ refusal. (((refusal ≡ NoSuchDevice) × (has_dev (Snap number) self.old ≡ false)) ⊎ ((refusal ≡ MergeInProgress) × (is_merging number self.old.events.merge ≡ true)) ⊎ ((refusal ≡ NotQuiet) × (is_quiet_of self.old.events ≡ false)) ⊎ (refusal ≡ JournalFull)) × (self.new ≡ self.old)) }
         ensures there { IfErr result (λ refusal. refusal ≡ NotQuiet → has_dev (Snap number) self.old ≡ true) }
         ensures quiet { OnOk result ((is_quiet_of self.old.events ≡ true) × (is_quiet_of self.new.events ≡ true)) }
     {

@@ -1,11 +1,12 @@
 // Requests in flight between commands: one is started, and one event is done.
-ghost use Rattle.std.specs.Prelude.{◌≡◌, ◌≢◌, ◌+◌, ◌*◌, ◌<◌, ◌≤◌, ℕ, List, length, AllPairs, Option, Some, None, IfOk, IfErr, IsOk, OnOk, OnErr, is_ok, true};
+ghost use Rattle.std.specs.Prelude.{◌≡◌, ◌≢◌, ◌⊎◌, ◌+◌, ◌*◌, ◌<◌, ◌≤◌, ℕ, List, length, AllPairs, Option, Some, None, IfOk, IfErr, IsOk, OnOk, OnErr, is_ok, true};
 ghost use Rattle.sector.specs.declared.refusal.Refusal.TheVariants.{Invalid};
 ghost use Rattle.plain.specs.declared.request.Failure.TheVariants.{Invalid as IsInvalid};
 ghost use Rattle.plain.specs.declared.request.Reply.{Reply as AnyReply};
 ghost use Rattle.plain.specs.declared.request.Reply.TheVariants.{Refused};
 ghost use Rattle.plain.specs.declared.request.Op.TheVariants.{Write};
 ghost use Rattle.plain.specs.Legal.{IsLegalStep};
+ghost use Rattle.served.specs.Refusals.{IsStarved};
 ghost use Rattle.event_machine.specs.Submitting.{submitted};
 ghost use Rattle.volume.specs.Volumed.{is_due_of, is_loud_in_all, next_of, plain_of};
 ghost use Rattle.volume.specs.Moved.{moving_of};
@@ -50,7 +51,7 @@ fn begin<B: Block>(
     ensures ok { IfOk result (λ number. IsAcceptedAs B.contents B.layers request number volume.old volume.new) }
     ensures admitted { IfOk result (λ _. submit_refusal B.size request volume.old ≡ None) }
     ensures exact { IfOk result (λ number. (replied : Option AnyReply) → submitted number request (moving_of B.contents B.layers replied volume.old) ≡ moving_of B.contents B.layers replied volume.new) }
-    ensures refused { IfErr result (λ refusal. IsRefusedAs B.contents B.layers B.size request refusal volume.old volume.new) }
+    ensures refused { IfErr result (λ refusal. IsStarved refusal volume.old volume.new ⊎ IsRefusedAs B.contents B.layers B.size request refusal volume.old volume.new) }
     ensures declined { IfErr result (λ refusal. refusal ≡ Invalid → (number : ℕ) (replied : Option AnyReply) → submitted number request (moving_of B.contents B.layers replied volume.old) ≡ moving_of B.contents B.layers (Some (Refused IsInvalid)) volume.new) }
     ensures starved { IfErr result (λ refusal. refusal ≢ Invalid → (replied : Option AnyReply) → moving_of B.contents B.layers replied volume.new ≡ moving_of B.contents B.layers replied volume.old) }
     ensures same { IfErr result (λ refusal. refusal ≢ Invalid → (merged_of B.contents B.layers (rested_of volume.new) ≡ merged_of B.contents B.layers (rested_of volume.old)) × (is_quiet_of volume.new ≡ is_quiet_of volume.old)) }
@@ -108,7 +109,7 @@ impl<B: Block> Resting<B> {
         ensures ok { IfOk result (λ number. IsAcceptedAs B.contents B.layers request number self.old.events self.new.events) }
         ensures admitted { IfOk result (λ _. submit_refusal B.size request self.old.events ≡ None) }
         ensures exact { IfOk result (λ number. (replied : Option AnyReply) → submitted number request (moving_of B.contents B.layers replied self.old.events) ≡ moving_of B.contents B.layers replied self.new.events) }
-        ensures refused { IfErr result (λ refusal. IsRefusedAs B.contents B.layers B.size request refusal self.old.events self.new.events) }
+        ensures refused { IfErr result (λ refusal. IsStarved refusal self.old.events self.new.events ⊎ IsRefusedAs B.contents B.layers B.size request refusal self.old.events self.new.events) }
         ensures declined { IfErr result (λ refusal. refusal ≡ Invalid → (number : ℕ) (replied : Option AnyReply) → submitted number request (moving_of B.contents B.layers replied self.old.events) ≡ moving_of B.contents B.layers (Some (Refused IsInvalid)) self.new.events) }
         ensures starved { IfErr result (λ refusal. refusal ≢ Invalid → (replied : Option AnyReply) → moving_of B.contents B.layers replied self.new.events ≡ moving_of B.contents B.layers replied self.old.events) }
         ensures same { IfErr result (λ refusal. refusal ≢ Invalid → (merged_of B.contents B.layers self.new ≡ merged_of B.contents B.layers self.old) × (is_quiet_of self.new.events ≡ is_quiet_of self.old.events)) }

@@ -1,9 +1,10 @@
 // A merge of one snapshot into the origin: it begins, goes on after a fault, and is taken out at its end.
-ghost use Rattle.std.specs.Prelude.{◌≡◌, IfErr, IfNone, IfOk, IfSome, None, OnOk, Option, Some, true};
-ghost use Rattle.sector.specs.declared.refusal.Refusal.TheVariants.{NotMerging};
+ghost use Rattle.std.specs.Prelude.{◌≡◌, ◌⊎◌, IfErr, IfNone, IfOk, IfSome, None, OnOk, Option, Some, false, true};
+ghost use Rattle.sector.specs.declared.refusal.Refusal.TheVariants.{JournalFull, NotMerging};
 ghost use Rattle.plain.specs.declared.request.Reply.{Reply};
 ghost use Rattle.settled.specs.Merges.{begun, finished, resumed};
 ghost use Rattle.settled.specs.MergeShown.{origin_shown};
+ghost use Rattle.served.specs.Refusals.{is_starved};
 ghost use Rattle.event_machine.specs.Merging.{resumed as machine_resumed};
 ghost use Rattle.merge.specs.Merging.{Merging};
 ghost use Rattle.volume.specs.Asking.{merging_number, merging_usage};
@@ -72,8 +73,8 @@ fn finish<B: Block>(volume: &mut Volume<B>) -> Result<StoreDev<B>, Refusal>
     ensures shows { IfOk result (λ store. IsSettled B.layers (rested_of volume.old) → (arrays_in B.contents B.layers (rested_of volume.new) ≡ arrays_in B.contents B.layers (rested_of volume.old)) × ((arrays_in B.contents B.layers (rested_of volume.old)).origin ≡ B.contents volume.new.origin)) }
     ensures settled { IsSettled B.layers (rested_of volume.old) → IsSettled B.layers (rested_of volume.new) }
     ensures quiet { IfOk result (λ store. (is_quiet_of volume.old ≡ true) × (is_quiet_of volume.new ≡ true)) }
-    ensures refused { IfErr result (λ refusal. (finish_refusal volume.old ≡ Some refusal) × (volume.new ≡ volume.old)) }
-    ensures unfinished { IfErr result (λ refusal. IsSettled B.layers (rested_of volume.old) → IsUnfinished B.contents B.layers refusal (rested_of volume.old)) }
+    ensures refused { IfErr result (λ refusal. ((finish_refusal volume.old ≡ Some refusal) ⊎ (refusal ≡ JournalFull)) × (volume.new ≡ volume.old)) }
+    ensures unfinished { IfErr result (λ refusal. is_starved refusal ≡ false → IsSettled B.layers (rested_of volume.old) → IsUnfinished B.contents B.layers refusal (rested_of volume.old)) }
 {
     // What a quiet volume is.
     let _ = volume.is_quiet();
@@ -131,8 +132,8 @@ impl<B: Block> Resting<B> {
         ensures shows { IfOk result (λ store. IsSettled B.layers self.old → (arrays_in B.contents B.layers self.new ≡ arrays_in B.contents B.layers self.old) × ((arrays_in B.contents B.layers self.old).origin ≡ B.contents self.new.origin)) }
         ensures settled { IsSettled B.layers self.old → IsSettled B.layers self.new }
         ensures quiet { IfOk result (λ store. (is_quiet_of self.old.events ≡ true) × (is_quiet_of self.new.events ≡ true)) }
-        ensures refused { IfErr result (λ refusal. (finish_refusal self.old.events ≡ Some refusal) × (self.new ≡ self.old)) }
-        ensures unfinished { IfErr result (λ refusal. IsSettled B.layers self.old → IsUnfinished B.contents B.layers refusal self.old) }
+        ensures refused { IfErr result (λ refusal. ((finish_refusal self.old.events ≡ Some refusal) ⊎ (refusal ≡ JournalFull)) × (self.new ≡ self.old)) }
+        ensures unfinished { IfErr result (λ refusal. is_starved refusal ≡ false → IsSettled B.layers self.old → IsUnfinished B.contents B.layers refusal self.old) }
         ensures whole { IsWhole self.old × IsWhole self.new }
     {
         finish(&mut self.volume)

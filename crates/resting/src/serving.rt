@@ -1,9 +1,9 @@
 // One piece of a command: it is submitted, and the events that are due are done until none is.
 ghost use Rattle.std.specs.Prelude.{◌≡◌, ℕ, ◌+◌, ◌≤◌, length, Option, None, Some, IfOk, IfErr, OnOk, true, false};
-ghost use Rattle.sector.specs.declared.refusal.Refusal.TheVariants.{NoMemory};
 ghost use Rattle.plain.specs.declared.request.Reply.{Reply};
 ghost use Rattle.plain.specs.declared.request.Reply.TheVariants.{Refused};
 ghost use Rattle.plain.specs.declared.request.Failure.TheVariants.{Invalid};
+ghost use Rattle.served.specs.Refusals.{is_starved};
 ghost use Rattle.event_machine.specs.Due.{due};
 ghost use Rattle.event_machine.specs.Submitting.{submitted};
 ghost use Rattle.volume.specs.Volumed.{is_loud_in_all, piece_with};
@@ -55,7 +55,7 @@ fn enter<B: Block>(volume: &mut Volume<B>, alloc: Global, request: Request) -> R
     requires few { length volume.old.snaps ≤ 8 }
     requires can { CanServe B.size request.dev request.op request.range volume.old }
     ensures ok { OnOk result ((number : ℕ) × (submitted number request (moving_of B.contents B.layers (Some (Refused Invalid)) volume.old) ≡ moving_of B.contents B.layers (Some (Refused Invalid)) volume.new)) }
-    ensures starved { IfErr result (λ refusal. (refusal ≡ NoMemory) × SameButRoom volume.old volume.new × (moving_of B.contents B.layers None volume.new ≡ moving_of B.contents B.layers None volume.old)) }
+    ensures starved { IfErr result (λ refusal. (is_starved refusal ≡ true) × SameButRoom volume.old volume.new × (moving_of B.contents B.layers None volume.new ≡ moving_of B.contents B.layers None volume.old)) }
     ensures free { has_group_in volume.new.merge ≡ false }
     ensures loud { is_loud_in_all B.layers volume.new ≡ is_loud_in_all B.layers volume.old }
     ensures kept { KeepsAll B.size volume.old volume.new }
@@ -83,7 +83,7 @@ pub(crate) fn serve<B: Block>(
     ensures between { IsBetween volume.new }
     ensures settled { IsSettled B.layers (rested_of volume.old) → IsSettled B.layers (rested_of volume.new) }
     ensures answer { IfOk result (λ reply. IsDoneBy B.contents B.layers (part_done request) reply (rested_of volume.old) (rested_of volume.new)) }
-    ensures starved { IfErr result (λ refusal. (refusal ≡ NoMemory) × (merged_of B.contents B.layers (rested_of volume.new) ≡ merged_of B.contents B.layers (rested_of volume.old))) }
+    ensures starved { IfErr result (λ refusal. (is_starved refusal ≡ true) × (merged_of B.contents B.layers (rested_of volume.new) ≡ merged_of B.contents B.layers (rested_of volume.old))) }
     ensures kept { KeepsDevices B.layers B.size (rested_of volume.old) (rested_of volume.new) }
     ensures piece { piece_with volume.new.merge volume.new.snaps ≡ piece_with volume.old.merge volume.old.snaps }
     ensures requests { volume.new.requests ≤ volume.old.requests + 1 }

@@ -37,9 +37,13 @@ all_counted replies (reply ∷ new) =
     ap (counted new) (one_counted replies reply) ∙ all_counted (replies ++ reply ∷ []) new ∙ ap summary_of (append_assoc replies (reply ∷ []) new)
 
 -- where none of a kind is counted, there is none
+of_cap : (n : ℕ) → min n (2 ^ 64 - 1) ≡ 0 → n ≡ 0
+of_cap n e = omega arith
+
 pub none_counted : (replies : List Reply) → (summary_of replies).no_memory ≡ 0 → count_by (refuses_with 5) replies ≡ 0
 unfolding summary_of
 none_counted replies none = of_cap (count_by (refuses_with 5) replies) none
-  where
-    of_cap : (n : ℕ) → min n (2 ^ 64 - 1) ≡ 0 → n ≡ 0
-    of_cap n e = omega arith
+
+pub none_full : (replies : List Reply) → (summary_of replies).journal_full ≡ 0 → count_by (refuses_with 20) replies ≡ 0
+unfolding summary_of
+none_full replies none = of_cap (count_by (refuses_with 20) replies) none

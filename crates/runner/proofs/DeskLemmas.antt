@@ -1,15 +1,19 @@
 -- One line of a desk.
-use Rattle.std.proofs.Common.{◌≡◌, ℕ, List, [], ◌∷◌, Option, Some, sym, ap, ◌∙◌, inl, inr, subst, arith, true, ◌<◌, ◌^◌, length}
-use Rattle.std.specs.Prelude.{Ok, Err, IfSome}
+use Rattle.std.proofs.Common.{◌≡◌, ℕ, List, [], ◌∷◌, Option, Some, refl, sym, ap, ◌∙◌, inl, inr, subst, arith, true, false, ◌<◌, ◌^◌, length}
+use Rattle.std.specs.Prelude.{Bool, Ok, Err, IfSome}
+use Rattle.std.proofs.lemmas.Bool.{cases_Bool}
 use Rattle.sector.specs.declared.refusal.Refusal.{Refusal}
 use Rattle.reply.specs.declared.Reply.{Reply}
 use Rattle.reply.specs.declared.Reply.TheVariants.{Refused}
 use Rattle.plain.specs.declared.request.Replied.{Replied}
 use Rattle.runner.specs.declared.summary.Summary.{Summary}
-use Rattle.named.specs.Changes.{Does}
+use Rattle.served.specs.Refusals.{is_starved}
+use Rattle.named.specs.Changes.{ServesIf}
 use Rattle.named.specs.Naming.{AreNamed}
 use Rattle.named.specs.State.{Table}
+use Rattle.served.proofs.Starved.{starved_by}
 use Rattle.runner.specs.Steps.{answer_of}
+use Rattle.runner.specs.Wants.{enters_line}
 use Rattle.runner.specs.Starts.{AreStartReplies, starts_line}
 use Rattle.runner.specs.Counts.{with_lines}
 use Rattle.runner.specs.Ended.{line_replies}
@@ -22,17 +26,34 @@ use Rattle.runner.proofs.EndedLemmas.{all_lines_counted}
 use Rattle.runner.proofs.AskingLemmas.{memory_or_not}
 
 -- a line that was done has its outcome
-pub may_ok : (line : List ℕ) (old new : Table) (reply : Option Reply) → Does (Ok reply) new (IsStarved line old) (answer_of line old) → MayBe line old (record { replies = answered reply; table = new })
+pub may_ok : (line : List ℕ) (old new : Table) (reply : Option Reply) → ServesIf (enters_line line) (Ok reply) new (IsStarved line old) (answer_of line old) → MayBe line old (record { replies = answered reply; table = new })
 unfolding outcome_of
-may_ok line old new reply is = inl (sym (ap outcome is))
+may_ok line old new reply is = inl (sym (ap outcome (by (enters_line line) is)))
+  where
+    by : (enters : Bool) → ServesIf enters (Ok reply) new (IsStarved line old) (answer_of line old) → answer_of line old ≡ record { answer = Ok reply; left = new }
+    by true is = is
+    by false is = is
 
--- so has one that was refused, unless memory ran out
-pub may_err : (line : List ℕ) (old new : Table) (e : Refusal) → Does (Err e) new (IsStarved line old) (answer_of line old) → MayBe line old (record { replies = answered (Some (Refused e)); table = new })
+-- so has one that was refused, unless memory or room ran out
+pub may_err : (line : List ℕ) (old new : Table) (e : Refusal) → ServesIf (enters_line line) (Err e) new (IsStarved line old) (answer_of line old) → MayBe line old (record { replies = answered (Some (Refused e)); table = new })
 unfolding outcome_of
-may_err line old new e is = elim (memory_or_not e) [
-  | inl memory ↦ inr (ap (λ r. Refused r ∷ []) memory, is.1 memory)
-  | inr other ↦ inl (sym (ap outcome (is.0 other)))
-]
+may_err line old new e is = by (enters_line line) refl is
+  where
+    done : Outcome
+    done = record { replies = Refused e ∷ []; table = new }
+
+    by : (enters : Bool) → enters_line line ≡ enters → ServesIf enters (Err e) new (IsStarved line old) (answer_of line old) → MayBe line old done
+    by true enters is = elim (cases_Bool (is_starved e)) [
+      | inl wanting ↦ elim (starved_by e wanting) [
+        | inl memory ↦ inr (inl (ap (λ r. Refused r ∷ []) memory, is.1 wanting))
+        | inr full ↦ inr (inr (enters, ap (λ r. Refused r ∷ []) full, is.1 wanting))
+      ]
+      | inr other ↦ inl (sym (ap outcome (is.0 other)))
+    ]
+    by false enters is = elim (memory_or_not e) [
+      | inl memory ↦ inr (inl (ap (λ r. Refused r ∷ []) memory, is.1 memory))
+      | inr other ↦ inl (sym (ap outcome (is.0 other)))
+    ]
 
 -- what a line answers where no request ended in it
 none_ended : (P : List Reply → Type 0) (ended : List Replied) (own : Option Reply) → ended ≡ [] → P (answered own) → P (line_replies ended own)

@@ -210,9 +210,10 @@ command_lawful (verb ∷ words) =
     (either (bytes_eq verb (codes "merge")) _ _ IsLawful (λ is. after (alone_of words) _ IsLawful (λ name. refl))
     (either (bytes_eq verb (codes "resume")) _ _ IsLawful (λ is. after (alone_of words) _ IsLawful (λ name. refl))
     (either (bytes_eq verb (codes "finish")) _ _ IsLawful (λ is. after (alone_of words) _ IsLawful (λ name. refl))
+    (either (bytes_eq verb (codes "checkpoint")) _ _ IsLawful (λ is. after (alone_of words) _ IsLawful (λ name. refl))
     (either (bytes_eq verb (codes "stop")) _ _ IsLawful (λ is. after (alone_of words) _ IsLawful (λ name. refl))
     (either (bytes_eq verb (codes "status")) _ _ IsLawful (λ is. after (alone_of words) _ IsLawful (λ name. refl))
-    (either (bytes_eq verb (codes "table")) _ _ IsLawful (λ is. after (alone_of words) _ IsLawful (λ name. refl)) tt)))))))))))))))))
+    (either (bytes_eq verb (codes "table")) _ _ IsLawful (λ is. after (alone_of words) _ IsLawful (λ name. refl)) tt))))))))))))))))))
 
 -- what a line says, if it says anything
 abbrev IsSaidLawful : Option Command → Type 0

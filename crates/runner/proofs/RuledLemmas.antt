@@ -34,6 +34,7 @@ command_ruled (commands.Save disk first count) table sound makes = refl
 command_ruled (commands.Message device message) table sound makes = refl
 command_ruled (commands.Tick seconds) table sound makes = refl
 command_ruled (commands.Resume volume) table sound makes = refl
+command_ruled (commands.Checkpoint volume) table sound makes = refl
 command_ruled (commands.Stop volume) table sound makes = refl
 command_ruled (commands.Table device) table sound makes = refl
 

@@ -23,7 +23,8 @@ use Rattle.runner.specs.Sound.{is_sound_said, is_sound_line, are_sound_lines, is
 use Rattle.runner.specs.Ruled.{is_ruled_line}
 use Rattle.runner.specs.Counts.{summary_of, refuses_with}
 use Rattle.runner.specs.Output.{Outcome, Standing, outcome, outcome_of, replies_from, replies_of, output_of, printed, empty, IsPartSaid, IsStarved, MayBe, MayAnswer, counted, followed}
-use Rattle.runner.proofs.CountLemmas.{all_counted, count_append, none_counted}
+use Rattle.runner.specs.Wants.{enters_said, enters_line}
+use Rattle.runner.proofs.CountLemmas.{all_counted, count_append, none_counted, none_full}
 use Rattle.runner.proofs.RuledLemmas.{line_ruled}
 
 -- Whatever the lines that are left may answer, all lines may answer these replies and that; and no device drops writes, nor
@@ -73,9 +74,14 @@ unfolding IsStarved
 starved_kept line kept old new is starved =
     let P : Result (Option Command) Refusal → Type 0 = λ said. IsPartSaid said old new in subst P (said_kept 65536 line kept is.0 is.1) starved
 
+enters_kept : (line kept : List ℕ) → IsKept 65536 line kept → enters_line kept ≡ enters_line line
+unfolding enters_line
+enters_kept line kept is = ap enters_said (said_kept 65536 line kept is.0 is.1)
+
 may_be_kept : (line kept : List ℕ) (table : Table) (done : Outcome) → IsKept 65536 line kept → MayBe kept table done → MayBe line table done
 may_be_kept line kept table done is (inl e) = inl (e ∙ outcome_kept line kept table is)
-may_be_kept line kept table done is (inr e) = inr (e.0, starved_kept line kept table done.table is e.1)
+may_be_kept line kept table done is (inr (inl e)) = inr (inl (e.0, starved_kept line kept table done.table is e.1))
+may_be_kept line kept table done is (inr (inr e)) = inr (inr (sym (enters_kept line kept is) ∙ e.0, e.1, starved_kept line kept table done.table is e.2))
 
 -- what a line did, and that it leaves devices that drop no writes
 pub record IsDone (kept : List ℕ) (table : Table) (done : Outcome) : Type 0 where
@@ -138,32 +144,39 @@ pub ends : (text left left' before now : Option (List ℕ)) (kept : List ℕ) (s
 ends text left left' before now kept standing summary (replies, was, counts, on) read is =
     (replies, was, is ∙ counts, all_led text left left' kept standing.table replies on read)
 
--- where no reply is that memory ran out, each line has its outcome
-exactly : (table : Table) (lines : List (List ℕ)) (replies : List Reply) → MayAnswer table lines replies → count_by (refuses_with 5) replies ≡ 0 → replies ≡ replies_from table lines
-exactly table [] replies may none = may
-exactly table (line ∷ lines) replies (done, rest, inl is, cut, more) none =
+-- where no reply is that memory or room ran out, each line has its outcome
+exactly : (table : Table) (lines : List (List ℕ)) (replies : List Reply) → MayAnswer table lines replies → count_by (refuses_with 5) replies ≡ 0 → count_by (refuses_with 20) replies ≡ 0 → replies ≡ replies_from table lines
+exactly table [] replies may none room = may
+exactly table (line ∷ lines) replies (done, rest, inl is, cut, more) none room =
     let split = ap (count_by (refuses_with 5)) cut ∙ count_append (refuses_with 5) done.replies rest in
-    let later = exactly done.table lines rest more (omega (arith, split, none)) in
+    let full = ap (count_by (refuses_with 20)) cut ∙ count_append (refuses_with 20) done.replies rest in
+    let later = exactly done.table lines rest more (omega (arith, split, none)) (omega (arith, full, room)) in
     cut ∙ ap (λ rs. done.replies ++ rs) later ∙ ap (λ (d : Outcome). d.replies ++ replies_from d.table lines) is
-exactly table (line ∷ lines) replies (done, rest, inr is, cut, more) none =
+exactly table (line ∷ lines) replies (done, rest, inr (inl is), cut, more) none room =
     let split = ap (count_by (refuses_with 5)) cut ∙ count_append (refuses_with 5) done.replies rest in
     let one : count_by (refuses_with 5) done.replies ≡ 1 = ap (count_by (refuses_with 5)) is.0 in
     absurd (omega (arith, split, none, one))
+exactly table (line ∷ lines) replies (done, rest, inr (inr is), cut, more) none room =
+    let full = ap (count_by (refuses_with 20)) cut ∙ count_append (refuses_with 20) done.replies rest in
+    let one : count_by (refuses_with 20) done.replies ≡ 1 = ap (count_by (refuses_with 20)) is.1 in
+    absurd (omega (arith, full, room, one))
 
-pub ends_exact : (text before now : Option (List ℕ)) (summary : Summary) → Ended text before now summary → IfSome text (λ xs. is_sound_text xs ≡ true → summary.no_memory ≡ 0 → Appends before now (output_of xs))
+pub ends_exact : (text before now : Option (List ℕ)) (summary : Summary) → Ended text before now summary → IfSome text (λ xs. is_sound_text xs ≡ true → summary.no_memory ≡ 0 → summary.journal_full ≡ 0 → Appends before now (output_of xs))
 unfolding output_of replies_of
 ends_exact None before now summary ended = tt
-ends_exact (Some text) before now summary (replies, was, counts, may) = λ sound none.
+ends_exact (Some text) before now summary (replies, was, counts, may) = λ sound none room.
     let zero = none_counted replies (sym (ap (λ (s : Summary). s.no_memory) counts) ∙ none) in
+    let none_too = none_full replies (sym (ap (λ (s : Summary). s.journal_full) counts) ∙ room) in
     let W : List Reply → Type 0 = λ rs. Appends before now (printed rs) in
-    subst W (exactly empty (lines_of text) replies (may sound) zero) was
+    subst W (exactly empty (lines_of text) replies (may sound) zero none_too) was
 
-pub ends_counted : (text before now : Option (List ℕ)) (summary : Summary) → Ended text before now summary → IfSome text (λ xs. is_sound_text xs ≡ true → summary.no_memory ≡ 0 → summary ≡ summary_of (replies_of xs))
+pub ends_counted : (text before now : Option (List ℕ)) (summary : Summary) → Ended text before now summary → IfSome text (λ xs. is_sound_text xs ≡ true → summary.no_memory ≡ 0 → summary.journal_full ≡ 0 → summary ≡ summary_of (replies_of xs))
 unfolding replies_of
 ends_counted None before now summary ended = tt
-ends_counted (Some text) before now summary (replies, was, counts, may) = λ sound none.
+ends_counted (Some text) before now summary (replies, was, counts, may) = λ sound none room.
     let zero = none_counted replies (sym (ap (λ (s : Summary). s.no_memory) counts) ∙ none) in
-    counts ∙ ap summary_of (exactly empty (lines_of text) replies (may sound) zero)
+    let none_too = none_full replies (sym (ap (λ (s : Summary). s.journal_full) counts) ∙ room) in
+    counts ∙ ap summary_of (exactly empty (lines_of text) replies (may sound) zero none_too)
 
 -- each line having its outcome is one thing that the lines may answer
 has_outcomes : (table : Table) (lines : List (List ℕ)) → MayAnswer table lines (replies_from table lines)

@@ -1,20 +1,21 @@
 -- What a line does to what volumes show, by its outcome.
 use Rattle.std.proofs.Common.{◌≡◌, inl, inr, ℕ, List, [], ◌∷◌, refl, ap, sym, subst}
-use Rattle.std.specs.Prelude.{◌≢◌, Option, Some, None, Result, Ok, Err}
+use Rattle.std.specs.Prelude.{◌≢◌, true, Option, Some, None, Result, Ok, Err}
 use Rattle.sector.specs.declared.refusal.Refusal.{Refusal}
-use Rattle.sector.specs.declared.refusal.Refusal.TheVariants.{NoMemory}
+use Rattle.sector.specs.declared.refusal.Refusal.TheVariants.{NoMemory, JournalFull}
 use Rattle.command.specs.Line.{said_of}
 use Rattle.command.specs.declared.grammar.Command.{Command}
 use Rattle.command.specs.declared.grammar.Command.TheVariants as commands
 use Rattle.reply.specs.declared.Reply.{Reply}
 use Rattle.reply.specs.declared.Reply.TheVariants.{Done, Refused}
+use Rattle.served.specs.Refusals.{is_starved}
 use Rattle.named.specs.State.{Table}
 use Rattle.named.specs.Changes.{Did}
 use Rattle.shown.specs.Arrays.{Arrays, arrays_in}
 use Rattle.shown.specs.Commands.{IsAnswered, IsRefused, IsShown}
 use Rattle.shown.specs.Well.{IsWellOf}
 use Rattle.shown.proofs.Layers.{ticked_shows}
-use Rattle.shown.proofs.Lines.{settle_line, merge_line, resume_line, finish_line, stop_line, write_line, write_starved, read_line, read_starved, tell_line, load_line}
+use Rattle.shown.proofs.Lines.{settle_line, merge_line, resume_line, finish_line, checkpoint_line, stop_line, write_line, write_starved, read_line, read_starved, tell_line, load_line}
 use Rattle.shown.proofs.Devices.{disk_line, remove_line, create_line}
 use Rattle.runner.specs.Steps.{reworded, step, obeyed, answer_of}
 use Rattle.runner.specs.Output.{Outcome, told, outcome, outcome_of, IsPartDone, IsPartSaid, IsStarved, MayBe}
@@ -54,33 +55,35 @@ step_shown (commands.Settle volume) table well = as_done (commands.Settle volume
 step_shown (commands.Merge name) table well = as_done (commands.Merge name) table _ _ _ (merge_line name table well)
 step_shown (commands.Resume volume) table well = as_done (commands.Resume volume) table _ _ _ (resume_line volume table)
 step_shown (commands.Finish volume) table well = as_done (commands.Finish volume) table _ _ _ (finish_line volume table)
+step_shown (commands.Checkpoint volume) table well = as_done (commands.Checkpoint volume) table _ _ _ (checkpoint_line volume table)
 step_shown (commands.Stop volume) table well = as_done (commands.Stop volume) table _ _ _ (stop_line volume table)
 step_shown (commands.Status device) table well = in_both (commands.Status device) table _ _ refl (λ r. refl) _
 step_shown (commands.Table device) table well = in_both (commands.Table device) table _ _ refl (λ r. refl) _
 
--- where memory ran out
-starved_shown : (command : Command) (table new : Table) → IsWellOf command table → IsPartDone command table new → IsRefused command table NoMemory (arrays_in table) (arrays_in new)
-starved_shown (commands.Read device first count) table new well (inl same) = ap arrays_in same
-starved_shown (commands.Read device first count) table new well (inr part) = read_starved device first count table new part
-starved_shown (commands.Write device first bytes) table new well (inl same) = inl (ap arrays_in same)
-starved_shown (commands.Write device first bytes) table new well (inr part) = write_starved device first bytes table new well part
-starved_shown (commands.Disk name sectors) table new well same = ap arrays_in same
-starved_shown (commands.Create name line) table new well same = ap arrays_in same
-starved_shown (commands.Remove name) table new well same = ap arrays_in same
-starved_shown (commands.Load disk first bytes) table new well same = ap arrays_in same
-starved_shown (commands.Save disk first count) table new well same = ap arrays_in same
-starved_shown (commands.Message device message) table new well same = ap arrays_in same
-starved_shown (commands.Tick seconds) table new well same = ap arrays_in same
-starved_shown (commands.StartRead device first count) table new well same = ap arrays_in same
-starved_shown (commands.StartWrite device first bytes) table new well same = ap arrays_in same
-starved_shown (commands.Step volume event) table new well same = ap arrays_in same
-starved_shown (commands.Settle volume) table new well same = ap arrays_in same
-starved_shown (commands.Merge name) table new well same = ap arrays_in same
-starved_shown (commands.Resume volume) table new well same = ap arrays_in same
-starved_shown (commands.Finish volume) table new well same = ap arrays_in same
-starved_shown (commands.Stop volume) table new well same = ap arrays_in same
-starved_shown (commands.Status device) table new well same = ap arrays_in same
-starved_shown (commands.Table device) table new well same = ap arrays_in same
+-- where memory or room ran out
+starved_shown : (command : Command) (table new : Table) (e : Refusal) → is_starved e ≡ true → IsWellOf command table → IsPartDone command table new → IsRefused command table e (arrays_in table) (arrays_in new)
+starved_shown (commands.Read device first count) table new e wanting well (inl same) = ap arrays_in same
+starved_shown (commands.Read device first count) table new e wanting well (inr part) = read_starved device first count table new part
+starved_shown (commands.Write device first bytes) table new e wanting well (inl same) = inl (ap arrays_in same)
+starved_shown (commands.Write device first bytes) table new e wanting well (inr part) = write_starved device first bytes table new e wanting well part
+starved_shown (commands.Disk name sectors) table new e wanting well same = ap arrays_in same
+starved_shown (commands.Create name line) table new e wanting well same = ap arrays_in same
+starved_shown (commands.Remove name) table new e wanting well same = ap arrays_in same
+starved_shown (commands.Load disk first bytes) table new e wanting well same = ap arrays_in same
+starved_shown (commands.Save disk first count) table new e wanting well same = ap arrays_in same
+starved_shown (commands.Message device message) table new e wanting well same = ap arrays_in same
+starved_shown (commands.Tick seconds) table new e wanting well same = ap arrays_in same
+starved_shown (commands.StartRead device first count) table new e wanting well same = ap arrays_in same
+starved_shown (commands.StartWrite device first bytes) table new e wanting well same = ap arrays_in same
+starved_shown (commands.Step volume event) table new e wanting well same = ap arrays_in same
+starved_shown (commands.Settle volume) table new e wanting well same = ap arrays_in same
+starved_shown (commands.Merge name) table new e wanting well same = ap arrays_in same
+starved_shown (commands.Resume volume) table new e wanting well same = ap arrays_in same
+starved_shown (commands.Finish volume) table new e wanting well same = ap arrays_in same
+starved_shown (commands.Checkpoint volume) table new e wanting well same = ap arrays_in same
+starved_shown (commands.Stop volume) table new e wanting well same = ap arrays_in same
+starved_shown (commands.Status device) table new e wanting well same = ap arrays_in same
+starved_shown (commands.Table device) table new e wanting well same = ap arrays_in same
 
 -- the volume that a line's command changes is well
 abbrev pub IsWellSaid : Result (Option Command) Refusal → Table → Type 0
@@ -94,18 +97,20 @@ said_shown (Ok None) table well = refl
 said_shown (Ok (Some command)) table well = step_shown command table well
 said_shown (Err refusal) table well = refl
 
-said_starved : (said : Result (Option Command) Refusal) (table new : Table) → IsWellSaid said table → IsPartSaid said table new → IsSaidShown said table (Err NoMemory) (arrays_in table) (arrays_in new)
-said_starved (Ok None) table new well same = ap arrays_in same
-said_starved (Ok (Some command)) table new well part = starved_shown command table new well part
-said_starved (Err refusal) table new well same = ap arrays_in same
+said_starved : (said : Result (Option Command) Refusal) (table new : Table) (e : Refusal) → is_starved e ≡ true → IsWellSaid said table → IsPartSaid said table new → IsSaidShown said table (Err e) (arrays_in table) (arrays_in new)
+said_starved (Ok None) table new e wanting well same = ap arrays_in same
+said_starved (Ok (Some command)) table new e wanting well part = starved_shown command table new e wanting well part
+said_starved (Err refusal) table new e wanting well same = ap arrays_in same
 
 -- a line whose volume is well
 pub line_shown : (line : List ℕ) (old : Table) (done : Outcome) → IsWellSaid (said_of 65536 line) old → MayBe line old done → IsLineShown line old done
 unfolding IsLineShown IsStarved outcome_of answer_of
 line_shown line old done well (inl is) =
     subst (λ (o : Outcome). IsSaidShown (said_of 65536 line) old (answer_in o.replies) (arrays_in old) (arrays_in o.table)) (sym is) (said_shown (said_of 65536 line) old well)
-line_shown line old done well (inr starved) =
-    subst (λ (rs : List Reply). IsSaidShown (said_of 65536 line) old (answer_in rs) (arrays_in old) (arrays_in done.table)) (sym starved.0) (said_starved (said_of 65536 line) old done.table well starved.1)
+line_shown line old done well (inr (inl starved)) =
+    subst (λ (rs : List Reply). IsSaidShown (said_of 65536 line) old (answer_in rs) (arrays_in old) (arrays_in done.table)) (sym starved.0) (said_starved (said_of 65536 line) old done.table NoMemory refl well starved.1)
+line_shown line old done well (inr (inr full)) =
+    subst (λ (rs : List Reply). IsSaidShown (said_of 65536 line) old (answer_in rs) (arrays_in old) (arrays_in done.table)) (sym full.1) (said_starved (said_of 65536 line) old done.table JournalFull refl well full.2)
 
 -- one that says nothing
 pub silent_shown : (line : List ℕ) (table : Table) → said_of 65536 line ≡ Ok None → IsLineShown line table (record { replies = []; table = table })
@@ -130,6 +135,7 @@ unread (commands.Settle volume) table shows = refl
 unread (commands.Merge name) table shows = refl
 unread (commands.Resume volume) table shows = refl
 unread (commands.Finish volume) table shows = refl
+unread (commands.Checkpoint volume) table shows = refl
 unread (commands.Stop volume) table shows = refl
 unread (commands.Status device) table shows = refl
 unread (commands.Table device) table shows = refl

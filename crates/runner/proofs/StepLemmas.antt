@@ -1,6 +1,6 @@
 -- What a line does beside what its command does.
 use Rattle.std.proofs.Common.{◌≡◌, ◌≢◌, ℕ, true, false, List, Option, Some, None, refl, sym, ap, ◌∙◌, inl, subst}
-use Rattle.std.specs.Prelude.{MatchResult, Result, Ok, Err}
+use Rattle.std.specs.Prelude.{Bool, MatchResult, Result, Ok, Err}
 use Rattle.sector.specs.declared.refusal.Refusal.{Refusal}
 use Rattle.sector.specs.declared.refusal.Refusal.TheVariants.{NoMemory}
 use Rattle.layers.specs.declared.message.Message.{Message}
@@ -12,12 +12,14 @@ use Rattle.command.specs.declared.grammar.Command.TheVariants as commands
 use Rattle.reply.specs.declared.Reply.{Reply}
 use Rattle.reply.specs.Answers.{reply_to}
 use Rattle.named.specs.State.{Table}
-use Rattle.named.specs.Changes.{Does, kept}
+use Rattle.named.specs.Changes.{Did, Does, ServesIf, kept}
 use Rattle.named.specs.Messages.{tell}
+use Rattle.served.proofs.Starved.{other_memory}
 use Rattle.runner.specs.Steps.{reworded, told_as, step, obeyed, answer_of}
 use Rattle.runner.specs.Sound.{is_sound_command, is_sound_said, is_sound_line}
 use Rattle.runner.specs.Starts.{starts, starts_said, starts_line}
 use Rattle.runner.specs.Output.{IsPartDone, IsPartSaid, IsStarved}
+use Rattle.runner.specs.Wants.{enters, enters_said, enters_line}
 use Rattle.runner.proofs.Quiet.{tell_quiet}
 
 -- a message that was answered, and its answer put into words
@@ -45,6 +47,7 @@ none_done (commands.Settle volume) table = refl
 none_done (commands.Merge name) table = refl
 none_done (commands.Resume volume) table = refl
 none_done (commands.Finish volume) table = refl
+none_done (commands.Checkpoint volume) table = refl
 none_done (commands.Stop volume) table = refl
 none_done (commands.Status device) table = refl
 none_done (commands.Table device) table = refl
@@ -54,25 +57,42 @@ none_said (Ok None) table = refl
 none_said (Ok (Some command)) table = none_done command table
 none_said (Err refusal) table = refl
 
+-- what is answered is by the rule
+answers : {A T : Type 0} (enters : Bool) (answer : A) (new : T) (starved : T → Type 0) (rule : Did A T) → (let d : Did A T = record { answer = Ok answer; left = new } in rule ≡ d) → ServesIf enters (Ok answer) new starved rule
+answers true answer new starved rule is = is
+answers false answer new starved rule is = is
+
+-- an answer in other words
+pub serves_worded : {A B T : Type 0} (words : A → B) (enters : Bool) (call : Result A Refusal) (reply : Result B Refusal) (new : T) (starved : T → Type 0) (rule : Did A T) → reply ≡ reworded words call → ServesIf enters call new starved rule → ServesIf enters reply new starved (told_as words rule)
+serves_worded {A = A} {B = B} {T = T} words enters call reply new starved rule is does =
+    let P : Result B Refusal → Type 0 = λ r. ServesIf enters r new starved (told_as words rule) in subst P (sym is) (by enters call does)
+  where
+    by : (enters : Bool) (call : Result A Refusal) → ServesIf enters call new starved rule → ServesIf enters (reworded words call) new starved (told_as words rule)
+    by true (Ok answer) does = ap (λ (d : Did A T). told_as words d) does
+    by false (Ok answer) does = ap (λ (d : Did A T). told_as words d) does
+    by true (Err e) does = (λ other. ap (λ (d : Did A T). told_as words d) (does.0 other), does.1)
+    by false (Err e) does = (λ other. ap (λ (d : Did A T). told_as words d) (does.0 other), does.1)
+
 -- a line that says nothing
-pub silent_does : (line : List ℕ) (table : Table) → said_of 65536 line ≡ Ok None → Does (Ok None) table (IsStarved line table) (answer_of line table)
+pub silent_does : (line : List ℕ) (table : Table) → said_of 65536 line ≡ Ok None → ServesIf (enters_line line) (Ok None) table (IsStarved line table) (answer_of line table)
 unfolding answer_of
-silent_does line table is = ap (obeyed table) is
+silent_does line table is = answers (enters_line line) None table (IsStarved line table) (answer_of line table) (ap (obeyed table) is)
 
 -- a line that is refused, or for which memory ran out before its command
-pub refused_does : (line : List ℕ) (table : Table) (e : Refusal) → (e ≢ NoMemory → said_of 65536 line ≡ Err e) → Does (Err e) table (IsStarved line table) (answer_of line table)
+pub refused_does : (line : List ℕ) (table : Table) (e : Refusal) → (e ≢ NoMemory → said_of 65536 line ≡ Err e) → ServesIf (enters_line line) (Err e) table (IsStarved line table) (answer_of line table)
 unfolding answer_of IsStarved
-refused_does line table e is = ((λ other. ap (obeyed table) (is other)), λ memory. none_said (said_of 65536 line) table)
+refused_does line table e is = by (enters_line line)
+  where
+    by : (enters : Bool) → ServesIf enters (Err e) table (λ new. IsPartSaid (said_of 65536 line) table new) (obeyed table (said_of 65536 line))
+    by true = ((λ other. ap (obeyed table) (is (other_memory e other))), λ wanting. none_said (said_of 65536 line) table)
+    by false = ((λ other. ap (obeyed table) (is other)), λ memory. none_said (said_of 65536 line) table)
 
 -- a line that says a command
-pub obeyed_does : (line : List ℕ) (command : Command) (old new : Table) (call : Result Reply Refusal) → said_of 65536 line ≡ Ok (Some command) → Does call new (IsPartDone command old) (step command old) → Does (reworded Some call) new (IsStarved line old) (answer_of line old)
-unfolding answer_of IsStarved
-obeyed_does line command old new (Ok reply) is does = ap (obeyed old) is ∙ ap (told_as Some) does
-obeyed_does line command old new (Err e) is does =
-    ((λ other. ap (obeyed old) is ∙ ap (told_as Some) (does.0 other)), λ memory. starved (does.1 memory))
-  where
-    starved : IsPartDone command old new → IsStarved line old new
-    starved part = let P : Result (Option Command) Refusal → Type 0 = λ said. IsPartSaid said old new in subst P (sym is) part
+pub obeyed_does : (line : List ℕ) (command : Command) (old new : Table) (call : Result Reply Refusal) → said_of 65536 line ≡ Ok (Some command) → ServesIf (enters command) call new (IsPartDone command old) (step command old) → ServesIf (enters_line line) (reworded Some call) new (IsStarved line old) (answer_of line old)
+unfolding answer_of IsStarved enters_line
+obeyed_does line command old new call is does =
+    let P : Result (Option Command) Refusal → Type 0 = λ said. ServesIf (enters_said said) (reworded Some call) new (λ t. IsPartSaid said old t) (obeyed old said) in
+    subst P (sym is) (serves_worded Some (enters command) call (reworded Some call) new (IsPartDone command old) (step command old) refl does)
 
 -- such a line is sound where its command is
 pub sound_said : (line : List ℕ) (command : Command) → said_of 65536 line ≡ Ok (Some command) → is_sound_line line ≡ true → is_sound_command command ≡ true
@@ -101,6 +121,7 @@ sound_starts (commands.Settle volume) sound = refl
 sound_starts (commands.Merge name) sound = refl
 sound_starts (commands.Resume volume) sound = refl
 sound_starts (commands.Finish volume) sound = refl
+sound_starts (commands.Checkpoint volume) sound = refl
 sound_starts (commands.Stop volume) sound = refl
 sound_starts (commands.Status device) sound = refl
 sound_starts (commands.Table device) sound = refl

@@ -35,6 +35,7 @@ first_refusal (commands.Message device message) table = None
 first_refusal (commands.Tick seconds) table = None
 first_refusal (commands.Merge name) table = None
 first_refusal (commands.Resume volume) table = None
+first_refusal (commands.Checkpoint volume) table = None
 first_refusal (commands.Stop volume) table = None
 first_refusal (commands.Status device) table = None
 first_refusal (commands.Table device) table = None

@@ -34,6 +34,7 @@ changed_by (commands.StartWrite device first bytes) = None
 changed_by (commands.Step volume event) = None
 changed_by (commands.Resume volume) = None
 changed_by (commands.Finish volume) = None
+changed_by (commands.Checkpoint volume) = None
 changed_by (commands.Stop volume) = None
 changed_by (commands.Status device) = None
 changed_by (commands.Table device) = None

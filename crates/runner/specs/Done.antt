@@ -19,7 +19,7 @@ pub record IsToldFor (line : List ℕ) (old : Table) (done : Outcome) : Type 0 w
   pub lines : done.replies ≡ ended_lines ended ++ told own
   pub left : IsLineLeft line own old done.table [] ended
 
--- Where its command has its rule, the line has its outcome, or memory ran out for it, and each volume shows what the line's
+-- Where its command has its rule, the line has its outcome, or memory or a journal's room ran out for it, and each volume shows what the line's
 -- command leaves of what it showed. A line that is refused before any volume is asked answers that alone and leaves all as it
 -- was, and one that starts a request answers its number or is refused.
 pub record IsLineDone (line : List ℕ) (old : Table) (done : Outcome) : Type 0 where

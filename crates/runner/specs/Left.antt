@@ -15,6 +15,7 @@ use Rattle.reply.specs.declared.Reply.{Reply}
 use Rattle.reply.specs.declared.Reply.TheVariants.{Data, Done, Fault, Number, Said}
 use Rattle.plain.specs.Replies.{reply_in}
 use Rattle.plain.specs.declared.request.Replied.{Replied}
+use Rattle.served.specs.Refusals.{is_starved}
 use Rattle.named.specs.State.{Table}
 use Rattle.named.specs.Events.{event_asked, is_merge_event, origin_by, rested, snapshot_named, step_event}
 use Rattle.named.specs.Merging.{merge_begun}
@@ -83,13 +84,13 @@ pub record IsSettleLeft (volume : List ℕ) (answer : Result Reply Refusal) (old
 -- A merge that is begun changes its volume alone. One that isn't is refused by its rule, or memory was refused; then all is as it was.
 pub record IsMergeLeft (name : List ℕ) (answer : Result Reply Refusal) (old new : Table) (before after : List Replied) : Type 0 where
   pub begun : OnOk answer (IsDoneFor name IsBegunIn old new)
-  pub refused : IfErr answer (λ e. (new ≡ old) × (e ≢ NoMemory → merge_begun name old ≡ Err e))
+  pub refused : IfErr answer (λ e. (new ≡ old) × (is_starved e ≡ false → merge_begun name old ≡ Err e))
   pub alone : after ≡ before
 
 -- a merge that is finished gives the stack of its store back, and changes its volume alone
 pub record IsFinishLeft (volume : List ℕ) (answer : Result Reply Refusal) (old new : Table) (before after : List Replied) : Type 0 where
   pub finished : OnOk answer (IfOk (origin_by volume old) (λ v. IsFinishedIn v old new (volume_at v old)))
-  pub unfinished : IfErr answer (λ e. IfOk (origin_by volume old) (λ v. e ≢ NoMemory → IsUnfinishedIn e (volume_at v old)))
+  pub unfinished : IfErr answer (λ e. IfOk (origin_by volume old) (λ v. is_starved e ≡ false → IsUnfinishedIn e (volume_at v old)))
   pub stays : OnErr answer (new ≡ old)
   pub alone : after ≡ before
 
@@ -114,6 +115,7 @@ IsLeft (commands.Finish volume) answer old new before after = IsFinishLeft volum
 IsLeft (commands.Status device) answer old new before after = IsStatusLeft device answer old new before after
 IsLeft (commands.Table device) answer old new before after = (new ≡ old) × (after ≡ before)
 IsLeft (commands.Save disk first count) answer old new before after = (new ≡ old) × (after ≡ before)
+IsLeft (commands.Checkpoint volume) answer old new before after = (new ≡ old) × (after ≡ before)
 IsLeft (commands.Create name line) answer old new before after = after ≡ before
 IsLeft (commands.Disk name sectors) answer old new before after = after ≡ before
 IsLeft (commands.Remove name) answer old new before after = after ≡ before

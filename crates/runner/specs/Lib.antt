@@ -1,5 +1,6 @@
 pub mod Starts
 pub mod Steps
+pub mod Wants
 pub mod Lawful
 pub mod Sound
 pub mod Counts

@@ -1,9 +1,9 @@
 -- To be believed: `run`'s output, a volume's steps or its attach are said in these words.
 -- What is printed for a text of command lines.
-use Rattle.std.specs.Prelude.{◌≡◌, ℕ, List, [], ◌∷◌, ◌++◌, Option, Some, None, Result, Ok, Err, ◌⊎◌}
+use Rattle.std.specs.Prelude.{◌≡◌, ℕ, true, List, [], ◌∷◌, ◌++◌, Option, Some, None, Result, Ok, Err, ◌⊎◌}
 use Rattle.std.specs.List.{flat_map}
 use Rattle.sector.specs.declared.refusal.Refusal.{Refusal}
-use Rattle.sector.specs.declared.refusal.Refusal.TheVariants.{NoMemory}
+use Rattle.sector.specs.declared.refusal.Refusal.TheVariants.{NoMemory, JournalFull}
 use Rattle.lines.specs.Lines.{lines_of}
 use Rattle.command.specs.Line.{said_of}
 use Rattle.command.specs.declared.grammar.Command.{Command}
@@ -17,6 +17,7 @@ use Rattle.named.specs.Sectors.{IsReadStarved, IsWriteStarved}
 use Rattle.runner.specs.declared.summary.Summary.{Summary}
 use Rattle.runner.specs.Steps.{answer_of}
 use Rattle.runner.specs.Counts.{with_reply}
+use Rattle.runner.specs.Wants.{enters_line}
 
 -- what a line answers, each reply a printed line, and the devices after it
 pub record Outcome : Type 0 where
@@ -61,7 +62,7 @@ printed replies = flat_map text_of replies
 unfoldable pub output_of : List ℕ → List ℕ
 output_of text = printed (replies_of text)
 
--- What want of memory leaves of a command: the devices as they were, or a read or a write of which some part was done.
+-- What want of memory, or of room in a journal, leaves of a command: the devices as they were, or a read or a write of which some part was done.
 abbrev pub IsPartDone : Command → Table → Table → Type 0
 IsPartDone (commands.Read device first count) old new = (new ≡ old) ⊎ IsReadStarved device first count old new
 IsPartDone (commands.Write device first bytes) old new = (new ≡ old) ⊎ IsWriteStarved device first bytes old new
@@ -79,6 +80,7 @@ IsPartDone (commands.Settle volume) old new = new ≡ old
 IsPartDone (commands.Merge name) old new = new ≡ old
 IsPartDone (commands.Resume volume) old new = new ≡ old
 IsPartDone (commands.Finish volume) old new = new ≡ old
+IsPartDone (commands.Checkpoint volume) old new = new ≡ old
 IsPartDone (commands.Stop volume) old new = new ≡ old
 IsPartDone (commands.Status device) old new = new ≡ old
 IsPartDone (commands.Table device) old new = new ≡ old
@@ -92,9 +94,11 @@ IsPartSaid (Err refusal) old new = new ≡ old
 unfoldable pub IsStarved : List ℕ → Table → Table → Type 0
 IsStarved line old new = IsPartSaid (said_of 65536 line) old new
 
--- A line has its outcome, or memory ran out for it, and it answers that alone.
+-- A line has its outcome; or memory ran out for it, or the journal that its command takes a place in has no room, and it answers
+-- that alone.
 abbrev pub MayBe : List ℕ → Table → Outcome → Type 0
 MayBe line old done = (done ≡ outcome_of line old) ⊎ ((done.replies ≡ Refused NoMemory ∷ []) × IsStarved line old done.table)
+    ⊎ ((enters_line line ≡ true) × (done.replies ≡ Refused JournalFull ∷ []) × IsStarved line old done.table)
 
 -- The lines may answer this, each what it may.
 abbrev pub MayAnswer : Table → List (List ℕ) → List Reply → Type 0

@@ -1,5 +1,5 @@
 -- Of which commands their rule says what they answer, by what each asks: a command that asks nothing of a volume answers by
--- its rule in any case, and so do one that lets a merge go on and one that stops a volume; another one, where no device of that
+-- its rule in any case, and so do one that lets a merge go on, one that folds a journal and one that stops a volume; another one, where no device of that
 -- volume drops writes and nothing is in flight in it. A single event of a merge has its own contract.
 use Rattle.std.specs.Prelude.{◌&&◌, ℕ, Bool, true, false, not, List, Option, Some, None, Result, Ok, Err}
 use Rattle.sector.specs.declared.refusal.Refusal.{Refusal}
@@ -28,6 +28,7 @@ is_ruled (commands.Save disk first count) table = true
 is_ruled (commands.Message device message) table = true
 is_ruled (commands.Tick seconds) table = true
 is_ruled (commands.Resume volume) table = true
+is_ruled (commands.Checkpoint volume) table = true
 is_ruled (commands.Stop volume) table = true
 is_ruled (commands.Table device) table = true
 

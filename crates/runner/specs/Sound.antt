@@ -29,6 +29,7 @@ is_sound_command (commands.Settle volume) = true
 is_sound_command (commands.Merge name) = true
 is_sound_command (commands.Resume volume) = true
 is_sound_command (commands.Finish volume) = true
+is_sound_command (commands.Checkpoint volume) = true
 is_sound_command (commands.Stop volume) = true
 is_sound_command (commands.Status device) = true
 is_sound_command (commands.Table device) = true

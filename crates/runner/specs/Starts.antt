@@ -25,6 +25,7 @@ starts (commands.Settle volume) = false
 starts (commands.Merge name) = false
 starts (commands.Resume volume) = false
 starts (commands.Finish volume) = false
+starts (commands.Checkpoint volume) = false
 starts (commands.Stop volume) = false
 starts (commands.Status device) = false
 starts (commands.Table device) = false

@@ -24,6 +24,7 @@ use Rattle.named.specs.Lines.{line_text}
 use Rattle.named.specs.Events.{settle, step_event}
 use Rattle.named.specs.Merging.{merge_begun, merge_resumed, merge_finished}
 use Rattle.named.specs.Stopping.{volume_stopped}
+use Rattle.named.specs.Journal.{checkpointed}
 
 -- an answer in other words, unless there is a refusal
 abbrev pub reworded : {A B : Type 0} → (A → B) → Result A Refusal → Result B Refusal
@@ -59,6 +60,7 @@ step (commands.Settle volume) table = done_as (changed table (settle volume tabl
 step (commands.Merge name) table = done_as (changed table (merge_begun name table))
 step (commands.Resume volume) table = done_as (changed table (merge_resumed volume table))
 step (commands.Finish volume) table = done_as (changed table (merge_finished volume table))
+step (commands.Checkpoint volume) table = done_as (changed table (checkpointed volume table))
 step (commands.Stop volume) table = done_as (changed table (volume_stopped volume table))
 step (commands.Status device) table = told_as Said (seen table (status_text device table))
 step (commands.Table device) table = told_as Said (seen table (line_text device table))

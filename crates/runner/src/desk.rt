@@ -94,8 +94,9 @@ impl Desk {
 
     /// Does what a line says, the line given without its end, and prints the lines of the requests that ended in it, and then
     /// its own answer. A line whose words are refused answers that refusal alone, and so does a start or an event whose
-    /// names or sectors are refused, whatever is in flight. Where the allocator refuses any memory, the line prints that and
-    /// changes no device, but that of a read or a write some part may have been done. Where its command has its rule, each
+    /// names or sectors are refused, whatever is in flight. Where the allocator refuses any memory, or the
+    /// journal that its command takes a place in has no room, the line prints that and changes no device, but that of a read or a
+    /// write some part may have been done. Where its command has its rule, each
     /// volume shows what the command leaves of what it showed. The one error is `RunError::Write`, the writer's own; then the
     /// line was done all the same, and part of what it prints may be printed.
     pub fn line<W: Write>(&mut self, line: &[u8], writer: &mut W) -> Result<(), RunError>

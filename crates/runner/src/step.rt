@@ -4,7 +4,7 @@ ghost use Rattle.sector.specs.declared.refusal.Refusal.TheVariants.{NoMemory};
 ghost use Rattle.layers.specs.declared.message.Answer.TheVariants as answers;
 ghost use Rattle.reply.specs.declared.Reply.TheVariants.{Done, Data, Said, Number};
 ghost use Rattle.reply.specs.Answers.{reply_to};
-ghost use Rattle.named.specs.Changes.{Does, kept};
+ghost use Rattle.named.specs.Changes.{Does, ServesIf, kept};
 ghost use Rattle.named.specs.Messages.{tell};
 ghost use Rattle.named.specs.Naming.{AreNamed};
 ghost use Rattle.named.specs.Sound.{is_sound};
@@ -18,18 +18,19 @@ ghost use Rattle.runner.specs.Shown.{IsLineShown};
 ghost use Rattle.runner.specs.Sound.{is_sound_command, is_sound_line};
 ghost use Rattle.runner.specs.Starts.{AreStartReplies, starts, starts_line};
 ghost use Rattle.runner.specs.Steps.{reworded, told_as, step, answer_of};
+ghost use Rattle.runner.specs.Wants.{enters, enters_line};
 
 use crate::events::step_volume;
 use crate::looking::look;
 use command::Command::{
-    Create, Disk, Finish, Load, Merge, Read, Remove, Resume, Save, Settle, StartRead, StartWrite,
-    Status, Step, Stop, Table, Tick, Write,
+    Checkpoint, Create, Disk, Finish, Load, Merge, Read, Remove, Resume, Save, Settle, StartRead,
+    StartWrite, Status, Step, Stop, Table, Tick, Write,
 };
 use command::{Command, LINE_LIMIT, said};
 use devices::{
-    Held, create_device, finish_device, line_text, load_disk, make_disk, merge_device, read_device,
-    remove_device, resume_device, save_disk, settle_device, start_read, start_write, status_text,
-    stop_device, tell, tick, write_device,
+    Held, checkpoint_device, create_device, finish_device, line_text, load_disk, make_disk,
+    merge_device, read_device, remove_device, resume_device, save_disk, settle_device, start_read,
+    start_write, status_text, stop_device, tell, tick, write_device,
 };
 use layers::{Answer, Message};
 use plain::{Replied, ReqId};
@@ -112,7 +113,7 @@ fn obey(
     ended: &mut Vec<Replied>,
 ) -> Result<Reply, Refusal>
     requires { is_lawful command ≡ true }
-    ensures done { is_ruled command (table_of held.old) ≡ true → Does result (table_of held.new) (IsPartDone command (table_of held.old)) (step command (table_of held.old)) }
+    ensures done { is_ruled command (table_of held.old) ≡ true → ServesIf (enters command) result (table_of held.new) (IsPartDone command (table_of held.old)) (step command (table_of held.old)) }
     ensures asks { IsFirst (first_refusal command (table_of held.old)) (told (reworded Some result)) }
     ensures number { starts command ≡ true → AreStartReplies (told (reworded Some result)) }
     ensures alone { starts command ≡ true → ended.new.items ≡ ended.old.items }
@@ -139,6 +140,7 @@ fn obey(
         Merge { name } => did(merge_device(alloc, held, &name)),
         Resume { volume } => did(resume_device(held, &volume)),
         Finish { volume } => did(finish_device(held, &volume)),
+        Checkpoint { volume } => did(checkpoint_device(held, &volume)),
         Stop { volume } => did(stop_device(held, &volume)),
         Status { name } => text(status_text(alloc, held, &name)),
         Table { name } => text(line_text(alloc, held, &name)),
@@ -153,7 +155,7 @@ pub fn answer(
     line: &[u8],
     ended: &mut Vec<Replied>,
 ) -> Result<Option<Reply>, Refusal>
-    ensures done { is_ruled_line line.now (table_of held.old) ≡ true → Does result (table_of held.new) (IsStarved line.now (table_of held.old)) (answer_of line.now (table_of held.old)) }
+    ensures done { is_ruled_line line.now (table_of held.old) ≡ true → ServesIf (enters_line line.now) result (table_of held.new) (IsStarved line.now (table_of held.old)) (answer_of line.now (table_of held.old)) }
     ensures shows { is_ruled_line line.now (table_of held.old) ≡ true → IsLineShown line.now (table_of held.old) (record { replies = told result; table = table_of held.new }) }
     ensures asks { IsFirst (line_first line.now (table_of held.old)) (told result) }
     ensures number { starts_line line.now ≡ true → AreStartReplies (told result) }

@@ -24,15 +24,15 @@ pub fn run<R: Read, W: Write>(
     writer: &mut W,
     workers: u32,
 ) -> Result<Summary, RunError>
-    // Where no line makes a layer that drops writes, starts a request or steps an event of a merge, and memory ran out for no
-    // line, the text alone says what is printed.
+    // Where no line makes a layer that drops writes, starts a request or steps an event of a merge, and neither memory nor a
+    // journal's room ran out for any line, the text alone says what is printed.
     ensures exact { IfOk result (λ summary. IfSome (R.remaining reader.old) (λ text. is_sound_text text ≡ true
-        → summary.no_memory ≡ 0 → Appends (W.contents writer.old) (W.contents writer.new) (output_of text))) }
+        → summary.no_memory ≡ 0 → summary.journal_full ≡ 0 → Appends (W.contents writer.old) (W.contents writer.new) (output_of text))) }
     // Then it says too how many lines there are of each kind.
     ensures counts { IfOk result (λ summary. IfSome (R.remaining reader.old) (λ text. is_sound_text text ≡ true
-        → summary.no_memory ≡ 0 → summary ≡ summary_of (replies_of text))) }
+        → summary.no_memory ≡ 0 → summary.journal_full ≡ 0 → summary ≡ summary_of (replies_of text))) }
     // In any case whole replies are printed and counted, and of such a text each line answers its outcome, or that memory
-    // ran out; then it changed nothing, or is a read or a write of which some part was done.
+    // or a journal's room ran out; then it changed nothing, or is a read or a write of which some part was done.
     ensures any { IfOk result (λ summary. (replies : List Reply)
         × Appends (W.contents writer.old) (W.contents writer.new) (printed replies) × (summary ≡ summary_of replies)
         × IfSome (R.remaining reader.old) (λ text. is_sound_text text ≡ true → MayAnswer empty (lines_of text) replies)) }

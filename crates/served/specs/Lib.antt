@@ -1,2 +1,3 @@
 pub mod Beside
 pub mod Moments
+pub mod Refusals

@@ -3,12 +3,13 @@ use Rattle.std.proofs.Common.{◌≡◌, inl, inr, ℕ, ◌*◌, ◌/◌, ◌%�
 use Rattle.std.specs.Prelude.{◌==◌, ◌&&◌, Option, Some, None, Result, Ok, Err, nat_lt, nat_le, not}
 use Rattle.std.proofs.lemmas.Bool.{cases_Bool, cond-true, cond-false, eqb-true}
 use Rattle.sector.specs.declared.refusal.Refusal.{Refusal}
-use Rattle.sector.specs.declared.refusal.Refusal.TheVariants.{BadTable, NoSuchDevice, OutOfRange, Busy, MergeInProgress, NoMemory}
+use Rattle.sector.specs.declared.refusal.Refusal.TheVariants.{BadTable, NoSuchDevice, OutOfRange, Busy, MergeInProgress}
 use Rattle.layers.specs.declared.message.Message.{Message}
 use Rattle.layers.specs.declared.message.Answer.{Answer}
 use Rattle.command.specs.Words.{sectors_of}
 use Rattle.command.specs.declared.grammar.Command.{Command}
 use Rattle.command.specs.declared.grammar.Command.TheVariants as commands
+use Rattle.served.specs.Refusals.{is_starved}
 use Rattle.named.specs.declared.place.Role.{Role}
 use Rattle.named.specs.declared.place.Role.TheVariants.{Origin, Under, Snapshot, Store, Merging, MergingStore}
 use Rattle.named.specs.declared.place.Place.{Place}
@@ -22,6 +23,7 @@ use Rattle.named.specs.Sectors.{Asked, asked_of, at_role, in_volume, read_by, re
 use Rattle.named.specs.Events.{origin_at, origin_by, merge_done, settle}
 use Rattle.named.specs.Merging.{begun, begun_at, merge_begun, resumed, merge_resumed, finished, merge_finished}
 use Rattle.named.specs.Stopping.{volume_stopped}
+use Rattle.named.specs.Journal.{checkpointed}
 use Rattle.named.proofs.Keeping.{came_by, same_ok, not_ok}
 use Rattle.shown.specs.Arrays.{arrays_of, arrays_in}
 use Rattle.shown.specs.Shown.{IsGoneOn, IsMergedBack, IsWrittenTo, IsWriteRefused, IsWriteDone}
@@ -119,6 +121,12 @@ finished_as name table new is =
 pub finish_line : (name : List ℕ) (table : Table) → (let done : Did (Unit {0}) Table = changed table (merge_finished name table) in IsShown (commands.Finish name) table done.answer (arrays_in table) (arrays_in done.left))
 finish_line name table = by_change (commands.Finish name) table (merge_finished name table) (λ e. refl) (λ new is. finished_as name table new is)
 
+-- `checkpoint VOL`
+pub checkpoint_line : (name : List ℕ) (table : Table) → (let done : Did (Unit {0}) Table = changed table (checkpointed name table) in IsShown (commands.Checkpoint name) table done.answer (arrays_in table) (arrays_in done.left))
+unfolding checkpointed
+checkpoint_line name table = by_change (commands.Checkpoint name) table (checkpointed name table) (λ e. refl)
+    (λ new is. let a = came_by (origin_by name table) _ new is in ap arrays_in (sym (same_ok _ new a.2)))
+
 -- `stop VOL`
 stopped_as : (name : List ℕ) (table new : Table) → volume_stopped name table ≡ Ok new → IsAnswered (commands.Stop name) table (arrays_in table) (arrays_in new)
 unfolding volume_stopped
@@ -180,26 +188,26 @@ write_line name first bytes table well = by_count (whole bytes) refl
     by_count (Err e) so = inl refl
     by_count (Ok count) so = by_place count so (place_of name table) refl
 
--- where memory ran out for it
-pub write_starved : (name : List ℕ) (first : ℕ) (bytes : List ℕ) (table new : Table) → IsWellFor name table → IsWriteStarved name first bytes table new → IsRefused (commands.Write name first bytes) table NoMemory (arrays_in table) (arrays_in new)
+-- where memory, or the room of a journal, ran out for it
+pub write_starved : (name : List ℕ) (first : ℕ) (bytes : List ℕ) (table new : Table) (e : Refusal) → is_starved e ≡ true → IsWellFor name table → IsWriteStarved name first bytes table new → IsRefused (commands.Write name first bytes) table e (arrays_in table) (arrays_in new)
 unfolding IsWriteStarved
-write_starved name first bytes table new well = by_count (whole bytes) refl
+write_starved name first bytes table new e wanting well = by_count (whole bytes) refl
   where
     by_volume : (v : ℕ) (role : Role) (count : ℕ) → place_of name table ≡ Some (In v role) → whole bytes ≡ Ok count → (r : Result Volume Refusal) → volume_at v table ≡ r → IsInVolume (IsPartWritten role first count bytes) v table new r
-        → IsRefused (commands.Write name first bytes) table NoMemory (arrays_in table) (arrays_in new)
-    by_volume v role count at so (Err e) there h = absurd h
+        → IsRefused (commands.Write name first bytes) table e (arrays_in table) (arrays_in new)
+    by_volume v role count at so (Err refusal) there h = absurd h
     by_volume v role count at so (Ok volume) there h =
         let all = whole_there bytes count so in
-        subst (λ (t : Table). IsRefused (commands.Write name first bytes) table NoMemory (arrays_in table) (arrays_in t)) (sym h.2)
-        (inr (v, role, at, changed_in v table volume h.0 (IsWriteRefused role first bytes NoMemory) there (part_shows role first count bytes volume h.0 (well v role volume at there) all.0 all.1 h.1)))
+        subst (λ (t : Table). IsRefused (commands.Write name first bytes) table e (arrays_in table) (arrays_in t)) (sym h.2)
+        (inr (v, role, at, changed_in v table volume h.0 (IsWriteRefused role first bytes e) there (part_shows role first count bytes volume h.0 e wanting (well v role volume at there) all.0 all.1 h.1)))
 
-    by_place : (count : ℕ) → whole bytes ≡ Ok count → (o : Option Place) → place_of name table ≡ o → IsAtRole (λ role. IsPartWritten role first count bytes) table new (found o) → IsRefused (commands.Write name first bytes) table NoMemory (arrays_in table) (arrays_in new)
+    by_place : (count : ℕ) → whole bytes ≡ Ok count → (o : Option Place) → place_of name table ≡ o → IsAtRole (λ role. IsPartWritten role first count bytes) table new (found o) → IsRefused (commands.Write name first bytes) table e (arrays_in table) (arrays_in new)
     by_place count so None at h = absurd h
     by_place count so (Some (Free i depth)) at h = absurd h
     by_place count so (Some (In v role)) at h = by_volume v role count at so (volume_at v table) refl h
 
-    by_count : (r : Result ℕ Refusal) → whole bytes ≡ r → IsWriteStarvedBy name first bytes table new r → IsRefused (commands.Write name first bytes) table NoMemory (arrays_in table) (arrays_in new)
-    by_count (Err e) so h = absurd h
+    by_count : (r : Result ℕ Refusal) → whole bytes ≡ r → IsWriteStarvedBy name first bytes table new r → IsRefused (commands.Write name first bytes) table e (arrays_in table) (arrays_in new)
+    by_count (Err refusal) so h = absurd h
     by_count (Ok count) so h = by_place count so (place_of name table) refl h
 
 -- `read DEV S N`

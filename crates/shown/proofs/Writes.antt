@@ -1,11 +1,11 @@
 -- A write of a volume that is well is one of plain arrays, whether a merge is begun or not.
-use Rattle.std.proofs.Common.{◌≡◌, inl, inr, ℕ, zero, suc, ◌+◌, ◌*◌, ◌<◌, ◌≤◌, List, [], ◌∷◌, length, map, take, arith, refl, ap, ◌∙◌, sym, subst}
+use Rattle.std.proofs.Common.{◌≡◌, inl, inr, ℕ, zero, suc, ◌+◌, ◌*◌, ◌<◌, ◌≤◌, true, List, [], ◌∷◌, length, map, take, arith, refl, ap, ◌∙◌, sym, subst}
 use Rattle.std.specs.Prelude.{Option, Some, None, Result, Ok, Err, is_some, nat_lt, slice_get, slice_set}
 use Rattle.std.proofs.lemmas.Bool.{cases_Bool, cond-true}
 use Rattle.std.proofs.lemmas.List.{take_all}
 use Rattle.sector.specs.declared.range.Range.{Range}
 use Rattle.sector.specs.declared.refusal.Refusal.{Refusal}
-use Rattle.sector.specs.declared.refusal.Refusal.TheVariants.{OutOfRange, NoMemory}
+use Rattle.sector.specs.declared.refusal.Refusal.TheVariants.{OutOfRange}
 use Rattle.chunk.specs.Pieces.{Span, AreCutFrom, pieces_of}
 use Rattle.chunk.proofs.Whole.{cut_pieces}
 use Rattle.plain.specs.Plain.{Saved, Live, Invalid}
@@ -27,6 +27,7 @@ use Rattle.named.specs.Sectors.{Asked, asked_of, serves, dev_of, takes, after_as
 use Rattle.named.proofs.Begun.{merged_is}
 use Rattle.named.proofs.Keeping.{came_by, same_ok, not_ok}
 use Rattle.named.specs.State.{Names, Merging as Begun, Volume, merge_in, merged_in}
+use Rattle.served.specs.Refusals.{is_starved}
 use Rattle.named.specs.declared.place.Role.{Role}
 use Rattle.named.specs.declared.place.Role.TheVariants.{Origin, Under, Snapshot, Store, Merging as InMerging, MergingStore}
 use Rattle.resting.specs.Showing.{entry_of, changed_at, saved_at, with_bytes, IsLive, IsWritten, IsLost, sectors_in}
@@ -283,41 +284,41 @@ module _ (volume : Volume) (well : IsWell volume) (first count : ℕ) (bytes : L
       by None = refl
       by (Some g) = refl
 
-  pub first_shows : (n : ℕ) → n < length Pieces → (done_first n).reply ≡ Written → (new : Volume) → new ≡ after_asking count (done_first n).state volume → IsWriteRefused role first bytes NoMemory (arrays_of volume) (arrays_of new)
-  first_shows n lt wrote new left =
+  pub first_shows : (n : ℕ) → n < length Pieces → (done_first n).reply ≡ Written → (new : Volume) (e : Refusal) → is_starved e ≡ true → new ≡ after_asking count (done_first n).state volume → IsWriteRefused role first bytes e (arrays_of volume) (arrays_of new)
+  first_shows n lt wrote new e wanting left =
       let after : Merged = (done_first n).state in
       let shows : arrays_of new ≡ arrays_at volume.origin volume.snaps after = ap arrays_of left ∙ after_arrays volume count after (first_begun n dev (record { first = first; count = count; size = sectors_of volume.state.origin }) bytes (merged_in volume)) in
-      subst (IsWriteRefused role first bytes NoMemory (arrays_of volume)) (sym shows) (by n lt wrote)
+      subst (IsWriteRefused role first bytes e (arrays_of volume)) (sym shows) (by n lt wrote)
     where
       law : (n : ℕ) → (done_first n).reply ≡ Written → AreWritten dev first (take n Pieces) bytes (arrays_with (merged_in volume)) (arrays_with (done_first n).state) Written
       law n wrote = subst (AreWritten dev first (take n Pieces) bytes (arrays_with (merged_in volume)) (arrays_with (done_first n).state)) wrote
           (subst (λ (r : Served). AreWritten dev first (take n Pieces) bytes (arrays_with (merged_in volume)) (arrays_with r.state) r.reply) (sym (write_first n dev (record { first = first; count = count; size = sectors_of volume.state.origin }) bytes (merged_in volume)))
           (first_written volume well first count bytes len some fits dev n))
 
-      by : (n : ℕ) → n < length Pieces → (done_first n).reply ≡ Written → IsWriteRefused role first bytes NoMemory (arrays_of volume) (arrays_at volume.origin volume.snaps (done_first n).state)
+      by : (n : ℕ) → n < length Pieces → (done_first n).reply ≡ Written → IsWriteRefused role first bytes e (arrays_of volume) (arrays_at volume.origin volume.snaps (done_first n).state)
       by zero lt wrote = inl (ap (arrays_at volume.origin volume.snaps) none_done)
       by (suc n) lt wrote =
           let a = law (suc n) wrote in
           let sum : ℕ = sectors_in (take (suc n) Pieces) in
-          inr (inr (inr refl, (sum, fewer_bytes volume well first count bytes len some fits (suc n) lt, role_first volume well first count bytes len some fits role dev is (take (512 * sum) bytes) (a.0 (many_first n Pieces lt)) (done_first (suc n)).state a.1)))
+          inr (inr (inr wanting, (sum, fewer_bytes volume well first count bytes len some fits (suc n) lt, role_first volume well first count bytes len some fits role dev is (take (512 * sum) bytes) (a.0 (many_first n Pieces lt)) (done_first (suc n)).state a.1)))
         where
           many_first : (n : ℕ) (ps : List Span) → suc n < length ps → 0 < length (take (suc n) ps)
           many_first n [] lt = absurd (omega (arith, lt))
           many_first n (p ∷ ps) lt = omega arith
 
--- some first pieces of a write, where memory ran out
-pub part_shows : (role : Role) (first count : ℕ) (bytes : List ℕ) (volume new : Volume) → IsWell volume → length bytes ≡ 512 * count → 0 < count → IsPartWritten role first count bytes volume new → IsWriteRefused role first bytes NoMemory (arrays_of volume) (arrays_of new)
+-- some first pieces of a write, where memory, or the room of a journal, ran out
+pub part_shows : (role : Role) (first count : ℕ) (bytes : List ℕ) (volume new : Volume) (e : Refusal) → is_starved e ≡ true → IsWell volume → length bytes ≡ 512 * count → 0 < count → IsPartWritten role first count bytes volume new → IsWriteRefused role first bytes e (arrays_of volume) (arrays_of new)
 unfolding IsPartWritten
-part_shows role first count bytes volume new well len some = by (asked_of role first count volume) refl
+part_shows role first count bytes volume new e wanting well len some = by (asked_of role first count volume) refl
   where
     m : Merged
     m = merged_in volume
 
-    by : (asks : Result Asked Refusal) → asked_of role first count volume ≡ asks → IsPartWrittenBy count bytes volume new asks → IsWriteRefused role first bytes NoMemory (arrays_of volume) (arrays_of new)
+    by : (asks : Result Asked Refusal) → asked_of role first count volume ≡ asks → IsPartWrittenBy count bytes volume new asks → IsWriteRefused role first bytes e (arrays_of volume) (arrays_of new)
     by (Err refusal) is part = absurd part
     by (Ok asks) is part =
         let (dev, fits, span) = asked_there role first count volume asks is in
         first_shows volume well first count bytes len some fits role asks.dev dev part.pieces
         (subst (λ (sp : Span). part.pieces < length (pieces_of (chunk_beside (merged_in volume)) sp)) span part.fewer)
         (subst (λ (sp : Span). (written_first_beside part.pieces asks.dev sp bytes (merged_in volume)).reply ≡ Written) span part.done)
-        new (part.left ∙ ap (λ (sp : Span). after_asking count (written_first_beside part.pieces asks.dev sp bytes (merged_in volume)).state volume) span)
+        new e wanting (part.left ∙ ap (λ (sp : Span). after_asking count (written_first_beside part.pieces asks.dev sp bytes (merged_in volume)).state volume) span)

@@ -1,11 +1,12 @@
 -- To be believed: what commands do to what volumes show is said in these words.
 -- How what is shown after a command compares with what was shown before. Volumes are told apart by their order.
-use Rattle.std.specs.Prelude.{◌≡◌, ◌⊎◌, ℕ, ◌*◌, ◌<◌, List, [], ◌∷◌, length, slice_get, slice_set, take, Some, Result, Ok, Err}
+use Rattle.std.specs.Prelude.{◌≡◌, ◌⊎◌, ℕ, ◌*◌, ◌<◌, true, List, [], ◌∷◌, length, slice_get, slice_set, take, Some, Result, Ok, Err}
 use Rattle.std.specs.List.{remove}
 use Rattle.sector.specs.Bytes.{with_sectors}
 use Rattle.sector.specs.declared.refusal.Refusal.{Refusal}
-use Rattle.sector.specs.declared.refusal.Refusal.TheVariants.{Invalid as InvalidRefusal, Io as IoRefusal, NoMemory}
+use Rattle.sector.specs.declared.refusal.Refusal.TheVariants.{Invalid as InvalidRefusal, Io as IoRefusal}
 use Rattle.plain.specs.Plain.{Saved, Live, Invalid}
+use Rattle.served.specs.Refusals.{is_starved}
 use Rattle.named.specs.declared.place.Role.{Role}
 use Rattle.named.specs.declared.place.Role.TheVariants.{Origin, Under, Snapshot, Store, Merging, MergingStore}
 use Rattle.shown.specs.Arrays.{Named, Arrays}
@@ -79,11 +80,11 @@ IsLostBy (Store k depth) old new = ⊥
 IsLostBy Merging old new = ⊥
 IsLostBy (MergingStore depth) old new = ⊥
 
--- Why a write is refused: before it began, and nothing changed; or its snapshot is lost; or a device failed, or memory was
--- refused, and some first sectors stand.
+-- Why a write is refused: before it began, and nothing changed; or its snapshot is lost; or a device failed, or memory or a
+-- journal's room was wanting, and some first sectors stand.
 abbrev pub IsWriteRefused : Role → ℕ → List ℕ → Refusal → Arrays → Arrays → Type 0
 IsWriteRefused role first bytes refusal old new =
-    (new ≡ old) ⊎ ((refusal ≡ InvalidRefusal) × IsLostBy role old new) ⊎ (((refusal ≡ IoRefusal) ⊎ (refusal ≡ NoMemory)) × IsPartWrittenTo role first bytes old new)
+    (new ≡ old) ⊎ ((refusal ≡ InvalidRefusal) × IsLostBy role old new) ⊎ (((refusal ≡ IoRefusal) ⊎ (is_starved refusal ≡ true)) × IsPartWrittenTo role first bytes old new)
 
 -- a write, by its answer
 abbrev pub IsWriteDone : Role → ℕ → List ℕ → Result (Unit {0}) Refusal → Arrays → Arrays → Type 0

@@ -58,6 +58,7 @@ IsWellOf (commands.StartWrite device first bytes) table = Unit {0}
 IsWellOf (commands.Step volume event) table = Unit {0}
 IsWellOf (commands.Resume volume) table = Unit {0}
 IsWellOf (commands.Finish volume) table = Unit {0}
+IsWellOf (commands.Checkpoint volume) table = Unit {0}
 IsWellOf (commands.Stop volume) table = Unit {0}
 IsWellOf (commands.Status device) table = Unit {0}
 IsWellOf (commands.Table device) table = Unit {0}

@@ -1,6 +1,7 @@
 use Rattle.std.proofs.Common.{◌≡◌, sym, subst}
 use Rattle.named.specs.Creating.{made}
-use Rattle.named.proofs.Starving.{does_keep}
+use Rattle.named.specs.Journal.{enters_journal}
+use Rattle.named.proofs.Starving.{serves_if_keep}
 use Rattle.named.proofs.SoundRules.{IsSound, made_sound}
 use Rattle.devices.specs.Devices.{table_of}
 use Rattle.devices.proofs.Ruled.{target_ruled}
@@ -8,5 +9,5 @@ use Rattle.devices.proofs.create.create_device.Goals as goal
 
 pub returns-clause-sound : goal.returns-clause-sound
 returns-clause-sound c = λ sound loud.
-    does_keep IsSound c.made.result (table_of c.made.new.held) (λ t. t ≡ table_of c.args.held.now) (made c.args.name c.args.line.sectors c.args.line.target (table_of c.args.held.now))
+    serves_if_keep IsSound (enters_journal c.args.line.target) c.made.result (table_of c.made.new.held) (λ t. t ≡ table_of c.args.held.now) (made c.args.name c.args.line.sectors c.args.line.target (table_of c.args.held.now))
     (c.made.ensures.done (target_ruled c.args.line.sectors c.args.line.target (table_of c.args.held.now) sound)) (made_sound c.args.name c.args.line.sectors c.args.line.target (table_of c.args.held.now) loud sound) (λ t same. subst IsSound (sym same) sound)

@@ -1,4 +1,5 @@
 use Rattle.std.proofs.Common.{rules}
+use Rattle.served.proofs.Starved.{other_full}
 use Rattle.devices.specs.Devices.{table_of}
 use Rattle.devices.proofs.Finishes.{finished_stays, left_named, left_sound, unfinished_in}
 use Rattle.devices.proofs.Ruled.{sound_here}
@@ -22,4 +23,4 @@ returns-in-Err-clause-done c = λ sound.
 
 pub returns-in-Err-clause-unfinished : goal.returns-in-Err-clause-unfinished
 returns-in-Err-clause-unfinished c = λ other.
-    unfinished_in (table_of c.args.held.now) c.args.v c.in-Err.refusal c.index_mut.result.now c.requires c.index_mut.ensures.value c.in-Err.ensures.unfinished
+    unfinished_in (table_of c.args.held.now) c.args.v c.in-Err.refusal c.index_mut.result.now c.requires c.index_mut.ensures.value (c.in-Err.ensures.unfinished (other_full c.in-Err.refusal other))

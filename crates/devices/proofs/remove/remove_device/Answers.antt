@@ -3,7 +3,7 @@ use Rattle.named.specs.Naming.{AreNamed}
 use Rattle.named.specs.Origins.{closed}
 use Rattle.named.specs.Removing.{lowered}
 use Rattle.named.specs.Snapshots.{left_by}
-use Rattle.named.proofs.Keeping.{changes_keep}
+use Rattle.named.proofs.Keeping.{changes_keep, enters_keep}
 use Rattle.named.proofs.NamedRules.{closed_named, left_by_named, lowered_top_named}
 use Rattle.named.proofs.SoundRules.{IsSound, lowered_sound}
 use Rattle.devices.specs.Devices.{table_of}
@@ -26,5 +26,5 @@ returns-in-In-default-Origin-clause-named c = λ named.
 
 pub returns-in-In-default-Snapshot-clause-named : goal.returns-in-In-default-Snapshot-clause-named
 returns-in-In-default-Snapshot-clause-named c = λ named.
-    changes_keep AreNamed c.detach.result (table_of c.args.held.now) (table_of c.detach.new.held) (left_by c.in-In-default-Snapshot.v c.in-In-default-Snapshot.k (table_of c.args.held.now))
+    enters_keep AreNamed c.detach.result (table_of c.args.held.now) (table_of c.detach.new.held) (left_by c.in-In-default-Snapshot.v c.in-In-default-Snapshot.k (table_of c.args.held.now))
     c.detach.ensures.done named (left_by_named c.in-In-default-Snapshot.v c.in-In-default-Snapshot.k (table_of c.args.held.now) named)

@@ -7,7 +7,7 @@ use Rattle.named.proofs.SoundFrames.{of_both, put_volume_sound, volume_quiet, vo
 use Rattle.named_volume.specs.Names.{KeepsNames}
 use Rattle.named_volume.specs.Flights.{IsReadServed}
 use Rattle.devices.specs.Flights.{IsReadAmong}
-use Rattle.devices.proofs.InVolume.{later_asked, asked_did, asked_in, changed_in, does_in, stays_in}
+use Rattle.devices.proofs.InVolume.{later_asked, asked_did, asked_in, changed_in, serves_in, stays_in}
 use Rattle.devices.proofs.Ruled.{quiet_here, sound_here}
 use Rattle.devices.proofs.sectors.read_at.Goals as goal
 
@@ -19,7 +19,7 @@ returns c =
     let at = c.index_mut.ensures.value in
     record {
       done = λ sound.
-          does_in c.read.result (IsReadAsked c.args.count) (read_in c.args.role c.args.first c.args.count) c.args.v table old c.read.new.self
+          serves_in c.read.result (IsReadAsked c.args.count) (read_in c.args.role c.args.first c.args.count) c.args.v table old c.read.new.self
           lt at (c.read.ensures.done (sound_here table c.args.v old sound lt at).0 (sound_here table c.args.v old sound lt at).1);
       told = λ quiet. c.read.ensures.told (quiet_here table c.args.v old quiet lt at);
       asks = asked_in (λ e. c.read.result ≡ Err e) c.args.v c.args.role c.args.first c.args.count table old lt at c.read.ensures.asks;

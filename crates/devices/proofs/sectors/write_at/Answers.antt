@@ -7,7 +7,7 @@ use Rattle.named.proofs.SoundFrames.{of_both, put_volume_sound, volume_quiet, vo
 use Rattle.named_volume.specs.Names.{KeepsNames}
 use Rattle.named_volume.specs.Flights.{IsWriteServed}
 use Rattle.devices.specs.Flights.{IsWrittenAmong}
-use Rattle.devices.proofs.InVolume.{later_asked, asked_did, asked_in, changed_in, does_in, stays_in}
+use Rattle.devices.proofs.InVolume.{later_asked, asked_did, asked_in, changed_in, serves_in, stays_in}
 use Rattle.devices.proofs.Ruled.{quiet_here, sound_here}
 use Rattle.devices.proofs.sectors.write_at.Goals as goal
 
@@ -19,7 +19,7 @@ returns c =
     let at = c.index_mut.ensures.value in
     record {
       done = λ sound.
-          does_in c.write.result (IsPartWritten c.args.role c.args.first c.args.count c.args.bytes.now) (written_in c.args.role c.args.first c.args.count c.args.bytes.now) c.args.v table old c.write.new.self
+          serves_in c.write.result (IsPartWritten c.args.role c.args.first c.args.count c.args.bytes.now) (written_in c.args.role c.args.first c.args.count c.args.bytes.now) c.args.v table old c.write.new.self
           lt at (c.write.ensures.done (sound_here table c.args.v old sound lt at).0 (sound_here table c.args.v old sound lt at).1);
       told = λ quiet. c.write.ensures.told (quiet_here table c.args.v old quiet lt at);
       asks = asked_in (λ e. c.write.result ≡ Err e) c.args.v c.args.role c.args.first c.args.count table old lt at c.write.ensures.asks;

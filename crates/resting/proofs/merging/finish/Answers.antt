@@ -29,7 +29,7 @@ pub returns-in-Err-clause-settled : goal.returns-in-Err-clause-settled
 returns-in-Err-clause-settled g c = λ settled. rw c.in-Err.ensures.err.1 settled
 
 pub returns-in-Err-clause-unfinished : goal.returns-in-Err-clause-unfinished
-returns-in-Err-clause-unfinished g c = λ settled.
+returns-in-Err-clause-unfinished g c = λ other settled.
     unfinished_as g.B.Block.contents g.B.Block.layers c.args.volume.now (g.B.Block.size c.args.volume.now.origin)
     (c.is_quiet.ensures.between (c.is_quiet.ensures.value ∙ settled.quiet) (sym (loud_same g.B.Block.contents g.B.Block.layers c.args.volume.now) ∙ settled.loud) None)
     settled.quiet c.in-Err.refusal c.in-Err.ensures.err.0

@@ -1,7 +1,7 @@
-use Rattle.std.proofs.Common.{◌≡◌, ◌≢◌, true, Some, Ok, Err, refl, sym, subst}
+use Rattle.std.proofs.Common.{◌≡◌, true, false, Some, Ok, Err, refl, sym, subst}
 use Rattle.std.specs.Prelude.{IfOk, IfSome}
 use Rattle.sector.specs.declared.refusal.Refusal.{Refusal}
-use Rattle.sector.specs.declared.refusal.Refusal.TheVariants.{NoMemory}
+use Rattle.served.specs.Refusals.{is_starved}
 use Rattle.reply.specs.declared.Reply.TheVariants.{Data, Done}
 use Rattle.command.specs.declared.grammar.Command.{Command}
 use Rattle.devices.specs.Devices.{table_of}
@@ -14,7 +14,9 @@ use Rattle.named.specs.Sound.{is_sound}
 use Rattle.named.specs.State.{Table}
 use Rattle.named.proofs.NamedRules.{ticked_named}
 use Rattle.named.proofs.SoundRules.{ticked_sound}
-use Rattle.named.specs.Changes.{Does}
+use Rattle.named.specs.Changes.{ServesIf}
+use Rattle.named.specs.Creating.{create}
+use Rattle.named.specs.Journal.{enters_journal}
 use Rattle.named.specs.Events.{is_merge_event, origin_by, rested}
 use Rattle.named.specs.Merging.{merge_begun}
 use Rattle.named.specs.Places.{volume_at}
@@ -24,8 +26,10 @@ use Rattle.runner.specs.Output.{IsPartDone, told}
 use Rattle.runner.specs.Ruled.{is_ruled}
 use Rattle.runner.specs.Sound.{is_sound_command}
 use Rattle.runner.specs.Steps.{reworded, step}
+use Rattle.runner.specs.Wants.{enters}
 use Rattle.runner.proofs.RuledLemmas.{not_true, quiet_too, step_ruled}
 use Rattle.runner.proofs.AskingLemmas.{numbered_first}
+use Rattle.runner.proofs.StepLemmas.{serves_worded}
 use Rattle.runner.proofs.LeftLemmas.{asked_both, asked_still, err_worded, on_worded, refused_stays, refused_worded, worded_asked}
 use Rattle.runner.specs.Left.{IsLeft}
 use Rattle.runner.proofs.step.obey.Goals as goal
@@ -150,7 +154,7 @@ returns-in-Finish-clause-left c =
     let call = c.finish_device.result in
     let answer = c.did-in-Finish.result in
     let is = c.did-in-Finish.ensures in
-    let U : Refusal → Type 0 = λ e. IfOk asks (λ v. e ≢ NoMemory → IsUnfinishedIn e (volume_at v old)) in
+    let U : Refusal → Type 0 = λ e. IfOk asks (λ v. is_starved e ≡ false → IsUnfinishedIn e (volume_at v old)) in
     subst P (sym c.in-Finish.is) (record {
       finished = on_worded (λ _. Done) call answer (IfOk asks (λ v. IsFinishedIn v old new (volume_at v old))) is c.finish_device.ensures.finished;
       unfinished = refused_worded (λ _. Done) call answer U is c.finish_device.ensures.unfinished;
@@ -163,7 +167,7 @@ returns-in-Merge-clause-left c =
     let P : Command → Type 0 = λ command. IsLeft command c.did-in-Merge.result (table_of c.args.held.now) (table_of c.merge_device.new.held) c.args.ended.now.items c.args.ended.now.items in
     let old = table_of c.args.held.now in
     let new = table_of c.merge_device.new.held in
-    let R : Refusal → Type 0 = λ e. (new ≡ old) × (e ≢ NoMemory → merge_begun c.in-Merge.name old ≡ Err e) in
+    let R : Refusal → Type 0 = λ e. (new ≡ old) × (is_starved e ≡ false → merge_begun c.in-Merge.name old ≡ Err e) in
     subst P (sym c.in-Merge.is) (record {
       begun = on_worded (λ _. Done) c.merge_device.result c.did-in-Merge.result (IsDoneFor c.in-Merge.name IsBegunIn old new) c.did-in-Merge.ensures c.merge_device.ensures.begun;
       refused = refused_worded (λ _. Done) c.merge_device.result c.did-in-Merge.result R c.did-in-Merge.ensures c.merge_device.ensures.refused;
@@ -173,7 +177,7 @@ returns-in-Merge-clause-left c =
 pub returns-in-Step-clause-done : goal.returns-in-Step-clause-done
 unfolding step
 returns-in-Step-clause-done c =
-    let P : Command → Type 0 = λ command. is_ruled command (table_of c.args.held.now) ≡ true → Does c.step_volume.result (table_of c.step_volume.new.held) (IsPartDone command (table_of c.args.held.now)) (step command (table_of c.args.held.now)) in
+    let P : Command → Type 0 = λ command. is_ruled command (table_of c.args.held.now) ≡ true → ServesIf (enters command) c.step_volume.result (table_of c.step_volume.new.held) (IsPartDone command (table_of c.args.held.now)) (step command (table_of c.args.held.now)) in
     subst P (sym c.in-Step.is) (λ ruled. let both = step_ruled c.in-Step.event _ ruled in c.step_volume.ensures.done both.0 both.1)
 
 pub returns-in-Step-clause-told : goal.returns-in-Step-clause-told
@@ -191,3 +195,13 @@ returns-in-Status-clause-left c =
     let table = table_of c.args.held.now in
     let P : Command → Type 0 = λ command. IsLeft command c.text.result table table c.args.ended.now.items c.args.ended.now.items in
     subst P (sym c.in-Status.is) (record { text = c.status_text.result; answer_is = c.text.ensures; among = c.status_text.ensures.among; stays = refl; alone = refl })
+
+pub returns-in-Create-clause-done : goal.returns-in-Create-clause-done
+unfolding step
+returns-in-Create-clause-done c =
+    let old = table_of c.args.held.now in
+    let new = table_of c.create_device.new.held in
+    let line = c.in-Create.line in
+    let P : Command → Type 0 = λ command. is_ruled command old ≡ true → ServesIf (enters command) c.did-in-Create.result new (IsPartDone command old) (step command old) in
+    subst P (sym c.in-Create.is) (λ ruled.
+    serves_worded (λ _. Done) (enters_journal line.target) c.create_device.result c.did-in-Create.result new (λ t. t ≡ old) (create c.in-Create.name line old) c.did-in-Create.ensures (c.create_device.ensures.done ruled))

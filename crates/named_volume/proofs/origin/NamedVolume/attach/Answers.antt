@@ -1,13 +1,15 @@
-use Rattle.std.proofs.Common.{◌≡◌, ◌∙◌, ◌++◌, ◌∷◌, [], ap, refl, sym, subst, true, false}
+use Rattle.std.proofs.Common.{◌≡◌, ◌∙◌, ◌++◌, ◌∷◌, [], ap, refl, sym, subst, true, false, inl, inr}
 use Rattle.std.specs.Prelude.{◌&&◌, Option, is_some}
 use Rattle.device.specs.Layers.{is_loud}
 use Rattle.named.specs.Stacks.{device_of}
 use Rattle.named.specs.State.{Stacked}
 use Rattle.layers.specs.declared.stack.Stack.{Stack}
+use Rattle.served.specs.Refusals.{is_starved}
 use Rattle.merge.specs.Merging.{Merging}
 use Rattle.named_volume.specs.Held.{merged_inside, merging_with, settled_in}
 use Rattle.named_volume.proofs.Merges.{begun_too, merge_by, merging_as_before}
 use Rattle.named_volume.proofs.Meets.{met, unmet, busy_back, read_same}
+use Rattle.named_volume.proofs.Parts.{no_both}
 use Rattle.named_volume.proofs.origin.NamedVolume.attach.Goals.{then-self, else-self}
 use Rattle.named_volume.proofs.origin.NamedVolume.attach.Goals as goal
 
@@ -28,11 +30,14 @@ returns-after-self-clause-ok c =
 
 pub returns-in-Err-attach-clause-err : goal.returns-in-Err-attach-clause-err
 returns-in-Err-attach-clause-err c =
-    rw (← c.self.view_is) (λ other sound quiet loud.
-    unmet c.args.chunk _ _ _ c.into_parts-names.result.0.items c.into_parts-names.result.1 c.into_parts-names.result.2 c.in-Err-attach.store c.args.stack c.of_parts.result c.self.inside.volume.events c.in-Err-attach.refusal
-    c.in-Err-attach.ensures.refused c.in-Err-attach.ensures.unread c.into_parts-names.ensures c.of_parts.ensures c.args.name _
-    (begun_too _ c.self.inside.volume c.self.invariant.begun ∙ c.self.invariant.begun) c.in-Err-attach.ensures.stale
-    (λ fresh. c.in-Err-attach.ensures.back other fresh (c.look.ensures quiet (c.self.invariant.loud sound)) (subst (λ (s : Stacked). is_loud s.device.layers ≡ true) c.into_parts-names.ensures loud)))
+    rw (← c.self.view_is) (λ other sound quiet loud. elim c.in-Err-attach.ensures.refused [
+      | inl starved ↦ absurd (no_both (is_starved c.in-Err-attach.refusal) starved.0 other)
+      | inr why ↦
+          unmet c.args.chunk _ _ _ c.into_parts-names.result.0.items c.into_parts-names.result.1 c.into_parts-names.result.2 c.in-Err-attach.store c.args.stack c.of_parts.result c.self.inside.volume.events c.in-Err-attach.refusal
+          why c.in-Err-attach.ensures.unread c.into_parts-names.ensures c.of_parts.ensures c.args.name _
+          (begun_too _ c.self.inside.volume c.self.invariant.begun ∙ c.self.invariant.begun) c.in-Err-attach.ensures.stale
+          (λ fresh. c.in-Err-attach.ensures.back other fresh (c.look.ensures quiet (c.self.invariant.loud sound)) (subst (λ (s : Stacked). is_loud s.device.layers ≡ true) c.into_parts-names.ensures loud))
+    ])
 
 pub returns-in-Err-attach-clause-starved : goal.returns-in-Err-attach-clause-starved
 returns-in-Err-attach-clause-starved c = λ none.
@@ -41,6 +46,9 @@ returns-in-Err-attach-clause-starved c = λ none.
 
 pub returns-in-Err-attach-clause-busy : goal.returns-in-Err-attach-clause-busy
 returns-in-Err-attach-clause-busy c =
-    rw (← c.self.view_is) (λ busy.
-    busy_back c.args.chunk _ _ _ c.into_parts-names.result.0.items c.into_parts-names.result.1 c.into_parts-names.result.2 c.in-Err-attach.store c.args.stack c.of_parts.result c.self.inside.volume.events c.in-Err-attach.refusal
-    c.in-Err-attach.ensures.refused c.in-Err-attach.ensures.unread c.into_parts-names.ensures c.of_parts.ensures _ (begun_too _ c.self.inside.volume c.self.invariant.begun ∙ c.self.invariant.begun) busy)
+    rw (← c.self.view_is) (λ busy. elim c.in-Err-attach.ensures.refused [
+      | inl starved ↦ (inl starved.0, rw c.into_parts-names.ensures (rw c.of_parts.ensures (rw starved.1 refl)))
+      | inr why ↦
+          busy_back c.args.chunk _ _ _ c.into_parts-names.result.0.items c.into_parts-names.result.1 c.into_parts-names.result.2 c.in-Err-attach.store c.args.stack c.of_parts.result c.self.inside.volume.events c.in-Err-attach.refusal
+          why c.in-Err-attach.ensures.unread c.into_parts-names.ensures c.of_parts.ensures _ (begun_too _ c.self.inside.volume c.self.invariant.begun ∙ c.self.invariant.begun) busy
+    ])

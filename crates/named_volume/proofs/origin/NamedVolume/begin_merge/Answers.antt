@@ -4,10 +4,12 @@ use Rattle.std.specs.List.{remove}
 use Rattle.std.proofs.lemmas.List.Edits.{length-remove}
 use Rattle.std.proofs.lemmas.Option.{slice_get_read}
 use Rattle.layers.specs.declared.stack.Stack.{Stack}
+use Rattle.served.specs.Refusals.{is_starved}
 use Rattle.merge.specs.Merging.{Merging}
 use Rattle.named_volume.specs.Held.{merging_with}
 use Rattle.named_volume.proofs.Begins.{begun_once, begun_is, none_of, not_begun, alike_state, alike_merging, alike_flying}
 use Rattle.named_volume.proofs.Merges.{begun_too, names_are}
+use Rattle.named_volume.proofs.Parts.{no_both}
 use Rattle.named_volume.proofs.Places.{here}
 use Rattle.named_volume.proofs.origin.NamedVolume.begin_merge.Goals as goal
 
@@ -79,10 +81,13 @@ returns-in-Err-clause-err c =
             not_begun c.args.k _ old c.number-number.result one.0 refl unmerged lt (sym (one.1 one.0)) (omega (arith, lt, many)) c.number-number.ensures.value c.number-number.ensures.first
             c.in-Err.ensures.whole.0 refl (none_of old.events.merge (sym c.self.invariant.begun ∙ none)) c.in-Err.refusal first.0,
       )
-      | inr starved ↦ (
-        (let same = starved.2 in rw (alike_state old c.begin_merge.new.self same) (rw (alike_merging old c.begin_merge.new.self same c.self.inside.merging) (rw (alike_flying old c.begin_merge.new.self same) (rw same.attached (rw same.quiet refl))))),
-        λ other. absurd (other starved.1),
-      )
+      | inr more ↦ elim more [
+        | inl starved ↦ (
+          (let same = starved.2 in rw (alike_state old c.begin_merge.new.self same) (rw (alike_merging old c.begin_merge.new.self same c.self.inside.merging) (rw (alike_flying old c.begin_merge.new.self same) (rw same.attached (rw same.quiet refl))))),
+          λ other. absurd (no_both (is_starved c.in-Err.refusal) (ap is_starved starved.1) other),
+        )
+        | inr full ↦ (rw full.1 refl, λ other. absurd (no_both (is_starved c.in-Err.refusal) (ap is_starved full.0) other))
+      ]
     ])
 
 pub returns-in-Err-clause-done : goal.returns-in-Err-clause-done

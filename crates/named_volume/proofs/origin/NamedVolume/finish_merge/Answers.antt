@@ -1,15 +1,29 @@
-use Rattle.std.proofs.Common.{◌≡◌, Some, refl, sym, ap, ◌∙◌}
+use Rattle.std.proofs.Common.{◌≡◌, Some, refl, sym, ap, ◌∙◌, inl, inr}
 use Rattle.std.specs.Prelude.{Option}
+use Rattle.volume.specs.Leaving.{is_quiet_of}
 use Rattle.named.specs.State.{Names, Stacked, names_in}
 use Rattle.named_volume.specs.Held.{merging_with}
-use Rattle.named_volume.proofs.Finishes.{finished_is, same_state, unfinished_is}
-use Rattle.named_volume.proofs.Merges.{names_are}
+use Rattle.named_volume.proofs.Events.{behind}
+use Rattle.named_volume.proofs.Finishes.{finished_is, same_state, unfinished_is, unfinished_served}
+use Rattle.named_volume.proofs.Merges.{merge_is, names_are}
 use Rattle.named_volume.proofs.origin.NamedVolume.finish_merge.Goals as goal
 
 pub returns-in-Err-clause-refused : goal.returns-in-Err-clause-refused
 returns-in-Err-clause-refused c =
-    rw (← c.self.view_is) (λ sound quiet.
-    unfinished_is _ c.self.inside.volume c.self.inside.merging c.in-Err.refusal refl (c.in-Err.ensures.unfinished (c.look.ensures quiet (c.self.invariant.loud sound))))
+    rw (← c.self.view_is) (λ sound quiet other.
+    elim c.in-Err.ensures.refused.0 [
+      | inl first ↦ unfinished_is _ c.self.inside.volume c.self.inside.merging c.in-Err.refusal refl
+          (c.in-Err.ensures.unfinished (unfinished_served c.self.inside.volume.events.merge (is_quiet_of c.self.inside.volume.events) c.in-Err.refusal first) (c.look.ensures quiet (c.self.invariant.loud sound)))
+      | inr full ↦ absurd (other full)
+    ])
+
+pub returns-in-Err-clause-unfinished : goal.returns-in-Err-clause-unfinished
+returns-in-Err-clause-unfinished c =
+    rw (← c.self.view_is) (λ other.
+    elim c.in-Err.ensures.refused.0 [
+      | inl first ↦ (c.self.inside.volume.events, behind c.self.inside.volume _ c.finish_merge.ensures.whole.0 refl (merge_is _ c.self.inside.volume c.self.invariant.begun) refl refl, first)
+      | inr full ↦ absurd (other full)
+    ])
 
 pub returns-clause-parted : goal.returns-clause-parted
 returns-clause-parted c =

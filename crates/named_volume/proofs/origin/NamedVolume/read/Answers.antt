@@ -8,7 +8,7 @@ use Rattle.named_volume.proofs.origin.NamedVolume.read.Goals as goal
 pub returns-in-Err-clause-done : goal.returns-in-Err-clause-done
 returns-in-Err-clause-done c =
     rw (← c.self.view_is) (λ sound quiet.
-    read_refused c.args.role c.args.first c.args.count _ _ c.in-Err.refusal (c.in-Err.ensures.err _ refl refl) (rw c.in-Err.ensures.same refl) c.in-Err.ensures.known)
+    read_refused c.args.role c.args.first c.args.count _ _ c.in-Err.refusal (c.in-Err.ensures.err _ refl refl) (rw c.in-Err.ensures.same refl))
 
 pub returns-then-is_quiet-clause-done : goal.returns-then-is_quiet-clause-done
 returns-then-is_quiet-clause-done c =
