@@ -1,7 +1,7 @@
 -- What a line of a block says: `SEAT COMMAND`, a seat from 1 to 8 and a `read`, `write` or `merge` by the grammar of command
 -- lines, or `end`. The rule is this project's own. A number of sectors that no command has is no fault of the line: the seat
 -- answers it in its turn.
-use Rattle.std.specs.Prelude.{ℕ, ◌≤◌, Bool, true, false, ◌&&◌, ◌||◌, List, length, nat_lt, nat_le, ◌==◌, if◌then◌else◌, Option, Some, None, Result, Ok, Err, codes}
+use Rattle.std.specs.Prelude.{ℕ, ◌≤◌, Bool, true, false, ◌&&◌, List, length, nat_lt, nat_le, ◌==◌, if◌then◌else◌, Option, Some, Result, Ok, Err, codes}
 use Rattle.std.specs.List.{list_all}
 use Rattle.std.specs.Str.{bytes_eq}
 use Rattle.sector.specs.declared.refusal.Refusal.{Refusal}
@@ -16,7 +16,7 @@ use Rattle.block.specs.declared.said.Said.{Said}
 use Rattle.block.specs.declared.said.Said.TheVariants.{Nothing, End, Line}
 use Rattle.block.specs.declared.seat_line.SeatLine.{SeatLine}
 use Rattle.block.specs.declared.seat_line.Work.{Work}
-use Rattle.block.specs.declared.seat_line.Work.TheVariants.{Read, Write, Merge, Outside}
+use Rattle.block.specs.declared.seat_line.Work.TheVariants.{Read, Write, Merge, OutsideRead, OutsideWrite}
 use Rattle.block.specs.Word.{after_word, first_word}
 
 -- `end` alone
@@ -31,13 +31,15 @@ seat_of word = numeral_of word >>= λ seat. if nat_le 1 seat && nat_le seat 8 th
 abbrev pub IsSeat : ℕ → Type 0
 IsSeat seat = (1 ≤ seat) × (seat ≤ 8)
 
--- the words whose commands move sectors
-abbrev pub moves_sectors : List ℕ → Bool
-moves_sectors verb = bytes_eq verb (codes "read") || bytes_eq verb (codes "write")
+-- a read or a write, by its word, of a number of sectors outside 1 to 2048
+abbrev pub outside_by : List ℕ → List ℕ → Result Work Refusal
+outside_by verb name =
+    if bytes_eq verb (codes "read") then Ok (OutsideRead name) else
+    if bytes_eq verb (codes "write") then Ok (OutsideWrite name) else
+    Err BadTable
 
--- a read or a write of a number of sectors outside 1 to 2048
 abbrev pub outside_of : List ℕ → Result Work Refusal
-outside_of rest = if moves_sectors (first_word rest) then (name_of (first_word (after_word rest)) >>= λ name. Ok (Outside name)) else Err BadTable
+outside_of rest = name_of (first_word (after_word rest)) >>= outside_by (first_word rest)
 
 -- what a seat is to do, by what a command line says
 abbrev pub work_in : List ℕ → Result (Option Command) Refusal → Result Work Refusal

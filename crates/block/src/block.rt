@@ -1,5 +1,5 @@
 // A block whose lines are taken one by one.
-ghost use Rattle.std.specs.Prelude.{◌≡◌, ◌≢◌, [], Some, None};
+ghost use Rattle.std.specs.Prelude.{◌≡◌, ◌≢◌, true, [], Some, None};
 ghost use Rattle.sector.specs.declared.refusal.Refusal.TheVariants.{NoMemory};
 ghost use Rattle.block.specs.Blocks.{AreSeats, ends_block, opened, with_line, worse};
 
@@ -58,6 +58,7 @@ impl Block {
     #[tactic(auto, unfolding(crate::specs::Blocks::with_line, crate::specs::Blocks::ends_block, crate::specs::Lines::said_in))]
     pub fn take(&mut self, alloc: Global, line: &[u8]) -> bool
         ensures ends { result ≡ ends_block line.now }
+        ensures ended { result ≡ true → self.new ≡ self.old }
         ensures taken { self.new.refusal ≢ Some NoMemory → self.new ≡ with_line line.now self.old }
         ensures starved { self.old.refusal ≡ Some NoMemory → self.new.refusal ≡ Some NoMemory }
     {

@@ -15,7 +15,7 @@ mod word;
 
 pub use block::Block;
 pub use found::{Found, refusal_among};
-pub use opening::{Opening, opening_by};
+pub use opening::{Opening, is_par, opening_by};
 pub use said::{Said, said_by};
 pub use seat_line::{SeatLine, Work};
 

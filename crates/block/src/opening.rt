@@ -1,13 +1,13 @@
 // The line that opens a block.
-ghost use Rattle.std.specs.Prelude.{◌≡◌, IfErr, IfOk};
-ghost use Rattle.sector.specs.declared.refusal.Refusal.TheVariants.{NoMemory};
+ghost use Rattle.std.specs.Prelude.{◌≡◌};
+ghost use Rattle.words.specs.Given.{Gives};
 ghost use Rattle.words.specs.Texts.{texts};
-ghost use Rattle.block.specs.Opening.{is_par, opening_in, opening_of};
+ghost use Rattle.block.specs.Opening.{has_par, held_of, is_par, opening_in, opening_of};
 
 use crate::word::{after_word, first_word};
 use sector::Refusal;
 use std::alloc::Global;
-use words::{number, words_in};
+use words::{numeral, words_in};
 
 /// A block is opened.
 #[derive(Clone, Copy, Debug)]
@@ -16,40 +16,46 @@ pub struct Opening {
     pub hold: Option<u32>,
 }
 
-/// What the words after `par` say: nothing, or `hold K`.
-fn opening_in(words: &[&[u8]]) -> Option<Opening>
+fn held(hold: &[u8], ticket: &[u8]) -> Result<Opening, Refusal>
+    ensures { result ≡ held_of hold.now ticket.now }
+{
+    if hold != b"hold".as_slice() {
+        return Err(Refusal::BadTable);
+    }
+    let ticket = numeral(ticket)?;
+    Ok(Opening { hold: Some(ticket) })
+}
+
+/// What the words after `par` say: nothing, or `hold K`. `BadTable` for others.
+fn opening_in(words: &[&[u8]]) -> Result<Opening, Refusal>
     ensures { result ≡ opening_in (texts words.now) }
 {
     match words {
-        [] => Some(Opening { hold: None }),
-        [hold, ticket] => {
-            if *hold != b"hold".as_slice() {
-                return None;
-            }
-            let ticket = number(ticket)?;
-            Some(Opening { hold: Some(ticket) })
-        }
-        _ => None,
+        [] => Ok(Opening { hold: None }),
+        [hold, ticket] => held(hold, ticket),
+        _ => Err(Refusal::BadTable),
     }
 }
 
-/// Whether a line begins with the word `par`.
-pub fn is_par(line: &[u8]) -> bool
-    ensures { result ≡ is_par line.now }
+fn has_par(line: &[u8]) -> bool
+    ensures { result ≡ has_par line.now }
 {
     first_word(line) == b"par".as_slice()
 }
 
-/// The block that a line opens, the line given without its end: `par`, or `par hold K`. `None` for a line of another form, and
-/// for one of more than `max` bytes. The one error is `NoMemory`; only a line that begins with the word `par` takes memory.
-#[tactic(auto, unfolding(crate::specs::Opening::opening_of))]
-pub fn opening_by(alloc: Global, line: &[u8], max: usize) -> Result<Option<Opening>, Refusal>
-    ensures ok { IfOk result (λ opening. opening ≡ opening_of max line.now) }
-    ensures err { IfErr result (λ e. e ≡ NoMemory) }
+/// Whether a line of at most `max` bytes, given without its end, begins with the word `par`. No other line opens a block.
+pub fn is_par(line: &[u8], max: usize) -> bool
+    ensures { result ≡ is_par max line.now }
 {
-    if line.len() > max || !is_par(line) {
-        return Ok(None);
-    }
+    line.len() <= max && has_par(line)
+}
+
+/// The block that a line opens which begins with the word `par`: `par`, or `par hold K`. `BadTable` for another form; the one
+/// other error is `NoMemory`.
+#[tactic(auto, unfolding(crate::specs::Opening::opening_of))]
+pub fn opening_by(alloc: Global, line: &[u8]) -> Result<Opening, Refusal>
+    ensures { Gives result (opening_of line.now) }
+{
     let words = words_in(alloc, after_word(line)).map_err(|_| Refusal::NoMemory)?;
-    Ok(opening_in(&words))
+    opening_in(&words)
 }

@@ -4,7 +4,7 @@ ghost use Rattle.std.specs.List.{list_all};
 ghost use Rattle.sector.specs.declared.refusal.Refusal.TheVariants.{BadTable, OutOfRange};
 ghost use Rattle.words.specs.Given.{Gives};
 ghost use Rattle.command.specs.Line.{is_silent};
-ghost use Rattle.block.specs.Lines.{IsSeat, IsSeatSaid, ends_with, is_end, line_of, moves_sectors, outside_of, said_in, seat_of, work_of};
+ghost use Rattle.block.specs.Lines.{IsSeat, IsSeatSaid, ends_with, is_end, line_of, outside_by, outside_of, said_in, seat_of, work_of};
 
 use crate::seat_line::{SeatLine, Work};
 use crate::word::{after_word, first_word};
@@ -55,21 +55,24 @@ fn seat(word: &[u8]) -> Result<u8, Refusal>
     }
 }
 
-fn moves_sectors(verb: &[u8]) -> bool
-    ensures { result ≡ moves_sectors verb.now }
+/// A command whose number of sectors no command has, by its word: a read's and a write's is refused in its turn.
+fn outside_by(verb: &[u8], name: Name) -> Result<Work, Refusal>
+    ensures { result ≡ outside_by verb.now name }
 {
-    verb == b"read".as_slice() || verb == b"write".as_slice()
+    if verb == b"read".as_slice() {
+        Ok(Work::OutsideRead { name })
+    } else if verb == b"write".as_slice() {
+        Ok(Work::OutsideWrite { name })
+    } else {
+        Err(Refusal::BadTable)
+    }
 }
 
-/// A command whose number of sectors no command has: a read's and a write's is refused in its turn.
 fn outside(rest: &[u8]) -> Result<Work, Refusal>
     ensures { result ≡ outside_of rest.now }
 {
-    if !moves_sectors(first_word(rest)) {
-        return Err(Refusal::BadTable);
-    }
     let name = Name::new(first_word(after_word(rest)))?;
-    Ok(Work::Outside { name })
+    outside_by(first_word(rest), name)
 }
 
 /// What a seat is to do, by a command line.

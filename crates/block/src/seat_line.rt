@@ -12,8 +12,10 @@ pub enum Work {
     Write { name: Name, first: u32, bytes: Buf },
     /// `merge SNAP`: merges a snapshot into its origin.
     Merge { name: Name },
-    /// A read or a write of a number of sectors outside 1 to 2048, which is refused as its turn comes.
-    Outside { name: Name },
+    /// A read of a number of sectors outside 1 to 2048, which is refused as its turn comes.
+    OutsideRead { name: Name },
+    /// A write of such a number.
+    OutsideWrite { name: Name },
 }
 
 /// A line of a block: the seat whose line it is, 1 to 8, and what that is to do.

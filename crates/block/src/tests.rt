@@ -15,34 +15,31 @@ fn taken(alloc: Global, lines: &[&str]) -> (usize, Option<Refusal>) {
 }
 
 #[test]
-fn opens_blocks_by_two_forms(rt: HostRuntime) -> Result<(), Fail> {
+fn opens_blocks_by_two_forms(rt: HostRuntime) {
     let lines = [
-        ("par", true, None),
-        ("  par  ", true, None),
-        ("par hold 1", true, Some(1)),
-        (" par  hold  0000000009 ", true, Some(9)),
-        ("par hold 00000000009", false, None),
-        ("par hold 4294967295", true, Some(4_294_967_295)),
-        ("par hold 0", true, Some(0)),
-        ("par x", false, None),
-        ("par hold", false, None),
-        ("par hold x", false, None),
-        ("par hold 4294967296", false, None),
-        ("par hold 1 2", false, None),
-        ("Par", false, None),
-        ("# par", false, None),
-        ("", false, None),
+        ("par", Ok(None)),
+        ("  par  ", Ok(None)),
+        ("par hold 1", Ok(Some(1))),
+        (" par  hold  0000000009 ", Ok(Some(9))),
+        ("par hold 4294967295", Ok(Some(4_294_967_295))),
+        ("par hold 0", Ok(Some(0))),
+        ("par x", Err(Refusal::BadTable)),
+        ("par hold", Err(Refusal::BadTable)),
+        ("par hold x", Err(Refusal::BadTable)),
+        ("par hold 00000000009", Err(Refusal::BadTable)),
+        ("par hold 4294967296", Err(Refusal::BadTable)),
+        ("par hold 1 2", Err(Refusal::BadTable)),
     ];
-    for (line, opens, hold) in lines {
-        let opening = opening_by(rt.alloc(), line.as_bytes(), LINE_LIMIT)?;
-        let (found, held) = match opening {
-            Some(opening) => (true, opening.hold),
-            None => (false, None),
-        };
-        assert_eq!(rt; found, opens, "at {line}");
-        assert_eq!(rt; held, hold, "at {line}");
+    for (line, wanted) in lines {
+        let line = line.as_bytes();
+        assert!(rt; is_par(line, LINE_LIMIT));
+        let hold = opening_by(rt.alloc(), line).map(|opening| opening.hold);
+        assert_eq!(rt; hold, wanted, "at {line:?}");
     }
-    Ok(())
+    for line in ["Par", "# par", "", "1 par", "parity", "par\t"] {
+        assert!(rt; !is_par(line.as_bytes(), LINE_LIMIT), "at {line}");
+    }
+    assert!(rt; !is_par(b"par   ", 5));
 }
 
 #[test]
@@ -90,6 +87,8 @@ fn ends_at_the_word_alone(rt: HostRuntime) {
     assert!(rt; !block.take(rt.alloc(), b"1 read vol 5 2"));
     assert!(rt; !block.take(rt.alloc(), b"# end"));
     assert!(rt; !block.take(rt.alloc(), b"3 write snap 9 512*77"));
+    assert!(rt; !block.take(rt.alloc(), b"4 read vol 5 0"));
+    assert!(rt; !block.take(rt.alloc(), b"5 write vol 5 1048576*00 512*00"));
     assert!(rt; block.take(rt.alloc(), b"  end "));
     assert_eq!(rt; block.opening().hold, Some(7));
     let mut kinds = Vec::new(rt.alloc());
@@ -107,13 +106,21 @@ fn ends_at_the_word_alone(rt: HostRuntime) {
                 *first,
                 1,
             ),
-            Work::Merge { .. } | Work::Outside { .. } => (line.seat, false, 0, 0),
+            Work::OutsideRead { .. } => (line.seat, false, 0, 1),
+            Work::OutsideWrite { .. } => (line.seat, false, 0, 2),
+            Work::Merge { .. } => (line.seat, false, 0, 0),
         };
         let _ = kinds.push(said);
     }
     assert_eq!(rt;
         kinds.as_slice(),
-        [(1, true, 5, 2), (3, true, 9, 1)].as_slice()
+        [
+            (1, true, 5, 2),
+            (3, true, 9, 1),
+            (4, false, 0, 1),
+            (5, false, 0, 2)
+        ]
+        .as_slice()
     );
 }
 

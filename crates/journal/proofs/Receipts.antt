@@ -24,10 +24,10 @@ use Rattle.volume.specs.Flying.{IsFlown}
 use Rattle.journal.specs.declared.entry.Entry.{Entry}
 use Rattle.journal.specs.declared.entry.Entry.TheVariants.{Answered, Spoiled}
 use Rattle.journal.specs.declared.entry.Held.{Held}
-use Rattle.journal.specs.Books.{AuditShape, count_of}
+use Rattle.journal.specs.Books.{AuditShape, count_of, in_flight as held_in_flight}
 use Rattle.journal.specs.Journaled.{HasReceipt, IsNoted, IsSilent, OnlySpoils}
 use Rattle.journal.specs.Noted.{Noted}
-use Rattle.journal.specs.Seats.{Seated, is_of, seated, seated_under, without_seated}
+use Rattle.journal.specs.Seats.{Seated, flight_in, is_of, seated, seated_under, without_seated}
 use Rattle.journal.proofs.Replaying.{IsFirst, seated_first, seated_none, unseated_first}
 use Rattle.journal.proofs.Keeping.{answer_of}
 
@@ -111,3 +111,8 @@ refused_requests contents layers size request refusal w w' (inl same) = ap (λ (
 refused_requests contents layers size request refusal w w' (inr (inl same)) = let room : SameButRoom w w' = same.2 in ap (λ (y : Volumed _). map in_flight y.flights) room.becomes
 refused_requests contents layers size request refusal w w' (inr (inr full)) =
     let found : IsFoundFull contents layers full.2.0 _ w w' = full.2.2 in ap (λ (y : Volumed _). map in_flight y.flights) found.becomes ∙ refused_in_flight (full.2.0 ∷ []) w.flights
+
+-- the requests that seats submitted, whoever they are
+pub flights_in : (hs : List Held) → map flight_in (map seated hs) ≡ map held_in_flight hs
+flights_in [] = refl
+flights_in (h ∷ hs) = ap (λ (fs : List InFlight). held_in_flight h ∷ fs) (flights_in hs)

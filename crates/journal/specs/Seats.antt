@@ -1,5 +1,6 @@
 -- Who submitted the requests in flight. This project's own.
 use Rattle.std.specs.Prelude.{◌==◌, ℕ, Bool, true, false, List, [], ◌∷◌, Option, Some, None, if◌then◌else◌}
+use Rattle.plain.specs.Plain.{InFlight}
 use Rattle.plain.specs.declared.event.Event.{Event}
 use Rattle.plain.specs.declared.event.Event.TheVariants.{Issue}
 use Rattle.plain.specs.declared.request.Request.{Request}
@@ -13,6 +14,10 @@ pub record Seated : Type 0 where
 
 abbrev pub seated : Held → Seated
 seated h = record { number = h.number; seat = h.seat; request = h.for_entry }
+
+-- as a request in flight, whoever submitted it
+abbrev pub flight_in : Seated → InFlight
+flight_in s = record { number = s.number; request = s.request }
 
 -- the first with a number
 abbrev pub seated_under : ℕ → List Seated → Option Seated

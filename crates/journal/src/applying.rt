@@ -1,10 +1,12 @@
 // The events of a volume, each with what it comes to in the journal.
-ghost use Rattle.std.specs.Prelude.{◌≡◌, ◌≢◌, ◌&&◌, ◌+◌, ◌<◌, ◌≤◌, ℕ, IfOk, IsOk, OnErr, None, OnOk, Some, is_ok, true};
+ghost use Rattle.std.specs.Prelude.{◌≡◌, ◌≢◌, ◌&&◌, ◌+◌, ◌<◌, ◌≤◌, ℕ, IfOk, IsOk, OnErr, None, OnOk, Some, is_ok, map, true};
+ghost use Rattle.pending.specs.Kinds.{in_flight};
 ghost use Rattle.plain.specs.Legal.{IsLegalStep};
 ghost use Rattle.plain.specs.declared.event.Event.TheVariants.{Issue};
 ghost use Rattle.volume.specs.Asking.{is_finished_in};
 ghost use Rattle.volume.specs.Causes.{HasCause, IsOneAtMost};
 ghost use Rattle.volume.specs.Exact.{IsExact};
+ghost use Rattle.volume.specs.Flying.{IsFlown};
 ghost use Rattle.volume.specs.Stepping.{KeepsAll, failed_by, has_failed, starts_by};
 ghost use Rattle.volume.specs.Stored.{RemovesPairs, is_finished_on};
 ghost use Rattle.volume.specs.Volumed.{is_due_of, is_loud_in_all, left_in_all, next_of, plain_of};
@@ -31,6 +33,7 @@ impl<B: Layered> Audit<B> {
         ensures lower { OnOk result (left_in_all B.contents B.layers self.new.volume < left_in_all B.contents B.layers self.old.volume) }
         ensures loud { is_loud_in_all B.layers self.new.volume ≡ is_loud_in_all B.layers self.old.volume }
         ensures cause { IfOk result (λ r. HasCause B.fault_count event r.0 self.old.volume self.new.volume) }
+        ensures flown { IfOk result (λ r. IsFlown event r.0 (map in_flight self.old.volume.flights) (map in_flight self.new.volume.flights)) }
         ensures one { OnOk result (IsOneAtMost B.done_count self.old.volume self.new.volume) }
         ensures kept { OnOk result (KeepsAll B.size self.old.volume self.new.volume) }
         ensures failed { IfOk result (λ r. has_failed self.new.volume.merge ≡ failed_by event r.0 (has_failed self.old.volume.merge)) }
@@ -60,6 +63,7 @@ impl<B: Layered> Audit<B> {
         ensures lower { OnOk result (left_in_all B.contents B.layers self.new.volume < left_in_all B.contents B.layers self.old.volume) }
         ensures loud { is_loud_in_all B.layers self.new.volume ≡ is_loud_in_all B.layers self.old.volume }
         ensures cause { IfOk result (λ outcome. HasCause B.fault_count event outcome self.old.volume self.new.volume) }
+        ensures flown { IfOk result (λ outcome. IsFlown event outcome (map in_flight self.old.volume.flights) (map in_flight self.new.volume.flights)) }
         ensures one { OnOk result (IsOneAtMost B.done_count self.old.volume self.new.volume) }
         ensures kept { OnOk result (KeepsAll B.size self.old.volume self.new.volume) }
         ensures failed { IfOk result (λ outcome. has_failed self.new.volume.merge ≡ failed_by event outcome (has_failed self.old.volume.merge)) }
@@ -88,6 +92,7 @@ impl<B: Layered> Audit<B> {
         ensures lower { OnOk result (left_in_all B.contents B.layers self.new.volume < left_in_all B.contents B.layers self.old.volume) }
         ensures loud { is_loud_in_all B.layers self.new.volume ≡ is_loud_in_all B.layers self.old.volume }
         ensures cause { IfOk result (λ r. HasCause B.fault_count (Issue number) r.0 self.old.volume self.new.volume) }
+        ensures flown { IfOk result (λ r. IsFlown (Issue number) r.0 (map in_flight self.old.volume.flights) (map in_flight self.new.volume.flights)) }
         ensures one { OnOk result (IsOneAtMost B.done_count self.old.volume self.new.volume) }
         ensures kept { OnOk result (KeepsAll B.size self.old.volume self.new.volume) }
         ensures failed { IfOk result (λ r. has_failed self.new.volume.merge ≡ failed_by (Issue number) r.0 (has_failed self.old.volume.merge)) }

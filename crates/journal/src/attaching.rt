@@ -2,7 +2,7 @@
 ghost use Rattle.std.specs.Prelude.{◌≡◌, ◌≢◌, ◌⊎◌, ◌&&◌, ◌+◌, ◌*◌, MatchResult, Err, IfErr, IfOk, List, None, Ok, OnErr, OnOk, Some, false, length, true, ℕ};
 ghost use Rattle.device.specs.Layers.{is_loud};
 ghost use Rattle.plain.specs.Legal.{IsTaken};
-ghost use Rattle.sector.specs.declared.refusal.Refusal.TheVariants.{NoMemory};
+ghost use Rattle.sector.specs.declared.refusal.Refusal.TheVariants.{JournalFull, NoMemory};
 ghost use Rattle.settled.specs.Attaching.{attached as attached_by, refused_attach};
 ghost use Rattle.snapshot.specs.Opening.{shown_array};
 ghost use Rattle.store.specs.Reading.{AreRead};
@@ -40,8 +40,8 @@ impl<B: Layered> Audit<B> {
         ensures exact { IfOk result (λ number. is_loud_in_all B.layers self.old.volume ≡ true → is_loud (B.layers store.device) ≡ true → IsAttachedAs B.contents B.layers number chunk store self.old.volume self.new.volume) }
         ensures refused { IfErr result (λ e. IsNotAttached (is_full_by 2 self.old) e.0 (e.1 ≡ store) (IsNotTaken store.stale chunk (B.size self.old.volume.origin) (B.size store.device) (B.contents store.device) self.old.volume e.0)) }
         ensures unread { IfErr result (λ e. attach_refusal store.stale chunk self.old.volume ≡ Some e.0 → e.1 ≡ store) }
-        ensures back { IfErr result (λ e. (e.1 ≡ store) ⊎ (e.0 ≢ NoMemory → self.old.volume.merge ≡ None → is_quiet_of self.old.volume ≡ true → is_loud_in_all B.layers self.old.volume ≡ true → is_loud (B.layers store.device) ≡ true → attached_by (self.old.volume.attached + 1) chunk (store_of B.contents B.layers store) (volume_in B.contents B.layers self.old.volume) ≡ refused_attach e.0 (store_of B.contents B.layers e.1) (volume_in B.contents B.layers self.old.volume))) }
-        ensures starved { IfErr result (λ e. (e.1 ≡ store) ⊎ (e.0 ≡ NoMemory → (B.contents e.1.device ≡ B.contents store.device) × AreRead (B.layers store.device) (B.layers e.1.device))) }
+        ensures back { IfErr result (λ e. e.0 ≢ JournalFull → e.0 ≢ NoMemory → self.old.volume.merge ≡ None → is_quiet_of self.old.volume ≡ true → is_loud_in_all B.layers self.old.volume ≡ true → is_loud (B.layers store.device) ≡ true → attached_by (self.old.volume.attached + 1) chunk (store_of B.contents B.layers store) (volume_in B.contents B.layers self.old.volume) ≡ refused_attach e.0 (store_of B.contents B.layers e.1) (volume_in B.contents B.layers self.old.volume)) }
+        ensures starved { IfErr result (λ e. e.0 ≡ NoMemory → (B.contents e.1.device ≡ B.contents store.device) × AreRead (B.layers store.device) (B.layers e.1.device)) }
         ensures size { IfErr result (λ e. B.size e.1.device ≡ B.size store.device) }
         ensures loud { MatchResult result (λ _. is_loud_in_all B.layers self.new.volume ≡ (is_loud_in_all B.layers self.old.volume && is_loud (B.layers store.device))) (λ e. is_loud (B.layers e.1.device) ≡ is_loud (B.layers store.device)) }
         ensures same { OnErr result (self.new ≡ self.old) }

@@ -1,11 +1,13 @@
 // An audit, and what callers ask of it.
-ghost use Rattle.std.specs.Prelude.{◌≡◌, ◌<◌, [], IfErr, IfOk, length, replicate, slice_index_or, true};
+ghost use Rattle.std.specs.Prelude.{◌≡◌, ◌<◌, [], IfErr, IfOk, length, map, replicate, slice_index_or, true};
 ghost use Rattle.sector.specs.declared.refusal.Refusal.TheVariants.{NoMemory};
+ghost use Rattle.pending.specs.Kinds.{in_flight};
 ghost use Rattle.volume.specs.Volumed.{is_loud_in_all, plain_of};
 ghost use Rattle.volume.specs.Causes.{lives_of};
 ghost use Rattle.journal.specs.Books.{count_of};
 ghost use Rattle.journal.specs.Entries.{HasVerdict};
 ghost use Rattle.journal.specs.Replay.{AllLawful, replay, saves_of};
+ghost use Rattle.journal.specs.Seats.{flight_in};
 
 use crate::bases::base_of;
 use crate::entry::{Base, Entry, Held, Receipt, Verdict};
@@ -139,6 +141,13 @@ impl<B: Layered> Audit<B> {
         ensures volume { result ≡ true → is_loud_in_all B.layers self.now.volume ≡ true }
     {
         self.loud
+    }
+
+    /// A look at the requests in flight, which does nothing: those that seats submitted are the volume's.
+    pub fn look_at_requests(&self)
+        ensures { map flight_in self.now.held ≡ map in_flight self.now.volume.flights }
+    {
+        let _ = &self.held;
     }
 
     /// How many requests are in flight.

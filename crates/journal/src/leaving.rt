@@ -1,5 +1,5 @@
 // A snapshot leaves a volume, or begins to be merged, and what that comes to in the journal.
-ghost use Rattle.std.specs.Prelude.{◌≡◌, ◌&&◌, IfErr, IfOk, None, OnOk, Option, false, true};
+ghost use Rattle.std.specs.Prelude.{◌≡◌, ◌&&◌, IfErr, IfOk, None, OnErr, OnOk, Option, false, true};
 ghost use Rattle.device.specs.Layers.{is_loud};
 ghost use Rattle.event_machine.specs.Merging.{begun};
 ghost use Rattle.plain.specs.Legal.{IsBegun, IsDetached};
@@ -76,6 +76,7 @@ impl<B: Layered> Audit<B> {
         ensures exact { OnOk result ((replied : Option Reply) → begun number (moving_of B.contents B.layers replied self.old.volume) ≡ moving_of B.contents B.layers replied self.new.volume) }
         ensures loud { is_loud_in_all B.layers self.new.volume ≡ is_loud_in_all B.layers self.old.volume }
         ensures refused { IfErr result (λ refusal. IsNotMerged number refusal self.old self.new) }
+        ensures starved { OnErr result ((replied : Option Reply) → moving_of B.contents B.layers replied self.new.volume ≡ moving_of B.contents B.layers replied self.old.volume) }
     {
         if is_full(
             self.entries.len(),

@@ -7,11 +7,11 @@ use sector::Refusal;
 
 impl NamedVolume {
     /// Folds the journal, so that it has room again, whatever is in flight; no device is touched. `NoMemory` where the allocator
-    /// refuses what is needed for that, and then nothing changed. A volume keeps no journal yet, so nothing is folded.
+    /// refuses what is needed for that, and then nothing changed.
     pub fn checkpoint(&mut self) -> Result<(), Refusal>
         ensures same { self.new ≡ self.old }
         ensures err { IfErr result (λ e. e ≡ NoMemory) }
     {
-        Ok(())
+        self.volume.checkpoint()
     }
 }

@@ -147,5 +147,6 @@ refused_at number v None quiet false refusal none is e = (let same : refusal ≡
 refused_at number v (Some k) true false refusal at is e = absurd (cc)
 refused_at number v (Some k) false false refusal at is e = (let same : refusal ≡ NotQuiet = cc in (inr (inr (inl (same, refl))), λ other. dev_found number k v at))
 
-pub not_left : {B : Type 0} (number : ℕ) (v : Volumed B) → (refusal : Refusal) → detach_refusal number v ≡ Some refusal → WhyNone number v (is_quiet_of v) refusal × (refusal ≡ NotQuiet → has_dev (ToSnap number) (rested_of v) ≡ true)
-not_left number v refusal e = refused_at number v (place_of_snap number v.snaps) (is_quiet_of v) (is_merging number v.merge) refusal refl refl e
+pub not_left : {B : Type 0} (number : ℕ) (v : Volumed B) → (refusal : Refusal) → (detach_refusal number v ≡ Some refusal) ⊎ (refusal ≡ JournalFull) → WhyNone number v (is_quiet_of v) refusal × (refusal ≡ NotQuiet → has_dev (ToSnap number) (rested_of v) ≡ true)
+not_left number v refusal (inr full) = (inr (inr (inr full)), λ other. absurd (let differ : NotQuiet ≡ JournalFull = sym other ∙ full in cc))
+not_left number v refusal (inl e) = refused_at number v (place_of_snap number v.snaps) (is_quiet_of v) (is_merging number v.merge) refusal refl refl e

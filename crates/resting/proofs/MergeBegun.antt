@@ -1,13 +1,13 @@
 -- A merge begins, or does not for want of memory.
 use Rattle.std.proofs.Common.{◌≡◌, inl, inr, ℕ, Bool, true, false, List, [], ◌∷◌, length, get_or, map, Option, Some, None, refl, sym, ◌∙◌, ap}
-use Rattle.std.specs.Prelude.{◌==◌, ◌&&◌, not, if◌then◌else◌}
+use Rattle.std.specs.Prelude.{◌==◌, ◌&&◌, ◌⊎◌, not, if◌then◌else◌}
 use Rattle.std.specs.List.{list_all, remove}
 use Rattle.std.proofs.lemmas.Bool.{eqb-true}
 use Rattle.std.proofs.lemmas.List.{get_or-map}
 use Rattle.std.proofs.lemmas.List.Quantifiers.{position-Some}
 use Rattle.device.specs.Layers.{Layer}
 use Rattle.sector.specs.declared.refusal.Refusal.{Refusal}
-use Rattle.sector.specs.declared.refusal.Refusal.TheVariants.{Invalid, NotQuiet}
+use Rattle.sector.specs.declared.refusal.Refusal.TheVariants.{Invalid, JournalFull, NotQuiet}
 use Rattle.settled.specs.Merges.{begun as begun_in_big_steps}
 use Rattle.event_machine.specs.Merging.{begun as begun_in_events}
 use Rattle.event_machine.specs.MergeRest.{merged_of as merged_in_events, IsBetween}
@@ -144,10 +144,12 @@ module _ {B : Type 0} (contents : B → List ℕ) (layers : B → List Layer) (n
       flying = ap without_devices still;
     }
 
-  pub not_begun_as : (refusal : Refusal) → IsNotBegunIn number refusal old new → moving_of contents layers None new ≡ moving_of contents layers None old → IsNotBegun contents layers number refusal (rested_of old) (rested_of new)
-  not_begun_as refusal (inl first) still = inl (first.0, ap (λ (v : Volumed B). rested_of v) first.1)
-  not_begun_as refusal (inr starved) still = inr (inl (starved.0, starved.1, alike starved.2 still))
+  pub not_begun_as : (refusal : Refusal) → ((refusal ≡ JournalFull) × (new ≡ old)) ⊎ IsNotBegunIn number refusal old new → moving_of contents layers None new ≡ moving_of contents layers None old → IsNotBegun contents layers number refusal (rested_of old) (rested_of new)
+  not_begun_as refusal (inl full) still = inr (inr (full.0, ap (λ (v : Volumed B). rested_of v) full.1))
+  not_begun_as refusal (inr (inl first)) still = inl (first.0, ap (λ (v : Volumed B). rested_of v) first.1)
+  not_begun_as refusal (inr (inr starved)) still = inr (inl (starved.0, starved.1, alike starved.2 still))
 
-  pub not_begun_quiet : (refusal : Refusal) → IsNotBegunIn number refusal old new → is_quiet_of new ≡ is_quiet_of old
-  not_begun_quiet refusal (inl first) = ap (λ (v : Volumed B). is_quiet_of v) first.1
-  not_begun_quiet refusal (inr starved) = quiet_same starved.2
+  pub not_begun_quiet : (refusal : Refusal) → ((refusal ≡ JournalFull) × (new ≡ old)) ⊎ IsNotBegunIn number refusal old new → is_quiet_of new ≡ is_quiet_of old
+  not_begun_quiet refusal (inl full) = ap (λ (v : Volumed B). is_quiet_of v) full.1
+  not_begun_quiet refusal (inr (inl first)) = ap (λ (v : Volumed B). is_quiet_of v) first.1
+  not_begun_quiet refusal (inr (inr starved)) = quiet_same starved.2

@@ -1,9 +1,11 @@
 -- A request that was not accepted.
-use Rattle.std.proofs.Common.{◌≡◌, ◌≢◌, inl, inr, ℕ, Bool, ◌+◌, ◌≤◌, true, List, [], ◌∷◌, length, map, Option, Some, None, refl, sym, ◌∙◌, ap, arith}
-use Rattle.std.specs.Prelude.{◌&&◌, not, IfSome}
+use Rattle.std.proofs.Common.{◌≡◌, ◌≢◌, inl, inr, ℕ, Bool, ◌+◌, ◌≤◌, true, false, List, [], ◌∷◌, length, map, Option, Some, None, refl, sym, ◌∙◌, ap, subst, arith}
+use Rattle.std.specs.Prelude.{◌&&◌, ◌⊎◌, not, IfSome}
 use Rattle.std.specs.List.{list_all}
 use Rattle.sector.specs.declared.refusal.Refusal.{Refusal}
-use Rattle.sector.specs.declared.refusal.Refusal.TheVariants.{NoMemory, Invalid}
+use Rattle.sector.specs.declared.refusal.Refusal.TheVariants.{Invalid}
+use Rattle.served.specs.Refusals.{IsStarved, is_starved}
+use Rattle.served.proofs.Starved.{memory_starved}
 use Rattle.device.specs.Layers.{Layer, is_loud}
 use Rattle.plain.specs.declared.request.Request.{Request}
 use Rattle.snapshot.specs.Kept.{Kept}
@@ -26,55 +28,62 @@ all_unroomed test (x ∷ xs) same = ap (λ b. b && list_all test (map unroomed x
 all_roomed : {B : Type 0} (test : Kept B → Bool) (xs ys : List (Kept B)) → map unroomed xs ≡ map unroomed ys → ((s : Kept B) → test (unroomed s) ≡ test s) → list_all test xs ≡ list_all test ys
 all_roomed test xs ys e same = sym (all_unroomed test xs same) ∙ ap (list_all test) e ∙ all_unroomed test ys same
 
--- where nothing but room was made, the volume is as quiet and as loud
+-- where nothing but room was made, the volume is as quiet
 pub room_quiet : {B : Type 0} (old new : Volumed B) → SameButRoom old new → is_quiet_of new ≡ is_quiet_of old
 room_quiet {B} old new same =
     ap (λ (v : Volumed B). is_quiet_of v) same.becomes ∙ ap (λ b. Rattle.std.specs.Prelude.◌==◌ (length old.flights) 0 && (not (has_group_in old.merge) && b)) (all_roomed is_done_of new.snaps old.snaps same.roomed (λ s. refl))
-
-pub room_loud : {B : Type 0} (layers : B → List Layer) (old new : Volumed B) → SameButRoom old new → is_loud_in_all layers new ≡ is_loud_in_all layers old
-room_loud {B} layers old new same =
-    ap (λ (v : Volumed B). is_loud_in_all layers v) same.becomes ∙ ap (λ b. is_loud_with layers old.merge (is_loud (layers old.origin) && b)) (all_roomed (λ s. is_loud (layers s.device)) new.snaps old.snaps same.roomed (λ s. refl))
 
 -- what a look at the snapshot that is being merged says
 pub apart_by : {B : Type 0} (v : Volumed B) (seen : Option ℕ) → seen ≡ merging_number v.merge → IfSome seen (λ number. place_of_snap number v.snaps ≡ None) → (number : ℕ) → merging_number v.merge ≡ Some number → place_of_snap number v.snaps ≡ None
 apart_by v None is apart number e = absurd (let none : None ≡ Some number = is ∙ e in cc)
 apart_by v (Some n) is apart number e = (let some : Some n ≡ Some number = is ∙ e in let same : n ≡ number = cc in ap (λ k. place_of_snap k v.snaps) (sym same) ∙ apart)
 
-module _ {B : Type 0} (contents : B → List ℕ) (layers : B → List Layer) (size : B → ℕ) (request : Request) (refusal : Refusal) (old new : Volumed B) (refused : IsRefusedAs contents layers size request refusal old new) where
-  -- refused for another reason than its snapshot: memory
-  pub starved_only : CanServe size request.dev request.op request.range old → ((number : ℕ) → merging_number old.merge ≡ Some number → place_of_snap number old.snaps ≡ None) → is_quiet_of old ≡ true → length old.snaps ≤ 8 → refusal ≢ Invalid → (refusal ≡ NoMemory) × SameButRoom old new
-  starved_only can apart quiet few other = elim refused [
-    | inl first ↦ absurd (other (only_invalid size request old can apart quiet few refusal first.0))
-    | inr later ↦ elim later [
-      | inl starved ↦ (starved.1, starved.2)
-      | inr full ↦ absurd (other full.1)
-    ]
+-- a request was refused: for want of room, or as the volume says
+abbrev pub IsUnsent : {B : Type 0} → (B → List ℕ) → (B → List Layer) → (B → ℕ) → Request → Refusal → Volumed B → Volumed B → Type 0
+IsUnsent contents layers size request refusal old new = IsStarved refusal old new ⊎ IsRefusedAs contents layers size request refusal old new
+
+module _ {B : Type 0} (contents : B → List ℕ) (layers : B → List Layer) (size : B → ℕ) (request : Request) (refusal : Refusal) (old new : Volumed B) (refused : IsUnsent contents layers size request refusal old new) where
+  -- one that its snapshot refuses is not starved
+  pub invalid_refused : refusal ≡ Invalid → IsRefusedAs contents layers size request refusal old new
+  invalid_refused invalid = elim refused [
+    | inl starved ↦ absurd (let both : false ≡ true = sym (ap is_starved invalid) ∙ starved.0 in cc)
+    | inr other ↦ other
   ]
 
-  pub refused_loud : is_loud_in_all layers new ≡ is_loud_in_all layers old
-  refused_loud = elim refused [
-    | inl first ↦ ap (λ (v : Volumed B). is_loud_in_all layers v) first.1
-    | inr later ↦ elim later [
-      | inl starved ↦ room_loud layers old new starved.2
-      | inr full ↦ full.2.2.loud
+  -- refused for another reason than its snapshot: there is no room
+  pub starved_only : CanServe size request.dev request.op request.range old → ((number : ℕ) → merging_number old.merge ≡ Some number → place_of_snap number old.snaps ≡ None) → is_quiet_of old ≡ true → length old.snaps ≤ 8 → refusal ≢ Invalid → (is_starved refusal ≡ true) × SameButRoom old new
+  starved_only can apart quiet few other = elim refused [
+    | inl starved ↦ (starved.0, subst (SameButRoom old) (sym starved.1) (same_room old))
+    | inr plain ↦ elim plain [
+      | inl first ↦ absurd (other (only_invalid size request old can apart quiet few refusal first.0))
+      | inr later ↦ elim later [
+        | inl lacks ↦ (memory_starved refusal lacks.1, lacks.2)
+        | inr full ↦ absurd (other full.1)
+      ]
     ]
   ]
 
   pub refused_requests : new.requests ≤ old.requests + 1
   refused_requests = elim refused [
-    | inl first ↦ (let same : new.requests ≡ old.requests = ap (λ (v : Volumed B). v.requests) first.1 in omega (arith, same))
-    | inr later ↦ elim later [
-      | inl starved ↦ (let same : new.requests ≡ old.requests = ap (λ (v : Volumed B). v.requests) starved.2.becomes in omega (arith, same))
-      | inr full ↦ (let same : new.requests ≡ old.requests = ap (λ (v : Volumed B). v.requests) full.2.2.becomes in omega (arith, same))
+    | inl starved ↦ (let same : new.requests ≡ old.requests = ap (λ (v : Volumed B). v.requests) starved.1 in omega (arith, same))
+    | inr plain ↦ elim plain [
+      | inl first ↦ (let same : new.requests ≡ old.requests = ap (λ (v : Volumed B). v.requests) first.1 in omega (arith, same))
+      | inr later ↦ elim later [
+        | inl lacks ↦ (let same : new.requests ≡ old.requests = ap (λ (v : Volumed B). v.requests) lacks.2.becomes in omega (arith, same))
+        | inr full ↦ (let same : new.requests ≡ old.requests = ap (λ (v : Volumed B). v.requests) full.2.2.becomes in omega (arith, same))
+      ]
     ]
   ]
 
   -- it is as quiet as before, where its snapshot is not why
   pub refused_quiet : refusal ≢ Invalid → is_quiet_of new ≡ is_quiet_of old
   refused_quiet other = elim refused [
-    | inl first ↦ ap (λ (v : Volumed B). is_quiet_of v) first.1
-    | inr later ↦ elim later [
-      | inl starved ↦ room_quiet old new starved.2
-      | inr full ↦ absurd (other full.1)
+    | inl starved ↦ ap (λ (v : Volumed B). is_quiet_of v) starved.1
+    | inr plain ↦ elim plain [
+      | inl first ↦ ap (λ (v : Volumed B). is_quiet_of v) first.1
+      | inr later ↦ elim later [
+        | inl lacks ↦ room_quiet old new lacks.2
+        | inr full ↦ absurd (other full.1)
+      ]
     ]
   ]

@@ -1,12 +1,11 @@
 -- A snapshot is taken.
-use Rattle.std.proofs.Common.{◌≡◌, ◌≢◌, inl, inr, ℕ, Bool, true, false, List, [], ◌∷◌, ◌++◌, length, map, Option, Some, None, refl, sym, ◌∙◌, ap, subst}
-use Rattle.std.specs.Prelude.{◌==◌, ◌&&◌, not, is_some, if◌then◌else◌}
+use Rattle.std.proofs.Common.{◌≡◌, ◌≢◌, inl, inr, ℕ, Bool, true, false, List, [], ◌∷◌, ◌++◌, length, map, Option, Some, None, refl, sym, ◌∙◌, ap}
+use Rattle.std.specs.Prelude.{◌==◌, ◌&&◌, ◌⊎◌, not, is_some, if◌then◌else◌}
 use Rattle.std.specs.List.{list_all}
-use Rattle.std.proofs.lemmas.Bool.{cases_Bool, cond-true, cond-false}
+use Rattle.std.proofs.lemmas.Bool.{cases_Bool, cond-true, cond-false, true≢false}
 use Rattle.sector.specs.declared.refusal.Refusal.{Refusal}
-use Rattle.sector.specs.declared.refusal.Refusal.TheVariants.{BadChunk, ChunkMismatch, JournalFull, MergeInProgress, NoMemory, NotQuiet, Stale, TooMany}
+use Rattle.sector.specs.declared.refusal.Refusal.TheVariants.{MergeInProgress, Stale}
 use Rattle.served.specs.Refusals.{is_starved}
-use Rattle.served.proofs.Starved.{starved_by}
 use Rattle.device.specs.Layers.{Layer, is_loud}
 use Rattle.settled.specs.Snaps.{Volume}
 use Rattle.settled.specs.Attaching.{attached, refused_attach}
@@ -156,24 +155,7 @@ module _ {B : Type 0} (contents : B → List ℕ) (layers : B → List Layer) (n
       seen_of None none = refused_seen refusal store back old (alone none)
       seen_of (Some m) begun = begun_back store back old m begun refusal unread origin size bytes refused other (settled_of contents layers (rested_of old))
 
--- a volume of its own has no journal that may be full
-not_full_by : (stale begun quiet many allowed : Bool) → (if stale then Some Stale else (if begun then Some MergeInProgress else (if not quiet then Some NotQuiet else (if many then Some TooMany else (if allowed then None else Some BadChunk))))) ≡ Some JournalFull → ⊥
-not_full_by true begun quiet many allowed e = absurd (cc)
-not_full_by false true quiet many allowed e = absurd (cc)
-not_full_by false false false many allowed e = absurd (cc)
-not_full_by false false true true allowed e = absurd (cc)
-not_full_by false false true false true e = absurd (cc)
-not_full_by false false true false false e = absurd (cc)
-
-not_full : {B : Type 0} (stale : Bool) (chunk origin size : ℕ) (bytes : List ℕ) (v : Volumed B) → IsNotTaken stale chunk origin size bytes v JournalFull → ⊥
-not_full stale chunk origin size bytes v (inl first) = not_full_by stale (is_some v.merge) (is_quiet_of v) _ _ first
-not_full stale chunk origin size bytes v (inr (none, inl memory)) = absurd (cc)
-not_full stale chunk origin size bytes v (inr (none, inr (inl load))) = load
-not_full stale chunk origin size bytes v (inr (none, inr (inr mismatch))) = absurd (let differ : JournalFull ≡ ChunkMismatch = mismatch.0 in cc)
-
--- so it was memory that was refused
-pub starved_read : {B : Type 0} (P : Type 0) (stale : Bool) (chunk origin size : ℕ) (bytes : List ℕ) (v : Volumed B) (refusal : Refusal) → IsNotTaken stale chunk origin size bytes v refusal → (refusal ≡ NoMemory → P) → is_starved refusal ≡ true → P
-starved_read P stale chunk origin size bytes v refusal refused read starved = elim (starved_by refusal starved) [
-  | inl memory ↦ read memory
-  | inr full ↦ absurd (not_full stale chunk origin size bytes v (subst (IsNotTaken stale chunk origin size bytes v) full refused))
-]
+-- a store that is refused for another reason than want of room
+pub untaken : {A C : Type 0} (refusal : Refusal) → is_starved refusal ≡ false → ((is_starved refusal ≡ true) × A) ⊎ C → C
+untaken refusal fed (inl starved) = absurd (true≢false (sym starved.0 ∙ fed))
+untaken refusal fed (inr other) = other

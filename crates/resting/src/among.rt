@@ -10,15 +10,14 @@ ghost use Rattle.resting.specs.Among.{is_live_dev, IsServedAmong, IsRefusedAmong
 use crate::Replied;
 use crate::draining::{drain_apart, drain_for};
 use crate::serving::look;
-use device::Block;
+use journaled::Journaled;
+use layers::Layered;
 use pending::MAX_REQUESTS;
 use plain::{Dev, Reply, Request};
 use sector::Refusal;
-use std::alloc::Global;
-use volume::Volume;
 
 /// Whether a request's device is a snapshot that is live.
-fn is_live<B: Block>(volume: &Volume<B>, dev: Dev) -> bool
+fn is_live<B: Layered>(volume: &Journaled<B>, dev: Dev) -> bool
     ensures { result ≡ is_live_dev dev (rested_of volume.now) }
 {
     match dev {
@@ -38,7 +37,7 @@ fn is_live<B: Block>(volume: &Volume<B>, dev: Dev) -> bool
 
 /// What follows a request that is answered `Invalid` at once: where its snapshot was live it is spoiled by that, and all that
 /// is due then is done, but for events of a merge. There is room in `ended` for a reply to each request in flight.
-fn follow<B: Block>(volume: &mut Volume<B>, live: bool, ended: &mut Vec<Replied>)
+fn follow<B: Layered>(volume: &mut Journaled<B>, live: bool, ended: &mut Vec<Replied>)
     requires room { vec_len ended.old + length volume.old.flights ≤ vec_capacity ended.old }
     ensures drained { IsDrainedApart B.contents B.layers volume.old volume.new ended.old.items ended.new.items }
     ensures dead { live ≡ false → (volume.new ≡ volume.old) × (ended.new.items ≡ ended.old.items) }
@@ -54,9 +53,8 @@ fn follow<B: Block>(volume: &mut Volume<B>, live: bool, ended: &mut Vec<Replied>
 /// Submits the request of a piece, and does all that is due then, of a merge only until its reply. Tells that; those to other
 /// requests are put at the end of `ended`, which has room for one of each request that can be in flight. What is refused is
 /// followed by nothing, but for a write that spoiled its snapshot.
-pub(crate) fn serve_among<B: Block>(
-    volume: &mut Volume<B>,
-    alloc: Global,
+pub(crate) fn serve_among<B: Layered>(
+    volume: &mut Journaled<B>,
     request: Request,
     ended: &mut Vec<Replied>,
 ) -> Result<Reply, Refusal>
@@ -71,7 +69,7 @@ pub(crate) fn serve_among<B: Block>(
     };
     let live = is_live(volume, request.dev);
     look(volume);
-    let submitted = volume.submit(alloc, request);
+    let submitted = volume.submit(request);
     // No more requests are in flight than there is room for.
     let _ = volume.flying();
     match submitted {

@@ -15,15 +15,15 @@ use crate::among::serve_among;
 use crate::serving::is_there;
 use crate::{Replied, Resting, refusal_for};
 use chunk::Geometry;
-use device::Block;
+use journaled::Journaled;
+use layers::Layered;
 use plain::{Dev, Op, Reply, Request};
 use sector::{Buf, Range, Refusal, SECTOR_BYTES};
 use std::alloc::Global;
-use volume::Volume;
 
 /// Writes one piece.
-fn write_piece_among<B: Block>(
-    volume: &mut Volume<B>,
+fn write_piece_among<B: Layered>(
+    volume: &mut Journaled<B>,
     alloc: Global,
     dev: Dev,
     piece: Range,
@@ -44,7 +44,7 @@ fn write_piece_among<B: Block>(
         op: Op::Write(bytes),
         range: piece,
     };
-    match serve_among(volume, alloc, request, ended) {
+    match serve_among(volume, request, ended) {
         Ok(Reply::Refused(failure)) => Err(refusal_for(failure)),
         Ok(Reply::Written) => Ok(()),
         Ok(Reply::Data(_)) => Ok(()),
@@ -53,9 +53,8 @@ fn write_piece_among<B: Block>(
 }
 
 /// Reads one piece to the end of `out`, which has room for it.
-fn read_piece_among<B: Block>(
-    volume: &mut Volume<B>,
-    alloc: Global,
+fn read_piece_among<B: Layered>(
+    volume: &mut Journaled<B>,
     dev: Dev,
     piece: Range,
     out: &mut Vec<u8>,
@@ -74,7 +73,7 @@ fn read_piece_among<B: Block>(
         op: Op::Read,
         range: piece,
     };
-    match serve_among(volume, alloc, request, ended) {
+    match serve_among(volume, request, ended) {
         Ok(Reply::Refused(failure)) => Err(refusal_for(failure)),
         Ok(Reply::Written) => Ok(()),
         Ok(Reply::Data(bytes)) => {
@@ -90,8 +89,8 @@ fn read_piece_among<B: Block>(
 }
 
 /// Writes a range, piece after piece.
-fn write_pieces_among<B: Block>(
-    volume: &mut Volume<B>,
+fn write_pieces_among<B: Layered>(
+    volume: &mut Journaled<B>,
     alloc: Global,
     dev: Dev,
     range: Range,
@@ -121,9 +120,8 @@ fn write_pieces_among<B: Block>(
 }
 
 /// Reads a range, piece after piece, to the end of `out`, which is empty and has room for it.
-fn read_pieces_among<B: Block>(
-    volume: &mut Volume<B>,
-    alloc: Global,
+fn read_pieces_among<B: Layered>(
+    volume: &mut Journaled<B>,
     dev: Dev,
     range: Range,
     out: &mut Vec<u8>,
@@ -142,7 +140,7 @@ fn read_pieces_among<B: Block>(
         sectors: range.size,
     };
     for piece in geometry.pieces(range) {
-        match read_piece_among(volume, alloc, dev, piece, out, ended) {
+        match read_piece_among(volume, dev, piece, out, ended) {
             Ok(()) => {}
             Err(refusal) => return Err(refusal),
         }
@@ -150,7 +148,7 @@ fn read_pieces_among<B: Block>(
     Ok(())
 }
 
-impl<B: Block> Resting<B> {
+impl<B: Layered> Resting<B> {
     /// Reads sectors of the origin or of a snapshot, while requests may be in flight. The range is cut into pieces of the
     /// snapshots' chunk size: the request of each is submitted, and all that is due is done, before the next. The replies to
     /// other requests are put at the end of `ended`.
@@ -180,7 +178,7 @@ impl<B: Block> Resting<B> {
         let Ok(mut out) = Vec::with_capacity(alloc, range.count as usize * SECTOR_BYTES) else {
             return Err(Refusal::NoMemory);
         };
-        match read_pieces_among(&mut self.volume, alloc, dev, range, &mut out, ended) {
+        match read_pieces_among(&mut self.volume, dev, range, &mut out, ended) {
             Ok(()) => Ok(Buf::from_vec(out)),
             Err(refusal) => Err(refusal),
         }

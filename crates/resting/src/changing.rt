@@ -16,17 +16,16 @@ ghost use Rattle.volume.specs.Leaving.{is_quiet_of};
 ghost use Rattle.volume.specs.Submitting.{is_merging};
 
 use crate::Resting;
-use device::Block;
+use journaled::Journaled;
+use layers::Layered;
 use plain::SnapId;
 use sector::Refusal;
 use snapshot::StoreDev;
 use std::alloc::Global;
-use volume::Volume;
 
 /// Takes a snapshot of a volume of events.
-fn take<B: Block>(
-    volume: &mut Volume<B>,
-    alloc: Global,
+fn take<B: Layered>(
+    volume: &mut Journaled<B>,
     store: StoreDev<B>,
     chunk: u32,
 ) -> Result<SnapId, (Refusal, StoreDev<B>)>
@@ -45,14 +44,14 @@ fn take<B: Block>(
     ensures size { IfErr result (λ e. B.size e.1.device ≡ B.size store.device) }
     ensures loud { IfErr result (λ e. is_loud (B.layers e.1.device) ≡ is_loud (B.layers store.device)) }
 {
-    match volume.attach(alloc, store, chunk) {
+    match volume.attach(store, chunk) {
         Ok(number) => Ok(number),
         Err(refused) => Err(refused),
     }
 }
 
 /// A snapshot leaves a volume of events.
-fn leave<B: Block>(volume: &mut Volume<B>, number: SnapId) -> Result<StoreDev<B>, Refusal>
+fn leave<B: Layered>(volume: &mut Journaled<B>, number: SnapId) -> Result<StoreDev<B>, Refusal>
     ensures quiet { OnOk result ((is_quiet_of volume.old ≡ true) × (is_quiet_of volume.new ≡ true)) }
     ensures settled { IsSettled B.layers (rested_of volume.old) → IsSettled B.layers (rested_of volume.new) }
     ensures left { IfOk result (λ store. IsDetachedAs B.contents B.layers number store (rested_of volume.old) (rested_of volume.new)) }
@@ -65,7 +64,7 @@ fn leave<B: Block>(volume: &mut Volume<B>, number: SnapId) -> Result<StoreDev<B>
     }
 }
 
-impl<B: Block> Resting<B> {
+impl<B: Layered> Resting<B> {
     /// Takes a snapshot of a quiet volume over a store, by a table line with this chunk size, and tells its number: over a
     /// settled volume, and a store that drops no writes, it is the settled machine's attach. Where it is refused the store is
     /// given back, and nothing else changed; after `NoMemory` some of the store's sectors may have been read. A volume with a
@@ -91,7 +90,7 @@ impl<B: Block> Resting<B> {
         ensures loud { IfErr result (λ e. is_loud (B.layers e.1.device) ≡ is_loud (B.layers store.device)) }
         ensures quiet { OnOk result ((is_quiet_of self.old.events ≡ true) × (is_quiet_of self.new.events ≡ true)) }
     {
-        take(&mut self.volume, alloc, store, chunk)
+        take(&mut self.volume, store, chunk)
     }
 
     /// Takes a snapshot of a quiet volume away, and gives its store back, stale where its invalid mark failed. `MergeInProgress`
@@ -118,7 +117,7 @@ impl<B: Block> Resting<B> {
     }
 }
 
-impl<B: Block + Drop> Resting<B> {
+impl<B: Layered + Drop> Resting<B> {
     /// Gives the origin disk back. `Busy` where a snapshot is attached or a merge is begun, and else `NotQuiet` where the volume is not quiet.
     pub fn close(self) -> Result<B, (Refusal, Resting<B>)>
         ensures ok { IfOk result (λ origin. (origin ≡ self.origin) × (self.snaps ≡ []) × (self.events.merge ≡ None) × (is_quiet_of self.events ≡ true)) }

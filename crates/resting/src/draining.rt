@@ -10,10 +10,11 @@ ghost use Rattle.resting.specs.Showing.{arrays_in, IsGoneOn};
 ghost use Rattle.resting.specs.Draining.{IsDrained, IsDrainedApart, IsAnsweredAmong, is_idle_of};
 
 use crate::{Replied, Resting};
-use device::Block;
+use journaled::Journaled;
+use layers::Layered;
 use plain::{Failure, NotDue, Outcome, Reply, ReqId};
 use sector::Refusal;
-use volume::{Volume, is_of_merge};
+use volume::is_of_merge;
 
 /// Takes room for so many replies more. For none, no memory is asked for.
 pub(crate) fn make_room(ended: &mut Vec<Replied>, replies: usize) -> Result<(), Refusal>
@@ -33,7 +34,7 @@ pub(crate) fn make_room(ended: &mut Vec<Replied>, replies: usize) -> Result<(), 
 
 /// Does the events that are due, each time the one that is due first, until none is. Each reply is put at the end of `ended`,
 /// where room for one of each request in flight is taken first: where that is refused, nothing is done.
-fn drain<B: Block>(volume: &mut Volume<B>, ended: &mut Vec<Replied>) -> Result<(), Refusal>
+fn drain<B: Layered>(volume: &mut Journaled<B>, ended: &mut Vec<Replied>) -> Result<(), Refusal>
     ensures drained { OnOk result (IsDrained B.contents B.layers volume.old volume.new ended.old.items ended.new.items) }
     ensures quiet { OnOk result (is_quiet_of volume.new ≡ true) }
     ensures merged { OnOk result (IsSettled B.layers (rested_of volume.old) → merged (merged_of B.contents B.layers (rested_of volume.old)) ≡ merged_of B.contents B.layers (rested_of volume.new)) }
@@ -60,7 +61,7 @@ fn drain<B: Block>(volume: &mut Volume<B>, ended: &mut Vec<Replied>) -> Result<(
 
 /// Does the events that are due likewise, until none is but one of a merge. There is room in `ended` for a reply to each
 /// request in flight.
-pub(crate) fn drain_apart<B: Block>(volume: &mut Volume<B>, ended: &mut Vec<Replied>)
+pub(crate) fn drain_apart<B: Layered>(volume: &mut Journaled<B>, ended: &mut Vec<Replied>)
     requires room { vec_len ended.old + length volume.old.flights ≤ vec_capacity ended.old }
     ensures drained { IsDrainedApart B.contents B.layers volume.old volume.new ended.old.items ended.new.items }
     ensures idle { is_idle_of B.contents B.layers volume.new ≡ true }
@@ -82,8 +83,8 @@ pub(crate) fn drain_apart<B: Block>(volume: &mut Volume<B>, ended: &mut Vec<Repl
 
 /// Does the events that are due likewise, those of a merge only until the reply to one request, and tells that reply; those
 /// to others are put at the end of `ended`, which has room for one of each request in flight.
-pub(crate) fn drain_for<B: Block>(
-    volume: &mut Volume<B>,
+pub(crate) fn drain_for<B: Layered>(
+    volume: &mut Journaled<B>,
     own: ReqId,
     ended: &mut Vec<Replied>,
 ) -> Reply
@@ -116,7 +117,7 @@ pub(crate) fn drain_for<B: Block>(
     answer
 }
 
-impl<B: Block> Resting<B> {
+impl<B: Layered> Resting<B> {
     /// Does the events that are due, those of a merge among them, each time the one that is due first, until none is. Each
     /// reply is put at the end of `ended`. Room for one of each request in flight is taken once, before the first event:
     /// where that is refused (`NoMemory`), nothing is done. Where the volume is quiet no memory is asked for. A settled volume is

@@ -21,15 +21,15 @@ ghost use Rattle.resting.specs.Ordered.{IsOrdered};
 
 use crate::Resting;
 use crate::serving::look;
-use device::Block;
+use journaled::Journaled;
+use layers::Layered;
 use plain::{Event, NotDue, Outcome, ReqId, Request};
 use sector::Refusal;
 use std::alloc::Global;
-use volume::Volume;
 
 /// Whether a volume of events is quiet. One that is, and of which no device drops writes, is settled. The numbers of its
 /// snapshots rise in any case.
-fn is_still<B: Block>(volume: &Volume<B>) -> bool
+fn is_still<B: Layered>(volume: &Journaled<B>) -> bool
     ensures value { result ≡ is_quiet_of volume.now }
     ensures numbers { AllPairs (λ a b. a < b) (numbers_of (rested_of volume.now)) }
     ensures rest { result ≡ true → is_loud_in B.layers (rested_of volume.now) ≡ true → IsSettled B.layers (rested_of volume.now) }
@@ -42,11 +42,7 @@ fn is_still<B: Block>(volume: &Volume<B>) -> bool
 }
 
 /// Starts a request of a volume of events.
-fn begin<B: Block>(
-    volume: &mut Volume<B>,
-    alloc: Global,
-    request: Request,
-) -> Result<ReqId, Refusal>
+fn begin<B: Layered>(volume: &mut Journaled<B>, request: Request) -> Result<ReqId, Refusal>
     requires bytes { (bytes : List ℕ) → request.op ≡ Write bytes → length bytes ≡ 512 * request.range.count }
     ensures ok { IfOk result (λ number. IsAcceptedAs B.contents B.layers request number volume.old volume.new) }
     ensures admitted { IfOk result (λ _. submit_refusal B.size request volume.old ≡ None) }
@@ -59,14 +55,14 @@ fn begin<B: Block>(
     ensures requests { volume.new.requests ≤ volume.old.requests + 1 }
 {
     look(volume);
-    match volume.submit(alloc, request) {
+    match volume.submit(request) {
         Ok(number) => Ok(number),
         Err(refusal) => Err(refusal),
     }
 }
 
 /// Does an event of a volume of events.
-fn advance<B: Block>(volume: &mut Volume<B>, event: Event) -> Result<Outcome, NotDue>
+fn advance<B: Layered>(volume: &mut Journaled<B>, event: Event) -> Result<Outcome, NotDue>
     ensures legal { IfOk result (λ outcome. is_loud_in_all B.layers volume.old ≡ true → IsLegalStep (plain_of B.contents B.layers volume.old) event outcome (plain_of B.contents B.layers volume.new)) }
     ensures exact { IfOk result (λ outcome. IsExact B.contents B.layers event outcome volume.old volume.new) }
     ensures due { is_ok result ≡ is_due_of B.contents B.layers volume.old event }
@@ -83,7 +79,7 @@ fn advance<B: Block>(volume: &mut Volume<B>, event: Event) -> Result<Outcome, No
     }
 }
 
-impl<B: Block> Resting<B> {
+impl<B: Layered> Resting<B> {
     /// Whether the volume is quiet: no request is in flight, no copy is pending, and no mark of a spoiled store is untried.
     /// A settled volume is; and one that is, and of which no device drops writes, is settled, whatever was done to it, and the
     /// stores of its live snapshots are in order. Whatever is in flight, each snapshot has a number above those before it.
@@ -117,7 +113,7 @@ impl<B: Block> Resting<B> {
         ensures kept { KeepsDevices B.layers B.size self.old self.new }
         ensures requests { self.new.requests ≤ self.old.requests + 1 }
     {
-        begin(&mut self.volume, alloc, request)
+        begin(&mut self.volume, request)
     }
 
     /// Does one event, where it is due. It does at most one operation of one device, and where no device drops writes it is

@@ -8,11 +8,11 @@ ghost use Rattle.resting.specs.Flying.{flying_of};
 ghost use Rattle.resting.specs.Kept.{KeepsDevices};
 
 use crate::Resting;
+use journaled::Journaled;
 use layers::Layered;
-use volume::Volume;
 
 /// Lets so many seconds pass for a volume of events.
-fn pass<B: Layered>(volume: &mut Volume<B>, seconds: u32)
+fn pass<B: Layered>(volume: &mut Journaled<B>, seconds: u32)
     ensures quiet { is_quiet_of volume.new ≡ is_quiet_of volume.old }
     ensures flying { flying_of B.contents B.layers volume.new ≡ flying_of B.contents B.layers volume.old }
     ensures moved { merged_of B.contents B.layers (rested_of volume.new) ≡ merged_relayered (layers_ticked seconds) (merged_of B.contents B.layers (rested_of volume.old)) }

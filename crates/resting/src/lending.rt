@@ -10,10 +10,10 @@ ghost use Rattle.resting.specs.Using.{IsInUse, IsUsed};
 
 use crate::Resting;
 use chunk_alloc::Usage;
-use device::Block;
+use layers::Layered;
 use plain::SnapId;
 
-impl<B: Block> Resting<B> {
+impl<B: Layered> Resting<B> {
     /// Its number: no snapshot before it has the same, nor the one that is being merged.
     pub fn number(&self, k: usize) -> SnapId
         requires { k < length self.now.snaps }

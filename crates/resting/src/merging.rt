@@ -21,15 +21,15 @@ ghost use Rattle.resting.specs.Merging.{IsBegunAs, IsNotBegun, IsTakenOutAs, IsU
 
 use crate::Resting;
 use chunk_alloc::Usage;
-use device::Block;
+use journaled::Journaled;
+use layers::Layered;
 use plain::SnapId;
 use sector::Refusal;
 use snapshot::StoreDev;
 use std::alloc::Global;
-use volume::Volume;
 
 /// Begins to merge a snapshot of a volume of events.
-fn begin<B: Block>(volume: &mut Volume<B>, alloc: Global, number: SnapId) -> Result<(), Refusal>
+fn begin<B: Layered>(volume: &mut Journaled<B>, number: SnapId) -> Result<(), Refusal>
     ensures admitted { OnOk result (begin_refusal number volume.old ≡ None) }
     ensures begun { OnOk result (IsBegunAs number (rested_of volume.old) (rested_of volume.new)) }
     ensures shows { OnOk result (IsRolledBack number (arrays_in B.contents B.layers (rested_of volume.old)) (arrays_in B.contents B.layers (rested_of volume.new))) }
@@ -40,14 +40,14 @@ fn begin<B: Block>(volume: &mut Volume<B>, alloc: Global, number: SnapId) -> Res
 {
     // What a quiet volume is.
     let _ = volume.is_quiet();
-    match volume.begin_merge(alloc, number) {
+    match volume.begin_merge(number) {
         Ok(()) => Ok(()),
         Err(refusal) => Err(refusal),
     }
 }
 
 /// Lets a merge of a volume of events go on.
-fn resume<B: Block>(volume: &mut Volume<B>) -> Result<(), Refusal>
+fn resume<B: Layered>(volume: &mut Journaled<B>) -> Result<(), Refusal>
     ensures merged { OnOk result (resumed (merged_of B.contents B.layers (rested_of volume.old)) ≡ merged_of B.contents B.layers (rested_of volume.new)) }
     ensures shows { OnOk result (arrays_in B.contents B.layers (rested_of volume.new) ≡ arrays_in B.contents B.layers (rested_of volume.old)) }
     ensures flying { OnOk result (machine_resumed (flying_of B.contents B.layers volume.old) ≡ flying_of B.contents B.layers volume.new) }
@@ -65,7 +65,7 @@ fn resume<B: Block>(volume: &mut Volume<B>) -> Result<(), Refusal>
 }
 
 /// Takes a merge out of a volume of events.
-fn finish<B: Block>(volume: &mut Volume<B>) -> Result<StoreDev<B>, Refusal>
+fn finish<B: Layered>(volume: &mut Journaled<B>) -> Result<StoreDev<B>, Refusal>
     ensures admitted { IfOk result (λ store. finish_refusal volume.old ≡ None) }
     ensures taken { IfOk result (λ store. IsTakenOutAs store (rested_of volume.old) (rested_of volume.new)) }
     ensures merged { IfOk result (λ store. IsSettled B.layers (rested_of volume.old) → finished (merged_of B.contents B.layers (rested_of volume.old)) ≡ record { state = merged_of B.contents B.layers (rested_of volume.new); back = Some (store_of B.contents B.layers store) }) }
@@ -84,7 +84,7 @@ fn finish<B: Block>(volume: &mut Volume<B>) -> Result<StoreDev<B>, Refusal>
     }
 }
 
-impl<B: Block> Resting<B> {
+impl<B: Layered> Resting<B> {
     /// Begins to merge a live snapshot of a quiet volume into the origin, which from then on shows what the snapshot showed;
     /// the snapshot is none of the others any more. No device is asked for anything yet: `settle` does the merge.
     ///
@@ -101,7 +101,7 @@ impl<B: Block> Resting<B> {
         ensures refused { IfErr result (λ refusal. IsNotBegun B.contents B.layers number refusal self.old self.new) }
         ensures whole { IsWhole self.old × IsWhole self.new }
     {
-        begin(&mut self.volume, alloc, number)
+        begin(&mut self.volume, number)
     }
 
     /// Lets a merge that failed go on, and changes nothing of one that did not. `NotMerging` where none is begun.

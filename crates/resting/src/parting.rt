@@ -1,5 +1,6 @@
-// A volume by whole commands is made of a volume of events, and may be taken apart again.
-ghost use Rattle.std.specs.Prelude.{◌≡◌, IfErr, OnOk, true};
+// A volume by whole commands is made of an audit, and may be taken apart again.
+ghost use Rattle.std.specs.Prelude.{◌≡◌, [], IfErr, OnOk, true};
+ghost use Rattle.std.specs.List.{All};
 ghost use Rattle.sector.specs.declared.refusal.Refusal.TheVariants.{NoMemory};
 ghost use Rattle.resting.specs.Draining.{IsDrainedApart, is_idle_of};
 ghost use Rattle.resting.specs.Flying.{IsWhole};
@@ -8,26 +9,41 @@ ghost use Rattle.resting.specs.Rested.{rested_of};
 
 use crate::Resting;
 use crate::draining::{drain_apart, make_room};
-use device::Block;
+use journal::Audit;
+use journaled::Journaled;
+use layers::Layered;
 use plain::{Replied, ReqId};
 use sector::Refusal;
-use volume::Volume;
 
-impl<B: Block> Resting<B> {
-    /// The volume of events that it is, with all that is in flight in it.
-    pub fn into_volume(self) -> Volume<B>
-        ensures volume { result ≡ self.events }
+impl<B: Layered> Resting<B> {
+    /// The audit of its volume of events, with all that is in flight in it: the first seat submitted each request.
+    pub fn into_audit(self) -> Audit<B>
+        ensures volume { result.volume ≡ self.events }
+        ensures mine { All (λ s. s.seat ≡ 1) result.held }
+        ensures idle { self.events.flights ≡ [] → result.held ≡ [] }
         ensures whole { IsWhole self }
     {
         let Resting { volume } = self;
-        volume
+        volume.into_audit()
     }
 
-    /// A volume of events, by whole commands from here on.
-    pub fn of_volume(volume: Volume<B>) -> Resting<B>
-        ensures { result ≡ rested_of volume }
+    /// The volume of an audit with no request in flight, by whole commands from here on. Its journal goes on.
+    pub fn of_audit(audit: Audit<B>) -> Resting<B>
+        requires none { audit.held ≡ [] }
+        ensures { result ≡ rested_of audit.volume }
     {
-        Resting { volume }
+        Resting {
+            volume: Journaled::of_audit(audit),
+        }
+    }
+
+    /// Folds the journal's entries into its base arrays, so that it takes as many again. `NoMemory` where the room for the
+    /// snapshots that were taken is refused. Callers see no change of the volume.
+    pub fn checkpoint(&mut self) -> Result<(), Refusal>
+        ensures same { self.new ≡ self.old }
+        ensures err { IfErr result (λ refusal. refusal ≡ NoMemory) }
+    {
+        self.volume.checkpoint()
     }
 
     /// The number of the last request, and so how many requests there were.
@@ -53,7 +69,7 @@ impl<B: Block> Resting<B> {
 }
 
 /// The same of a volume of events.
-fn calm<B: Block>(volume: &mut Volume<B>, ended: &mut Vec<Replied>) -> Result<(), Refusal>
+fn calm<B: Layered>(volume: &mut Journaled<B>, ended: &mut Vec<Replied>) -> Result<(), Refusal>
     ensures drained { OnOk result (IsDrainedApart B.contents B.layers volume.old volume.new ended.old.items ended.new.items) }
     ensures idle { OnOk result (is_idle_of B.contents B.layers volume.new ≡ true) }
     ensures err { IfErr result (λ refusal. (refusal ≡ NoMemory) × (volume.new ≡ volume.old) × (ended.new.items ≡ ended.old.items)) }

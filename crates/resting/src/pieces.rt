@@ -15,15 +15,15 @@ ghost use Rattle.resting.specs.Serving.{CanAsk, CanServe, IsPieceDone, IsPieceRe
 
 use crate::serving::serve;
 use chunk::Geometry;
-use device::Block;
+use journaled::Journaled;
+use layers::Layered;
 use plain::{Dev, Op, Reply, Request, refusal_for};
 use sector::{Buf, Range, Refusal, SECTOR_BYTES};
 use std::alloc::Global;
-use volume::Volume;
 
 /// Writes one piece. At `NoMemory` nothing changed.
-fn write_piece<B: Block>(
-    volume: &mut Volume<B>,
+fn write_piece<B: Layered>(
+    volume: &mut Journaled<B>,
     alloc: Global,
     dev: Dev,
     piece: Range,
@@ -47,7 +47,7 @@ fn write_piece<B: Block>(
         op: Op::Write(bytes),
         range: piece,
     };
-    match serve(volume, alloc, request) {
+    match serve(volume, request) {
         Ok(Reply::Refused(failure)) => Err(refusal_for(failure)),
         Ok(Reply::Written) => Ok(()),
         Ok(Reply::Data(_)) => Ok(()),
@@ -56,9 +56,8 @@ fn write_piece<B: Block>(
 }
 
 /// Reads one piece to the end of `out`, which has room for it. At `NoMemory` nothing changed.
-fn read_piece<B: Block>(
-    volume: &mut Volume<B>,
-    alloc: Global,
+fn read_piece<B: Layered>(
+    volume: &mut Journaled<B>,
     dev: Dev,
     piece: Range,
     out: &mut Vec<u8>,
@@ -82,7 +81,7 @@ fn read_piece<B: Block>(
         op: Op::Read,
         range: piece,
     };
-    match serve(volume, alloc, request) {
+    match serve(volume, request) {
         Ok(Reply::Refused(failure)) => Err(refusal_for(failure)),
         Ok(Reply::Written) => Ok(()),
         Ok(Reply::Data(bytes)) => {
@@ -98,8 +97,8 @@ fn read_piece<B: Block>(
 }
 
 /// Writes a range, piece after piece. A piece that is not done ends it, and those before it stand.
-pub(crate) fn write_pieces<B: Block>(
-    volume: &mut Volume<B>,
+pub(crate) fn write_pieces<B: Layered>(
+    volume: &mut Journaled<B>,
     alloc: Global,
     dev: Dev,
     range: Range,
@@ -136,8 +135,8 @@ pub(crate) fn write_pieces<B: Block>(
 }
 
 /// Reads a range, piece after piece. A piece that is not done ends it, and those before it were read.
-pub(crate) fn read_pieces<B: Block>(
-    volume: &mut Volume<B>,
+pub(crate) fn read_pieces<B: Layered>(
+    volume: &mut Journaled<B>,
     alloc: Global,
     dev: Dev,
     range: Range,
@@ -163,7 +162,7 @@ pub(crate) fn read_pieces<B: Block>(
         sectors: range.size,
     };
     for piece in geometry.pieces(range) {
-        match read_piece(volume, alloc, dev, piece, &mut out) {
+        match read_piece(volume, dev, piece, &mut out) {
             Ok(()) => {}
             Err(refusal) => return Err(refusal),
         }

@@ -13,22 +13,22 @@ ghost use Rattle.resting.specs.Showing.{arrays_in, pieces_for, IsPlainRead, IsPl
 
 use crate::pieces::{read_pieces, write_pieces};
 use crate::serving::{is_there, look};
-use device::Block;
+use journaled::Journaled;
+use layers::Layered;
 use plain::Dev;
 use sector::{Buf, Range, Refusal};
 use std::alloc::Global;
 use std::marker::Model;
-use volume::Volume;
 
 /// An origin disk and the snapshots of it, in order of attaching. Contracts see the devices, each snapshot's number, chunk
 /// size and marks, how many numbers were given, whether the volume is settled, and whether it is quiet: nothing is in flight
 /// or left to do. What the devices' bytes and layers are is the settled machine's volume.
 #[derive(Drop)]
-pub struct Resting<B: Block> {
-    pub(crate) volume: Volume<B>,
+pub struct Resting<B: Layered> {
+    pub(crate) volume: Journaled<B>,
 }
 
-impl<B: Block> Model for Resting<B> {
+impl<B: Layered> Model for Resting<B> {
     ghost use Rattle.resting.specs.Rested.{Rested, rested_of};
 
     ghost Value = { Rested B };
@@ -36,19 +36,21 @@ impl<B: Block> Model for Resting<B> {
     ghost view = { λ v. rested_of v.volume };
 }
 
-impl<B: Block> Resting<B> {
-    /// A volume over an origin disk, without snapshots. Where memory is refused, the disk is given back.
+impl<B: Layered + Drop> Resting<B> {
+    /// A volume over an origin disk, without snapshots, and a new journal of it. Where memory is refused, the disk is given back.
     pub fn new(alloc: Global, origin: B) -> Result<Resting<B>, (Refusal, B)>
         ensures ok { IfOk result (λ v. v ≡ rested_of (record { origin = origin; snaps = []; merge = None; flights = []; requests = 0; copies = 0; attached = 0 })) }
         ensures settled { IfOk result (λ v. is_loud (B.layers origin) ≡ true → IsSettled B.layers v) }
         ensures err { IfErr result (λ e. e ≡ record { 0 = NoMemory; 1 = origin }) }
     {
-        match Volume::new(alloc, origin) {
+        match Journaled::new(alloc, origin) {
             Ok(volume) => Ok(Resting { volume }),
             Err(refused) => Err(refused),
         }
     }
+}
 
+impl<B: Layered> Resting<B> {
     /// The origin disk.
     pub fn origin(&self) -> &B
         ensures { result.now ≡ self.now.origin }

@@ -18,15 +18,14 @@ ghost use Rattle.resting.specs.Commands.{IsDoneBy};
 ghost use Rattle.resting.specs.Serving.{CanServe, part_done};
 ghost use Rattle.volume.specs.Stepping.{KeepsAll};
 
-use device::Block;
+use journaled::Journaled;
+use layers::Layered;
 use plain::{Dev, Failure, NotDue, Outcome, Reply, Request};
 use sector::Refusal;
-use std::alloc::Global;
-use volume::Volume;
 
 /// Does the events that are due, each time the one that is due first, until the volume is quiet: none is then due but one of a
 /// merge. Tells the last reply, and the one that was given before where there is none.
-fn settle<B: Block>(volume: &mut Volume<B>, mut reply: Reply) -> Reply
+fn settle<B: Layered>(volume: &mut Journaled<B>, mut reply: Reply) -> Reply
     requires free { has_group_in volume.old.merge ≡ false }
     ensures run { IsRun B.contents B.layers (Some reply) (Some result) volume.old volume.new }
     ensures none { (replied : Option Reply) → due (moving_of B.contents B.layers replied volume.new) ≡ None }
@@ -50,7 +49,7 @@ fn settle<B: Block>(volume: &mut Volume<B>, mut reply: Reply) -> Reply
 
 /// Submits the request of a piece. One that its snapshot refuses is answered `Invalid`, and may have spoiled that snapshot;
 /// where memory is refused nothing changed.
-fn enter<B: Block>(volume: &mut Volume<B>, alloc: Global, request: Request) -> Result<(), Refusal>
+fn enter<B: Layered>(volume: &mut Journaled<B>, request: Request) -> Result<(), Refusal>
     requires quiet { is_quiet_of volume.old ≡ true }
     requires few { length volume.old.snaps ≤ 8 }
     requires can { CanServe B.size request.dev request.op request.range volume.old }
@@ -63,7 +62,7 @@ fn enter<B: Block>(volume: &mut Volume<B>, alloc: Global, request: Request) -> R
 {
     // Of the snapshots that a request may go to, none is the one that is being merged.
     let _ = volume.merging();
-    match volume.submit(alloc, request) {
+    match volume.submit(request) {
         Ok(_) => Ok(()),
         Err(refusal) => match refusal {
             Refusal::Invalid => Ok(()),
@@ -73,9 +72,8 @@ fn enter<B: Block>(volume: &mut Volume<B>, alloc: Global, request: Request) -> R
 }
 
 /// Submits the request of a piece, and does all that is due then. Tells its reply; where memory is refused nothing changed.
-pub(crate) fn serve<B: Block>(
-    volume: &mut Volume<B>,
-    alloc: Global,
+pub(crate) fn serve<B: Layered>(
+    volume: &mut Journaled<B>,
     request: Request,
 ) -> Result<Reply, Refusal>
     requires between { IsBetween volume.old }
@@ -90,7 +88,7 @@ pub(crate) fn serve<B: Block>(
 {
     // A quiet volume, no device of which drops writes, is at rest.
     let _ = volume.is_quiet();
-    match enter(volume, alloc, request) {
+    match enter(volume, request) {
         Ok(()) => {}
         Err(refusal) => return Err(refusal),
     }
@@ -98,14 +96,14 @@ pub(crate) fn serve<B: Block>(
 }
 
 /// A look at how many snapshots there are: eight at most.
-pub(crate) fn look<B: Block>(volume: &Volume<B>)
+pub(crate) fn look<B: Layered>(volume: &Journaled<B>)
     ensures { length volume.now.snaps ≤ 8 }
 {
     let _ = volume.len();
 }
 
 /// Whether a request's device is there.
-pub(crate) fn is_there<B: Block>(volume: &Volume<B>, dev: Dev) -> bool
+pub(crate) fn is_there<B: Layered>(volume: &Journaled<B>, dev: Dev) -> bool
     ensures { result ≡ has_dev dev (rested_of volume.now) }
 {
     match dev {

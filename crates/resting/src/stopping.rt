@@ -6,10 +6,10 @@ ghost use Rattle.volume.specs.Volumed.{is_loud_in_all};
 ghost use Rattle.resting.specs.Flying.{IsWhole};
 
 use crate::Resting;
-use device::Block;
+use layers::Layered;
 use volume::Stopped;
 
-impl<B: Block> Resting<B> {
+impl<B: Layered> Resting<B> {
     /// Ends the volume without a further event, whatever is in flight: what is left are its devices, as they are. Where none
     /// drops writes, each live snapshot's store and the origin are loaded again with their arrays.
     pub fn stop(self) -> Stopped<B>

@@ -7,15 +7,14 @@ ghost use Rattle.resting.specs.Kept.{KeepsDevices};
 ghost use Rattle.resting.specs.Telling.{IsOriginTold, IsStoreTold, IsTellRefused, IsMergingTold, IsMergingUntold};
 
 use crate::Resting;
-use device::Block;
+use journaled::Journaled;
 use layers::{Answer, Layered, Message};
 use plain::Dev;
 use sector::Refusal;
-use volume::Volume;
 
 /// Tells a layer of the device under the origin of a volume of events.
 fn tell_origin<B: Layered>(
-    volume: &mut Volume<B>,
+    volume: &mut Journaled<B>,
     depth: usize,
     message: &Message,
 ) -> Result<Answer, Refusal>
@@ -36,7 +35,7 @@ fn tell_origin<B: Layered>(
 
 /// Tells a layer of the store of the snapshot at a place.
 fn tell_store<B: Layered>(
-    volume: &mut Volume<B>,
+    volume: &mut Journaled<B>,
     k: usize,
     depth: usize,
     message: &Message,
@@ -60,7 +59,7 @@ fn tell_store<B: Layered>(
 
 /// Tells a layer of the store of the snapshot that is being merged.
 fn tell_merging<B: Layered>(
-    volume: &mut Volume<B>,
+    volume: &mut Journaled<B>,
     depth: usize,
     message: &Message,
 ) -> Result<Answer, Refusal>

@@ -2,7 +2,6 @@
 ghost use Rattle.std.specs.Prelude.{◌≡◌, ◌+◌, ◌<◌, ◌≤◌, ◌*◌, length, IfOk, OnOk, true};
 ghost use Rattle.volume.specs.Leaving.{is_quiet_of};
 
-use device::Block;
 use layers::{Answer, Layered, Message};
 use plain::{Dev, SnapId};
 use resting::Resting;
@@ -15,13 +14,13 @@ const MOST: u64 = 10_000_000;
 
 /// A volume, and how many sectors may still be read or written.
 #[derive(Drop)]
-pub struct Asked<B: Block> {
+pub struct Asked<B: Layered> {
     pub volume: Resting<B>,
     left: u64,
     ghost requests: { volume.requests + left < 9_223_372_036_854_775_808 },
 }
 
-impl<B: Block + Drop> Asked<B> {
+impl<B: Layered + Drop> Asked<B> {
     /// A volume over an origin disk, without snapshots.
     pub fn new(alloc: Global, origin: B) -> Result<Asked<B>, Refusal> {
         match Resting::new(alloc, origin) {

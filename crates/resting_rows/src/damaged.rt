@@ -89,7 +89,7 @@ fn takes(
     }
 }
 
-/// Replaces a byte by some values in turn, and tells how often the store was taken.
+/// Replaces a byte by some values in turn, and tells how often the store was taken. The journal has room for all of them.
 fn replace(
     rt: &impl Abort,
     alloc: Global,
@@ -99,6 +99,7 @@ fn replace(
     at: usize,
 ) -> Result<u32, Fail> {
     assert!(rt; at < store.len());
+    asked.volume.checkpoint()?;
     let mut count = 0u32;
     for value in [0, 1, store[at].wrapping_add(1), 0x22, 0xff] {
         let mut bytes = Vec::new(alloc);

@@ -2,8 +2,8 @@
 //!
 //! It stands on `resting` and has tests: pseudo-random commands over small volumes, after each of which every array and
 //! every disk's raw bytes are those of the plain programs, which read and write the store's format on their own; stores
-//! with one byte replaced, which are taken or refused as the plain programs do; and one fault at each operation of a device
-//! in turn. The plain programs over a store's bytes are there for other tests too.
+//! with one byte replaced, which are taken or refused as the plain programs do; one fault at each operation of a device
+//! in turn; and a journal that fills up. The plain programs over a store's bytes are there for other tests too.
 #![tactic(auto)]
 
 #[cfg(test)]
@@ -16,6 +16,8 @@ mod comparing;
 mod damaged;
 #[cfg(test)]
 mod faults;
+#[cfg(test)]
+mod full_journal;
 #[cfg(test)]
 mod generator;
 #[cfg(test)]

@@ -1,10 +1,10 @@
 -- The request was served, or refused.
-use Rattle.std.proofs.Common.{inr, subst, List}
+use Rattle.std.proofs.Common.{inl, inr, subst, List}
 use Rattle.plain.specs.declared.request.Replied.{Replied}
 use Rattle.resting.specs.Rested.{rested_of}
 use Rattle.resting.specs.Draining.{IsAnsweredAmong}
 use Rattle.resting.proofs.Seen.{devices_kept, devices_more}
-use Rattle.resting.proofs.Refusing.{refused_loud, refused_requests}
+use Rattle.resting.proofs.Refusing.{invalid_refused, refused_requests}
 use Rattle.resting.proofs.Amongs.{turned_plain, turned_invalid}
 use Rattle.resting.proofs.among.serve_among.Goals as goal
 
@@ -26,18 +26,22 @@ returns-in-Ok-submitted-clause-kept g c =
 pub returns-in-Invalid-clause-refused : goal.returns-in-Invalid-clause-refused
 returns-in-Invalid-clause-refused g c =
     inr (turned_invalid g.B.Block.contents g.B.Block.layers g.B.Block.size c.args.request c.in-Err.refusal c.is_live-live.result c.args.volume.now c.submit-submitted.new.self c.follow.new.volume
-    c.args.ended.now.items c.reserve.new.self.items c.follow.new.ended.items c.is_live-live.ensures c.reserve.ensures.items c.in-Err.ensures.refused c.in-Invalid.is c.follow.ensures.drained c.follow.ensures.dead c.follow.ensures.idle)
+    c.args.ended.now.items c.reserve.new.self.items c.follow.new.ended.items c.is_live-live.ensures c.reserve.ensures.items
+    (invalid_refused g.B.Block.contents g.B.Block.layers g.B.Block.size c.args.request c.in-Err.refusal c.args.volume.now c.submit-submitted.new.self c.in-Err.ensures.refused c.in-Invalid.is) c.in-Invalid.is c.follow.ensures.drained c.follow.ensures.dead c.follow.ensures.idle)
 
 pub returns-in-Invalid-clause-kept : goal.returns-in-Invalid-clause-kept
 returns-in-Invalid-clause-kept g c =
     devices_more g.B.Block.size g.B.Block.layers (rested_of c.args.volume.now) (rested_of c.submit-submitted.new.self) (rested_of c.follow.new.volume)
-    (devices_kept g.B.Block.size g.B.Block.layers c.args.volume.now c.submit-submitted.new.self c.in-Err.ensures.kept (refused_loud g.B.Block.contents g.B.Block.layers g.B.Block.size c.args.request c.in-Err.refusal c.args.volume.now c.submit-submitted.new.self c.in-Err.ensures.refused)) c.follow.ensures.kept
+    (devices_kept g.B.Block.size g.B.Block.layers c.args.volume.now c.submit-submitted.new.self c.in-Err.ensures.kept c.in-Err.ensures.loud) c.follow.ensures.kept
 
 pub returns-in_default-refusal : goal.returns-in_default-refusal
 returns-in_default-refusal g c = record {
   served = tt;
-  refused = inr (turned_plain g.B.Block.contents g.B.Block.layers g.B.Block.size c.args.request c.in-Err.refusal c.args.volume.now c.submit-submitted.new.self c.args.ended.now.items c.reserve.new.self.items
-      c.in_default-refusal.not-Invalid c.in-Err.ensures.refused c.reserve.ensures.items);
-  kept = devices_kept g.B.Block.size g.B.Block.layers c.args.volume.now c.submit-submitted.new.self c.in-Err.ensures.kept (refused_loud g.B.Block.contents g.B.Block.layers g.B.Block.size c.args.request c.in-Err.refusal c.args.volume.now c.submit-submitted.new.self c.in-Err.ensures.refused);
+  refused = elim c.in-Err.ensures.refused [
+    | inl starved ↦ inl (starved.0, starved.1, c.reserve.ensures.items)
+    | inr refused ↦ inr (turned_plain g.B.Block.contents g.B.Block.layers g.B.Block.size c.args.request c.in-Err.refusal c.args.volume.now c.submit-submitted.new.self c.args.ended.now.items c.reserve.new.self.items
+        c.in_default-refusal.not-Invalid refused c.reserve.ensures.items)
+  ];
+  kept = devices_kept g.B.Block.size g.B.Block.layers c.args.volume.now c.submit-submitted.new.self c.in-Err.ensures.kept c.in-Err.ensures.loud;
   requests = refused_requests g.B.Block.contents g.B.Block.layers g.B.Block.size c.args.request c.in-Err.refusal c.args.volume.now c.submit-submitted.new.self c.in-Err.ensures.refused;
 }

@@ -1,7 +1,7 @@
 -- A request keeps the devices; one that is refused changes nothing, or spoils its snapshot.
 use Rattle.std.proofs.Common.{None}
 use Rattle.resting.proofs.Seen.{devices_kept, merged_still}
-use Rattle.resting.proofs.Refusing.{refused_loud, refused_quiet}
+use Rattle.resting.proofs.Refusing.{refused_quiet}
 use Rattle.resting.proofs.flights.begin.Goals as goal
 
 pub returns-in-Ok-clause-kept : goal.returns-in-Ok-clause-kept
@@ -16,4 +16,4 @@ returns-in-Err-clause-same g c = λ other. (
 pub returns-in-Err-clause-kept : goal.returns-in-Err-clause-kept
 returns-in-Err-clause-kept g c =
     devices_kept g.B.Block.size g.B.Block.layers c.args.volume.now c.submit.new.self c.in-Err.ensures.kept
-    (refused_loud g.B.Block.contents g.B.Block.layers g.B.Block.size c.args.request c.in-Err.refusal c.args.volume.now c.submit.new.self c.in-Err.ensures.refused)
+    c.in-Err.ensures.loud

@@ -1,5 +1,6 @@
 -- The merge is taken out, or nothing changed.
-use Rattle.std.proofs.Common.{None, sym, ◌∙◌}
+use Rattle.std.proofs.Common.{inl, inr, None, sym, ◌∙◌}
+use Rattle.served.proofs.Starved.{other_full}
 use Rattle.resting.proofs.MergeFinished.{taken_out_as, taken_out_disk, taken_out_merged, taken_out_quiet, taken_out_settles, unfinished_as}
 use Rattle.resting.specs.Rested.{rested_of}
 use Rattle.resting.proofs.MergeArrays.{finished_shows}
@@ -29,10 +30,12 @@ pub returns-in-Err-clause-settled : goal.returns-in-Err-clause-settled
 returns-in-Err-clause-settled g c = λ settled. rw c.in-Err.ensures.err.1 settled
 
 pub returns-in-Err-clause-unfinished : goal.returns-in-Err-clause-unfinished
-returns-in-Err-clause-unfinished g c = λ other settled.
-    unfinished_as g.B.Block.contents g.B.Block.layers c.args.volume.now (g.B.Block.size c.args.volume.now.origin)
-    (c.is_quiet.ensures.between (c.is_quiet.ensures.value ∙ settled.quiet) (sym (loud_same g.B.Block.contents g.B.Block.layers c.args.volume.now) ∙ settled.loud) None)
-    settled.quiet c.in-Err.refusal c.in-Err.ensures.err.0
+returns-in-Err-clause-unfinished g c = λ fed settled. elim c.in-Err.ensures.err.0 [
+  | inl why ↦ unfinished_as g.B.Block.contents g.B.Block.layers c.args.volume.now (g.B.Block.size c.args.volume.now.origin)
+      (c.is_quiet.ensures.between (c.is_quiet.ensures.value ∙ settled.quiet) (sym (loud_same g.B.Block.contents g.B.Block.layers c.args.volume.now) ∙ settled.loud) None)
+      settled.quiet c.in-Err.refusal why
+  | inr full ↦ absurd (other_full c.in-Err.refusal fed full)
+]
 
 pub returns-in-Ok-clause-shows : goal.returns-in-Ok-clause-shows
 returns-in-Ok-clause-shows g c = λ settled.

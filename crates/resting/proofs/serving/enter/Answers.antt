@@ -4,8 +4,7 @@ use Rattle.plain.specs.declared.request.Reply.TheVariants.{Refused}
 use Rattle.plain.specs.declared.request.Failure.TheVariants.{Invalid}
 use Rattle.volume.specs.Leaving.{has_group_in}
 use Rattle.volume.proofs.Quieted.{quiet_free}
-use Rattle.served.proofs.Starved.{memory_starved}
-use Rattle.resting.proofs.Refusing.{apart_by, starved_only, refused_loud, refused_requests}
+use Rattle.resting.proofs.Refusing.{apart_by, starved_only, refused_requests}
 use Rattle.resting.proofs.serving.enter.Goals as goal
 
 pub returns-in-Ok-clause-ok : goal.returns-in-Ok-clause-ok
@@ -27,7 +26,7 @@ pub returns-in-Invalid-clause-free : goal.returns-in-Invalid-clause-free
 returns-in-Invalid-clause-free g c = ap has_group_in c.in-Err.ensures.untouched.merge ∙ quiet_free c.args.volume.now c.requires.quiet
 
 pub returns-in-Invalid-clause-loud : goal.returns-in-Invalid-clause-loud
-returns-in-Invalid-clause-loud g c = refused_loud g.B.Block.contents g.B.Block.layers g.B.Block.size c.args.request c.in-Err.refusal c.args.volume.now c.submit.new.self c.in-Err.ensures.refused
+returns-in-Invalid-clause-loud g c = c.in-Err.ensures.loud
 
 pub returns-in-Invalid-clause-kept : goal.returns-in-Invalid-clause-kept
 returns-in-Invalid-clause-kept g c = c.in-Err.ensures.kept
@@ -39,13 +38,13 @@ pub returns-in_default-clause-starved : goal.returns-in_default-clause-starved
 returns-in_default-clause-starved g c =
     let apart = apart_by c.args.volume.now c.merging.result c.merging.ensures.value c.merging.ensures.apart in
     let only = starved_only g.B.Block.contents g.B.Block.layers g.B.Block.size c.args.request c.in-Err.refusal c.args.volume.now c.submit.new.self c.in-Err.ensures.refused c.requires.can apart c.requires.quiet c.requires.few c.in_default.not-Invalid in
-    (memory_starved c.in-Err.refusal only.0, only.1, c.in-Err.ensures.starved c.in_default.not-Invalid None)
+    (only.0, only.1, c.in-Err.ensures.starved c.in_default.not-Invalid None)
 
 pub returns-in_default-clause-free : goal.returns-in_default-clause-free
 returns-in_default-clause-free g c = ap has_group_in c.in-Err.ensures.untouched.merge ∙ quiet_free c.args.volume.now c.requires.quiet
 
 pub returns-in_default-clause-loud : goal.returns-in_default-clause-loud
-returns-in_default-clause-loud g c = refused_loud g.B.Block.contents g.B.Block.layers g.B.Block.size c.args.request c.in-Err.refusal c.args.volume.now c.submit.new.self c.in-Err.ensures.refused
+returns-in_default-clause-loud g c = c.in-Err.ensures.loud
 
 pub returns-in_default-clause-kept : goal.returns-in_default-clause-kept
 returns-in_default-clause-kept g c = c.in-Err.ensures.kept

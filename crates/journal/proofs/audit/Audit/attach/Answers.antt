@@ -52,4 +52,4 @@ pub returns-in-Err-clause-refused : goal.returns-in-Err-clause-refused
 returns-in-Err-clause-refused g c = inr (search (rules, length-map), inr (rw (← c.self.view_is) c.in-Err.ensures.refused))
 
 pub returns-in-Err-clause-back : goal.returns-in-Err-clause-back
-returns-in-Err-clause-back g c = inr (rw (← c.self.view_is) c.in-Err.ensures.back)
+returns-in-Err-clause-back g c = λ full. rw (← c.self.view_is) c.in-Err.ensures.back

@@ -29,3 +29,6 @@ invariant_of-self-in-Err g c =
       audit = quiet_keeps _ _ c.self.inside.loud _ _ _ c.self.invariant.audit c.in-Err.ensures.loud plain;
       bounded = quiet_bounds _ _ c.self.inside.loud _ _ _ _ c.self.invariant.bounded same.0 (λ on. on) (ap (λ (x : Plain). length x.origin) plain) (ap (λ (x : Plain). x.requests) plain);
     }
+
+pub returns-in-Err-clause-starved : goal.returns-in-Err-clause-starved
+returns-in-Err-clause-starved g c = rw (← c.self.view_is) c.in-Err.ensures.starved

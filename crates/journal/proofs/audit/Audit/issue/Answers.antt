@@ -95,3 +95,6 @@ returns-in-Ok-Reply-clause-due g c =
 
 pub returns-in-Ok-Reply-clause-legal : goal.returns-in-Ok-Reply-clause-legal
 returns-in-Ok-Reply-clause-legal g c = rw (← c.self.view_is) (λ loud. rw c.in-Ok-Reply.field-0-is at (c.in-Ok-Reply.ensures.legal loud))
+
+pub returns-in-Ok-Reply-clause-flown : goal.returns-in-Ok-Reply-clause-flown
+returns-in-Ok-Reply-clause-flown g c = rw (← c.self.view_is) (rw c.in-Ok-Reply.field-0-is at c.in-Ok-Reply.ensures.flown)

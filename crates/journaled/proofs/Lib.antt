@@ -1,0 +1,3 @@
+pub mod Mine
+pub mod MayDo
+pub mod Refused

@@ -1,0 +1,141 @@
+// What callers may ask of a volume and of its snapshots.
+ghost use Rattle.std.specs.Prelude.{◌≡◌, ◌<◌, ◌≤◌, AllPairs, IfErr, IfNone, IfOk, IfSome, None, Option, Some, false, length, map, slice_index_or, true};
+ghost use Rattle.std.specs.List.{All};
+ghost use Rattle.sector.specs.declared.refusal.Refusal.TheVariants.{NoSuchDevice};
+ghost use Rattle.chunk.specs.Sizes.{is_chunk};
+ghost use Rattle.plain.specs.declared.request.Reply.{Reply};
+ghost use Rattle.settled.specs.MergeShown.{IsMerging};
+ghost use Rattle.snapshot.specs.Kept.{Kept};
+ghost use Rattle.merge.specs.Due.{has_group_of};
+ghost use Rattle.merge.specs.Merging.{Merging, books_of as merging_books};
+ghost use Rattle.event_machine.specs.Due.{due};
+ghost use Rattle.event_machine.specs.Held.{MergeHeld};
+ghost use Rattle.event_machine.specs.MergeDue.{due_all};
+ghost use Rattle.event_machine.specs.MergeRest.{IsBetween, in_big_steps};
+ghost use Rattle.volume_laws.specs.MergeDue.{has_group};
+ghost use Rattle.volume_laws.specs.Waits.{IsQuiet};
+ghost use Rattle.snapshots.specs.Finding.{place_of_snap};
+ghost use Rattle.snapshots.specs.Numbers.{number_of_snap};
+ghost use Rattle.volume.specs.Asking.{HasNone, HoldsOf, IsMergeStill, merging_number, merging_usage};
+ghost use Rattle.volume.specs.EventKinds.{is_of_merge};
+ghost use Rattle.volume.specs.Leaving.{has_group_in, is_quiet_of, usage_of};
+ghost use Rattle.volume.specs.Moved.{moving_of};
+ghost use Rattle.volume.specs.Stepping.{has_failed};
+ghost use Rattle.volume.specs.Submitting.{is_merging};
+ghost use Rattle.volume.specs.Volumed.{books_of, is_loud_in_all, next_of, piece_with};
+ghost use Rattle.volume.specs.Whole.{IsCounted};
+
+use crate::Journaled;
+use chunk_alloc::Usage;
+use layers::Layered;
+use plain::{Event, ReqId, SnapId};
+use sector::Refusal;
+use snapshot::Snapshot;
+
+impl<B: Layered> Journaled<B> {
+    /// The origin disk.
+    pub fn origin(&self) -> &B
+        ensures { result.now ≡ self.now.origin }
+    {
+        self.audit.volume().origin()
+    }
+
+    /// How many snapshots there are: eight at most.
+    pub fn len(&self) -> usize
+        ensures len { result ≡ length self.now.snaps }
+        ensures few { result ≤ 8 }
+    {
+        self.audit.volume().len()
+    }
+
+    /// The sectors of a piece. A request lies inside one piece.
+    pub fn piece(&self) -> u32
+        ensures piece { result ≡ piece_with self.now.merge self.now.snaps }
+        ensures same { All (λ s. s.state.chunk ≡ result) self.now.snaps }
+        ensures allowed { is_chunk result ≡ true }
+    {
+        self.audit.volume().piece()
+    }
+
+    /// The event that is due first.
+    pub fn due(&self) -> Option<Event>
+        ensures event { result ≡ next_of B.contents B.layers self.now }
+        ensures machine { (replied : Option Reply) → due_all (moving_of B.contents B.layers replied self.now) ≡ result }
+        ensures calm { IfSome result (λ event. is_of_merge event ≡ true → has_group_in self.now.merge ≡ false → is_quiet_of self.now ≡ true) }
+        ensures seen { IfSome result (λ event. is_of_merge event ≡ true → (m : Merging B) → self.now.merge ≡ Some m → has_group_of m.group ≡ has_group (merging_books B.contents true m)) }
+        ensures quiet { IfNone result (IsQuiet (books_of B.contents B.layers B.size self.now) × IsMergeStill self.now.merge) }
+    {
+        self.audit.volume().due()
+    }
+
+    /// The number of the snapshot that is being merged, if one is. It is none of the others.
+    pub fn merging(&self) -> Option<SnapId>
+        ensures value { result ≡ merging_number self.now.merge }
+        ensures apart { IfSome result (λ number. place_of_snap number self.now.snaps ≡ None) }
+        ensures fine { (m : Merging B) → self.now.merge ≡ Some m → (is_chunk m.state.chunk ≡ true) × (m.state.origin ≡ B.size self.now.origin) }
+    {
+        self.audit.volume().merging()
+    }
+
+    /// Whether a merge is begun that stopped at a fault, and was not resumed.
+    pub fn is_merge_failed(&self) -> bool
+        ensures { result ≡ has_failed self.now.merge }
+    {
+        self.audit.volume().is_merge_failed()
+    }
+
+    /// Whether no request is in flight, no group of a merge is formed, no copy is pending, and no invalid mark is untried.
+    pub fn is_quiet(&self) -> bool
+        ensures value { result ≡ is_quiet_of self.now }
+        ensures between { result ≡ true → is_loud_in_all B.layers self.now ≡ true → (replied : Option Reply) → IsBetween (B.size self.now.origin) (moving_of B.contents B.layers replied self.now) }
+        ensures calm { result ≡ true → (replied : Option Reply) → due (moving_of B.contents B.layers replied self.now) ≡ None }
+        ensures under { result ≡ true → is_loud_in_all B.layers self.now ≡ true → (replied : Option Reply) → (h : MergeHeld) → (moving_of B.contents B.layers replied self.now).merge ≡ Some h → IsMerging (B.size self.now.origin) (in_big_steps h (moving_of B.contents B.layers replied self.now)) }
+        ensures few { length self.now.snaps ≤ 8 }
+        ensures numbers { AllPairs (λ m n. m < n) (map number_of_snap self.now.snaps) }
+    {
+        self.audit.volume().is_quiet()
+    }
+
+    /// How many requests are in flight: 64 at most.
+    pub fn flying(&self) -> usize
+        ensures len { result ≡ length self.now.flights }
+        ensures few { result ≤ 64 }
+    {
+        self.audit.volume().flying()
+    }
+
+    /// The number of the request that was accepted last.
+    pub fn last_request(&self) -> ReqId
+        ensures { result ≡ self.now.requests }
+    {
+        self.audit.volume().last_request()
+    }
+
+    /// The snapshot at a place, counted from 0 in order of attaching. It is not the one that is being merged.
+    pub fn snap(&self, k: usize) -> &Snapshot<B>
+        requires { k < length self.now.snaps }
+        ensures value { (d : Kept B) → result.now ≡ slice_index_or self.now.snaps k d }
+        ensures first { place_of_snap result.now.number self.now.snaps ≡ Some k }
+        ensures counted { IsCounted result.now }
+        ensures other { is_merging result.now.number self.now.merge ≡ false }
+        ensures sized { result.now.live ≡ true → result.now.state.size ≡ B.size result.now.device }
+    {
+        self.audit.volume().snap(k)
+    }
+
+    /// The device of a snapshot's store, also of the one that is being merged.
+    pub fn store(&self, number: SnapId) -> Result<&B, Refusal>
+        ensures ok { IfOk result (λ device. HoldsOf (λ m. device.now ≡ m.device) (λ s. device.now ≡ s.device) number self.now) }
+        ensures err { IfErr result (λ refusal. (refusal ≡ NoSuchDevice) × HasNone number self.now) }
+    {
+        self.audit.volume().store(number)
+    }
+
+    /// The sectors in use on a snapshot's store, also of the one that is being merged; none of a snapshot that is spoiled.
+    pub fn usage(&self, number: SnapId) -> Result<Option<Usage>, Refusal>
+        ensures ok { IfOk result (λ usage. HoldsOf (λ m. usage ≡ Some (merging_usage m)) (λ s. usage ≡ usage_of s) number self.now) }
+        ensures err { IfErr result (λ refusal. (refusal ≡ NoSuchDevice) × HasNone number self.now) }
+    {
+        self.audit.volume().usage(number)
+    }
+}

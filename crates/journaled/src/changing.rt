@@ -1,0 +1,119 @@
+// What changes a volume between requests.
+ghost use Rattle.std.specs.Prelude.{◌≡◌, ◌≢◌, ◌⊎◌, ◌&&◌, ◌+◌, IfErr, IfOk, MatchResult, None, OnErr, OnOk, Option, Some, false, true};
+ghost use Rattle.sector.specs.declared.refusal.Refusal.TheVariants.{JournalFull, NotMerging};
+ghost use Rattle.device.specs.Layers.{is_loud};
+ghost use Rattle.layers.specs.Ticks.{layers_ticked};
+ghost use Rattle.plain.specs.declared.request.Reply.{Reply};
+ghost use Rattle.store.specs.Reading.{AreRead};
+ghost use Rattle.settled.specs.Attaching.{attached as attached_by, refused_attach};
+ghost use Rattle.served.specs.Refusals.{is_starved};
+ghost use Rattle.event_machine.specs.Merging.{begun, finished, resumed};
+ghost use Rattle.volume.specs.Attached.{IsAttachedAs, IsGained, store_of, volume_in};
+ghost use Rattle.volume.specs.Beginning.{IsMergeBegun, IsNotBegun, IsResumed, begin_refusal};
+ghost use Rattle.volume.specs.Finishing.{IsTakenOut, finish_refusal};
+ghost use Rattle.volume.specs.Layering.{IsTicked, moving_relayered};
+ghost use Rattle.volume.specs.Leaving.{IsWithout, detach_refusal, is_quiet_of};
+ghost use Rattle.volume.specs.Moved.{moving_of};
+ghost use Rattle.volume.specs.Taking.{IsNotTaken, attach_refusal};
+ghost use Rattle.volume.specs.Telling.{IsNotTold, IsTold, dev_relayered, layers_told};
+ghost use Rattle.volume.specs.Volumed.{books_of, is_loud_in_all, plain_of};
+
+use crate::Journaled;
+use layers::{Answer, Layered, Message};
+use plain::{Dev, SnapId};
+use sector::Refusal;
+use snapshot::StoreDev;
+
+impl<B: Layered> Journaled<B> {
+    /// Takes a snapshot over a store, by a table line with this chunk size, and tells its number. Refused first of all: the
+    /// journal is full (`JournalFull`), or memory for its entry is refused (`NoMemory`), and the store is given back as it was;
+    /// then as the volume refuses it.
+    pub fn attach(
+        &mut self,
+        store: StoreDev<B>,
+        chunk: u32,
+    ) -> Result<SnapId, (Refusal, StoreDev<B>)>
+        ensures number { IfOk result (λ number. number ≡ self.old.attached + 1) }
+        ensures admitted { OnOk result (attach_refusal store.stale chunk self.old ≡ None) }
+        ensures gained { IfOk result (λ number. IsGained B.layers B.size number store self.old self.new) }
+        ensures exact { IfOk result (λ number. is_loud_in_all B.layers self.old ≡ true → is_loud (B.layers store.device) ≡ true → IsAttachedAs B.contents B.layers number chunk store self.old self.new) }
+        ensures refused { IfErr result (λ e. ((is_starved e.0 ≡ true) × (e.1 ≡ store)) ⊎ IsNotTaken store.stale chunk (B.size self.old.origin) (B.size store.device) (B.contents store.device) self.old e.0) }
+        ensures unread { IfErr result (λ e. attach_refusal store.stale chunk self.old ≡ Some e.0 → e.1 ≡ store) }
+        ensures back { IfErr result (λ e. is_starved e.0 ≡ false → self.old.merge ≡ None → is_quiet_of self.old ≡ true → is_loud_in_all B.layers self.old ≡ true → is_loud (B.layers store.device) ≡ true → attached_by (self.old.attached + 1) chunk (store_of B.contents B.layers store) (volume_in B.contents B.layers self.old) ≡ refused_attach e.0 (store_of B.contents B.layers e.1) (volume_in B.contents B.layers self.old)) }
+        ensures starved { IfErr result (λ e. is_starved e.0 ≡ true → (B.contents e.1.device ≡ B.contents store.device) × AreRead (B.layers store.device) (B.layers e.1.device)) }
+        ensures size { IfErr result (λ e. B.size e.1.device ≡ B.size store.device) }
+        ensures loud { MatchResult result (λ _. is_loud_in_all B.layers self.new ≡ (is_loud_in_all B.layers self.old && is_loud (B.layers store.device))) (λ e. is_loud (B.layers e.1.device) ≡ is_loud (B.layers store.device)) }
+        ensures same { OnErr result (self.new ≡ self.old) }
+        ensures stale { IfErr result (λ e. e.1.stale ≡ store.stale) }
+    {
+        self.audit.attach(store, chunk)
+    }
+
+    /// Takes a snapshot away, and gives the device of its store back. Refused first of all where the journal is full
+    /// (`JournalFull`), and then as the volume refuses it; nothing changed.
+    pub fn detach(&mut self, number: SnapId) -> Result<StoreDev<B>, Refusal>
+        ensures ok { IfOk result (λ store. detach_refusal number self.old ≡ None) }
+        ensures taken { IfOk result (λ store. IsWithout number self.old self.new store) }
+        ensures loud { IfOk result (λ store. is_loud_in_all B.layers self.old ≡ (is_loud_in_all B.layers self.new && is_loud (B.layers store.device))) }
+        ensures err { IfErr result (λ refusal. ((detach_refusal number self.old ≡ Some refusal) ⊎ (refusal ≡ JournalFull)) × (self.new ≡ self.old)) }
+    {
+        self.audit.detach(number)
+    }
+
+    /// Begins to merge a live snapshot. Refused first of all where the journal is full (`JournalFull`), and nothing changed;
+    /// then as the volume refuses it.
+    pub fn begin_merge(&mut self, number: SnapId) -> Result<(), Refusal>
+        ensures admitted { OnOk result (begin_refusal number self.old ≡ None) }
+        ensures begun { OnOk result (IsMergeBegun number self.old self.new) }
+        ensures exact { OnOk result ((replied : Option Reply) → begun number (moving_of B.contents B.layers replied self.old) ≡ moving_of B.contents B.layers replied self.new) }
+        ensures loud { is_loud_in_all B.layers self.new ≡ is_loud_in_all B.layers self.old }
+        ensures refused { IfErr result (λ refusal. ((refusal ≡ JournalFull) × (self.new ≡ self.old)) ⊎ IsNotBegun number refusal self.old self.new) }
+        ensures starved { OnErr result ((replied : Option Reply) → moving_of B.contents B.layers replied self.new ≡ moving_of B.contents B.layers replied self.old) }
+    {
+        self.audit.begin_merge(number)
+    }
+
+    /// Lets a merge that failed go on. `NotMerging` where none is begun.
+    pub fn resume_merge(&mut self) -> Result<(), Refusal>
+        ensures resumed { OnOk result (IsResumed self.old self.new) }
+        ensures exact { OnOk result ((replied : Option Reply) → resumed (moving_of B.contents B.layers replied self.old) ≡ moving_of B.contents B.layers replied self.new) }
+        ensures loud { is_loud_in_all B.layers self.new ≡ is_loud_in_all B.layers self.old }
+        ensures err { IfErr result (λ refusal. (refusal ≡ NotMerging) × (self.old.merge ≡ None) × (self.new ≡ self.old)) }
+    {
+        self.audit.resume_merge()
+    }
+
+    /// Takes a merge out that came to its end, and gives the device of its store back. Refused first of all where the journal is
+    /// full (`JournalFull`), and then as the volume refuses it; nothing changed.
+    pub fn finish_merge(&mut self) -> Result<StoreDev<B>, Refusal>
+        ensures ok { IfOk result (λ store. finish_refusal self.old ≡ None) }
+        ensures taken { IfOk result (λ store. IsTakenOut self.old self.new store) }
+        ensures exact { IfOk result (λ store. (replied : Option Reply) → finished (moving_of B.contents B.layers replied self.old) ≡ moving_of B.contents B.layers replied self.new) }
+        ensures loud { IfOk result (λ store. is_loud_in_all B.layers self.old ≡ (is_loud_in_all B.layers self.new && is_loud (B.layers store.device))) }
+        ensures err { IfErr result (λ refusal. ((finish_refusal self.old ≡ Some refusal) ⊎ (refusal ≡ JournalFull)) × (self.new ≡ self.old)) }
+    {
+        self.audit.finish_merge()
+    }
+
+    /// Lets so many seconds pass for the layers of every device.
+    pub fn tick(&mut self, seconds: u32)
+        ensures ticked { IsTicked (record { contents = B.contents; durable = B.durable; size = B.size; faults = B.fault_count; done = B.done_count }) B.layers seconds self.old self.new }
+        ensures moving { (replied : Option Reply) → moving_of B.contents B.layers replied self.new ≡ moving_relayered (layers_ticked seconds) (moving_of B.contents B.layers replied self.old) }
+        ensures loud { is_loud_in_all B.layers self.new ≡ is_loud_in_all B.layers self.old }
+    {
+        self.audit.tick(seconds)
+    }
+
+    /// Tells a layer of one of the devices a message.
+    pub fn message(&mut self, dev: Dev, depth: usize, message: &Message) -> Result<Answer, Refusal>
+        ensures ok { IfOk result (λ answer. IsTold (record { contents = B.contents; durable = B.durable; size = B.size; faults = B.fault_count; done = B.done_count }) B.layers dev depth message.now answer self.old self.new) }
+        ensures err { IfErr result (λ refusal. IsNotTold (record { contents = B.contents; durable = B.durable; size = B.size; faults = B.fault_count; done = B.done_count }) B.layers dev depth message.now refusal self.old self.new) }
+        ensures moving { OnOk result ((replied : Option Reply) → moving_of B.contents B.layers replied self.new ≡ dev_relayered dev (layers_told depth message.now) (moving_of B.contents B.layers replied self.old)) }
+        ensures still { OnErr result ((replied : Option Reply) → moving_of B.contents B.layers replied self.new ≡ moving_of B.contents B.layers replied self.old) }
+        ensures books { books_of B.contents B.layers B.size self.new ≡ books_of B.contents B.layers B.size self.old }
+        ensures plain { plain_of B.contents B.layers self.new ≡ plain_of B.contents B.layers self.old }
+        ensures loud { is_loud_in_all B.layers self.new ≡ is_loud_in_all B.layers self.old }
+    {
+        self.audit.message(dev, depth, message)
+    }
+}

@@ -1,0 +1,36 @@
+// A volume ends, and its journal is dropped.
+ghost use Rattle.std.specs.Prelude.{◌≡◌, IfErr, IfOk, None, Some, true};
+ghost use Rattle.volume.specs.Leaving.{close_refusal};
+ghost use Rattle.volume.specs.Stopped.{devices_of};
+ghost use Rattle.volume.specs.Stopping.{StopsVolume, of_all};
+ghost use Rattle.volume.specs.Volumed.{is_loud_in_all};
+
+use crate::Journaled;
+use layers::Layered;
+use sector::Refusal;
+use volume::Stopped;
+
+impl<B: Layered> Journaled<B> {
+    /// Ends the volume without a further event, whatever is in flight: what is left are its devices, as they are.
+    pub fn stop(self) -> Stopped<B>
+        ensures devices { result ≡ devices_of self }
+        ensures stops { is_loud_in_all B.layers self ≡ true → StopsVolume B.contents B.size of_all None self self }
+    {
+        self.into_audit().stop()
+    }
+}
+
+impl<B: Layered + Drop> Journaled<B> {
+    /// Gives the origin disk back. `Busy` where a snapshot is attached or a merge is begun, `NotQuiet` where a request is in
+    /// flight.
+    pub fn close(self) -> Result<B, (Refusal, Journaled<B>)>
+        ensures ok { IfOk result (λ origin. (origin ≡ self.origin) × (close_refusal self ≡ None)) }
+        ensures err { IfErr result (λ e. (close_refusal self ≡ Some e.0) × (e.1 ≡ self)) }
+    {
+        let Journaled { audit } = self;
+        match audit.close() {
+            Ok(origin) => Ok(origin),
+            Err((refusal, audit)) => Err((refusal, Journaled { audit })),
+        }
+    }
+}
