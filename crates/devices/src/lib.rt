@@ -13,12 +13,12 @@
 
 mod attaching;
 mod back;
+mod checkpointing;
 mod create;
 mod disks;
 mod find;
 mod flights;
 mod held;
-mod journal;
 mod lay;
 mod lines;
 mod merging;
@@ -31,12 +31,12 @@ mod sectors;
 mod shown;
 mod stopping;
 
+pub use checkpointing::checkpoint_device;
 pub use create::create_device;
 pub use disks::make_disk;
 pub use find::find_device;
 pub use flights::{settle_device, start_read, start_write, step_device};
 pub use held::Held;
-pub use journal::checkpoint_device;
 pub use lines::line_text;
 pub use merging::{finish_device, merge_device, resume_device};
 pub use messages::{tell, tick};

@@ -6,8 +6,8 @@
 #![tactic(auto)]
 
 mod attaching;
+mod checkpointing;
 mod flights;
-mod journal;
 mod merging;
 mod names;
 mod order;

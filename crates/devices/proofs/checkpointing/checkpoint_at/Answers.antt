@@ -1,7 +1,7 @@
 use Rattle.devices.specs.Devices.{table_of}
 use Rattle.devices.proofs.Folds.{folds}
 use Rattle.devices.proofs.InVolume.{idle_in}
-use Rattle.devices.proofs.journal.checkpoint_at.Goals as goal
+use Rattle.devices.proofs.checkpointing.checkpoint_at.Goals as goal
 
 pub returns : goal.returns
 returns c =
