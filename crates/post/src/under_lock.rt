@@ -213,10 +213,11 @@ impl<B: Layered, J: Room> Post<B, J> {
         self.audit.in_flight()
     }
 
-    /// Gives the audit back.
+    /// Gives the audit back, whose journal begins with the entries that it had when the rig was made.
     pub fn into_audit(self) -> Audit<B>
         ensures same { result ≡ self.audit }
         ensures stays { StaysFrom (J.fixed self.volume) (fixed_of B.size B.layers result) }
+        ensures grows { (more : List Entry) × (result.entries ≡ J.start self.volume ++ more) }
     {
         let Post {
             volume: _,

@@ -1,5 +1,6 @@
 // A rig is closed.
-ghost use Rattle.std.specs.Prelude.{◌≡◌, ◌<◌, ℕ, [], length, slice_index_or};
+ghost use Rattle.std.specs.Prelude.{◌≡◌, ◌<◌, ◌++◌, ℕ, List, [], length, slice_index_or};
+ghost use Rattle.journal.specs.declared.entry.Entry.{Entry};
 ghost use Rattle.journal.specs.Books.{AuditShape};
 ghost use Rattle.post.specs.Beside.{IsBeside};
 ghost use Rattle.post.specs.Fixed.{StaysFrom, fixed_of};
@@ -68,6 +69,7 @@ fn close_one<B: Layered, J: Room, R: Wait>(
     requires { place.volume < J.volumes }
     ensures quiet { result.held ≡ [] }
     ensures stays { StaysFrom (J.fixed place.volume) (fixed_of B.size B.layers result) }
+    ensures grows { (more : List Entry) × (result.entries ≡ J.start place.volume ++ more) }
     ensures seats { seats.new ≡ seats.old }
     ensures settled { (i : ℕ) (s : SeatShape) → i < length seats.new → IsSettledAt (J.start place.volume) result place.volume (slice_index_or seats.new i s) }
 {
@@ -83,8 +85,8 @@ fn close_one<B: Layered, J: Room, R: Wait>(
 }
 
 impl<B: Layered + Drop, G: Gate + Drop, J: Room> Rig<B, G, J> {
-    /// Gives the audits back, in their order. Each seat's receipts of a volume are then its entries in the journal after those
-    /// that stood there when the rig was made, in their order, and there are as many.
+    /// Gives the audits back, in their order. A journal begins with the entries that it had when the rig was made, and each
+    /// seat's receipts of the volume are its entries after those, in their order, and there are as many.
     pub fn close<R: Wait>(
         self,
         rt: &R,
@@ -94,6 +96,7 @@ impl<B: Layered + Drop, G: Gate + Drop, J: Room> Rig<B, G, J> {
         ensures many { length result.items ≡ J.volumes }
         ensures quiet { (k : ℕ) (d : AuditShape B) → k < J.volumes → (slice_index_or result.items k d).held ≡ [] }
         ensures stays { (k : ℕ) (d : AuditShape B) → k < J.volumes → StaysFrom (J.fixed k) (fixed_of B.size B.layers (slice_index_or result.items k d)) }
+        ensures grows { (k : ℕ) (d : AuditShape B) → k < J.volumes → (more : List Entry) × ((slice_index_or result.items k d).entries ≡ J.start k ++ more) }
         ensures seats { seats.new ≡ seats.old }
         ensures settled { (k : ℕ) (d : AuditShape B) (i : ℕ) (s : SeatShape) → k < J.volumes → i < length seats.new → IsSettledAt (J.start k) (slice_index_or result.items k d) k (slice_index_or seats.new i s) }
     {

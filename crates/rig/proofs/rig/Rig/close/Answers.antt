@@ -1,5 +1,6 @@
 -- The first volume that is left is closed.
-use Rattle.std.proofs.Common.{◌≡◌, ◌+◌, ◌<◌, ◌≤◌, ℕ, [], List, length, slice_index_or, vec_capacity, refl, sym, ap, ◌∙◌, subst}
+use Rattle.std.proofs.Common.{◌≡◌, ◌+◌, ◌<◌, ◌≤◌, ◌++◌, ℕ, [], List, length, slice_index_or, vec_capacity, refl, sym, ap, ◌∙◌, subst}
+use Rattle.journal.specs.declared.entry.Entry.{Entry}
 use Rattle.post.specs.Fixed.{StaysFrom, fixed_of}
 use Rattle.rig.specs.Rigs.{IsSettledAt, SeatShape}
 use Rattle.rig.proofs.Rows.{AreFrom, AreUpTo, grown, taken, first_is, all_from, none_yet, long_more, one_less, none_done, some_left, below_end, at_end}
@@ -14,6 +15,7 @@ loop-init g c = record {
   numbers = all_from (λ k p. p.volume ≡ k) (length c.self.inside.places.items) c.self.inside.places.items refl c.self.invariant.0;
   quiet = none_yet (λ k a. a.held ≡ []) c.self.inside.audits.items;
   stays = none_yet (λ k a. StaysFrom (g.J.Room.fixed k) (fixed_of g.B.Block.size g.B.Block.layers a)) c.self.inside.audits.items;
+  grows = none_yet (λ k a. (more : List Entry) × (a.entries ≡ g.J.Room.start k ++ more)) c.self.inside.audits.items;
   settled = none_yet (λ k a. (i : ℕ) (s : SeatShape) → i < length c.args.seats.now → IsSettledAt (g.J.Room.start k) a k (slice_index_or c.args.seats.now i s)) c.self.inside.audits.items;
 }
 
@@ -40,6 +42,9 @@ loop-preserved g c =
       stays = subst (AreUpTo (λ k a. StaysFrom (g.J.Room.fixed k) (fixed_of g.B.Block.size g.B.Block.layers a)) (c.loop.counter + 1)) (sym c.push_reserved.ensures.items)
           (grown (λ k a. StaysFrom (g.J.Room.fixed k) (fixed_of g.B.Block.size g.B.Block.layers a)) c.loop.counter c.loop.audits.items c.close_one.result c.loop.invariant.many c.loop.invariant.stays
           (subst (λ n. StaysFrom (g.J.Room.fixed n) (fixed_of g.B.Block.size g.B.Block.layers c.close_one.result)) here c.close_one.ensures.stays));
+      grows = subst (AreUpTo (λ k a. (more : List Entry) × (a.entries ≡ g.J.Room.start k ++ more)) (c.loop.counter + 1)) (sym c.push_reserved.ensures.items)
+          (grown (λ k a. (more : List Entry) × (a.entries ≡ g.J.Room.start k ++ more)) c.loop.counter c.loop.audits.items c.close_one.result c.loop.invariant.many c.loop.invariant.grows
+          (subst (λ n. (more : List Entry) × (c.close_one.result.entries ≡ g.J.Room.start n ++ more)) here c.close_one.ensures.grows));
       settled = subst (AreUpTo (λ k a. (i : ℕ) (s : SeatShape) → i < length c.args.seats.now → IsSettledAt (g.J.Room.start k) a k (slice_index_or c.args.seats.now i s)) (c.loop.counter + 1)) (sym c.push_reserved.ensures.items)
           (grown (λ k a. (i : ℕ) (s : SeatShape) → i < length c.args.seats.now → IsSettledAt (g.J.Room.start k) a k (slice_index_or c.args.seats.now i s)) c.loop.counter c.loop.audits.items c.close_one.result c.loop.invariant.many c.loop.invariant.settled
           (subst (λ n. (i : ℕ) (s : SeatShape) → i < length c.args.seats.now → IsSettledAt (g.J.Room.start n) c.close_one.result n (slice_index_or c.args.seats.now i s)) here
@@ -53,6 +58,10 @@ returns-clause-quiet g c k d low =
 pub returns-clause-stays : goal.returns-clause-stays
 returns-clause-stays g c k d low =
     c.loop.invariant.stays k d (at_end k c.loop.counter c.len-end.result c.self.inside.places.len (length c.self.inside.places.items) g.J.Room.volumes c.loop-test.false c.len-end.ensures c.self.inside.places.ok.0 c.self.invariant.1 low)
+
+pub returns-clause-grows : goal.returns-clause-grows
+returns-clause-grows g c k d low =
+    c.loop.invariant.grows k d (at_end k c.loop.counter c.len-end.result c.self.inside.places.len (length c.self.inside.places.items) g.J.Room.volumes c.loop-test.false c.len-end.ensures c.self.inside.places.ok.0 c.self.invariant.1 low)
 
 pub returns-clause-settled : goal.returns-clause-settled
 returns-clause-settled g c k d i s low lows =
