@@ -2,10 +2,11 @@
 -- The line that each reply prints. The forms are this project's own choice.
 use Rattle.std.specs.Prelude.{ℕ, List, ◌++◌, codes, decimal}
 use Rattle.reply.specs.declared.Reply.{Reply}
-use Rattle.reply.specs.declared.Reply.TheVariants.{Done, Data, Said, Number, Fault, Ended, Refused}
+use Rattle.reply.specs.declared.Reply.TheVariants.{Done, Data, Said, Number, Fault, Ended, Seat, Gate, Refused}
 use Rattle.reply.specs.Runs.{data_words}
 use Rattle.reply.specs.Refusals.{refusal_text}
 use Rattle.reply.specs.Ended.{ended_text}
+use Rattle.reply.specs.Seated.{gate_text, seated_text}
 
 -- the line, with its end
 abbrev pub text_of : Reply → List ℕ
@@ -15,4 +16,6 @@ text_of (Said text) = codes "ok " ++ text ++ codes "\n"
 text_of (Number n) = codes "ok " ++ decimal n ++ codes "\n"
 text_of Fault = codes "ok fault\n"
 text_of (Ended ended) = ended_text ended
+text_of (Seat seated) = seated_text seated
+text_of (Gate opened) = gate_text opened
 text_of (Refused refusal) = refusal_text refusal ++ codes "\n"

@@ -15,10 +15,13 @@ mod answers;
 mod ended;
 pub mod laws;
 mod runs;
+mod seated;
 
 pub use ended::{Ended, Ending};
 use itoa::Buffer;
 use runs::write_data;
+use seated::write_gate;
+pub use seated::{Answered, Seated};
 use sector::{Buf, Refusal};
 use std::io;
 use std::io::Write;
@@ -39,6 +42,10 @@ pub enum Reply {
     Fault,
     /// The line of a request that ended in a command, before that command's own line: `reply NUMBER TEXT`.
     Ended(Ended),
+    /// The line of a seat of a block: `SEAT ok`, `SEAT ok DATA` or `SEAT err NUMBER NAME`.
+    Seat(Seated),
+    /// How the gate of a block ended: `gate ok`, or `gate limit` where its turns ran out.
+    Gate(bool),
     /// It is refused: `err NUMBER NAME`.
     Refused(Refusal),
 }
@@ -82,6 +89,8 @@ impl Reply {
             }
             Reply::Fault => writer.write_all(b"ok fault\n"),
             Reply::Ended(ended) => ended.write_to(writer),
+            Reply::Seat(seated) => seated.write_to(writer),
+            Reply::Gate(opened) => write_gate(writer, *opened),
             Reply::Refused(refusal) => {
                 write_refusal(writer, *refusal)?;
                 writer.write_all(b"\n")
@@ -136,6 +145,25 @@ mod tests {
         }
         let want =
             b"reply 2 512*11\nreply 3 written\nreply 4 err 6 Invalid\nreply 18446744073709551615 err 8 Io\n";
+        assert_eq!(rt; out.as_slice(), want.as_slice());
+        Ok(())
+    }
+
+    #[test]
+    fn prints_the_lines_of_a_block(rt: HostRuntime) -> Result<(), Fail> {
+        let bytes = Buf::from_slice(rt.alloc(), &[0x11; 512])?;
+        let answers = [
+            (1, Answered::Done),
+            (3, Answered::Data(bytes)),
+            (8, Answered::Refused(Refusal::NoMemory)),
+        ];
+        let mut out = Vec::new(rt.alloc());
+        for (seat, answer) in answers {
+            Reply::Seat(Seated { seat, answer }).write_to(&mut out)?;
+        }
+        Reply::Gate(true).write_to(&mut out)?;
+        Reply::Gate(false).write_to(&mut out)?;
+        let want = b"1 ok\n3 ok 512*11\n8 err 5 NoMemory\ngate ok\ngate limit\n";
         assert_eq!(rt; out.as_slice(), want.as_slice());
         Ok(())
     }

@@ -1,0 +1,4 @@
+pub mod Stays
+pub mod Doing
+pub mod Places
+pub mod Crossing

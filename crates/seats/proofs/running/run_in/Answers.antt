@@ -1,0 +1,60 @@
+-- What the seats did is what their journals tell.
+use Rattle.std.proofs.Common.{◌+◌, ◌<◌, List, [], length, slice_index_or, refl, subst, sym, ap, ◌∙◌}
+use Rattle.rig.specs.Rigs.{IsSettledAt, SeatShape, start_in}
+use Rattle.seats.specs.Left.{AreLeft}
+use Rattle.seats.specs.Tasks.{IsEnded, tasks_at}
+use Rattle.seats.proofs.Stays.{closed, none_ran}
+use Rattle.seats.proofs.running.run_in.Goals as goal
+
+-- stands where no seat is
+nobody : SeatShape
+nobody = record { number = 0; sittings = []; watches = [] }
+
+pub returns-then-ran-clause-told : goal.returns-then-ran-clause-told
+returns-then-ran-clause-told g c i low within =
+    let seats = c.close-audits.ensures.seats ∙ c.as_mut_slice-2.ensures.value in
+    let seat = slice_index_or c.end_all.new.seats.items i nobody in
+    let ended = c.end_all.ensures.ended i nobody low (subst (λ n. i < n) (sym c.begin_all.ensures.many) within) in (
+      seat,
+      subst (λ asked. IsEnded asked (tasks_at c.end_all.new.tasks.items i) (i + 1) seat) (c.requires.plan i) ended,
+      λ k d at. subst (λ (x : List SeatShape). IsSettledAt (start_in c.args.audits.items k) (slice_index_or c.close-audits.result.items k d) k (slice_index_or x i nobody)) seats
+          (subst (λ start. IsSettledAt (start k) (slice_index_or c.close-audits.result.items k d) k (slice_index_or c.close-audits.new.seats i nobody)) c.requires.room.starts
+          (c.close-audits.ensures.settled k d i nobody
+          (subst (λ n. k < n) (sym c.requires.room.volumes_are) at)
+          (subst (λ n. i < n) (sym (ap length seats ∙ c.end_all.ensures.many.1)) low))),
+    )
+
+pub returns-then-ran-clause-others : goal.returns-then-ran-clause-others
+returns-then-ran-clause-others g c =
+    (c.end_all.ensures.many.0 ∙ c.begin_all.ensures.many, λ i behind. c.end_all.ensures.others i behind ∙ c.begin_all.ensures.others i behind)
+
+pub returns-clause-others : goal.returns-clause-others
+returns-clause-others g c =
+    (c.end_all.ensures.many.0 ∙ c.begin_all.ensures.many, λ i behind. c.end_all.ensures.others i behind ∙ c.begin_all.ensures.others i behind)
+
+pub returns-in_default-clause-err : goal.returns-in_default-clause-err
+returns-in_default-clause-err g c = (refl, none_ran g.B.Block.size g.B.Block.layers c.args.audits.items c.requires.quiet)
+
+pub returns-in_default-with_capacity-clause-err : goal.returns-in_default-with_capacity-clause-err
+returns-in_default-with_capacity-clause-err g c = (refl, none_ran g.B.Block.size g.B.Block.layers c.args.audits.items c.requires.quiet)
+
+pub returns-in-Err-clause-err : goal.returns-in-Err-clause-err
+returns-in-Err-clause-err g c =
+    let same = c.in-Err.ensures.err in (
+      ap (λ e. e.0) same,
+      subst (λ e. AreLeft g.B.Block.size g.B.Block.layers c.args.audits.items e.1.items) (sym same) (none_ran g.B.Block.size g.B.Block.layers c.args.audits.items c.requires.quiet),
+    )
+
+pub returns-then-ran-clause-ok : goal.returns-then-ran-clause-ok
+returns-then-ran-clause-ok g c =
+    let closing = c.close-audits.ensures in
+    closed g.B.Block.size g.B.Block.layers c.args.audits.items c.close-audits.result.items g.J.Room.volumes g.J.Room.start g.J.Room.fixed c.requires.room.volumes_are c.requires.room.starts c.requires.room.fixed_is
+    closing.many closing.quiet closing.stays closing.grows
+
+pub returns-clause-err : goal.returns-clause-err
+returns-clause-err g c =
+    let closing = c.close-audits.ensures in (
+      refl,
+      closed g.B.Block.size g.B.Block.layers c.args.audits.items c.close-audits.result.items g.J.Room.volumes g.J.Room.start g.J.Room.fixed c.requires.room.volumes_are c.requires.room.starts c.requires.room.fixed_is
+          closing.many closing.quiet closing.stays closing.grows,
+    )

@@ -1,0 +1,86 @@
+-- What a seat's tasks answer, by the receipts of its calls. This project's own.
+use Rattle.std.specs.Prelude.{◌≡◌, ◌⊎◌, ◌<◌, ◌≤◌, ℕ, List, [], ◌∷◌, Option, None, Some, drop, length, map, slice_index_or, take}
+use Rattle.std.specs.Global.{Vec}
+use Rattle.chunk.specs.Pieces.{span_of}
+use Rattle.sector.specs.declared.range.Range.{Range}
+use Rattle.plain.specs.declared.request.Dev.{Dev}
+use Rattle.journal.specs.declared.entry.Receipt.{Receipt}
+use Rattle.journal.specs.Books.{AuditShape}
+use Rattle.reply.specs.declared.seated.Answered.{Answered}
+use Rattle.reply.specs.declared.seated.Answered.TheVariants as answered
+use Rattle.rig.specs.Rigs.{HasAdded, IsSettledAt, SeatShape, receipts_at, start_in}
+use Rattle.rig.specs.Served.{IsReadBy, IsReadCut, IsWriteCut, IsWrittenBy}
+use Rattle.seats.specs.declared.task.Job.{Job}
+use Rattle.seats.specs.declared.task.Job.TheVariants.{Read, Write, Merge, RefusedRead, Refused}
+use Rattle.seats.specs.declared.task.Task.{Task}
+
+-- A read answers the bytes of the receipts that it added, or it is cut short by what it answers.
+abbrev pub IsReadAs : ℕ → Dev → Range → Answered → SeatShape → SeatShape → Type 0
+IsReadAs volume dev range answered.Done old new = ⊥
+IsReadAs volume dev range (answered.Data bytes) old new = (more : List Receipt) × HasAdded volume more old new × IsReadBy dev (span_of range) more bytes
+IsReadAs volume dev range (answered.Refused refusal) old new = (more : List Receipt) × HasAdded volume more old new × IsReadCut dev (span_of range) more refusal
+
+-- A write is done by the receipts that it added, or cut short.
+abbrev pub IsWrittenAs : ℕ → Dev → Range → List ℕ → Answered → SeatShape → SeatShape → Type 0
+IsWrittenAs volume dev range bytes answered.Done old new = (more : List Receipt) × HasAdded volume more old new × IsWrittenBy dev (span_of range) more bytes
+IsWrittenAs volume dev range bytes (answered.Data read) old new = ⊥
+IsWrittenAs volume dev range bytes (answered.Refused refusal) old new = (more : List Receipt) × HasAdded volume more old new × IsWriteCut dev (span_of range) more refusal
+
+-- A merge adds no receipt, and answers no bytes.
+abbrev pub IsMergedAs : Answered → SeatShape → SeatShape → Type 0
+IsMergedAs answered.Done old new = new ≡ old
+IsMergedAs (answered.Data bytes) old new = ⊥
+IsMergedAs (answered.Refused refusal) old new = new ≡ old
+
+-- what a job answered, and what its call changed of the seat
+abbrev pub IsCall : Job → Answered → SeatShape → SeatShape → Type 0
+IsCall (Read volume dev range) answer old new = IsReadAs volume dev range answer old new
+IsCall (Write volume dev range bytes) answer old new = IsWrittenAs volume dev range bytes answer old new
+IsCall (Merge volume snap) answer old new = IsMergedAs answer old new
+IsCall (RefusedRead refusal) answer old new = (answer ≡ answered.Refused refusal) × (new ≡ old)
+IsCall (Refused refusal) answer old new = (answer ≡ answered.Refused refusal) × (new ≡ old)
+
+-- A job is called once, and its answer kept; where there is none, nothing is done.
+abbrev pub IsDoneAs : Option Job → Task → Task → SeatShape → SeatShape → Type 0
+IsDoneAs None before after old new = (after ≡ before) × (new ≡ old)
+IsDoneAs (Some job) before after old new = (answer : Answered) × (after ≡ record { job = None; answer = Some answer }) × IsCall job answer old new
+
+abbrev pub IsDone : Task → Task → SeatShape → SeatShape → Type 0
+IsDone before after old new = IsDoneAs before.job before after old new
+
+-- tasks that were done one after the other
+abbrev pub AreDone : List Task → List Task → SeatShape → SeatShape → Type 0
+AreDone [] [] old new = new ≡ old
+AreDone [] (a ∷ after) old new = ⊥
+AreDone (b ∷ before) [] old new = ⊥
+AreDone (b ∷ before) (a ∷ after) old new = (between : SeatShape) × IsDone b a old between × AreDone before after between new
+
+-- no receipts of any volume
+abbrev pub IsNew : SeatShape → Type 0
+IsNew seat = (k : ℕ) → receipts_at seat k ≡ []
+
+-- The seat, which began with no receipts, did these tasks and no others.
+abbrev pub AreCalled : List Task → List Task → SeatShape → Type 0
+AreCalled asked tasks seat = ∥ ((start : SeatShape) × IsNew start × AreDone asked tasks start seat) ∥₁
+
+-- the first tasks are done: so many; and the others are as they were asked
+pub record AreUnderWay (asked tasks : List Task) (done : ℕ) (seat : SeatShape) : Type 0 where
+  pub many : length tasks ≡ length asked
+  pub few : done ≤ length asked
+  pub firsts : AreCalled (take done asked) (take done tasks) seat
+  pub others : drop done tasks ≡ drop done asked
+
+-- What a seat of this number leaves of its tasks: all are done, or none was begun.
+abbrev pub IsEnded : List Task → List Task → ℕ → SeatShape → Type 0
+IsEnded asked tasks number seat = (seat.number ≡ number) × (AreCalled asked tasks seat ⊎ ((tasks ≡ asked) × AreCalled [] [] seat))
+
+-- The tasks that a seat of this number leaves, by entries that it made in the journals: its receipts of a volume are its entries
+-- there after those that it had, in their order, and there are as many.
+abbrev pub AreTold : {B : Type 0} → List (AuditShape B) → List (AuditShape B) → ℕ → List Task → List Task → Type 0
+AreTold {B = B} old new number asked tasks =
+    (seat : SeatShape) × IsEnded asked tasks number seat
+    × ((k : ℕ) (d : AuditShape B) → k < length old → IsSettledAt (start_in old k) (slice_index_or new k d) k seat)
+
+-- the tasks at a place; none behind the last
+abbrev pub tasks_at : List (Vec Task) → ℕ → List Task
+tasks_at all i = slice_index_or (map (λ tasks. tasks.items) all) i []

@@ -1,0 +1,55 @@
+// A seat at its tasks.
+ghost use Rattle.std.specs.Prelude.{◌≡◌, true};
+ghost use Rattle.seats.specs.Tasks.{AreUnderWay, IsEnded, IsNew};
+
+use crate::plan::Plan;
+use crate::task::Task;
+use rig::Seat;
+use std::sync::Wait;
+
+/// A seat and its tasks, the first of which are done: so many.
+#[derive(Drop)]
+pub struct SeatRun<J: Plan> {
+    pub(crate) seat: Seat<J>,
+    pub(crate) tasks: Vec<Task>,
+    pub(crate) done: usize,
+    ghost told: { AreUnderWay (J.tasks seat.number) tasks.items done seat },
+}
+
+impl<J: Plan> SeatRun<J> {
+    /// A seat that made no requests, and its tasks.
+    pub(crate) fn new(seat: Seat<J>, tasks: Vec<Task>) -> SeatRun<J>
+        requires tasks { tasks.items ≡ J.tasks seat.number }
+        requires new { IsNew seat }
+    {
+        SeatRun {
+            seat,
+            tasks,
+            done: 0,
+        }
+    }
+
+    /// Whether all its tasks are done, or none.
+    fn is_over(&self) -> bool
+        ensures { result ≡ true → IsEnded (J.tasks self.now.seat.number) self.now.tasks.items self.now.seat.number self.now.seat }
+    {
+        self.done == self.tasks.len() || self.done == 0
+    }
+
+    /// The seat and its tasks, where it is of this number and its thread did all of them, or was not started; else this would
+    /// wait for ever.
+    pub(crate) fn into_parts<R: Wait>(self, rt: &R, number: usize) -> (Seat<J>, Vec<Task>)
+        ensures { IsEnded (J.tasks number) result.1.items number result.0 }
+    {
+        if usize::from(self.seat.number()) != number || !self.is_over() {
+            for _ in rt.forever() {}
+            unreachable!()
+        }
+        let SeatRun {
+            seat,
+            tasks,
+            done: _,
+        } = self;
+        (seat, tasks)
+    }
+}
