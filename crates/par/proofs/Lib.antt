@@ -1,0 +1,5 @@
+pub mod Asks
+pub mod Backs
+pub mod Runs
+pub mod Slots
+pub mod Tells

@@ -1,0 +1,4 @@
+pub mod Asking
+pub mod Looking
+pub mod Running
+pub mod Taking

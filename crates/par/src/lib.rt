@@ -1,0 +1,16 @@
+//! Blocks of lines that run at once, over the named devices: what each line finds under its name, and the run itself.
+//!
+//! It stands on `block` for what the lines say, on `devices` for the devices, on `seats` for the run of their tasks on threads,
+//! and on `reply` for what is answered. It promises which refusal comes first, before anything runs, and that a block that is
+//! refused leaves all devices as they were; that one that runs changes no stack that nothing uses and no volume that no line
+//! names; that each volume keeps its place and its names, but that a merge of one of its snapshots may have begun, drops no
+//! more writes than before, and is quiet again; and that each line has one reply, in the order of the seats. In which of the
+//! lawful orders the seats' lines came is decided by the threads.
+#![tactic(auto)]
+
+mod looking;
+mod planning;
+mod running;
+mod taking;
+
+pub use running::run_block;
