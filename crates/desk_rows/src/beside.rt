@@ -96,7 +96,7 @@ impl Beside {
     /// A program and a machine without devices. `is_plain` is without layers.
     pub fn new(alloc: Global, chunk: usize, is_plain: bool) -> Result<Beside, Fail> {
         Ok(Beside {
-            desk: Desk::new(alloc, 1)?,
+            desk: Desk::new(alloc)?,
             plain: Machine {
                 alloc,
                 devices: Vec::new(alloc),

@@ -14,6 +14,8 @@ use runner::{RunError, Summary, exit_status, run};
 use std::alloc::Global;
 use std::io::{BufReader, BufWriter, Read, Write};
 use std::process::ExitCode;
+use std::sync::Wait;
+use std::thread::Threads;
 use std::{fs, io};
 
 /// What the words of the command line say: the file's name, if there is one, and the number of copy workers. `None`
@@ -42,13 +44,16 @@ fn asked<'a>(alloc: Global, words: &'a [String]) -> Option<(Option<&'a str>, u32
 
 /// Runs the lines of a reader into standard output. An error is the writer's own.
 fn printed<R: Read + Drop>(
-    rt: &(impl Print + AllocGlobal),
+    rt: &(impl Print + AllocGlobal + Threads + Wait + Sync),
     reader: R,
     workers: u32,
-) -> io::Result<Result<Summary, RunError>> {
+) -> io::Result<Result<Summary, RunError>>
+    requires some { 1 ≤ workers }
+    requires few { workers ≤ 4 }
+{
     let mut reader = BufReader::new(rt.alloc(), reader)?;
     let mut writer = BufWriter::new(rt.alloc(), io::writer(rt))?;
-    let ran = run(rt.alloc(), &mut reader, &mut writer, workers);
+    let ran = run(rt, rt.alloc(), &mut reader, &mut writer, workers);
     writer.flush()?;
     Ok(ran)
 }

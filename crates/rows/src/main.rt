@@ -20,11 +20,13 @@ use crate::row::is_well;
 use std::io::{BufWriter, Write};
 use std::process::ExitCode;
 use std::rt::Files;
+use std::sync::Wait;
+use std::thread::Threads;
 use std::{fs, io};
 
 /// Runs all rows of a folder, and gives whether all were well and no file is left over.
 fn are_well<W: Write>(
-    rt: &(impl Files + AllocGlobal + Clone + Drop),
+    rt: &(impl Files + AllocGlobal + Threads + Wait + Sync + Clone + Drop),
     writer: &mut W,
     folder: &str,
 ) -> io::Result<bool> {

@@ -1,5 +1,5 @@
 // One row: its commands are run, and what they printed is compared with what is wanted.
-ghost use Rattle.std.specs.Prelude.{◌≡◌, true, IfOk};
+ghost use Rattle.std.specs.Prelude.{◌≡◌, ◌≤◌, true, IfOk};
 
 use crate::difference::first_difference;
 use crate::index::named;
@@ -7,6 +7,8 @@ use runner::{exit_status, run};
 use std::alloc::Global;
 use std::io::{BufReader, Read, Write};
 use std::rt::Files;
+use std::sync::Wait;
+use std::thread::Threads;
 use std::{fs, io};
 
 /// No more of a line is shown.
@@ -28,10 +30,18 @@ fn status_of(text: &[u8]) -> u8 {
 }
 
 /// Runs the lines of a reader.
-fn run_all<R: Read + Drop>(alloc: Global, reader: R, workers: u32) -> io::Result<Ended> {
+fn run_all<T: Threads + Wait + Sync, R: Read + Drop>(
+    rt: &T,
+    alloc: Global,
+    reader: R,
+    workers: u32,
+) -> io::Result<Ended>
+    requires some { 1 ≤ workers }
+    requires few { workers ≤ 4 }
+{
     let mut reader = BufReader::new(alloc, reader)?;
     let mut printed = Vec::new(alloc);
-    let ran = run(alloc, &mut reader, &mut printed, workers);
+    let ran = run(rt, alloc, &mut reader, &mut printed, workers);
     let status = exit_status(&ran);
     Ok(Ended { printed, status })
 }
@@ -71,7 +81,7 @@ fn told<W: Write>(writer: &mut W, name: &str, ended: &Ended, wants: &[u8]) -> io
 
 /// Runs the row of a line of the index, and gives whether it was well.
 pub fn is_well<W: Write>(
-    rt: &(impl Files + AllocGlobal),
+    rt: &(impl Files + AllocGlobal + Threads + Wait + Sync),
     writer: &mut W,
     folder: &str,
     line: &str,
@@ -89,6 +99,6 @@ pub fn is_well<W: Write>(
         writeln!(writer, "{name} cannot be read")?;
         return Ok(false);
     };
-    let ended = run_all(rt.alloc(), commands, workers)?;
+    let ended = run_all(rt, rt.alloc(), commands, workers)?;
     told(writer, name, &ended, &wants)
 }

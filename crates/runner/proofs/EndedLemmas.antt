@@ -14,17 +14,22 @@ use Rattle.runner.specs.Ended.{ended_line, ended_lines, line_replies}
 use Rattle.runner.specs.Output.{answered, counted, printed}
 
 -- one reply is printed
-one_printed : (before after : Option (List ℕ)) (reply : Reply) → Appends before after (text_of reply) → Appends before after (printed (reply ∷ []))
+pub one_printed : (before after : Option (List ℕ)) (reply : Reply) → Appends before after (text_of reply) → Appends before after (printed (reply ∷ []))
 one_printed before after reply more =
     let text : printed (reply ∷ []) ≡ text_of reply = flat_map-cons text_of reply [] ∙ append-nil (text_of reply) in
     let P : List ℕ → Type 0 = λ bytes. Appends before after bytes in
     subst P (sym text) more
 
 -- more replies are printed after others
-both_printed : (before mid after : Option (List ℕ)) (replies more : List Reply) → Appends before mid (printed replies) → Appends mid after (printed more) → Appends before after (printed (replies ++ more))
+pub both_printed : (before mid after : Option (List ℕ)) (replies more : List Reply) → Appends before mid (printed replies) → Appends mid after (printed more) → Appends before after (printed (replies ++ more))
 both_printed before mid after replies more was is =
     let P : List ℕ → Type 0 = λ bytes. Appends before after bytes in
     subst P (sym (flat_map-append text_of replies more)) (appends_more before mid after (printed replies) (printed more) was is)
+
+-- no reply is printed yet
+pub none_replied : (before : Option (List ℕ)) → Appends before before (printed [])
+none_replied None = tt
+none_replied (Some xs) = sym (append-nil xs)
 
 -- no request ended yet
 pub none_ended : (before : Option (List ℕ)) → Appends before before (printed (ended_lines []))
@@ -55,7 +60,7 @@ ended_counted (replied ∷ ended) s small =
     let sum : capped (capped (s.lines + 1) + length ended) ≡ capped (s.lines + length (replied ∷ ended)) = omega arith in
     ended_counted ended (with_reply (ended_line replied) s) one ∙ ap (λ n. record s { lines = n }) sum
 
-counted_append : (replies more : List Reply) (s : Summary) → counted (replies ++ more) s ≡ counted more (counted replies s)
+pub counted_append : (replies more : List Reply) (s : Summary) → counted (replies ++ more) s ≡ counted more (counted replies s)
 counted_append [] more s = refl
 counted_append (reply ∷ replies) more s = counted_append replies more (with_reply reply s)
 

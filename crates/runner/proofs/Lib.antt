@@ -8,6 +8,9 @@ pub mod RuledLemmas
 pub mod LeftLemmas
 pub mod ShownLemmas
 pub mod DeskLemmas
+pub mod KeptLemmas
 pub mod RunLemmas
 pub mod WellLemmas
 pub mod Orders
+pub mod BlockLemmas
+pub mod SessionLemmas

@@ -3,7 +3,7 @@ use Rattle.std.specs.Prelude.{◌==◌, ℕ, ◌+◌, ◌-◌, ◌^◌, min, Boo
 use Rattle.std.specs.List.{count_by}
 use Rattle.sector.specs.Refusal.{number_of}
 use Rattle.reply.specs.declared.Reply.{Reply}
-use Rattle.reply.specs.declared.Reply.TheVariants.{Done, Data, Said, Number, Fault, Ended, Refused}
+use Rattle.reply.specs.declared.Reply.TheVariants.{Done, Data, Said, Number, Fault, Ended, Seat, Gate, Refused}
 use Rattle.runner.specs.declared.summary.Summary.{Summary}
 
 -- a reply whose line begins with `err`
@@ -14,6 +14,8 @@ is_refused (Said text) = false
 is_refused (Number n) = false
 is_refused Fault = false
 is_refused (Ended ended) = false
+is_refused (Seat seated) = false
+is_refused (Gate opened) = false
 is_refused (Refused refusal) = true
 
 -- a reply that is the refusal of a number
@@ -24,6 +26,8 @@ refuses_with number (Said text) = false
 refuses_with number (Number n) = false
 refuses_with number Fault = false
 refuses_with number (Ended ended) = false
+refuses_with number (Seat seated) = false
+refuses_with number (Gate opened) = false
 refuses_with number (Refused refusal) = number_of refusal == number
 
 -- a number that stops

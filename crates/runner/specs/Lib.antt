@@ -13,3 +13,5 @@ pub mod Left
 pub mod Done
 pub mod Shown
 pub mod Changed
+pub mod Sessions
+pub mod Runs

@@ -5,7 +5,7 @@ use Rattle.sector.specs.declared.refusal.Refusal.{Refusal}
 use Rattle.command.specs.Line.{said_of}
 use Rattle.command.specs.declared.grammar.Command.{Command}
 use Rattle.reply.specs.declared.Reply.{Reply}
-use Rattle.reply.specs.declared.Reply.TheVariants.{Done, Data, Said, Number, Fault, Ended, Refused}
+use Rattle.reply.specs.declared.Reply.TheVariants.{Done, Data, Said, Number, Fault, Ended, Seat, Gate, Refused}
 use Rattle.named.specs.State.{Table}
 use Rattle.shown.specs.Arrays.{Arrays, arrays_in}
 use Rattle.shown.specs.Commands.{IsShown}
@@ -19,6 +19,8 @@ refusal_in (Said text) = Ok tt
 refusal_in (Number number) = Ok tt
 refusal_in Fault = Ok tt
 refusal_in (Ended ended) = Ok tt
+refusal_in (Seat seated) = Ok tt
+refusal_in (Gate opened) = Ok tt
 refusal_in (Refused refusal) = Err refusal
 
 -- whether a line was refused, of which these are the replies

@@ -1,10 +1,11 @@
 -- Of which lines contracts say what they answer. A layer that drops writes answers Ok and does nothing (dm-flakey's
 -- `drop_writes`), so once a line has made such a layer nothing is said of answers; nor while a request is in flight, or a group of
 -- a merge is formed.
-use Rattle.std.specs.Prelude.{ℕ, Bool, true, false, not, List, Option, Some, None, Result, Ok, Err}
+use Rattle.std.specs.Prelude.{ℕ, Bool, true, false, ◌&&◌, not, List, Option, Some, None, Result, Ok, Err}
 use Rattle.std.specs.List.{list_all}
 use Rattle.sector.specs.declared.refusal.Refusal.{Refusal}
 use Rattle.lines.specs.Lines.{lines_of}
+use Rattle.block.specs.Opening.{is_par}
 use Rattle.command.specs.Line.{said_of}
 use Rattle.command.specs.declared.grammar.Command.{Command}
 use Rattle.command.specs.declared.grammar.Command.TheVariants as commands
@@ -43,10 +44,14 @@ is_sound_said (Err refusal) = true
 unfoldable pub is_sound_line : List ℕ → Bool
 is_sound_line line = is_sound_said (said_of 65536 line)
 
+-- and opens no block: it does not begin with the word `par`
+abbrev pub is_alone_line : List ℕ → Bool
+is_alone_line line = not (is_par 65536 line) && is_sound_line line
+
 -- each of the lines is such
 abbrev pub are_sound_lines : List (List ℕ) → Bool
-are_sound_lines lines = list_all is_sound_line lines
+are_sound_lines lines = list_all is_alone_line lines
 
--- a text of such lines
+-- a text of such lines: none makes a layer that drops writes, starts a request, does a single event of a merge, or opens a block
 unfoldable pub is_sound_text : List ℕ → Bool
 is_sound_text text = are_sound_lines (lines_of text)

@@ -5,7 +5,7 @@ use Rattle.command.specs.Line.{said_of}
 use Rattle.command.specs.declared.grammar.Command.{Command}
 use Rattle.command.specs.declared.grammar.Command.TheVariants as commands
 use Rattle.reply.specs.declared.Reply.{Reply}
-use Rattle.reply.specs.declared.Reply.TheVariants.{Done, Data, Said, Number, Fault, Ended, Refused}
+use Rattle.reply.specs.declared.Reply.TheVariants.{Done, Data, Said, Number, Fault, Ended, Seat, Gate, Refused}
 
 -- a command that starts a request
 abbrev pub starts : Command → Bool
@@ -47,6 +47,8 @@ IsStartReply (Said text) = ⊥
 IsStartReply (Number n) = Unit {0}
 IsStartReply Fault = ⊥
 IsStartReply (Ended ended) = ⊥
+IsStartReply (Seat seated) = ⊥
+IsStartReply (Gate opened) = ⊥
 IsStartReply (Refused refusal) = Unit {0}
 
 -- and that alone

@@ -31,10 +31,9 @@ use std::marker::Model;
 /// The devices that the lines so far made, and a count of the lines that were printed.
 #[derive(Drop)]
 pub struct Desk {
-    alloc: Global,
-    held: Held,
-    summary: Summary,
-    workers: u32,
+    pub(crate) alloc: Global,
+    pub(crate) held: Held,
+    pub(crate) summary: Summary,
 }
 
 impl Model for Desk {
@@ -71,17 +70,15 @@ fn outcome(alloc: Global, held: &mut Held, line: &[u8], ended: &mut Vec<Replied>
 }
 
 impl Desk {
-    /// No devices, and room for all that there may be. `workers` is the number of copy workers, 1 to 4; it has no effect
-    /// on what is printed. The one error is `RunError::Memory`.
+    /// No devices, and room for all that there may be. The one error is `RunError::Memory`.
     #[tactic(auto, using(crate::proofs::DeskLemmas::none_named))]
-    pub fn new(alloc: Global, workers: u32) -> Result<Desk, RunError>
+    pub fn new(alloc: Global) -> Result<Desk, RunError>
         ensures { MatchResult result (λ desk. desk ≡ record { table = empty; summary = summary_of [] }) IsMemory }
     {
         Ok(Desk {
             alloc,
             held: Held::new(alloc).map_err(|_| RunError::Memory)?,
             summary: Summary::of_nothing(),
-            workers,
         })
     }
 

@@ -79,6 +79,17 @@ impl Summary {
         }
     }
 
+    /// One more line for each reply.
+    pub fn with_all(self, replies: &[Reply]) -> Summary
+        ensures { result ≡ counted replies.now self }
+    {
+        let mut summary = self;
+        for reply in replies {
+            summary = summary.with(reply);
+        }
+        summary
+    }
+
     /// So many more lines, none of which is a refusal.
     pub fn with_lines(self, count: usize) -> Summary
         ensures { result ≡ with_lines count self }

@@ -1,31 +1,37 @@
 // A whole text of lines.
-ghost use Rattle.std.specs.Prelude.{◌≡◌, ◌++◌, true, List, IfOk, IfErr, IfSome};
+ghost use Rattle.std.specs.Prelude.{◌≡◌, ◌≤◌, ◌++◌, true, List, IfOk, IfErr, IfSome};
 ghost use Rattle.std.specs.Io.KnownBytes.{Appends};
 ghost use Rattle.lines.specs.Lines.{lines_of};
 ghost use Rattle.reply.specs.declared.Reply.{Reply};
 ghost use Rattle.runner.specs.Counts.{summary_of};
 ghost use Rattle.runner.specs.Exit.{IsEarly, IsWriters};
 ghost use Rattle.runner.specs.Output.{output_of, replies_of, printed, MayAnswer, empty};
+ghost use Rattle.runner.specs.Runs.{IsTextBegun, IsTextDone};
 ghost use Rattle.runner.specs.Sound.{is_sound_text};
 
-use crate::desk::Desk;
 use crate::error::RunError;
+use crate::session::Session;
 use crate::summary::Summary;
 use command::LINE_LIMIT;
 use lines::read_line;
 use std::alloc::Global;
 use std::io::{Read, Write};
+use std::sync::Wait;
+use std::thread::Threads;
 
-/// Does the lines of a text to its end, prints what each answers and nothing else, and counts what was printed. `workers`
-/// is the number of copy workers, 1 to 4; it has no effect on what is printed.
-pub fn run<R: Read, W: Write>(
+/// Does the lines of a text to its end, prints what each answers and nothing else, and counts what was printed. The end of the
+/// text ends a block that is still open. `workers` is the number of copy workers that a block has, 1 to 4.
+pub fn run<T: Threads + Wait + Sync, R: Read, W: Write>(
+    rt: &T,
     alloc: Global,
     reader: &mut R,
     writer: &mut W,
     workers: u32,
 ) -> Result<Summary, RunError>
-    // Where no line makes a layer that drops writes, starts a request or steps an event of a merge, and neither memory nor a
-    // journal's room ran out for any line, the text alone says what is printed.
+    requires some { 1 ≤ workers }
+    requires few { workers ≤ 4 }
+    // Where no line makes a layer that drops writes, starts a request, steps an event of a merge or opens a block, and neither
+    // memory nor a journal's room ran out for any line, the text alone says what is printed.
     ensures exact { IfOk result (λ summary. IfSome (R.remaining reader.old) (λ text. is_sound_text text ≡ true
         → summary.no_memory ≡ 0 → summary.journal_full ≡ 0 → Appends (W.contents writer.old) (W.contents writer.new) (output_of text))) }
     // Then it says too how many lines there are of each kind.
@@ -36,21 +42,31 @@ pub fn run<R: Read, W: Write>(
     ensures any { IfOk result (λ summary. (replies : List Reply)
         × Appends (W.contents writer.old) (W.contents writer.new) (printed replies) × (summary ≡ summary_of replies)
         × IfSome (R.remaining reader.old) (λ text. is_sound_text text ≡ true → MayAnswer empty (lines_of text) replies)) }
+    // Of every text: each line does what it does by itself where no block is open, is one of the block's where one is, or ends it;
+    // and the end of the text ends a block that is still open. These are all replies, in this order.
+    ensures lines { IfOk result (λ summary. (replies : List Reply)
+        × Appends (W.contents writer.old) (W.contents writer.new) (printed replies) × (summary ≡ summary_of replies)
+        × IfSome (R.remaining reader.old) (λ text. IsTextDone text replies)) }
     // A run that ended early, and not for its writer, printed whole replies too: the first of what the lines may answer.
     ensures early { IfErr result (λ e. (IsWriters e → ⊥) → (replies : List Reply)
         × Appends (W.contents writer.old) (W.contents writer.new) (printed replies)
         × IfSome (R.remaining reader.old) (λ text. is_sound_text text ≡ true
         → (rest : List Reply) × MayAnswer empty (lines_of text) (replies ++ rest))) }
+    // In any case they are all that its first lines answered.
+    ensures begun { IfErr result (λ e. (IsWriters e → ⊥) → (replies : List Reply)
+        × Appends (W.contents writer.old) (W.contents writer.new) (printed replies)
+        × IfSome (R.remaining reader.old) (λ text. IsTextBegun text replies)) }
     // It ended early for want of memory before the first line alone, and for the number of lines where there are so many.
     ensures cause { IfErr result (IsEarly (R.remaining reader.old) (R.remaining reader.new) (W.contents writer.old) (W.contents writer.new)) }
 {
     let mut line = Vec::with_capacity(alloc, LINE_LIMIT + 1).map_err(|_| RunError::Memory)?;
-    let mut desk = Desk::new(alloc, workers)?;
+    let mut session = Session::new(alloc, workers)?;
     for _lines in 0..u64::MAX {
         if !read_line(reader, &mut line, LINE_LIMIT).map_err(RunError::Read)? {
-            return Ok(desk.summary());
+            session.end(rt, writer)?;
+            return Ok(session.summary());
         }
-        desk.line(&line, writer)?;
+        session.line(rt, &line, writer)?;
     }
     Err(RunError::Endless)
 }

@@ -1,10 +1,12 @@
 // Memory that is refused. `rt try --test --fail-alloc 1..` makes each growth fail in turn, one in a run: the line says so,
 // no device changed, and the same line does its work when it is said again.
 
-use runner::{Desk, RunError, run};
+use runner::{Desk, RunError, Session, run};
 use std::alloc::Global;
 use std::process::Abort;
+use std::sync::Wait;
 use std::test::Fail;
+use std::thread::Threads;
 
 /// What shows all that the devices hold.
 const QUERIES: [&str; 6] = [
@@ -130,8 +132,8 @@ const STOPS: [(&str, &str); 13] = [
 
 /// A desk; the second try meets no refusal where the first did.
 fn new_desk(alloc: Global) -> Result<Desk, RunError> {
-    match Desk::new(alloc, 1) {
-        Err(RunError::Memory) => Desk::new(alloc, 1),
+    match Desk::new(alloc) {
+        Err(RunError::Memory) => Desk::new(alloc),
         made => made,
     }
 }
@@ -219,12 +221,76 @@ fn says_so_and_starts_no_request_and_loses_no_reply(rt: HostRuntime) -> Result<(
     Ok(done(&rt, &FLIGHTS, &STILL)?)
 }
 
+/// A desk at which a block may be open; the second try meets no refusal where the first did.
+fn new_session(alloc: Global) -> Result<Session, RunError> {
+    match Session::new(alloc, 1) {
+        Err(RunError::Memory) => Session::new(alloc, 1),
+        made => made,
+    }
+}
+
+/// What these lines print, and zeros behind it.
+fn block(
+    rt: &(impl Threads + Wait + Sync),
+    session: &mut Session,
+    lines: &[&str],
+) -> Result<[u8; 64], RunError> {
+    let mut text = [0u8; 64];
+    let mut writer = &mut text[..];
+    for line in lines {
+        session.line(rt, line.as_bytes(), &mut writer)?;
+    }
+    Ok(text)
+}
+
+/// Does a line, again where memory was refused for it.
+fn prepared(
+    rt: &(impl Threads + Wait + Sync),
+    session: &mut Session,
+    line: &str,
+) -> Result<[u8; 64], RunError> {
+    let refused = session.summary().no_memory;
+    let text = block(rt, session, &[line])?;
+    if session.summary().no_memory == refused {
+        Ok(text)
+    } else {
+        block(rt, session, &[line])
+    }
+}
+
+#[test]
+fn runs_a_block_or_says_so_and_wrote_nothing(rt: HostRuntime) -> Result<(), Fail> {
+    let mut session = new_session(rt.alloc())?;
+    for line in ["disk d 8", "create vol 0 8 snapshot-origin d"] {
+        assert_eq!(rt; prepared(&rt, &mut session, line)?, padded(&rt, "ok\n"));
+    }
+    let text = block(&rt, &mut session, &["par", "1 write vol 0 512*aa", "end"])?;
+    let read = prepared(&rt, &mut session, "read vol 0 1")?;
+    if text == padded(&rt, "1 ok\nok\n") {
+        assert_eq!(rt; read, padded(&rt, "ok 512*aa\n"));
+        return Ok(());
+    }
+    let mut says_so = false;
+    for refusal in [
+        "err 5 NoMemory\n",
+        "1 err 5 NoMemory\nok\n",
+        "err 5 NoMemory\nerr 10 BadTable\nerr 10 BadTable\n",
+    ] {
+        if text == padded(&rt, refusal) {
+            says_so = true;
+        }
+    }
+    assert!(rt; says_so);
+    assert_eq!(rt; read, padded(&rt, "ok 512*00\n"));
+    Ok(())
+}
+
 #[test]
 fn ends_a_run_before_its_first_line_or_says_so(rt: HostRuntime) -> Result<(), Fail> {
     let mut reader = b"disk d 8\nsave d 0 1\n".as_slice();
     let mut text = [0u8; 64];
     let mut writer = &mut text[..];
-    match run(rt.alloc(), &mut reader, &mut writer, 1) {
+    match run(&rt, rt.alloc(), &mut reader, &mut writer, 1) {
         Err(RunError::Memory) => assert_eq!(rt; text, [0u8; 64]),
         Err(_) => assert!(rt; false, "another end"),
         Ok(summary) if summary.no_memory == 0 => {

@@ -1,0 +1,133 @@
+// A desk at which a block of lines may be open.
+ghost use Rattle.std.specs.Prelude.{◌≡◌, ◌≤◌, None, true, MatchResult, IfErr, OnOk};
+ghost use Rattle.std.specs.Io.KnownBytes.{Appends};
+ghost use Rattle.named.specs.Naming.{AreNamed};
+ghost use Rattle.named.specs.Sound.{is_sound};
+ghost use Rattle.runner.specs.Exit.{IsMemory, IsWriters};
+ghost use Rattle.runner.specs.Output.{Outcome, followed, printed};
+ghost use Rattle.runner.specs.Runs.{begun};
+ghost use Rattle.runner.specs.Sessions.{IsEndedBy, IsOpenedBy, IsSessionDone};
+ghost use Rattle.runner.specs.Sound.{is_sound_line};
+ghost use Rattle.block.specs.Opening.{opening_of};
+
+use crate::desk::Desk;
+use crate::error::RunError;
+use crate::summary::Summary;
+use block::{Block, is_par, opening_by};
+use command::LINE_LIMIT;
+use std::alloc::Global;
+use std::io::Write;
+use std::marker::Model;
+use std::sync::Wait;
+use std::thread::Threads;
+
+/// A desk, and the block of lines that is open at it, if one is. Contracts see both.
+#[derive(Drop)]
+pub struct Session {
+    alloc: Global,
+    desk: Desk,
+    block: Option<Block>,
+    workers: u32,
+}
+
+impl Model for Session {
+    ghost use Rattle.std.specs.Prelude.{◌≤◌};
+    ghost use Rattle.runner.specs.Sessions.{Sitting};
+
+    ghost Value = { Sitting };
+
+    ghost view = { λ s. record { desk = s.desk; block = s.block } };
+
+    ghost invariant = { λ s. (1 ≤ s.workers) × (s.workers ≤ 4) };
+}
+
+impl Session {
+    /// No devices, room for all that there may be, and no block. A block is run with so many copy workers. The one error is
+    /// `RunError::Memory`.
+    pub fn new(alloc: Global, workers: u32) -> Result<Session, RunError>
+        requires some { 1 ≤ workers }
+        requires few { workers ≤ 4 }
+        ensures { MatchResult result (λ session. session ≡ begun) IsMemory }
+    {
+        Ok(Session {
+            alloc,
+            desk: Desk::new(alloc)?,
+            block: None,
+            workers,
+        })
+    }
+
+    /// What was printed so far, counted; a line whose printing failed counts too.
+    pub fn summary(&self) -> Summary
+        ensures { result ≡ self.now.desk.summary }
+    {
+        self.desk.summary()
+    }
+
+    /// Opens a block by a line that begins with the word `par`, or answers why it opens none.
+    fn open<W: Write>(&mut self, line: &[u8], writer: &mut W) -> Result<(), RunError>
+        requires { self.old.block ≡ None }
+        ensures done { (done : Outcome) × IsOpenedBy (opening_of line.now) self.old.desk.table self.new.block done × (self.new.desk ≡ followed self.old.desk done)
+            × OnOk result (Appends (W.contents writer.old) (W.contents writer.new) (printed done.replies)) }
+        ensures table { self.new.desk.table ≡ self.old.desk.table }
+        ensures error { IfErr result IsWriters }
+    {
+        match opening_by(self.alloc, line) {
+            Ok(opening) => {
+                self.block = Some(Block::new(self.alloc, opening));
+                Ok(())
+            }
+            Err(refusal) => self.desk.refuse(refusal, writer),
+        }
+    }
+
+    /// Does what a line says, the line given without its end. Where no block is open, a line that begins with the word `par`
+    /// opens one, or is refused, and each other line is the desk's. Where one is open, each line is one of the block's, which
+    /// prints nothing, until one that says `end`: then the block is run. The one error is `RunError::Write`, the writer's own;
+    /// then the line was done all the same, and part of what it prints may be printed.
+    pub fn line<R: Threads + Wait + Sync, W: Write>(
+        &mut self,
+        rt: &R,
+        line: &[u8],
+        writer: &mut W,
+    ) -> Result<(), RunError>
+        ensures done { (done : Outcome) × IsSessionDone line.now self.old self.new done × (self.new.desk ≡ followed self.old.desk done)
+            × OnOk result (Appends (W.contents writer.old) (W.contents writer.new) (printed done.replies)) }
+        ensures sound { is_sound self.old.desk.table ≡ true → is_sound_line line.now ≡ true → is_sound self.new.desk.table ≡ true }
+        ensures error { IfErr result IsWriters }
+    {
+        match self.block.take() {
+            Some(mut block) => {
+                if block.take(self.alloc, line) {
+                    return self.desk.run_block(rt, block, self.workers, writer);
+                }
+                self.block = Some(block);
+                Ok(())
+            }
+            None => {
+                if is_par(line, LINE_LIMIT) {
+                    self.open(line, writer)
+                } else {
+                    self.desk.line(line, writer)
+                }
+            }
+        }
+    }
+
+    /// Runs the block that is open, if one is, as its end would. The one error is `RunError::Write`, the writer's own.
+    pub fn end<R: Threads + Wait + Sync, W: Write>(
+        &mut self,
+        rt: &R,
+        writer: &mut W,
+    ) -> Result<(), RunError>
+        ensures done { (done : Outcome) × IsEndedBy self.old.block self.old.desk.table done × (self.new.desk ≡ followed self.old.desk done)
+            × OnOk result (Appends (W.contents writer.old) (W.contents writer.new) (printed done.replies)) }
+        ensures closed { self.new.block ≡ None }
+        ensures error { IfErr result IsWriters }
+    {
+        match self.block.take() {
+            Some(block) => self.desk.run_block(rt, block, self.workers, writer),
+            None => Ok(()),
+        }
+    }
+}
