@@ -17,8 +17,9 @@ const ROOM: u64 = 65_534;
 /// The reads from one checkpoint to the next.
 const READS: u64 = 65_000;
 
-/// So many pages more than before, at most, is the same memory. The entries of one round alone take ten thousand.
-const MORE_PAGES: u64 = 64;
+/// So many pages more than before, at most, are the same memory after ten rounds. What the reads of one round give are eight
+/// thousand.
+const MORE_PAGES: u64 = 4_096;
 
 /// Reads a sector of the origin so often, and tells how many reads were answered.
 fn read_often<B: Layered>(audit: &mut Audit<B>, times: u64) -> Result<u64, Refusal> {

@@ -1,3 +1,4 @@
+pub mod Asked
 pub mod Asks
 pub mod Backs
 pub mod Runs

@@ -1,10 +1,14 @@
 // What each line of a block asks of the volumes that are taken out.
-ghost use Rattle.std.specs.Prelude.{◌≡◌, ◌<◌, ◌||◌, ℕ, [], false, Err, IfErr, IfOk, Ok, length, map, slice_index_or, vec_capacity, vec_len};
+ghost use Rattle.std.specs.Prelude.{◌≡◌, ◌≢◌, ◌+◌, ◌-◌, ◌<◌, ◌||◌, ◌++◌, ◌∷◌, ℕ, [], false, Err, IfErr, IfOk, Ok, OnOk, length, slice_index_or, vec_capacity, vec_len};
 ghost use Rattle.sector.specs.declared.refusal.Refusal.TheVariants.{NoMemory};
 ghost use Rattle.chunk.specs.Pieces.{span_of};
+ghost use Rattle.block.specs.Blocks.{AreSeats};
+ghost use Rattle.block.specs.Lines.{IsSeat};
 ghost use Rattle.devices.specs.Devices.{table_of};
 ghost use Rattle.named.specs.Places.{IsRoleIn, place_of};
 ghost use Rattle.named.specs.Sectors.{dev_of};
+ghost use Rattle.seats.specs.Tasks.{tasks_at};
+ghost use Rattle.par.specs.Answering.{AreAsked};
 ghost use Rattle.par.specs.Asking.{IsJob, IsMergeAs, IsReadAs, IsTask, IsWriteAs, asked, asks_of, merges_of, place_among, writes_of};
 ghost use Rattle.par.specs.Looking.{name_in};
 ghost use Rattle.par.specs.Running.{is_in, used_in};
@@ -21,12 +25,11 @@ use seats::{Job, SEATS, Task};
 use sector::{Buf, Range, Refusal};
 use std::alloc::{AllocError, Global};
 
-/// Which volumes are taken out, by their place in the table; the seat of each line; the tasks of each seat; and room for a
-/// reply to each line, and for the gate's.
+/// Which volumes are taken out, by their place in the table; the tasks of each seat; and room for a reply to each line, and for
+/// the gate's.
 #[derive(Drop)]
 pub struct Plan {
     pub used: Vec<bool>,
-    pub seats: Vec<u8>,
     pub tasks: Vec<Vec<Task>>,
     pub replies: Vec<Reply>,
 }
@@ -194,12 +197,27 @@ fn task(held: &Held, used: &[bool], work: Work) -> Task
 }
 
 /// No tasks for each seat.
-fn no_tasks(alloc: Global) -> Result<Vec<Vec<Task>>, AllocError> {
+#[tactic(auto, using(crate::proofs::Asked::none_more))]
+fn no_tasks(alloc: Global) -> Result<Vec<Vec<Task>>, AllocError>
+    ensures { IfOk result (λ tasks. (length tasks.items ≡ 8) × ((i : ℕ) → tasks_at tasks.items i ≡ [])) }
+{
     let mut tasks = Vec::with_capacity(alloc, SEATS)?;
     for _ in 0..SEATS {
         tasks.push(Vec::new(alloc))?;
     }
     Ok(tasks)
+}
+
+/// Puts a task behind those of its seat.
+fn put_task(tasks: &mut Vec<Vec<Task>>, seat: u8, task: Task) -> Result<(), AllocError>
+    requires seat { IsSeat seat }
+    requires seats { length tasks.old.items ≡ 8 }
+    ensures seats { length tasks.new.items ≡ 8 }
+    ensures put { OnOk result (tasks_at tasks.new.items (seat - 1) ≡ tasks_at tasks.old.items (seat - 1) ++ task ∷ []) }
+    ensures others { (i : ℕ) → i ≢ seat - 1 → tasks_at tasks.new.items i ≡ tasks_at tasks.old.items i }
+{
+    tasks[usize::from(seat) - 1].push(task)?;
+    Ok(())
 }
 
 /// The tasks of each seat, in the order of its lines.
@@ -209,31 +227,32 @@ fn tasks_of(
     used: &[bool],
     lines: Vec<SeatLine>,
 ) -> Result<Vec<Vec<Task>>, AllocError>
-    requires { length used.now ≡ length (table_of held.now).volumes }
+    requires used { length used.now ≡ length (table_of held.now).volumes }
+    requires seats { AreSeats lines.items }
+    ensures seats { IfOk result (λ tasks. length tasks.items ≡ 8) }
+    ensures asked { IfOk result (λ tasks. AreAsked used.now (table_of held.now) lines.items (tasks_at tasks.items)) }
 {
     let mut tasks = no_tasks(alloc)?;
     for line in lines {
         let SeatLine { seat, work } = line;
-        if let Some(list) = tasks.get_mut(usize::from(seat).saturating_sub(1)) {
-            list.push(task(held, used, work))?;
-        }
+        put_task(&mut tasks, seat, task(held, used, work))?;
     }
     Ok(tasks)
 }
 
 fn plan_of(alloc: Global, held: &Held, lines: Vec<SeatLine>) -> Result<Plan, AllocError>
+    requires seats { AreSeats lines.items }
     ensures used { IfOk result (λ plan. plan.used.items ≡ used_in lines.items (table_of held.now)) }
-    ensures seats { IfOk result (λ plan. plan.seats.items ≡ map (λ line. line.seat) lines.items) }
+    ensures eight { IfOk result (λ plan. length plan.tasks.items ≡ 8) }
+    ensures asked { IfOk result (λ plan. AreAsked plan.used.items (table_of held.now) lines.items (tasks_at plan.tasks.items)) }
     ensures none { IfOk result (λ plan. plan.replies.items ≡ []) }
-    ensures room { IfOk result (λ plan. vec_len plan.seats < vec_capacity plan.replies) }
+    ensures room { IfOk result (λ plan. vec_len lines < vec_capacity plan.replies) }
 {
     let used = used_in(alloc, held, &lines)?;
-    let seats = lines.iter().map(|line| line.seat).collect(alloc)?;
     let replies = Vec::with_capacity(alloc, lines.len() + 1)?;
     let tasks = tasks_of(alloc, held, &used, lines)?;
     Ok(Plan {
         used,
-        seats,
         tasks,
         replies,
     })
@@ -241,10 +260,12 @@ fn plan_of(alloc: Global, held: &Held, lines: Vec<SeatLine>) -> Result<Plan, All
 
 /// What the lines of a block ask. The one error is `NoMemory`.
 pub fn planned(alloc: Global, held: &Held, lines: Vec<SeatLine>) -> Result<Plan, Refusal>
+    requires seats { AreSeats lines.items }
     ensures used { IfOk result (λ plan. plan.used.items ≡ used_in lines.items (table_of held.now)) }
-    ensures seats { IfOk result (λ plan. plan.seats.items ≡ map (λ line. line.seat) lines.items) }
+    ensures eight { IfOk result (λ plan. length plan.tasks.items ≡ 8) }
+    ensures asked { IfOk result (λ plan. AreAsked plan.used.items (table_of held.now) lines.items (tasks_at plan.tasks.items)) }
     ensures none { IfOk result (λ plan. plan.replies.items ≡ []) }
-    ensures room { IfOk result (λ plan. vec_len plan.seats < vec_capacity plan.replies) }
+    ensures room { IfOk result (λ plan. vec_len lines < vec_capacity plan.replies) }
     ensures err { IfErr result (λ e. e ≡ NoMemory) }
 {
     match plan_of(alloc, held, lines) {

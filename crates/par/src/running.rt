@@ -1,14 +1,16 @@
 // The run of a block.
-ghost use Rattle.std.specs.Prelude.{◌≡◌, ◌+◌, ◌<◌, ◌≤◌, ◌==◌, ◌++◌, ℕ, [], Some, None, map, length, replicate, slice_index_or, vec_len, vec_capacity, true, IfErr, IfOk, IfSome};
-ghost use Rattle.std.specs.List.{All, AllZip, count_by};
+ghost use Rattle.std.specs.Prelude.{◌≡◌, ◌+◌, ◌<◌, ◌≤◌, ◌++◌, ℕ, [], None, map, length, slice_index_or, vec_len, vec_capacity, true, IfErr, IfOk, IfSome, OnOk};
+ghost use Rattle.std.specs.List.{All, AllZip};
 ghost use Rattle.sector.specs.declared.refusal.Refusal.TheVariants.{NoMemory};
 ghost use Rattle.layers.specs.declared.stack.Stack.{Stack as StackShape};
 ghost use Rattle.journal.specs.Books.{AuditShape};
 ghost use Rattle.named.specs.Naming.{AreNamed};
 ghost use Rattle.named.specs.Sound.{is_sound};
 ghost use Rattle.devices.specs.Devices.{table_of};
+ghost use Rattle.seats.specs.Tasks.{AreTold, tasks_at};
+ghost use Rattle.par.specs.Answering.{AreAnswered, AreEnded, AreReplied, gate_replies, replies_of, reply_of};
 ghost use Rattle.par.specs.Looking.{block_refusal};
-ghost use Rattle.par.specs.Running.{AreRun, IsOfBlock, IsRefusedFor, IsTableRun, all_told, gate_told, seat_in, seats_told};
+ghost use Rattle.par.specs.Running.{AreRun, IsOfBlock, IsRefusedFor, IsTableRun, all_told, seat_in};
 ghost use Rattle.par.specs.Taking.{IsLeft};
 
 use crate::looking::all_found;
@@ -22,6 +24,7 @@ use reply::{Answered, Reply, Seated};
 use seats::{Hold, Task, run_seats};
 use sector::Refusal;
 use std::alloc::Global;
+use std::mem;
 use std::sync::Wait;
 use std::thread::Threads;
 
@@ -53,8 +56,11 @@ fn run<R: Threads + Wait + Sync>(
     tasks: &mut Vec<Vec<Task>>,
 ) -> (Vec<Audit<Stack>>, bool)
     requires few { workers ≤ 4 }
+    requires eight { length tasks.old.items ≡ 8 }
     requires none { (k : ℕ) (d : AuditShape StackShape) → k < length audits.items → (slice_index_or audits.items k d).held ≡ [] }
-    ensures { AllZip IsLeft audits.items result.0.items }
+    ensures left { AllZip IsLeft audits.items result.0.items }
+    ensures eight { length tasks.new.items ≡ 8 }
+    ensures told { result.1 ≡ true → (i : ℕ) → i < 8 → AreTold audits.items result.0.items (i + 1) (tasks_at tasks.old.items i) (tasks_at tasks.new.items i) }
 {
     if audits.len() < many {
         return (audits, false);
@@ -78,6 +84,9 @@ fn at_once<R: Threads + Wait + Sync>(
 ) -> Result<(), Refusal>
     requires few { workers ≤ 4 }
     requires many { length used.now ≡ length (table_of held.old).volumes }
+    requires eight { length tasks.old.items ≡ 8 }
+    ensures eight { OnOk result (length tasks.new.items ≡ 8) }
+    ensures told { OnOk result (AreEnded (tasks_at tasks.old.items) (tasks_at tasks.new.items)) }
     ensures err { IfErr result (λ e. e ≡ NoMemory) }
     ensures stacks { (table_of held.new).stacks ≡ (table_of held.old).stacks }
     ensures volumes { AreRun used.now (table_of held.old).volumes (table_of held.new).volumes }
@@ -95,58 +104,47 @@ fn at_once<R: Threads + Wait + Sync>(
     if ran { Ok(()) } else { Err(Refusal::NoMemory) }
 }
 
-/// What a task answered. One without an answer is of a seat that could not be started.
-fn answer_of(task: Option<Task>) -> Answered {
-    match task {
-        Some(Task { job: _, answer }) => answer.unwrap_or(Answered::Refused(Refusal::NoMemory)),
-        None => Answered::Refused(Refusal::NoMemory),
-    }
+/// The reply to a line by its task.
+fn reply_to(seat: u8, task: Task) -> Reply
+    ensures { result ≡ reply_of seat task }
+{
+    let Task { job: _, answer } = task;
+    Reply::Seat(Seated {
+        seat,
+        answer: answer.unwrap_or(Answered::Refused(Refusal::NoMemory)),
+    })
 }
 
-/// The replies to so many lines of a seat, by its tasks.
-fn tell_seat(replies: &mut Vec<Reply>, seat: u8, lines: usize, tasks: Vec<Task>)
-    requires block { All IsOfBlock replies.old.items }
-    requires room { vec_len replies.old + lines ≤ vec_capacity replies.old }
-    ensures block { All IsOfBlock replies.new.items }
-    ensures told { map seat_in replies.new.items ≡ map seat_in replies.old.items ++ replicate lines (Some seat) }
-    ensures many { vec_len replies.new ≡ vec_len replies.old + lines }
+/// The replies to the lines of a seat, by its tasks.
+fn tell_seat(replies: &mut Vec<Reply>, seat: u8, tasks: Vec<Task>)
+    requires room { vec_len replies.old + vec_len tasks ≤ vec_capacity replies.old }
+    ensures told { replies.new.items ≡ replies.old.items ++ map (reply_of seat) tasks.items }
     ensures room { vec_capacity replies.new ≡ vec_capacity replies.old }
 {
-    let mut tasks = tasks.into_iter();
-    for i in 0..lines {
-        let answer = answer_of(tasks.next());
-        replies.push_reserved(Reply::Seat(Seated { seat, answer }));
+    for task in tasks {
+        replies.push_reserved(reply_to(seat, task));
     }
 }
 
-/// How many lines a seat has, by the seats of all lines.
-fn lines_of(seats: &[u8], seat: u8) -> usize
-    ensures { result ≡ count_by (λ s. s == seat) seats.now }
-{
-    seats.iter().filter(|s| **s == seat).count()
-}
-
-/// The replies to all lines, by the seat of each, the first seat's first.
-fn tell_seats(alloc: Global, replies: &mut Vec<Reply>, seats: &[u8], tasks: Vec<Vec<Task>>)
+/// The replies to all lines, by the tasks of each seat, the first seat's first.
+fn tell_seats(alloc: Global, replies: &mut Vec<Reply>, tasks: Vec<Vec<Task>>)
     requires none { replies.old.items ≡ [] }
-    requires room { length seats.now < vec_capacity replies.old }
-    ensures block { All IsOfBlock replies.new.items }
-    ensures told { map seat_in replies.new.items ≡ seats_told seats.now }
+    requires eight { length tasks.items ≡ 8 }
+    requires room { length (replies_of (tasks_at tasks.items)) < vec_capacity replies.old }
+    ensures told { replies.new.items ≡ replies_of (tasks_at tasks.items) }
     ensures room { vec_len replies.new < vec_capacity replies.new }
 {
-    let mut lists = tasks.into_iter();
+    let mut tasks = tasks;
     for seat in 1u8..9 {
-        let tasks = lists.next().unwrap_or(Vec::new(alloc));
-        tell_seat(replies, seat, lines_of(seats, seat), tasks);
+        let list = mem::replace(&mut tasks[usize::from(seat) - 1], Vec::new(alloc));
+        tell_seat(replies, seat, list);
     }
 }
 
 /// How the gate ended, where a ticket is held.
 fn tell_gate(replies: &mut Vec<Reply>, ticket: Option<u32>, opened: bool)
-    requires block { All IsOfBlock replies.old.items }
     requires room { vec_len replies.old < vec_capacity replies.old }
-    ensures block { All IsOfBlock replies.new.items }
-    ensures told { map seat_in replies.new.items ≡ map seat_in replies.old.items ++ gate_told ticket }
+    ensures told { replies.new.items ≡ replies.old.items ++ gate_replies ticket opened }
 {
     match ticket {
         Some(_) => replies.push_reserved(Reply::Gate(opened)),
@@ -165,23 +163,22 @@ fn run_plan<R: Threads + Wait + Sync>(
 ) -> Result<Vec<Reply>, Refusal>
     requires few { workers ≤ 4 }
     requires many { length plan.used.items ≡ length (table_of held.old).volumes }
+    requires eight { length plan.tasks.items ≡ 8 }
     requires none { plan.replies.items ≡ [] }
-    requires room { vec_len plan.seats < vec_capacity plan.replies }
-    ensures block { IfOk result (λ replies. All IsOfBlock replies.items) }
-    ensures told { IfOk result (λ replies. map seat_in replies.items ≡ seats_told plan.seats.items ++ gate_told ticket) }
+    requires room { length (replies_of (tasks_at plan.tasks.items)) < vec_capacity plan.replies }
+    ensures told { IfOk result (λ replies. AreReplied ticket (tasks_at plan.tasks.items) replies.items) }
     ensures err { IfErr result (λ e. e ≡ NoMemory) }
     ensures stacks { (table_of held.new).stacks ≡ (table_of held.old).stacks }
     ensures volumes { AreRun plan.used.items (table_of held.old).volumes (table_of held.new).volumes }
 {
     let Plan {
         used,
-        seats,
         mut tasks,
         mut replies,
     } = plan;
     let hold = Hold::new(ticket);
     at_once(rt, alloc, held, &used, workers, &hold, &mut tasks)?;
-    tell_seats(alloc, &mut replies, &seats, tasks);
+    tell_seats(alloc, &mut replies, tasks);
     tell_gate(&mut replies, ticket, hold.opened());
     Ok(replies)
 }
@@ -204,6 +201,7 @@ pub fn run_block<R: Threads + Wait + Sync>(
     requires few { workers ≤ 4 }
     ensures told { IfOk result (λ replies. All IsOfBlock replies.items) }
     ensures seats { IfOk result (λ replies. map seat_in replies.items ≡ all_told block) }
+    ensures answers { IfOk result (λ replies. AreAnswered block (table_of held.old) replies.items) }
     ensures runs { IfOk result (λ _. block_refusal block (table_of held.old) ≡ None) }
     ensures refused { IfErr result (λ e. IsRefusedFor e block (table_of held.old)) }
     ensures stays { IfSome (block_refusal block (table_of held.old)) (λ _. table_of held.new ≡ table_of held.old) }

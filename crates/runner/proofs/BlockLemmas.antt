@@ -6,6 +6,7 @@ use Rattle.std.specs.Prelude.{IfSome, map}
 use Rattle.sector.specs.declared.refusal.Refusal.{Refusal}
 use Rattle.sector.specs.declared.refusal.Refusal.TheVariants.{NoMemory}
 use Rattle.named.specs.State.{Table}
+use Rattle.par.specs.Answering.{AreAnswered}
 use Rattle.par.specs.Running.{IsOfBlock, IsTableRun, all_told, seat_in}
 use Rattle.reply.specs.declared.Reply.{Reply}
 use Rattle.reply.specs.declared.Reply.TheVariants.{Done, Refused}
@@ -39,10 +40,10 @@ refused_block block first old new e why stays run = elim (memory_or_not e) [
     told (Some f) stays is = inl (ap (refuses e) stays ∙ ap (λ r. refuses r old) (let same : e ≡ f = cc in same))
 
 -- a block that was run
-pub run_block : (block : Lines) (first : Option Refusal) (old new : Table) (told : List Reply) → first ≡ None → All IsOfBlock told → map seat_in told ≡ all_told block → IsTableRun block.lines old new → IsBlockBy block first old (record { replies = told ++ Done ∷ []; table = new })
-run_block block first old new told none all seats run =
+pub run_block : (block : Lines) (first : Option Refusal) (old new : Table) (told : List Reply) → first ≡ None → All IsOfBlock told → map seat_in told ≡ all_told block → AreAnswered block old told → IsTableRun block.lines old new → IsBlockBy block first old (record { replies = told ++ Done ∷ []; table = new })
+run_block block first old new told none all seats answers run =
     let P : Option Refusal → Type 0 = λ f. IsBlockBy block f old (record { replies = told ++ Done ∷ []; table = new }) in
-    subst P (sym none) (record { told = inl (told, all, seats, refl); table = run })
+    subst P (sym none) (record { told = inl (told, all, seats, answers, refl); table = run })
 
 -- its answers and `ok` are counted
 pub run_counted : (told : List Reply) (s : Summary) → with_reply Done (counted told s) ≡ counted (told ++ Done ∷ []) s
@@ -60,12 +61,12 @@ block_refused block old now was new summary e P view why stays run is last =
     )
 
 -- and of one that was run
-pub block_ran : (block : Lines) (old : Standing) (was new : Table) (summary now : Summary) (told : List Reply) (P : List Reply → Type 0) → old ≡ record { table = was; summary = summary } → block_refusal block was ≡ None → All IsOfBlock told → map seat_in told ≡ all_told block → IsTableRun block.lines was new → now ≡ with_reply Done (counted told summary) → P (told ++ Done ∷ [])
+pub block_ran : (block : Lines) (old : Standing) (was new : Table) (summary now : Summary) (told : List Reply) (P : List Reply → Type 0) → old ≡ record { table = was; summary = summary } → block_refusal block was ≡ None → All IsOfBlock told → map seat_in told ≡ all_told block → AreAnswered block was told → IsTableRun block.lines was new → now ≡ with_reply Done (counted told summary) → P (told ++ Done ∷ [])
     → (done : Outcome) × IsBlockDone block old.table done × (record { table = new; summary = now } ≡ followed old done) × P done.replies
-block_ran block old was new summary now told P view none all seats run counts last =
+block_ran block old was new summary now told P view none all seats answers run counts last =
     let D : Table → Type 0 = λ t. IsBlockDone block t (record { replies = told ++ Done ∷ []; table = new }) in (
       record { replies = told ++ Done ∷ []; table = new },
-      subst D (sym (ap (λ (s : Standing). s.table) view)) (run_block block (block_refusal block was) was new told none all seats run),
+      subst D (sym (ap (λ (s : Standing). s.table) view)) (run_block block (block_refusal block was) was new told none all seats answers run),
       ap (λ (n : Summary). record { table = new; summary = n }) (counts ∙ run_counted told summary ∙ ap (λ (s : Standing). counted (told ++ Done ∷ []) s.summary) (sym view)),
       last,
     )

@@ -4,5 +4,5 @@ use Rattle.devices.specs.Devices.{table_of}
 use Rattle.par.proofs.Runs.{marks_many}
 use Rattle.par.proofs.planning.plan_of.Goals as goal
 
-pub tasks_of-requires : goal.tasks_of-requires
-tasks_of-requires c = ap length c.deref-3.ensures.value ∙ marks_many c.deref.result.now (table_of c.args.held.now) c.in_ok-used.used.items c.in_ok-used.ensures
+pub tasks_of-requires-clause-used : goal.tasks_of-requires-clause-used
+tasks_of-requires-clause-used c = ap length c.deref-2.ensures.value ∙ marks_many c.deref.result.now (table_of c.args.held.now) c.in_ok-used.used.items c.in_ok-used.ensures

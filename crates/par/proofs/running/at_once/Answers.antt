@@ -22,7 +22,7 @@ loop-slot-init g c = let none = ap length c.take_all.ensures.empty in record {
   stacks = refl;
   room = omega (arith, none, c.take_all.ensures.few, c.take_all.ensures.room);
   left = first_left c.args.used.now c.args.held.now.volumes.items c.take_all.new.slots.items c.run-audits.result.0.items c.take_all.new.volumes.items c.take_all.ensures.empty
-      (all_ran c.args.used.now c.take_all.new.slots.items c.take_all.new.audits.items c.run-audits.result.0.items c.args.held.now.volumes.items c.take_all.ensures.slots c.run-audits.ensures);
+      (all_ran c.args.used.now c.take_all.new.slots.items c.take_all.new.audits.items c.run-audits.result.0.items c.args.held.now.volumes.items c.take_all.ensures.slots c.run-audits.ensures.left);
 }
 
 pub put_back-requires : goal.put_back-requires
@@ -48,3 +48,6 @@ returns-then-ran-clause-volumes g c = none_left c.args.used.now c.args.held.now.
 
 pub returns-clause-volumes : goal.returns-clause-volumes
 returns-clause-volumes g c = none_left c.args.used.now c.args.held.now.volumes.items c.loop-slot.slots.items c.loop-slot.audits.items c.loop-slot.held.volumes.items (none_popped c.loop-slot.slots.items c.loop-slot.slots.len c.pop.new.self.len c.pop.result (omega (arith, c.loop-slot.slots.ok)) c.pop.ensures.cases c.in_default.not-Some) c.loop-slot.invariant.left
+
+pub returns-then-ran-clause-told : goal.returns-then-ran-clause-told
+returns-then-ran-clause-told g c i low = let t = c.run-audits.ensures.told c.if-ran.true i low in (t.0, t.1)

@@ -1,17 +1,21 @@
 -- What seats leave of each audit.
+use Rattle.std.proofs.Common.{arith}
 use Rattle.par.specs.Taking.{IsLeft}
 use Rattle.par.proofs.Slots.{none_ran, zip_at}
 use Rattle.par.proofs.running.run.Goals as goal
 
-pub returns-then-len-many : goal.returns-then-len-many
-returns-then-len-many g c = none_ran c.args.audits.items c.requires.none
+pub returns-then-len-many-clause-left : goal.returns-then-len-many-clause-left
+returns-then-len-many-clause-left g c = none_ran c.args.audits.items c.requires.none
 
-pub returns-in-Ok : goal.returns-in-Ok
-returns-in-Ok g c =
+pub returns-in-Ok-clause-left : goal.returns-in-Ok-clause-left
+returns-in-Ok-clause-left g c =
     let left = c.in-Ok.ensures.ok in
     zip_at IsLeft c.args.audits.items c.in-Ok.audits.items left.many (λ k d low. (left.quiet k d low, left.stays k d low))
 
-pub returns-in-Err : goal.returns-in-Err
-returns-in-Err g c =
+pub returns-in-Ok-clause-told : goal.returns-in-Ok-clause-told
+returns-in-Ok-clause-told g c ran i low = c.in-Ok.ensures.told i low (omega (arith, low, c.requires.eight))
+
+pub returns-in-Err-clause-left : goal.returns-in-Err-clause-left
+returns-in-Err-clause-left g c =
     let left = c.in-Err.ensures.err.1 in
     zip_at IsLeft c.args.audits.items c.in-Err.audits.items left.many (λ k d low. (left.quiet k d low, left.stays k d low))

@@ -1,10 +1,14 @@
 -- What the run leaves of the table, and what it tells.
-use Rattle.std.proofs.Common.{◌≡◌, ◌++◌, List, Option, ℕ, map, ap, ◌∙◌}
+use Rattle.std.proofs.Common.{◌≡◌, ◌++◌, Bool, List, Option, ℕ, map, ap, subst, ◌∙◌, arith}
+use Rattle.std.proofs.lemmas.List.Elements.{All-same}
 use Rattle.std.proofs.lemmas.Result.{IfOk-weaker}
 use Rattle.block.specs.declared.seat_line.SeatLine.{SeatLine}
 use Rattle.devices.specs.Devices.{table_of}
-use Rattle.par.specs.Running.{gate_told, seats_told, used_in}
+use Rattle.seats.specs.Tasks.{tasks_at}
+use Rattle.par.specs.Answering.{AreAsked, AreReplied}
+use Rattle.par.specs.Running.{IsOfBlock, gate_told, seat_in, seats_told, used_in}
 use Rattle.par.proofs.Runs.{marks_many, not_run, still_named, still_sound, table_run}
+use Rattle.par.proofs.Tells.{are_of_block, asked_few, seats_are}
 use Rattle.par.proofs.running.run_block.Goals as goal
 
 pub returns-in_err-refused-clause-run : goal.returns-in_err-refused-clause-run
@@ -16,17 +20,39 @@ returns-in_err-plan-clause-run g c = not_run c.args.block.lines (table_of c.args
 pub run_plan-requires-clause-many : goal.run_plan-requires-clause-many
 run_plan-requires-clause-many g c lives outlives = marks_many c.into_lines.result.items (table_of c.args.held.now) c.in_ok-plan.plan.used.items c.in_ok-plan.ensures.used
 
+pub run_plan-requires-clause-room : goal.run_plan-requires-clause-room
+run_plan-requires-clause-room g c lives outlives =
+    let few = asked_few c.in_ok-plan.plan.used.items (table_of c.args.held.now) c.into_lines.result.items (tasks_at c.in_ok-plan.plan.tasks.items) c.in_ok-plan.ensures.asked in
+    omega (arith, few, c.in_ok-plan.ensures.room)
+
+pub returns-clause-told : goal.returns-clause-told
+returns-clause-told g c =
+    IfOk-weaker c.run_plan.result _ _ (λ replies r. All-same IsOfBlock replies.items _ r.replies_are (are_of_block r.told c.opening-ticket.result.hold r.opened)) c.run_plan.ensures.told
+
 pub returns-clause-seats : goal.returns-clause-seats
 returns-clause-seats g c =
-    let seat : SeatLine → ℕ = λ line. line.seat in
-    let lines : c.into_lines.result.items ≡ c.args.block.lines = c.into_lines.ensures.lines in
-    let seats : c.in_ok-plan.plan.seats.items ≡ map seat c.args.block.lines = c.in_ok-plan.ensures.seats ∙ ap (map seat) lines in
     let ticket : c.opening-ticket.result.hold ≡ c.args.block.opening.hold = ap (λ o. o.hold) c.opening-ticket.ensures in
+    let seat : SeatLine → ℕ = λ line. line.seat in
     IfOk-weaker c.run_plan.result _ _
-    (λ replies told.
-    told
-    ∙ ap (λ (s : List ℕ). seats_told s ++ gate_told c.opening-ticket.result.hold) seats
+    (λ replies r.
+    ap (map seat_in) r.replies_are
+    ∙ seats_are c.in_ok-plan.plan.used.items (table_of c.args.held.now) c.into_lines.result.items (tasks_at c.in_ok-plan.plan.tasks.items) r.told c.opening-ticket.result.hold r.opened c.in_ok-plan.ensures.asked r.ended
+    ∙ ap (λ (l : List SeatLine). seats_told (map seat l) ++ gate_told c.opening-ticket.result.hold) c.into_lines.ensures.lines
     ∙ ap (λ (t : Option ℕ). seats_told (map seat c.args.block.lines) ++ gate_told t) ticket)
+    c.run_plan.ensures.told
+
+pub returns-clause-answers : goal.returns-clause-answers
+returns-clause-answers g c =
+    let ticket : c.opening-ticket.result.hold ≡ c.args.block.opening.hold = ap (λ o. o.hold) c.opening-ticket.ensures in
+    let table = table_of c.args.held.now in
+    let asked = tasks_at c.in_ok-plan.plan.tasks.items in
+    IfOk-weaker c.run_plan.result _ _
+    (λ replies r. record {
+      asked = asked;
+      asks = subst (λ (us : List Bool). AreAsked us table c.args.block.lines asked) (c.in_ok-plan.ensures.used ∙ ap (λ (l : List SeatLine). used_in l table) c.into_lines.ensures.lines)
+          (subst (λ (l : List SeatLine). AreAsked c.in_ok-plan.plan.used.items table l asked) c.into_lines.ensures.lines c.in_ok-plan.ensures.asked);
+      told = subst (λ (t : Option ℕ). AreReplied t asked replies.items) ticket r;
+    })
     c.run_plan.ensures.told
 
 pub returns-clause-sound : goal.returns-clause-sound

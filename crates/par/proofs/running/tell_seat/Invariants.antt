@@ -1,13 +1,13 @@
--- So many replies of the seat are told.
-use Rattle.std.proofs.Common.{◌≡◌, ◌+◌, ◌++◌, map, replicate, Some, vec_len, vec_capacity}
-use Rattle.std.specs.List.{All}
-use Rattle.par.specs.Running.{IsOfBlock, seat_in}
+-- The replies of the first tasks are told.
+use Rattle.std.proofs.Common.{◌≡◌, ◌+◌, ◌≤◌, ◌++◌, length, map, vec_capacity, vec_len}
+use Rattle.std.specs.Vec.Iter.{into_iter_items, into_iter_len}
+use Rattle.par.specs.Answering.{reply_of}
 use Rattle.par.proofs.running.tell_seat.Given as goal
 
-abbrev pub invariant-loop-i : goal.invariant-loop-i
-invariant-loop-i l = record {
-  block : All IsOfBlock l.replies.items;
-  told : map seat_in l.replies.items ≡ map seat_in l.fn.replies.items ++ replicate l.i (Some l.seat);
-  many : vec_len l.replies ≡ vec_len l.fn.replies + l.i;
-  room : vec_capacity l.replies ≡ vec_capacity l.fn.replies;
+abbrev pub invariant-loop-task : goal.invariant-loop-task
+invariant-loop-task l = record {
+  told : l.replies.items ++ map (reply_of l.seat) (into_iter_items l.task-iterator) ≡ l.fn.replies.items ++ map (reply_of l.seat) l.fn.tasks.items;
+  room : vec_len l.replies + into_iter_len l.task-iterator ≤ vec_capacity l.replies;
+  len : into_iter_len l.task-iterator ≡ length (into_iter_items l.task-iterator);
+  same : vec_capacity l.replies ≡ vec_capacity l.fn.replies;
 }

@@ -1,26 +1,54 @@
 -- The replies of one seat more are told.
-use Rattle.std.proofs.Common.{◌≡◌, ℕ, ◌+◌, ◌-◌, ap, ◌∙◌, arith}
-use Rattle.std.specs.Prelude.{nat_lt}
-use Rattle.std.proofs.lemmas.List.Sums.{count_by-le-length}
-use Rattle.par.proofs.Tells.{below_more, first_told, seat_more}
+use Rattle.std.proofs.Common.{◌≡◌, ◌<◌, ◌+◌, ◌-◌, ◌++◌, ℕ, List, length, length-set, map, ap, ◌∙◌, arith}
+use Rattle.reply.specs.declared.Reply.{Reply}
+use Rattle.seats.specs.declared.task.Task.{Task}
+use Rattle.seats.specs.Tasks.{tasks_at}
+use Rattle.seats.proofs.Places.{apart, at}
+use Rattle.par.specs.Answering.{reply_of}
+use Rattle.par.proofs.Tells.{first_more, first_replies, seat_fits}
 use Rattle.par.proofs.running.tell_seats.Goals as goal
 
-pub tell_seat-requires-clause-room : goal.tell_seat-requires-clause-room
-tell_seat-requires-clause-room c =
-    let more = below_more c.loop-seat.seat c.args.seats.now in
-    let all = count_by-le-length (λ (s : ℕ). nat_lt s (c.loop-seat.seat + 1)) c.args.seats.now in
-    omega (arith, more, all, c.lines_of.ensures, c.loop-seat.invariant.few, c.loop-seat.invariant.room, c.requires.room)
+pub tell_seat-requires : goal.tell_seat-requires
+tell_seat-requires c =
+    let told = tasks_at c.args.tasks.items in
+    let i = c.from.result - 1 in
+    let low : i < length c.loop-seat.tasks.items = omega (arith, c.from.ensures, c.loop-seat.invariant.many) in
+    let list : c.replace-list.result.items ≡ told i =
+    ap (λ v. v.items) c.replace-list.ensures.value ∙ at c.loop-seat.tasks.items i c.index_mut.result.now low c.index_mut.ensures.value ∙ c.loop-seat.invariant.left i (omega (arith, c.from.ensures)) in
+    let place : c.loop-seat.seat - 1 ≡ i = omega (arith, c.from.ensures) in
+    let so_far : length c.loop-seat.replies.items ≡ length (first_replies i told) = ap length c.loop-seat.invariant.told ∙ ap (λ (n : ℕ). length (first_replies n told)) place in
+    let many : length c.replace-list.result.items ≡ length (told i) = ap length list in
+    record { room = omega (arith, so_far, many, seat_fits i told (omega (arith, c.from.ensures)), c.requires.room, c.loop-seat.invariant.room) }
 
 pub loop-seat-preserved : goal.loop-seat-preserved
 loop-seat-preserved c =
-    let more = below_more c.loop-seat.seat c.args.seats.now in record {
-      block = c.tell_seat.ensures.block;
-      told = seat_more c.args.seats.now c.loop-seat.seat c.lines_of.result _ _ c.loop-seat.auto.seat c.lines_of.ensures c.loop-seat.invariant.told c.tell_seat.ensures.told;
-      few = omega (arith, more, c.lines_of.ensures, c.tell_seat.ensures.many, c.loop-seat.invariant.few);
+    let told = tasks_at c.args.tasks.items in
+    let i = c.from.result - 1 in
+    let low : i < length c.loop-seat.tasks.items = omega (arith, c.from.ensures, c.loop-seat.invariant.many) in
+    let list : c.replace-list.result.items ≡ told i =
+    ap (λ v. v.items) c.replace-list.ensures.value ∙ at c.loop-seat.tasks.items i c.index_mut.result.now low c.index_mut.ensures.value ∙ c.loop-seat.invariant.left i (omega (arith, c.from.ensures)) in
+    let place : c.loop-seat.seat - 1 ≡ i = omega (arith, c.from.ensures) in
+    let next : i + 1 ≡ c.loop-seat.seat + 1 - 1 = omega (arith, c.from.ensures) in
+    let seat : c.loop-seat.seat ≡ i + 1 = omega (arith, c.from.ensures) in
+    record {
+      many = length-set c.loop-seat.tasks.items i c.replace-list.new.dest ∙ c.loop-seat.invariant.many;
+      left = λ k behind. apart c.loop-seat.tasks.items i k c.replace-list.new.dest (λ same. omega (arith, same, behind, c.from.ensures)) ∙ c.loop-seat.invariant.left k (omega (arith, behind));
+      told = c.tell_seat.ensures.told
+          ∙ ap (λ (l : List Reply). l ++ map (reply_of c.loop-seat.seat) c.replace-list.result.items) (c.loop-seat.invariant.told ∙ ap (λ (n : ℕ). first_replies n told) place)
+          ∙ ap (λ (n : ℕ). first_replies i told ++ map (reply_of n) c.replace-list.result.items) seat
+          ∙ ap (λ (l : List Task). first_replies i told ++ map (reply_of (i + 1)) l) list
+          ∙ first_more i told
+          ∙ ap (λ (n : ℕ). first_replies n told) next;
       room = c.tell_seat.ensures.room ∙ c.loop-seat.invariant.room;
     }
 
 pub returns-clause-told : goal.returns-clause-told
 returns-clause-told c =
     let last : c.loop-seat.seat - 1 ≡ 8 = omega arith in
-    c.loop-seat.invariant.told ∙ ap (λ (n : ℕ). first_told n c.args.seats.now) last
+    c.loop-seat.invariant.told ∙ ap (λ (n : ℕ). first_replies n (tasks_at c.args.tasks.items)) last
+
+pub returns-clause-room : goal.returns-clause-room
+returns-clause-room c =
+    let last : c.loop-seat.seat - 1 ≡ 8 = omega arith in
+    let many : length c.loop-seat.replies.items ≡ length (first_replies 8 (tasks_at c.args.tasks.items)) = ap length c.loop-seat.invariant.told ∙ ap (λ (n : ℕ). length (first_replies n (tasks_at c.args.tasks.items))) last in
+    omega (arith, many, c.requires.room, c.loop-seat.invariant.room)

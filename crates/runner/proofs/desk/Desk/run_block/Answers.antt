@@ -21,4 +21,4 @@ returns-clause-done g c =
     let P : List Reply → Type 0 = λ rs. OnOk c.match-print_done.result (Appends (g.W.Write.contents c.args.writer.now) (g.W.Write.contents c.print_done.new.writer) (printed rs)) in
     let last : P (replies ++ Done ∷ []) = search rules in
     let counts = c.with-self-inside.ensures ∙ ap (with_reply Done) (c.with_all.ensures ∙ ap (λ rs. counted rs c.self.inside.summary) c.deref.ensures.value) in
-    block_ran c.args.block c.args.self.now (table_of c.self.inside.held) (table_of c.run_block.new.held) c.self.inside.summary c.with-self-inside.result replies P (sym c.self.view_is) c.in-Ok.ensures.runs c.in-Ok.ensures.told c.in-Ok.ensures.seats c.in-Ok.ensures.run counts last
+    block_ran c.args.block c.args.self.now (table_of c.self.inside.held) (table_of c.run_block.new.held) c.self.inside.summary c.with-self-inside.result replies P (sym c.self.view_is) c.in-Ok.ensures.runs c.in-Ok.ensures.told c.in-Ok.ensures.seats c.in-Ok.ensures.answers c.in-Ok.ensures.run counts last
