@@ -38,6 +38,15 @@ impl Model for NamedParts {
     ghost view = { λ p. record { origin = p.origin; under = p.under.items; stale = p.stale; snaps = p.snaps.items; merging = p.merging; asked = p.asked; sound = p.sound } };
 }
 
+impl NamedParts {
+    /// Whether no device of the volume, nor one that has left it, drops writes.
+    pub fn is_sound(&self) -> bool
+        ensures { result ≡ self.now.sound }
+    {
+        self.sound
+    }
+}
+
 /// Takes out the names of the snapshot that is being merged since there was one more.
 #[tactic(auto, using(crate::proofs::Begun::place_within, crate::proofs::Begun::taken_sum))]
 fn take_begun(snaps: &mut Vec<SnapNames>, volume: &Resting<Stack>) -> SnapNames

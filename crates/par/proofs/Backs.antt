@@ -20,7 +20,8 @@ use Rattle.named.specs.State.{Names, Volume}
 use Rattle.named_volume.specs.Names.{IsNamedBegun, KeepsNames}
 use Rattle.named_volume.specs.Parting.{HasAll, HasBegun, Parts, named_with, place_begun, with_begun, with_requests}
 use Rattle.named_volume.proofs.Begun.{place_within}
-use Rattle.named_volume.proofs.Merges.{names_are, still_begun}
+use Rattle.named_volume.specs.Flights.{IsBehind}
+use Rattle.named_volume.proofs.Merges.{merge_is, names_are, still_begun}
 use Rattle.post.specs.Fixed.{HasBegun as HasOneBegun, HasSame, fixed_of}
 use Rattle.par.specs.Running.{IsRun}
 use Rattle.par.specs.Taking.{IsBack}
@@ -62,21 +63,21 @@ rests : (p : Parts) (old new : Rested Stack) → HasAll p old ⊎ HasBegun p old
 rests p old new (inl all) kept = inl (record { many = all.many ∙ sym (same_many old new kept); begun = all.begun ∙ still_begun old new kept.merging })
 rests p old new (inr begun) kept = inr (record { many = begun.many ∙ ap suc (sym (same_many old new kept)); was = begun.was; begun = sym (still_begun old new kept.merging) ∙ begun.begun })
 
-pub fits : (p : Parts) (audit : AuditShape Stack) (old : Volume) (new : Rested Stack) → IsBack p audit old → KeepsDevices stack_layers stack_size (rested_of audit.volume) new → HasAll p new ⊎ HasBegun p new
-fits p audit old new back kept =
-    rests p (rested_of audit.volume) new (still_fits p back.before audit back.out.parted.all back.left.1.snaps) kept
+pub fits : (before : AuditShape Stack) (p : Parts) (audit : AuditShape Stack) (old : Volume) (new : Rested Stack) → IsBack before p audit old → KeepsDevices stack_layers stack_size (rested_of audit.volume) new → HasAll p new ⊎ HasBegun p new
+fits before p audit old new back kept =
+    rests p (rested_of audit.volume) new (still_fits p before audit back.out.parted.all back.left.stays.snaps) kept
 
 -- whether its devices drop writes
 loud_is : (v : Volumed Stack) → is_loud_in stack_layers (rested_of v) ≡ is_loud_in_all stack_layers v
 loud_is v = ap (λ b. is_loud_with stack_layers v.merge (is_loud (stack_layers v.origin) && b)) (list_all-map (λ (s : Attached Stack). is_loud (stack_layers s.store)) attached_of v.snaps)
 
-pub loud : (p : Parts) (audit : AuditShape Stack) (old : Volume) (new : Rested Stack) → IsBack p audit old → KeepsDevices stack_layers stack_size (rested_of audit.volume) new → p.sound ≡ true → is_loud_in stack_layers new ≡ true
-loud p audit old new back kept sound =
-    kept.loud ∙ loud_is audit.volume ∙ back.left.1.sound ∙ sym (loud_is back.before.volume) ∙ back.out.parted.loud sound
+pub loud : (before : AuditShape Stack) (p : Parts) (audit : AuditShape Stack) (old : Volume) (new : Rested Stack) → IsBack before p audit old → KeepsDevices stack_layers stack_size (rested_of audit.volume) new → p.sound ≡ true → is_loud_in stack_layers new ≡ true
+loud before p audit old new back kept sound =
+    kept.loud ∙ loud_is audit.volume ∙ back.left.stays.sound ∙ sym (loud_is before.volume) ∙ back.out.parted.loud sound
 
 -- as many attaches
-given : (p : Parts) (audit : AuditShape Stack) (old : Volume) (new : Rested Stack) → (back : IsBack p audit old) → KeepsDevices stack_layers stack_size (rested_of audit.volume) new → new.attached ≡ back.before.volume.attached
-given p audit old new back kept = kept.attached ∙ back.left.1.attached
+given : (before : AuditShape Stack) (p : Parts) (audit : AuditShape Stack) (old : Volume) (new : Rested Stack) → (back : IsBack before p audit old) → KeepsDevices stack_layers stack_size (rested_of audit.volume) new → new.attached ≡ before.volume.attached
+given before p audit old new back kept = kept.attached ∙ back.left.stays.attached
 
 keeps : (p : Parts) (requests : ℕ) (old new : Rested Stack) → HasAll p old → HasAll p new → new.attached ≡ old.attached → KeepsNames (named_with p old) (named_with (with_requests requests p) new)
 keeps p requests old new was now attached = record {
@@ -108,20 +109,43 @@ begins p requests old new was now attached =
     }
 
 -- lines were run at it
-pub is_run : (p : Parts) (audit : AuditShape Stack) (old : Volume) (new : Rested Stack) (result : Volume) → IsBack p audit old → KeepsDevices stack_layers stack_size (rested_of audit.volume) new → is_quiet_of new.events ≡ true → result.sound ≡ p.sound → result.quiet ≡ is_quiet_of new.events
+pub is_run : (before : AuditShape Stack) (p : Parts) (audit : AuditShape Stack) (old : Volume) (new : Rested Stack) (result : Volume) → IsBack before p audit old → KeepsDevices stack_layers stack_size (rested_of audit.volume) new → is_quiet_of new.events ≡ true → result.sound ≡ p.sound → result.quiet ≡ is_quiet_of new.events
     → (HasAll p new → result ≡ named_with (with_requests new.requests p) new) → (HasBegun p new → result ≡ named_with (with_requests new.requests (with_begun (place_begun new) p)) new) → IsRun old result
-is_run p audit old new result back kept quiet sound now all begun = record {
-  names = elim (fits p audit old new back kept) [
+is_run before p audit old new result back kept quiet sound now all begun = record {
+  names = elim (fits before p audit old new back kept) [
     | inl one ↦ inl (subst (λ (o : Volume). KeepsNames o result) (sym back.out.named)
-        (subst (λ (r : Volume). KeepsNames (named_with p (rested_of back.before.volume)) r) (sym (all one))
-        (keeps p new.requests (rested_of back.before.volume) new back.out.parted.all one (given p audit old new back kept))))
+        (subst (λ (r : Volume). KeepsNames (named_with p (rested_of before.volume)) r) (sym (all one))
+        (keeps p new.requests (rested_of before.volume) new back.out.parted.all one (given before p audit old new back kept))))
     | inr one ↦ inr (
       place_begun new,
       subst (λ (o : Volume). IsNamedBegun (place_begun new) o result) (sym back.out.named)
-          (subst (λ (r : Volume). IsNamedBegun (place_begun new) (named_with p (rested_of back.before.volume)) r) (sym (begun one))
-          (begins p new.requests (rested_of back.before.volume) new back.out.parted.all one (given p audit old new back kept))),
+          (subst (λ (r : Volume). IsNamedBegun (place_begun new) (named_with p (rested_of before.volume)) r) (sym (begun one))
+          (begins p new.requests (rested_of before.volume) new back.out.parted.all one (given before p audit old new back kept))),
     )
   ];
   sound = sound ∙ sym (ap (λ (o : Volume). o.sound) back.out.named);
   quiet = λ was. now ∙ quiet;
 }
+
+-- The volume of events behind it.
+
+stands : (p : Parts) (v : Volumed Stack) → is_some p.merging ≡ is_some v.merge → IsBehind v (named_with p (rested_of v))
+stands p v begun = record { state = refl; merge = merge_is p.merging (rested_of v) begun; quiet = refl; flying = refl }
+
+pub stood : (before : AuditShape Stack) (p : Parts) (audit : AuditShape Stack) (old : Volume) → IsBack before p audit old → IsBehind before.volume old
+stood before p audit old back = subst (λ (o : Volume). IsBehind before.volume o) (sym back.out.named) (stands p before.volume back.out.parted.all.begun)
+
+-- the snapshot that is merged has a name
+begun_named : (p : Parts) (new : Rested Stack) → HasBegun p new → is_some (slice_get p.snaps (place_begun new)) ≡ is_some new.events.merge
+begun_named p new begun =
+    let k = place_begun new in
+    let low : k < length p.snaps = omega (arith, place_within new, begun.many) in
+    let d : Names = record { snapshot = []; store = [] } in
+    ap is_some (slice_get-get_or p.snaps k d low) ∙ sym begun.begun
+
+pub stands_now : (before : AuditShape Stack) (p : Parts) (audit : AuditShape Stack) (old : Volume) (v : Volumed Stack) (result : Volume) → IsBack before p audit old → KeepsDevices stack_layers stack_size (rested_of audit.volume) (rested_of v)
+    → (HasAll p (rested_of v) → result ≡ named_with (with_requests v.requests p) (rested_of v)) → (HasBegun p (rested_of v) → result ≡ named_with (with_requests v.requests (with_begun (place_begun (rested_of v)) p)) (rested_of v)) → IsBehind v result
+stands_now before p audit old v result back kept all begun = elim (fits before p audit old (rested_of v) back kept) [
+  | inl one ↦ subst (λ (r : Volume). IsBehind v r) (sym (all one)) (stands (with_requests v.requests p) v one.begun)
+  | inr one ↦ subst (λ (r : Volume). IsBehind v r) (sym (begun one)) (stands (with_requests v.requests (with_begun (place_begun (rested_of v)) p)) v (begun_named p (rested_of v) one))
+]

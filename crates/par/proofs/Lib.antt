@@ -1,6 +1,11 @@
 pub mod Asked
 pub mod Asks
 pub mod Backs
+pub mod Ends
+pub mod Made
+pub mod Outs
+pub mod Plays
+pub mod Rests
 pub mod Runs
 pub mod Slots
 pub mod Tells

@@ -22,7 +22,7 @@ still v = record {
   quiet = λ h. h;
 }
 
-still_if : (used : Bool) (v : Volume) → IsRunIf used v v
+pub still_if : (used : Bool) (v : Volume) → IsRunIf used v v
 still_if true v = still v
 still_if false v = refl
 

@@ -10,6 +10,7 @@ use Rattle.std.proofs.lemmas.List.Sums.{count_by-le-length, length-filter, sum_b
 use Rattle.std.proofs.lemmas.Slice.Zip.{AllZip-long}
 use native.Mathlib.Nat.{ℕ_set}
 use Rattle.block.specs.declared.seat_line.SeatLine.{SeatLine}
+use Rattle.journal.specs.declared.entry.Entry.{Entry}
 use Rattle.named.specs.State.{Table}
 use Rattle.reply.specs.declared.Reply.{Reply}
 use Rattle.reply.specs.declared.Reply.TheVariants.{Gate}
@@ -76,8 +77,8 @@ first_many (suc n) asked told same =
     subst (λ (k : ℕ). length (first_replies k told) ≡ length (first_replies k asked)) (let is : n + 1 ≡ suc n = omega arith in is)
     (omega (arith, less, many_more n told, many_more n asked, same n (omega arith)))
 
-pub ended_many : (asked told : ℕ → List Task) → AreEnded asked told → length (replies_of told) ≡ length (replies_of asked)
-ended_many asked told ended = first_many 8 asked told (λ i low. let e = ended i low in seat_many (asked i) (told i) (i + 1) e.0 e.1)
+pub ended_many : (played : List (List Entry)) (asked told : ℕ → List Task) → AreEnded played asked told → length (replies_of told) ≡ length (replies_of asked)
+ended_many played asked told ended = first_many 8 asked told (λ i low. let e = ended i low in seat_many (asked i) (told i) (i + 1) e.0 e.1)
 
 -- There are as many tasks as lines.
 
@@ -147,9 +148,9 @@ gate_seat : (ticket : Option ℕ) (opened : Bool) → map seat_in (gate_replies 
 gate_seat None opened = refl
 gate_seat (Some ticket) opened = refl
 
-pub seats_are : (used : List Bool) (table : Table) (lines : List SeatLine) (asked told : ℕ → List Task) (ticket : Option ℕ) (opened : Bool) → AreAsked used table lines asked → AreEnded asked told
+pub seats_are : (used : List Bool) (table : Table) (lines : List SeatLine) (played : List (List Entry)) (asked told : ℕ → List Task) (ticket : Option ℕ) (opened : Bool) → AreAsked used table lines asked → AreEnded played asked told
     → map seat_in (replies_of told ++ gate_replies ticket opened) ≡ seats_told (map (λ l. l.seat) lines) ++ gate_told ticket
-seats_are used table lines asked told ticket opened are ended =
+seats_are used table lines played asked told ticket opened are ended =
     let seats : List ℕ = map (λ (l : SeatLine). l.seat) lines in
     map-append seat_in (replies_of told) (gate_replies ticket opened)
     ∙ ap (λ (l : List (Option ℕ)). l ++ map seat_in (gate_replies ticket opened))

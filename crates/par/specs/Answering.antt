@@ -4,15 +4,15 @@ use Rattle.std.specs.List.{AllZip, filter, flat_map, range_with_len}
 use Rattle.sector.specs.declared.refusal.Refusal.TheVariants.{NoMemory}
 use Rattle.block.specs.Blocks.{Lines}
 use Rattle.block.specs.declared.seat_line.SeatLine.{SeatLine}
+use Rattle.journal.specs.declared.entry.Entry.{Entry}
 use Rattle.named.specs.State.{Table}
 use Rattle.reply.specs.declared.Reply.{Reply}
 use Rattle.reply.specs.declared.Reply.TheVariants.{Seat, Gate}
 use Rattle.reply.specs.declared.seated.Answered.{Answered}
 use Rattle.reply.specs.declared.seated.Answered.TheVariants.{Refused}
-use Rattle.rig.specs.Rigs.{SeatShape}
 use Rattle.seats.specs.declared.task.Task.{Task}
-use Rattle.seats.specs.Tasks.{IsEnded}
 use Rattle.par.specs.Asking.{IsTask}
+use Rattle.par.specs.Played.{ArePlayed, IsPlayedBy}
 use Rattle.par.specs.Running.{used_in}
 
 -- the lines of a seat, in their order
@@ -40,19 +40,22 @@ abbrev pub gate_replies : Option ℕ → Bool → List Reply
 gate_replies None opened = []
 gate_replies (Some ticket) opened = Gate opened ∷ []
 
--- what the seats left of their tasks
-abbrev pub AreEnded : (ℕ → List Task) → (ℕ → List Task) → Type 0
-AreEnded asked told = (i : ℕ) → i < 8 → (seat : SeatShape) × IsEnded (asked i) (told i) (i + 1) seat
+-- what the seats left of their tasks, by these entries of each volume
+abbrev pub AreEnded : List (List Entry) → (ℕ → List Task) → (ℕ → List Task) → Type 0
+AreEnded played asked told = (i : ℕ) → i < 8 → IsPlayedBy played (i + 1) (asked i) (told i)
 
 -- the replies of these tasks, with the gate's
-pub record AreReplied (ticket : Option ℕ) (asked : ℕ → List Task) (replies : List Reply) : Type 0 where
+pub record AreReplied (ticket : Option ℕ) (played : List (List Entry)) (asked : ℕ → List Task) (replies : List Reply) : Type 0 where
   pub told : ℕ → List Task
   pub opened : Bool
-  pub ended : AreEnded asked told
+  pub ended : AreEnded played asked told
   pub replies_are : replies ≡ replies_of told ++ gate_replies ticket opened
 
--- The replies of a block that was run: those of the tasks that its lines are, as their seats left them.
-pub record AreAnswered (block : Lines) (table : Table) (replies : List Reply) : Type 0 where
+-- The replies of a block that was run: those of the tasks that its lines are, as their seats left them. What they answer are
+-- entries of one list for each volume, which lead from what it showed before the block to what it shows after it.
+pub record AreAnswered (block : Lines) (old new : Table) (replies : List Reply) : Type 0 where
   pub asked : ℕ → List Task
-  pub asks : AreAsked (used_in block.lines table) table block.lines asked
-  pub told : AreReplied block.opening.hold asked replies
+  pub played : List (List Entry)
+  pub asks : AreAsked (used_in block.lines old) old block.lines asked
+  pub plays : ArePlayed (used_in block.lines old) played old.volumes new.volumes
+  pub told : AreReplied block.opening.hold played asked replies

@@ -1,5 +1,6 @@
 pub mod Answering
 pub mod Asking
 pub mod Looking
+pub mod Played
 pub mod Running
 pub mod Taking

@@ -1,41 +1,83 @@
 -- Volumes that are taken out of the table while their seats run. This project's own.
-use Rattle.std.specs.Prelude.{◌≡◌, Bool, true, List, [], ◌∷◌, ◌++◌}
+use Rattle.std.specs.Prelude.{◌≡◌, Bool, true, ℕ, List, [], ◌∷◌, ◌++◌}
 use Rattle.layers.specs.declared.stack.Stack.{Stack}
 use Rattle.layers.specs.Stack.{stack_layers, stack_size}
+use Rattle.journal.specs.declared.entry.Entry.{Entry}
 use Rattle.journal.specs.Books.{AuditShape}
+use Rattle.journal.specs.Entries.{entries_by}
+use Rattle.journal.specs.Journaled.{KeepsBase, OnlySpoils}
+use Rattle.journal.specs.Replay.{AllLawful, replay}
 use Rattle.named.specs.State.{Volume}
 use Rattle.named_volume.specs.Parting.{IsParted, Parts, named_with}
+use Rattle.resting.specs.Kept.{KeepsDevices}
 use Rattle.resting.specs.Rested.{rested_of}
 use Rattle.post.specs.Fixed.{StaysFrom, fixed_of}
+use Rattle.par.specs.Played.{IsPlayedIn, shown_by}
+use Rattle.par.specs.Running.{IsRun}
 use Rattle.par.specs.declared.taking.Slot.{Slot}
 use Rattle.par.specs.declared.taking.Slot.TheVariants.{Stays, Out}
+
+-- While no device of an audit's volume ever dropped writes, its entries are lawful, and give what the volume shows.
+pub record IsTrue (audit : AuditShape Stack) : Type 0 where
+  pub lawful : audit.loud ≡ true → AllLawful audit.base audit.entries
+  pub gives : audit.loud ≡ true → replay audit.base audit.entries ≡ shown_by audit.volume
 
 -- The names of a volume that is taken out, its audit, in which no request is in flight, and the volume that both are of.
 pub record IsOut (parts : Parts) (audit : AuditShape Stack) (old : Volume) : Type 0 where
   pub named : old ≡ named_with parts (rested_of audit.volume)
   pub parted : IsParted parts (rested_of audit.volume)
   pub held : audit.held ≡ []
+  pub truth : IsTrue audit
+  pub loud : parts.sound ≡ true → audit.loud ≡ true
 
--- what seats leave of an audit: no request is in flight
-abbrev pub IsLeft : AuditShape Stack → AuditShape Stack → Type 0
-IsLeft old new = (new.held ≡ []) × StaysFrom (fixed_of stack_size stack_layers old) (fixed_of stack_size stack_layers new)
+-- What seats leave of an audit: no request is in flight, and its entries go on from those that it had.
+pub record IsLeft (old new : AuditShape Stack) : Type 0 where
+  pub held : new.held ≡ []
+  pub stays : StaysFrom (fixed_of stack_size stack_layers old) (fixed_of stack_size stack_layers new)
+  pub more : List Entry
+  pub grows : new.entries ≡ old.entries ++ more
 
--- The same once its seats ran.
-pub record IsBack (parts : Parts) (audit : AuditShape Stack) (old : Volume) : Type 0 where
-  pub before : AuditShape Stack
+-- The same once its seats ran, with the audit that it had.
+pub record IsBack (before : AuditShape Stack) (parts : Parts) (audit : AuditShape Stack) (old : Volume) : Type 0 where
   pub out : IsOut parts before old
   pub left : IsLeft before audit
 
+-- What was left to do in an audit's volume was done: snapshots may be spoiled, and nothing else changes.
+pub record IsRested (old new : AuditShape Stack) : Type 0 where
+  pub held : new.held ≡ []
+  pub base : KeepsBase old new
+  pub spoils : OnlySpoils old new
+  pub kept : KeepsDevices stack_layers stack_size (rested_of old.volume) (rested_of new.volume)
+
+-- What seats made of a volume, by its audits before and as they left it: these entries lead from the one volume to the other,
+-- and each seat's among them are those that it added.
+pub record IsMade (before audit : AuditShape Stack) (entries : List Entry) (old new : Volume) : Type 0 where
+  pub run : IsRun old new
+  pub played : IsPlayedIn entries old new
+  pub added : (seat : ℕ) → entries_by seat audit.entries ≡ entries_by seat before.entries ++ entries_by seat entries
+
 -- What a place of the table has: its volume, or the names of one that lines use, whose audit is the last of all.
-abbrev pub IsSlot : (Parts → AuditShape Stack → Volume → Type 0) → Bool → Slot → List (AuditShape Stack) → List (AuditShape Stack) → Volume → Type 0
-IsSlot is used (Stays volume) audits others old = (volume ≡ old) × (audits ≡ others)
-IsSlot is used (Out parts) audits others old = (used ≡ true) × ((audit : AuditShape Stack) × (audits ≡ others ++ audit ∷ []) × is parts audit old)
+abbrev pub IsSlot : Bool → Slot → List (AuditShape Stack) → List (AuditShape Stack) → Volume → Type 0
+IsSlot used (Stays volume) audits others old = (volume ≡ old) × (audits ≡ others)
+IsSlot used (Out parts) audits others old = (used ≡ true) × (audit : AuditShape Stack) × (audits ≡ others ++ audit ∷ []) × IsOut parts audit old
 
 -- What all places have, the last of the table first, with the audits in the same order.
-abbrev pub AreSlots : (Parts → AuditShape Stack → Volume → Type 0) → List Bool → List Slot → List (AuditShape Stack) → List Volume → Type 0
-AreSlots is [] slots audits [] = (slots ≡ []) × (audits ≡ [])
-AreSlots is [] slots audits (old ∷ olds) = ⊥
-AreSlots is (used ∷ uses) slots audits [] = ⊥
-AreSlots is (used ∷ uses) slots audits (old ∷ olds) =
+abbrev pub AreSlots : List Bool → List Slot → List (AuditShape Stack) → List Volume → Type 0
+AreSlots [] slots audits [] = (slots ≡ []) × (audits ≡ [])
+AreSlots [] slots audits (old ∷ olds) = ⊥
+AreSlots (used ∷ uses) slots audits [] = ⊥
+AreSlots (used ∷ uses) slots audits (old ∷ olds) =
     (first : List Slot) × (slot : Slot) × (others : List (AuditShape Stack))
-    × (slots ≡ first ++ slot ∷ []) × IsSlot is used slot audits others old × AreSlots is uses first others olds
+    × (slots ≡ first ++ slot ∷ []) × IsSlot used slot audits others old × AreSlots uses first others olds
+
+-- What a place has once seats ran, by the audits before and as they left them.
+abbrev pub IsBackAt : Bool → Slot → List (AuditShape Stack) → List (AuditShape Stack) → List (AuditShape Stack) → List (AuditShape Stack) → Volume → Type 0
+IsBackAt used (Stays volume) befores audits first others old = (volume ≡ old) × (befores ≡ first) × (audits ≡ others)
+IsBackAt used (Out parts) befores audits first others old =
+    (used ≡ true) × (before : AuditShape Stack) × (audit : AuditShape Stack) × (befores ≡ first ++ before ∷ []) × (audits ≡ others ++ audit ∷ []) × IsBack before parts audit old
+
+-- what is put back into it
+abbrev pub IsPutAt : Slot → List (AuditShape Stack) → List (AuditShape Stack) → List (AuditShape Stack) → List (AuditShape Stack) → Volume → Volume → Type 0
+IsPutAt (Stays volume) befores audits first others old new = new ≡ old
+IsPutAt (Out parts) befores audits first others old new =
+    (before : AuditShape Stack) × (audit : AuditShape Stack) × (entries : List Entry) × (befores ≡ first ++ before ∷ []) × (audits ≡ others ++ audit ∷ []) × IsMade before audit entries old new

@@ -1,8 +1,9 @@
 // The run of a block.
-ghost use Rattle.std.specs.Prelude.{◌≡◌, ◌+◌, ◌<◌, ◌≤◌, ◌++◌, ℕ, [], None, map, length, slice_index_or, vec_len, vec_capacity, true, IfErr, IfOk, IfSome, OnOk};
-ghost use Rattle.std.specs.List.{All, AllZip};
+ghost use Rattle.std.specs.Prelude.{◌≡◌, ◌+◌, ◌<◌, ◌≤◌, ◌++◌, ℕ, List, [], None, map, length, slice_index_or, vec_len, vec_capacity, true, IfErr, IfOk, IfSome, OnOk};
+ghost use Rattle.std.specs.List.{All, AllZip, count_by};
 ghost use Rattle.sector.specs.declared.refusal.Refusal.TheVariants.{NoMemory};
 ghost use Rattle.layers.specs.declared.stack.Stack.{Stack as StackShape};
+ghost use Rattle.journal.specs.declared.entry.Entry.{Entry as EntryShape};
 ghost use Rattle.journal.specs.Books.{AuditShape};
 ghost use Rattle.named.specs.Naming.{AreNamed};
 ghost use Rattle.named.specs.Sound.{is_sound};
@@ -10,6 +11,7 @@ ghost use Rattle.devices.specs.Devices.{table_of};
 ghost use Rattle.seats.specs.Tasks.{AreTold, tasks_at};
 ghost use Rattle.par.specs.Answering.{AreAnswered, AreEnded, AreReplied, gate_replies, replies_of, reply_of};
 ghost use Rattle.par.specs.Looking.{block_refusal};
+ghost use Rattle.par.specs.Played.{ArePlayed};
 ghost use Rattle.par.specs.Running.{AreRun, IsOfBlock, IsRefusedFor, IsTableRun, all_told, seat_in};
 ghost use Rattle.par.specs.Taking.{IsLeft};
 
@@ -58,6 +60,7 @@ fn run<R: Threads + Wait + Sync>(
     requires few { workers ≤ 4 }
     requires eight { length tasks.old.items ≡ 8 }
     requires none { (k : ℕ) (d : AuditShape StackShape) → k < length audits.items → (slice_index_or audits.items k d).held ≡ [] }
+    ensures many { result.1 ≡ true → many ≤ length result.0.items }
     ensures left { AllZip IsLeft audits.items result.0.items }
     ensures eight { length tasks.new.items ≡ 8 }
     ensures told { result.1 ≡ true → (i : ℕ) → i < 8 → AreTold audits.items result.0.items (i + 1) (tasks_at tasks.old.items i) (tasks_at tasks.new.items i) }
@@ -69,6 +72,13 @@ fn run<R: Threads + Wait + Sync>(
         Ok(audits) => (audits, true),
         Err((_, audits)) => (audits, false),
     }
+}
+
+/// How many volumes are used.
+fn count_used(used: &[bool]) -> usize
+    ensures { result ≡ count_by (λ is_used. is_used) used.now }
+{
+    used.iter().filter(|used| **used).count()
 }
 
 /// Takes the volumes out that are used, runs the tasks at them, and puts each back in its place. `NoMemory` where the tasks
@@ -86,7 +96,7 @@ fn at_once<R: Threads + Wait + Sync>(
     requires many { length used.now ≡ length (table_of held.old).volumes }
     requires eight { length tasks.old.items ≡ 8 }
     ensures eight { OnOk result (length tasks.new.items ≡ 8) }
-    ensures told { OnOk result (AreEnded (tasks_at tasks.old.items) (tasks_at tasks.new.items)) }
+    ensures played { OnOk result ((played : List (List EntryShape)) × ArePlayed used.now played (table_of held.old).volumes (table_of held.new).volumes × AreEnded played (tasks_at tasks.old.items) (tasks_at tasks.new.items)) }
     ensures err { IfErr result (λ e. e ≡ NoMemory) }
     ensures stacks { (table_of held.new).stacks ≡ (table_of held.old).stacks }
     ensures volumes { AreRun used.now (table_of held.old).volumes (table_of held.new).volumes }
@@ -95,11 +105,9 @@ fn at_once<R: Threads + Wait + Sync>(
     let mut slots = Vec::with_capacity(alloc, volumes).map_err(|_| Refusal::NoMemory)?;
     let mut audits = Vec::with_capacity(alloc, volumes).map_err(|_| Refusal::NoMemory)?;
     take_all(&mut held.volumes, used, &mut slots, &mut audits);
-    let many = used.iter().filter(|used| **used).count();
-    let (mut audits, ran) = run(rt, alloc, audits, many, workers, hold, tasks);
+    let (mut audits, ran) = run(rt, alloc, audits, count_used(used), workers, hold, tasks);
     while let Some(slot) = slots.pop() {
-        held.volumes
-            .push_reserved(put_back(rt, alloc, slot, &mut audits));
+        held.volumes.push_reserved(put_back(rt, slot, &mut audits));
     }
     if ran { Ok(()) } else { Err(Refusal::NoMemory) }
 }
@@ -166,7 +174,7 @@ fn run_plan<R: Threads + Wait + Sync>(
     requires eight { length plan.tasks.items ≡ 8 }
     requires none { plan.replies.items ≡ [] }
     requires room { length (replies_of (tasks_at plan.tasks.items)) < vec_capacity plan.replies }
-    ensures told { IfOk result (λ replies. AreReplied ticket (tasks_at plan.tasks.items) replies.items) }
+    ensures told { IfOk result (λ replies. (played : List (List EntryShape)) × ArePlayed plan.used.items played (table_of held.old).volumes (table_of held.new).volumes × AreReplied ticket played (tasks_at plan.tasks.items) replies.items) }
     ensures err { IfErr result (λ e. e ≡ NoMemory) }
     ensures stacks { (table_of held.new).stacks ≡ (table_of held.old).stacks }
     ensures volumes { AreRun plan.used.items (table_of held.old).volumes (table_of held.new).volumes }
@@ -201,7 +209,7 @@ pub fn run_block<R: Threads + Wait + Sync>(
     requires few { workers ≤ 4 }
     ensures told { IfOk result (λ replies. All IsOfBlock replies.items) }
     ensures seats { IfOk result (λ replies. map seat_in replies.items ≡ all_told block) }
-    ensures answers { IfOk result (λ replies. AreAnswered block (table_of held.old) replies.items) }
+    ensures answers { IfOk result (λ replies. AreAnswered block (table_of held.old) (table_of held.new) replies.items) }
     ensures runs { IfOk result (λ _. block_refusal block (table_of held.old) ≡ None) }
     ensures refused { IfErr result (λ e. IsRefusedFor e block (table_of held.old)) }
     ensures stays { IfSome (block_refusal block (table_of held.old)) (λ _. table_of held.new ≡ table_of held.old) }

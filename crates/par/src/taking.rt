@@ -1,20 +1,18 @@
 // Volumes that are taken out of the table while their seats run, and put back.
 ghost use Rattle.std.specs.Prelude.{◌≡◌, ◌+◌, ◌<◌, ◌≤◌, Bool, List, [], true, drop, length, vec_len, vec_capacity};
-ghost use Rattle.layers.specs.Stack.{stack_layers, stack_size};
 ghost use Rattle.layers.specs.declared.stack.Stack.{Stack as StackShape};
+ghost use Rattle.journal.specs.declared.entry.Entry.{Entry as EntryShape};
 ghost use Rattle.journal.specs.Books.{AuditShape};
-ghost use Rattle.resting.specs.Kept.{KeepsDevices};
 ghost use Rattle.volume.specs.Leaving.{is_quiet_of};
 ghost use Rattle.named.specs.State.{Volume};
-ghost use Rattle.par.specs.Running.{IsRun, IsRunIf};
-ghost use Rattle.par.specs.Taking.{AreSlots, IsBack, IsOut, IsSlot};
+ghost use Rattle.par.specs.Taking.{AreSlots, IsBack, IsBackAt, IsMade, IsPutAt, IsRested, IsSlot};
 
 use journal::Audit;
 use layers::Stack;
 use named_volume::{NamedParts, NamedVolume};
 use resting::Resting;
-use std::alloc::Global;
 use std::sync::Wait;
+use volume::is_of_merge;
 
 /// What a place of the table has while a block is run.
 #[derive(Drop)]
@@ -25,23 +23,37 @@ pub enum Slot {
     Out(NamedParts),
 }
 
+/// Whether the journal knows of no device that drops writes, if the names know of none. It does: both are told of each.
+fn agrees(parts: &NamedParts, audit: &Audit<Stack>) -> bool
+    ensures { result ≡ true → parts.now.sound ≡ true → audit.now.loud ≡ true }
+{
+    audit.is_loud() || !parts.is_sound()
+}
+
 /// Takes a quiet volume out, and puts its audit after the others.
 fn take_out(volume: NamedVolume, audits: &mut Vec<Audit<Stack>>) -> Slot
     requires quiet { volume.quiet ≡ true }
     requires room { vec_len audits.old < vec_capacity audits.old }
-    ensures slot { IsSlot IsOut true result audits.new.items audits.old.items volume }
+    ensures slot { IsSlot true result audits.new.items audits.old.items volume }
     ensures few { vec_len audits.new ≤ vec_len audits.old + 1 }
     ensures room { vec_capacity audits.new ≡ vec_capacity audits.old }
 {
     let (parts, resting) = volume.into_parts();
-    audits.push_reserved(resting.into_audit());
-    Slot::Out(parts)
+    let audit = resting.into_audit();
+    if agrees(&parts, &audit) {
+        // A look: what its entries say.
+        let _ = audit.entries();
+        audits.push_reserved(audit);
+        Slot::Out(parts)
+    } else {
+        Slot::Stays(NamedVolume::of_parts(parts, Resting::of_audit(audit)))
+    }
 }
 
 /// Takes a volume out if it is used, and is quiet.
 fn take(volume: NamedVolume, is_used: bool, audits: &mut Vec<Audit<Stack>>) -> Slot
     requires room { vec_len audits.old < vec_capacity audits.old }
-    ensures slot { IsSlot IsOut is_used result audits.new.items audits.old.items volume }
+    ensures slot { IsSlot is_used result audits.new.items audits.old.items volume }
     ensures few { vec_len audits.new ≤ vec_len audits.old + 1 }
     ensures room { vec_capacity audits.new ≡ vec_capacity audits.old }
 {
@@ -63,7 +75,7 @@ pub fn take_all(
     requires none { (slots.old.items ≡ []) × (audits.old.items ≡ []) }
     requires slot_room { vec_len volumes.old ≤ vec_capacity slots.old }
     requires audit_room { vec_len volumes.old ≤ vec_capacity audits.old }
-    ensures slots { AreSlots IsOut used.now slots.new.items audits.new.items volumes.old.items }
+    ensures slots { AreSlots used.now slots.new.items audits.new.items volumes.old.items }
     ensures empty { volumes.new.items ≡ [] }
     ensures few { vec_len slots.new ≡ vec_len volumes.old }
     ensures room { vec_capacity volumes.new ≡ vec_capacity volumes.old }
@@ -74,39 +86,52 @@ pub fn take_all(
     }
 }
 
-/// Does what is left to do in a volume, but for a merge. No request is in flight, so that memory is asked for nothing, and no
-/// group of a merge is formed, so that it is quiet then.
-fn rest<R: Wait>(rt: &R, alloc: Global, volume: &mut Resting<Stack>)
-    ensures quiet { is_quiet_of volume.new.events ≡ true }
-    ensures kept { KeepsDevices stack_layers stack_size volume.old volume.new }
+/// Does the events that are due in an audit's volume, until none is but one of a merge. No request is in flight.
+fn drain(audit: &mut Audit<Stack>)
+    requires none { audit.old.held ≡ [] }
+    ensures { IsRested audit.old audit.new }
 {
-    let mut ended = Vec::new(alloc);
-    let _ = volume.settle_apart(&mut ended);
-    if !volume.is_quiet() {
+    while let Some(event) = audit.volume().due() {
+        if is_of_merge(event) {
+            break;
+        }
+        // It is due, and is no request's, since none is in flight.
+        if audit.apply(1, event).is_err() {
+            break;
+        }
+    }
+}
+
+/// Does what is left to do in an audit's volume, but for a merge. No request is in flight, so that memory is asked for nothing,
+/// and no group of a merge is formed, so that it is quiet then.
+fn rest<R: Wait>(rt: &R, audit: &mut Audit<Stack>)
+    requires none { audit.old.held ≡ [] }
+    ensures quiet { is_quiet_of audit.new.volume ≡ true }
+    ensures rested { IsRested audit.old audit.new }
+{
+    drain(audit);
+    if !audit.volume().is_quiet() {
         for _ in rt.forever() {}
     }
 }
 
 /// The volume of an audit under its names again.
-fn name<R: Wait>(rt: &R, alloc: Global, parts: NamedParts, audit: Audit<Stack>) -> NamedVolume
-    requires { (old : Volume) × IsBack parts audit old }
-    ensures { (old : Volume) → IsBack parts audit old → IsRun old result }
+fn name<R: Wait>(rt: &R, parts: NamedParts, audit: Audit<Stack>) -> NamedVolume
+    requires { (before : AuditShape StackShape) × (old : Volume) × IsBack before parts audit old }
+    ensures { (before : AuditShape StackShape) (old : Volume) → IsBack before parts audit old → (entries : List EntryShape) × IsMade before audit entries old result }
 {
-    let mut volume = Resting::of_audit(audit);
-    rest(rt, alloc, &mut volume);
-    NamedVolume::of_parts(parts, volume)
+    let mut audit = audit;
+    rest(rt, &mut audit);
+    // A look: what its entries say.
+    let _ = audit.entries();
+    NamedVolume::of_parts(parts, Resting::of_audit(audit))
 }
 
 /// What a place of the table has, put back into it: a volume that is taken out is that of the last audit.
-pub fn put_back<R: Wait>(
-    rt: &R,
-    alloc: Global,
-    slot: Slot,
-    audits: &mut Vec<Audit<Stack>>,
-) -> NamedVolume
-    requires { (used : Bool) × (others : List (AuditShape StackShape)) × (old : Volume) × IsSlot IsBack used slot audits.old.items others old }
-    ensures run { (used : Bool) (others : List (AuditShape StackShape)) (old : Volume) → IsSlot IsBack used slot audits.old.items others old → IsRunIf used old result }
-    ensures others { (used : Bool) (others : List (AuditShape StackShape)) (old : Volume) → IsSlot IsBack used slot audits.old.items others old → audits.new.items ≡ others }
+pub fn put_back<R: Wait>(rt: &R, slot: Slot, audits: &mut Vec<Audit<Stack>>) -> NamedVolume
+    requires { (used : Bool) × (befores : List (AuditShape StackShape)) × (first : List (AuditShape StackShape)) × (others : List (AuditShape StackShape)) × (old : Volume) × IsBackAt used slot befores audits.old.items first others old }
+    ensures put { (used : Bool) (befores first others : List (AuditShape StackShape)) (old : Volume) → IsBackAt used slot befores audits.old.items first others old → IsPutAt slot befores audits.old.items first others old result }
+    ensures others { (used : Bool) (befores first others : List (AuditShape StackShape)) (old : Volume) → IsBackAt used slot befores audits.old.items first others old → audits.new.items ≡ others }
 {
     match slot {
         Slot::Stays(volume) => volume,
@@ -114,7 +139,7 @@ pub fn put_back<R: Wait>(
             let Some(audit) = audits.pop() else {
                 unreachable!()
             };
-            name(rt, alloc, parts, audit)
+            name(rt, parts, audit)
         }
     }
 }

@@ -40,7 +40,7 @@ refused_block block first old new e why stays run = elim (memory_or_not e) [
     told (Some f) stays is = inl (ap (refuses e) stays ∙ ap (λ r. refuses r old) (let same : e ≡ f = cc in same))
 
 -- a block that was run
-pub run_block : (block : Lines) (first : Option Refusal) (old new : Table) (told : List Reply) → first ≡ None → All IsOfBlock told → map seat_in told ≡ all_told block → AreAnswered block old told → IsTableRun block.lines old new → IsBlockBy block first old (record { replies = told ++ Done ∷ []; table = new })
+pub run_block : (block : Lines) (first : Option Refusal) (old new : Table) (told : List Reply) → first ≡ None → All IsOfBlock told → map seat_in told ≡ all_told block → AreAnswered block old new told → IsTableRun block.lines old new → IsBlockBy block first old (record { replies = told ++ Done ∷ []; table = new })
 run_block block first old new told none all seats answers run =
     let P : Option Refusal → Type 0 = λ f. IsBlockBy block f old (record { replies = told ++ Done ∷ []; table = new }) in
     subst P (sym none) (record { told = inl (told, all, seats, answers, refl); table = run })
@@ -61,7 +61,7 @@ block_refused block old now was new summary e P view why stays run is last =
     )
 
 -- and of one that was run
-pub block_ran : (block : Lines) (old : Standing) (was new : Table) (summary now : Summary) (told : List Reply) (P : List Reply → Type 0) → old ≡ record { table = was; summary = summary } → block_refusal block was ≡ None → All IsOfBlock told → map seat_in told ≡ all_told block → AreAnswered block was told → IsTableRun block.lines was new → now ≡ with_reply Done (counted told summary) → P (told ++ Done ∷ [])
+pub block_ran : (block : Lines) (old : Standing) (was new : Table) (summary now : Summary) (told : List Reply) (P : List Reply → Type 0) → old ≡ record { table = was; summary = summary } → block_refusal block was ≡ None → All IsOfBlock told → map seat_in told ≡ all_told block → AreAnswered block was new told → IsTableRun block.lines was new → now ≡ with_reply Done (counted told summary) → P (told ++ Done ∷ [])
     → (done : Outcome) × IsBlockDone block old.table done × (record { table = new; summary = now } ≡ followed old done) × P done.replies
 block_ran block old was new summary now told P view none all seats answers run counts last =
     let D : Table → Type 0 = λ t. IsBlockDone block t (record { replies = told ++ Done ∷ []; table = new }) in (

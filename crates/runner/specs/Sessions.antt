@@ -33,13 +33,13 @@ abbrev pub IsRefusedFor : Refusal → Table → Outcome → Type 0
 IsRefusedFor refusal table done = (done ≡ refuses refusal table) ⊎ (done ≡ refuses NoMemory table)
 
 -- the answer of each line, by seat and then by line, how the gate ended where the block holds a ticket, and `ok`
-abbrev pub IsTold : Lines → Table → List Reply → Type 0
-IsTold block table replies =
-    (told : List Reply) × All IsOfBlock told × (map seat_in told ≡ all_told block) × AreAnswered block table told × (replies ≡ told ++ Done ∷ [])
+abbrev pub IsTold : Lines → Table → Table → List Reply → Type 0
+IsTold block old new replies =
+    (told : List Reply) × All IsOfBlock told × (map seat_in told ≡ all_told block) × AreAnswered block old new told × (replies ≡ told ++ Done ∷ [])
 
 -- A block that nothing refuses was run, or memory ran out for it. What no line names is as it was.
 pub record IsBlockRun (block : Lines) (old : Table) (done : Outcome) : Type 0 where
-  pub told : IsTold block old done.replies ⊎ (done.replies ≡ Refused NoMemory ∷ [])
+  pub told : IsTold block old done.table done.replies ⊎ (done.replies ≡ Refused NoMemory ∷ [])
   pub table : IsTableRun block.lines old done.table
 
 -- a block that is refused before anything runs changes nothing

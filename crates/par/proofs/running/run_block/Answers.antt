@@ -6,6 +6,7 @@ use Rattle.block.specs.declared.seat_line.SeatLine.{SeatLine}
 use Rattle.devices.specs.Devices.{table_of}
 use Rattle.seats.specs.Tasks.{tasks_at}
 use Rattle.par.specs.Answering.{AreAsked, AreReplied}
+use Rattle.par.specs.Played.{ArePlayed}
 use Rattle.par.specs.Running.{IsOfBlock, gate_told, seat_in, seats_told, used_in}
 use Rattle.par.proofs.Runs.{marks_many, not_run, still_named, still_sound, table_run}
 use Rattle.par.proofs.Tells.{are_of_block, asked_few, seats_are}
@@ -27,16 +28,16 @@ run_plan-requires-clause-room g c lives outlives =
 
 pub returns-clause-told : goal.returns-clause-told
 returns-clause-told g c =
-    IfOk-weaker c.run_plan.result _ _ (λ replies r. All-same IsOfBlock replies.items _ r.replies_are (are_of_block r.told c.opening-ticket.result.hold r.opened)) c.run_plan.ensures.told
+    IfOk-weaker c.run_plan.result _ _ (λ replies (played, plays, r). All-same IsOfBlock replies.items _ r.replies_are (are_of_block r.told c.opening-ticket.result.hold r.opened)) c.run_plan.ensures.told
 
 pub returns-clause-seats : goal.returns-clause-seats
 returns-clause-seats g c =
     let ticket : c.opening-ticket.result.hold ≡ c.args.block.opening.hold = ap (λ o. o.hold) c.opening-ticket.ensures in
     let seat : SeatLine → ℕ = λ line. line.seat in
     IfOk-weaker c.run_plan.result _ _
-    (λ replies r.
+    (λ replies (played, plays, r).
     ap (map seat_in) r.replies_are
-    ∙ seats_are c.in_ok-plan.plan.used.items (table_of c.args.held.now) c.into_lines.result.items (tasks_at c.in_ok-plan.plan.tasks.items) r.told c.opening-ticket.result.hold r.opened c.in_ok-plan.ensures.asked r.ended
+    ∙ seats_are c.in_ok-plan.plan.used.items (table_of c.args.held.now) c.into_lines.result.items played (tasks_at c.in_ok-plan.plan.tasks.items) r.told c.opening-ticket.result.hold r.opened c.in_ok-plan.ensures.asked r.ended
     ∙ ap (λ (l : List SeatLine). seats_told (map seat l) ++ gate_told c.opening-ticket.result.hold) c.into_lines.ensures.lines
     ∙ ap (λ (t : Option ℕ). seats_told (map seat c.args.block.lines) ++ gate_told t) ticket)
     c.run_plan.ensures.told
@@ -44,14 +45,18 @@ returns-clause-seats g c =
 pub returns-clause-answers : goal.returns-clause-answers
 returns-clause-answers g c =
     let ticket : c.opening-ticket.result.hold ≡ c.args.block.opening.hold = ap (λ o. o.hold) c.opening-ticket.ensures in
-    let table = table_of c.args.held.now in
+    let old = table_of c.args.held.now in
+    let new = table_of c.run_plan.new.held in
     let asked = tasks_at c.in_ok-plan.plan.tasks.items in
+    let used : c.in_ok-plan.plan.used.items ≡ used_in c.args.block.lines old = c.in_ok-plan.ensures.used ∙ ap (λ (l : List SeatLine). used_in l old) c.into_lines.ensures.lines in
     IfOk-weaker c.run_plan.result _ _
-    (λ replies r. record {
+    (λ replies (played, plays, r). record {
       asked = asked;
-      asks = subst (λ (us : List Bool). AreAsked us table c.args.block.lines asked) (c.in_ok-plan.ensures.used ∙ ap (λ (l : List SeatLine). used_in l table) c.into_lines.ensures.lines)
-          (subst (λ (l : List SeatLine). AreAsked c.in_ok-plan.plan.used.items table l asked) c.into_lines.ensures.lines c.in_ok-plan.ensures.asked);
-      told = subst (λ (t : Option ℕ). AreReplied t asked replies.items) ticket r;
+      played = played;
+      asks = subst (λ (us : List Bool). AreAsked us old c.args.block.lines asked) used
+          (subst (λ (l : List SeatLine). AreAsked c.in_ok-plan.plan.used.items old l asked) c.into_lines.ensures.lines c.in_ok-plan.ensures.asked);
+      plays = subst (λ (us : List Bool). ArePlayed us played old.volumes new.volumes) used plays;
+      told = subst (λ (t : Option ℕ). AreReplied t played asked replies.items) ticket r;
     })
     c.run_plan.ensures.told
 

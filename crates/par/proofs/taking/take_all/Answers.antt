@@ -3,7 +3,7 @@ use Rattle.std.proofs.Common.{◌≡◌, ℕ, ◌+◌, ◌<◌, ◌++◌, ◌∷
 use Rattle.std.specs.Option.{option_to_list}
 use Rattle.std.proofs.lemmas.List.{get_or_default, length_push}
 use Rattle.par.specs.declared.taking.Slot.{Slot}
-use Rattle.par.specs.Taking.{AreSlots, IsOut}
+use Rattle.par.specs.Taking.{AreSlots}
 use Rattle.par.proofs.Slots.{front_left, one_taken}
 use Rattle.par.proofs.taking.take_all.Goals as goal
 
@@ -22,12 +22,12 @@ loop-volume-preserved c =
     let here : c.len.result ≡ length left = omega (arith, c.len.ensures) in
     let flag : Bool = get_or used c.len.result false in
     let is_flag : flag ≡ get_or used (length left) flag = ap (λ (n : ℕ). get_or used n false) here ∙ get_or_default used (length left) false flag (omega (arith, low, as_many)) in
-    let slots : AreSlots IsOut (drop (length left + 1) used) c.loop-volume.slots.items c.loop-volume.audits.items (drop (length left + 1) all) =
-    subst (λ (n : ℕ). AreSlots IsOut (drop n used) c.loop-volume.slots.items c.loop-volume.audits.items (drop n all)) more old.slots in
+    let slots : AreSlots (drop (length left + 1) used) c.loop-volume.slots.items c.loop-volume.audits.items (drop (length left + 1) all) =
+    subst (λ (n : ℕ). AreSlots (drop n used) c.loop-volume.slots.items c.loop-volume.audits.items (drop n all)) more old.slots in
     record {
       front = front_left all left v (length left) low front;
       few = omega (arith, low);
-      slots = subst (λ (l : List Slot). AreSlots IsOut (drop (length left) used) l c.take.new.audits.items (drop (length left) all)) (sym c.push_reserved.ensures.items)
+      slots = subst (λ (l : List Slot). AreSlots (drop (length left) used) l c.take.new.audits.items (drop (length left) all)) (sym c.push_reserved.ensures.items)
           (one_taken used all left v (length left) flag c.loop-volume.slots.items c.take.result c.take.new.audits.items c.loop-volume.audits.items refl low as_many front is_flag slots c.take.ensures.slot);
       many = omega (arith, old.many);
       taken = omega (arith, old.taken);
