@@ -3,7 +3,6 @@ use Rattle.std.proofs.Common.{◌≡◌, ℕ, Bool, true, false, List, [], ◌�
 use Rattle.std.specs.Prelude.{◌==◌, if◌then◌else◌}
 use Rattle.std.proofs.lemmas.List.{append_assoc}
 use Rattle.layers.specs.declared.stack.Stack.{Stack}
-use Rattle.layers.specs.Stack.{stack_layers, stack_size}
 use Rattle.journal.specs.declared.entry.Answered.{Answered}
 use Rattle.journal.specs.declared.entry.Entry.{Entry}
 use Rattle.journal.specs.declared.entry.Entry.TheVariants.{Answered as IsAnswered, Spoiled, Attached, Detached, Begun, Finished}

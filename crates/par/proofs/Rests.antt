@@ -1,5 +1,5 @@
 -- What is left to do in a volume is done while no request is in flight.
-use Rattle.std.proofs.Common.{◌≡◌, ℕ, List, [], ◌∷◌, ◌++◌, map, refl, sym, ap, ◌∙◌, subst}
+use Rattle.std.proofs.Common.{◌≡◌, List, [], ◌++◌, map, refl, sym, ap, ◌∙◌, subst}
 use Rattle.std.specs.Prelude.{Err, IfOk, None, Ok, OnErr, OnOk, Option, Result, Some}
 use Rattle.std.proofs.lemmas.List.{append-nil, append_assoc, map-append}
 use Rattle.layers.specs.declared.stack.Stack.{Stack}

@@ -1,8 +1,6 @@
 -- Each volume comes back to its place.
 use Rattle.std.proofs.Common.{◌≡◌, ◌≤◌, ◌++◌, ◌∷◌, [], List, length, refl, ap, sym, ◌∙◌, subst, arith}
 use Rattle.std.specs.Option.{option_to_list}
-use Rattle.layers.specs.declared.stack.Stack.{Stack}
-use Rattle.journal.specs.Books.{AuditShape}
 use Rattle.named.specs.State.{Volume}
 use Rattle.seats.specs.Tasks.{tasks_at}
 use Rattle.par.specs.declared.taking.Slot.{Slot}
