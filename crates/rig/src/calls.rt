@@ -12,7 +12,7 @@ use crate::place::Place;
 use crate::queue::{Queue, QueuePass};
 use crate::rig::Rig;
 use crate::seat::Seat;
-use crate::turns::{begin, merge_turn, piece};
+use crate::turns::{begin, merge_turn};
 use chunk::Geometry;
 use copier::Gate;
 use journal::Receipt;
@@ -149,7 +149,7 @@ impl<J: Room> Seat<J> {
             return Err(Refusal::NoMemory);
         };
         let geometry = Geometry {
-            chunk: piece(rt, &rig.places[volume]),
+            chunk: rig.places[volume].piece,
             sectors: range.size,
         };
         for part in geometry.pieces(range) {
@@ -177,7 +177,7 @@ impl<J: Room> Seat<J> {
         ensures err { IfErr result (λ refusal. (more : List Receipt) × HasAdded volume more self.old self.new × IsWriteCut dev (span_of range) more refusal) }
     {
         let geometry = Geometry {
-            chunk: piece(rt, &rig.places[volume]),
+            chunk: rig.places[volume].piece,
             sectors: range.size,
         };
         let mut from = 0;

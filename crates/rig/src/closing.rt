@@ -75,6 +75,7 @@ fn close_one<B: Layered, J: Room, R: Wait>(
 {
     let Place {
         volume,
+        piece: _,
         lock,
         moved: _,
         beside,

@@ -125,8 +125,10 @@ fn place_one<B: Layered, J: Room>(
     ensures { result.volume ≡ volume }
 {
     let (beside, post) = opened.into_post(volume, audit);
+    let piece = post.piece();
     Place {
         volume,
+        piece,
         lock: Mutex::new(post),
         moved: Condvar::new(),
         beside,

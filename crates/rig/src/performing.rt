@@ -36,7 +36,8 @@ pub(crate) fn perform<B: Layered, J: Room, R: Wait>(
     let (got, started) = submit(rt, place, sitting, request);
     queue.put(rt, pass, place.volume, started);
     let number = match got {
-        Ok(number) => number,
+        Ok((_, Some(reply))) => return Ok(reply),
+        Ok((number, None)) => number,
         Err(refusal) => return Err(refusal),
     };
     for _ in rt.forever() {

@@ -1,4 +1,6 @@
 // A volume's lock, and what stands beside it.
+ghost use Rattle.std.specs.Prelude.{◌≡◌, true};
+ghost use Rattle.chunk.specs.Sizes.{is_chunk};
 ghost use Rattle.post.specs.Beside.{IsBeside};
 
 use layers::Layered;
@@ -9,8 +11,11 @@ use std::sync::{Condvar, Mutex};
 #[derive(Drop)]
 pub struct Place<B: Layered, J: Room> {
     pub(crate) volume: usize,
+    /// The sectors of a piece. No snapshot is attached while a rig stands, so that they stay what they were when it was made.
+    pub(crate) piece: u32,
     pub(crate) lock: Mutex<Post<B, J>>,
     pub(crate) moved: Condvar,
     pub(crate) beside: Beside,
+    ghost is_piece: { is_chunk piece ≡ true },
     ghost is_beside: { IsBeside (J.history volume) (J.boards volume) beside },
 }

@@ -1,12 +1,11 @@
 // What a seat or a worker does while it holds a volume's lock once.
-ghost use Rattle.std.specs.Prelude.{◌≡◌, ◌≢◌, ◌*◌, ◌<◌, ◌∷◌, ℕ, List, [], length, true, IfSome, IfNone, MatchResult};
+ghost use Rattle.std.specs.Prelude.{◌≡◌, ◌≢◌, ◌*◌, ◌<◌, ◌∷◌, ℕ, List, [], length, IfSome, IfNone, MatchOption, MatchResult};
 ghost use Rattle.std.specs.Sync.Mutex.{mutex_guard_value};
 ghost use Rattle.plain.specs.declared.event.Event.TheVariants.{Issue};
 ghost use Rattle.plain.specs.declared.request.Op.TheVariants.{Write};
 ghost use Rattle.journal.specs.Seats.{Seated};
 ghost use Rattle.journal.specs.declared.entry.Receipt.{Receipt};
-ghost use Rattle.chunk.specs.Sizes.{is_chunk};
-ghost use Rattle.rig.specs.Sittings.{IsAnswered, IsSameSitting, IsWaiting};
+ghost use Rattle.rig.specs.Sittings.{IsAnswered, IsPerformed, IsSameSitting, IsWaiting};
 
 use crate::place::Place;
 use crate::queueing::Started;
@@ -32,32 +31,52 @@ pub(crate) fn locked<'a, B: Layered, J: Room, R: Wait>(
     unreachable!()
 }
 
-/// The sectors of a piece of the volume.
-pub(crate) fn piece<B: Layered, J: Room, R: Wait>(rt: &R, place: &Place<B, J>) -> u32
-    ensures { is_chunk result ≡ true }
+/// What a seat that makes a request does under the lock: it submits it, and issues it where that is due at once. Tells the
+/// request's number, and the reply where there is one.
+fn make<B: Layered, J: Room, R: Wait>(
+    rt: &R,
+    place: &Place<B, J>,
+    post: &mut Post<B, J>,
+    sitting: &mut Sitting<J>,
+    request: Request,
+) -> Result<(ReqId, Option<Reply>), Refusal>
+    requires post { post.old.volume ≡ place.now.volume }
+    requires volume { sitting.old.volume ≡ place.now.volume }
+    requires few { sitting.old.seat < 9 }
+    requires idle { sitting.old.waits ≡ [] }
+    requires room { length sitting.old.receipts < sitting.old.room }
+    requires bytes { (bytes : List ℕ) → request.op ≡ Write bytes → length bytes ≡ 512 * request.range.count }
+    ensures { MatchResult result (λ made. MatchOption made.1 (IsWaiting made.0 request sitting.old sitting.new) (λ reply. (r : Receipt) × IsPerformed request reply r sitting.old sitting.new)) (λ _. IsSameSitting sitting.old sitting.new) }
 {
-    locked(rt, place).piece()
+    match sitting.submit(post, &place.beside, request) {
+        Ok(number) => match sitting.issue(rt, post, &place.beside, number) {
+            Some(reply) => Ok((number, Some(reply))),
+            None => Ok((number, None)),
+        },
+        Err(refusal) => Err(refusal),
+    }
 }
 
-/// Submits a request of a seat.
+/// Makes a request of a seat. Tells its number, and the reply where it was answered at once.
 pub(crate) fn submit<B: Layered, J: Room, R: Wait>(
     rt: &R,
     place: &Place<B, J>,
     sitting: &mut Sitting<J>,
     request: Request,
-) -> (Result<ReqId, Refusal>, Started)
+) -> (Result<(ReqId, Option<Reply>), Refusal>, Started)
     requires volume { sitting.old.volume ≡ place.now.volume }
     requires few { sitting.old.seat < 9 }
     requires idle { sitting.old.waits ≡ [] }
+    requires room { length sitting.old.receipts < sitting.old.room }
     requires bytes { (bytes : List ℕ) → request.op ≡ Write bytes → length bytes ≡ 512 * request.range.count }
-    ensures { MatchResult result.0 (λ number. IsWaiting number request sitting.old sitting.new) (λ _. IsSameSitting sitting.old sitting.new) }
+    ensures { MatchResult result.0 (λ made. MatchOption made.1 (IsWaiting made.0 request sitting.old sitting.new) (λ reply. (r : Receipt) × IsPerformed request reply r sitting.old sitting.new)) (λ _. IsSameSitting sitting.old sitting.new) }
 {
     let mut post = locked(rt, place);
     let after = post.last_copy();
-    let got = sitting.submit(&mut post, &place.beside, request);
+    let made = make(rt, place, &mut post, sitting, request);
     let last = post.last_copy();
     place.moved.notify_all();
-    (got, Started { after, last })
+    (made, Started { after, last })
 }
 
 /// What a seat that waits for its request does under the lock: its own Issue, or another event that is due and that any thread

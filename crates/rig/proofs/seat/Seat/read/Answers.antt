@@ -15,15 +15,15 @@ returns-in_default-clause-err g c =
     (once.0, once.1, (1, once.2))
 
 pub invariant_of-geometry : goal.invariant_of-geometry
-invariant_of-geometry g c = let ok = c.piece.ensures in record { allowed = ok; some = is_chunk-some c.piece.result ok; small = is_chunk-small c.piece.result ok }
+invariant_of-geometry g c = let place = c.index.result.now in record { allowed = place.is_piece; some = is_chunk-some place.piece place.is_piece; small = is_chunk-small place.piece place.is_piece }
 
 pub loop-part-init : goal.loop-part-init
 loop-part-init g c = record {
   can = tt;
   finite = tt;
   under = (
-    c.piece.result,
-    let all = pieces_of c.piece.result (span_of c.args.range) in
+    c.index.result.now.piece,
+    let all = pieces_of c.index.result.now.piece (span_of c.args.range) in
         subst (λ (x : List Span × List ℕ). IsUnderWay read_op Data c.args.dev c.args.volume all x.0 c.args.self.now c.args.self.now x.1)
         (λ i. (sym (c.into_iter-part-iterator.ensures.into_iter_gives ∙ c.pieces-part-items.ensures.pieces) i, sym c.in-Ok.ensures.items i))
         (begins read_op Data c.args.dev c.args.volume all c.args.self.now),

@@ -12,16 +12,16 @@ use Rattle.rig.proofs.UnderWay.{IsUnderWay, begins, ends, goes, stops}
 use Rattle.rig.proofs.seat.Seat.write_all.Goals as goal
 
 pub invariant_of-geometry : goal.invariant_of-geometry
-invariant_of-geometry g c = let ok = c.piece.ensures in record { allowed = ok; some = is_chunk-some c.piece.result ok; small = is_chunk-small c.piece.result ok }
+invariant_of-geometry g c = let place = c.index.result.now in record { allowed = place.is_piece; some = is_chunk-some place.piece place.is_piece; small = is_chunk-small place.piece place.is_piece }
 
 pub loop-part-init : goal.loop-part-init
 loop-part-init g c = record {
   can = tt;
   finite = tt;
   under = (
-    c.piece.result,
-    stands_first c.piece.result (span_of c.args.range) _ _ c.pieces-part-items.ensures.cut c.into_iter-part-iterator.ensures.into_iter_gives,
-    (let all = pieces_of c.piece.result (span_of c.args.range) in
+    c.index.result.now.piece,
+    stands_first c.index.result.now.piece (span_of c.args.range) _ _ c.pieces-part-items.ensures.cut c.into_iter-part-iterator.ensures.into_iter_gives,
+    (let all = pieces_of c.index.result.now.piece (span_of c.args.range) in
         subst (λ (left : List Span). IsUnderWay Write written_reply c.args.dev c.args.volume all left c.args.self.now c.args.self.now [])
         (sym (c.into_iter-part-iterator.ensures.into_iter_gives ∙ c.pieces-part-items.ensures.pieces))
         (begins Write written_reply c.args.dev c.args.volume all c.args.self.now)),
