@@ -4,13 +4,12 @@ use Rattle.std.specs.Prelude.{ℕ, Bool, List, ◌++◌, codes, decimal, if◌th
 use Rattle.reply.specs.declared.seated.Answered.{Answered}
 use Rattle.reply.specs.declared.seated.Answered.TheVariants.{Done, Data, Refused}
 use Rattle.reply.specs.declared.seated.Seated.{Seated}
-use Rattle.reply.specs.Runs.{data_words}
 use Rattle.reply.specs.Refusals.{refusal_text}
 
--- what a line of it answers, a space before
+-- what a line of it answers, a space before; the words of data are those of `data_words`, as the thread that read it wrote them
 abbrev pub answer_words : Answered → List ℕ
 answer_words Done = codes " ok"
-answer_words (Data bytes) = codes " ok" ++ data_words bytes
+answer_words (Data words) = codes " ok" ++ words
 answer_words (Refused refusal) = codes " " ++ refusal_text refusal
 
 -- the line of a seat's answer, with its end

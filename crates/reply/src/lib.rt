@@ -20,6 +20,7 @@ mod seated;
 pub use ended::{Ended, Ending};
 use itoa::Buffer;
 use runs::write_data;
+pub use runs::words_of_data;
 use seated::write_gate;
 pub use seated::{Answered, Seated};
 use sector::{Buf, Refusal};
@@ -151,10 +152,10 @@ mod tests {
 
     #[test]
     fn prints_the_lines_of_a_block(rt: HostRuntime) -> Result<(), Fail> {
-        let bytes = Buf::from_slice(rt.alloc(), &[0x11; 512])?;
+        let words = words_of_data(rt.alloc(), &[0x11; 512])?;
         let answers = [
             (1, Answered::Done),
-            (3, Answered::Data(bytes)),
+            (3, Answered::Data(words)),
             (8, Answered::Refused(Refusal::NoMemory)),
         ];
         let mut out = Vec::new(rt.alloc());

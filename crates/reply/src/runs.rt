@@ -1,11 +1,13 @@
 // Data as longest runs of equal bytes.
-ghost use Rattle.std.specs.Prelude.{◌≡◌, ◌≤◌, ◌<◌, ◌∷◌, length, drop, slice_index, OnOk};
+ghost use Rattle.std.specs.Prelude.{◌≡◌, ◌≤◌, ◌<◌, ◌∷◌, length, drop, slice_index, IfOk, OnOk};
 ghost use Rattle.std.specs.Io.KnownBytes.{Appends};
 ghost use Rattle.reply.specs.Runs.{runs_of, hex_char, run_word, data_words};
 
 use itoa::Buffer;
+use std::alloc::{AllocError, Global};
 use std::io;
 use std::io::Write;
+use words::Text;
 
 /// The lower-case hexadecimal digit of a number below 16.
 fn hex_digit(d: u8) -> u8
@@ -55,4 +57,16 @@ pub fn write_data<W: Write>(writer: &mut W, bytes: &[u8]) -> io::Result<()>
         rest = &rest[count..];
     }
     Ok(())
+}
+
+/// Data in words, as it is printed after `ok`: longest runs, a space before each. An error says that the allocator refused
+/// memory for them.
+pub fn words_of_data(alloc: Global, bytes: &[u8]) -> Result<Text, AllocError>
+    ensures { IfOk result (λ words. words ≡ data_words bytes.now) }
+{
+    let mut words = Vec::new(alloc);
+    match write_data(&mut words, bytes) {
+        Ok(()) => Ok(Text::from_vec(words)),
+        Err(_) => Err(AllocError),
+    }
 }

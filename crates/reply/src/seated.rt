@@ -3,20 +3,21 @@ ghost use Rattle.std.specs.Prelude.{OnOk};
 ghost use Rattle.std.specs.Io.KnownBytes.{Appends};
 ghost use Rattle.reply.specs.Seated.{answer_words, gate_text, seated_text};
 
-use crate::runs::write_data;
 use crate::write_refusal;
 use itoa::Buffer;
-use sector::{Buf, Refusal};
+use sector::Refusal;
 use std::io;
 use std::io::Write;
+use words::Text;
 
 /// What a line of a block answers.
 #[derive(Debug, Drop)]
 pub enum Answered {
     /// It is done: `ok`.
     Done,
-    /// It is done, and these are the bytes that were asked for.
-    Data(Buf),
+    /// It is done, and these are the bytes that were asked for, in words (`words_of_data`): the thread that read them has put
+    /// them so.
+    Data(Text),
     /// It is refused.
     Refused(Refusal),
 }
@@ -35,9 +36,9 @@ fn write_answer<W: Write>(writer: &mut W, answer: &Answered) -> io::Result<()>
 {
     match answer {
         Answered::Done => writer.write_all(b" ok"),
-        Answered::Data(bytes) => {
+        Answered::Data(words) => {
             writer.write_all(b" ok")?;
-            write_data(writer, bytes.as_slice())
+            writer.write_all(words.as_slice())
         }
         Answered::Refused(refusal) => {
             writer.write_all(b" ")?;

@@ -1,18 +1,15 @@
 // A volume by whole commands is made of an audit, and may be taken apart again.
-ghost use Rattle.std.specs.Prelude.{◌≡◌, [], IfErr, OnOk, true};
+ghost use Rattle.std.specs.Prelude.{◌≡◌, [], IfErr};
 ghost use Rattle.std.specs.List.{All};
 ghost use Rattle.sector.specs.declared.refusal.Refusal.TheVariants.{NoMemory};
-ghost use Rattle.resting.specs.Draining.{IsDrainedApart, is_idle_of};
 ghost use Rattle.resting.specs.Flying.{IsWhole};
-ghost use Rattle.resting.specs.Kept.{KeepsDevices};
 ghost use Rattle.resting.specs.Rested.{rested_of};
 
 use crate::Resting;
-use crate::draining::{drain_apart, make_room};
 use journal::Audit;
 use journaled::Journaled;
 use layers::Layered;
-use plain::{Replied, ReqId};
+use plain::ReqId;
 use sector::Refusal;
 
 impl<B: Layered> Resting<B> {
@@ -52,31 +49,4 @@ impl<B: Layered> Resting<B> {
     {
         self.volume.last_request()
     }
-
-    /// Does the events that are due, each time the one that is due first, until none is but one of a merge. Each reply is put
-    /// at the end of `ended`. Room for one of each request in flight is taken once, before the first event: where that is
-    /// refused (`NoMemory`), nothing is done. Where no request is in flight no memory is asked for.
-    pub fn settle_apart(&mut self, ended: &mut Vec<Replied>) -> Result<(), Refusal>
-        ensures drained { OnOk result (IsDrainedApart B.contents B.layers self.old.events self.new.events ended.old.items ended.new.items) }
-        ensures idle { OnOk result (is_idle_of B.contents B.layers self.new.events ≡ true) }
-        ensures err { IfErr result (λ refusal. (refusal ≡ NoMemory) × (self.new ≡ self.old) × (ended.new.items ≡ ended.old.items)) }
-        ensures whole { IsWhole self.old × IsWhole self.new }
-        ensures kept { KeepsDevices B.layers B.size self.old self.new }
-        ensures requests { self.new.requests ≡ self.old.requests }
-    {
-        calm(&mut self.volume, ended)
-    }
-}
-
-/// The same of a volume of events.
-fn calm<B: Layered>(volume: &mut Journaled<B>, ended: &mut Vec<Replied>) -> Result<(), Refusal>
-    ensures drained { OnOk result (IsDrainedApart B.contents B.layers volume.old volume.new ended.old.items ended.new.items) }
-    ensures idle { OnOk result (is_idle_of B.contents B.layers volume.new ≡ true) }
-    ensures err { IfErr result (λ refusal. (refusal ≡ NoMemory) × (volume.new ≡ volume.old) × (ended.new.items ≡ ended.old.items)) }
-    ensures kept { KeepsDevices B.layers B.size (rested_of volume.old) (rested_of volume.new) }
-    ensures requests { volume.new.requests ≡ volume.old.requests }
-{
-    make_room(ended, volume.flying())?;
-    drain_apart(volume, ended);
-    Ok(())
 }

@@ -73,7 +73,7 @@ task_send = search (sendable, crosses, job_send, answered_send) fits 50000 depth
 pub run_send : (Q : RattleType) (p : Plan.Ghosts Q.Denot) (j : Room.Ghosts Q.Denot) → IsSend Q → IsSend (SeatRun.the_row Q p j)
 run_send Q p j s =
     recorded_send (SeatRun.the_field Q p j).row _ _ (SeatRun.the_type Q p j).to_one
-    (struct_send (shape (SeatRun.the_type Q p j)) (seat_send Q j s, (Vec-send _ task_send, (search sendable, tt))))
+    (struct_send (shape (SeatRun.the_type Q p j)) (search (sendable, Heap.the_send), (seat_send Q j s, (Vec-send _ task_send, (search sendable, tt)))))
 
 pub hold_sync : IsSync Hold.the_row
 hold_sync = search (sendable, crosses) fits 50000 depth 40

@@ -20,13 +20,13 @@ done_more (x ∷ bs) (y ∷ cs) b a s t u h one = (h.0, h.1, done_more bs cs b a
 -- the seat keeps its number
 called_number : (job : Job) (a : Answered) (s t : SeatShape) → IsCall job a s t → t.number ≡ s.number
 called_number (Read volume dev range) answered.Done s t h = absurd h
-called_number (Read volume dev range) (answered.Data bytes) s t h = h.1.number
+called_number (Read volume dev range) (answered.Data words) s t h = h.2.number
 called_number (Read volume dev range) (answered.Refused refusal) s t h = h.1.number
 called_number (Write volume dev range bytes) answered.Done s t h = h.1.number
-called_number (Write volume dev range bytes) (answered.Data read) s t h = absurd h
+called_number (Write volume dev range bytes) (answered.Data words) s t h = absurd h
 called_number (Write volume dev range bytes) (answered.Refused refusal) s t h = h.1.number
 called_number (Merge volume snap) answered.Done s t h = ap (λ x. x.number) h
-called_number (Merge volume snap) (answered.Data bytes) s t h = absurd h
+called_number (Merge volume snap) (answered.Data words) s t h = absurd h
 called_number (Merge volume snap) (answered.Refused refusal) s t h = ap (λ x. x.number) h
 called_number (RefusedRead refusal) a s t h = ap (λ x. x.number) h.1
 called_number (Refused refusal) a s t h = ap (λ x. x.number) h.1

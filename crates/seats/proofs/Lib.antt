@@ -1,4 +1,5 @@
 pub mod Stays
 pub mod Doing
+pub mod Reading
 pub mod Places
 pub mod Crossing

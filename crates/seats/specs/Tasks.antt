@@ -8,28 +8,29 @@ use Rattle.journal.specs.declared.entry.Receipt.{Receipt}
 use Rattle.journal.specs.Books.{AuditShape}
 use Rattle.reply.specs.declared.seated.Answered.{Answered}
 use Rattle.reply.specs.declared.seated.Answered.TheVariants as answered
+use Rattle.reply.specs.Runs.{data_words}
 use Rattle.rig.specs.Rigs.{HasAdded, IsSettledAt, SeatShape, receipts_at, start_in}
 use Rattle.rig.specs.Served.{IsReadBy, IsReadCut, IsWriteCut, IsWrittenBy}
 use Rattle.seats.specs.declared.task.Job.{Job}
 use Rattle.seats.specs.declared.task.Job.TheVariants.{Read, Write, Merge, RefusedRead, Refused}
 use Rattle.seats.specs.declared.task.Task.{Task}
 
--- A read answers the bytes of the receipts that it added, or it is cut short by what it answers.
+-- A read answers the bytes of the receipts that it added, in words, or it is cut short by what it answers.
 abbrev pub IsReadAs : ℕ → Dev → Range → Answered → SeatShape → SeatShape → Type 0
 IsReadAs volume dev range answered.Done old new = ⊥
-IsReadAs volume dev range (answered.Data bytes) old new = (more : List Receipt) × HasAdded volume more old new × IsReadBy dev (span_of range) more bytes
+IsReadAs volume dev range (answered.Data words) old new = (more : List Receipt) × (bytes : List ℕ) × HasAdded volume more old new × IsReadBy dev (span_of range) more bytes × (words ≡ data_words bytes)
 IsReadAs volume dev range (answered.Refused refusal) old new = (more : List Receipt) × HasAdded volume more old new × IsReadCut dev (span_of range) more refusal
 
 -- A write is done by the receipts that it added, or cut short.
 abbrev pub IsWrittenAs : ℕ → Dev → Range → List ℕ → Answered → SeatShape → SeatShape → Type 0
 IsWrittenAs volume dev range bytes answered.Done old new = (more : List Receipt) × HasAdded volume more old new × IsWrittenBy dev (span_of range) more bytes
-IsWrittenAs volume dev range bytes (answered.Data read) old new = ⊥
+IsWrittenAs volume dev range bytes (answered.Data words) old new = ⊥
 IsWrittenAs volume dev range bytes (answered.Refused refusal) old new = (more : List Receipt) × HasAdded volume more old new × IsWriteCut dev (span_of range) more refusal
 
 -- A merge adds no receipt, and answers no bytes.
 abbrev pub IsMergedAs : Answered → SeatShape → SeatShape → Type 0
 IsMergedAs answered.Done old new = new ≡ old
-IsMergedAs (answered.Data bytes) old new = ⊥
+IsMergedAs (answered.Data words) old new = ⊥
 IsMergedAs (answered.Refused refusal) old new = new ≡ old
 
 -- what a job answered, and what its call changed of the seat

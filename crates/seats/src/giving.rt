@@ -51,7 +51,7 @@ pub(crate) fn begin_all<J: Plan>(
     for i in 0..SEATS {
         let seat = seats.remove(0);
         let list = take_tasks(alloc, tasks, i);
-        runs.push_reserved(SeatRun::new(seat, list));
+        runs.push_reserved(SeatRun::new(alloc, seat, list));
     }
 }
 

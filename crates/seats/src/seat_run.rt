@@ -5,11 +5,13 @@ ghost use Rattle.seats.specs.Tasks.{AreUnderWay, IsEnded, IsNew};
 use crate::plan::Plan;
 use crate::task::Task;
 use rig::Seat;
+use std::alloc::Global;
 use std::sync::Wait;
 
 /// A seat and its tasks, the first of which are done: so many.
 #[derive(Drop)]
 pub struct SeatRun<J: Plan> {
+    pub(crate) alloc: Global,
     pub(crate) seat: Seat<J>,
     pub(crate) tasks: Vec<Task>,
     pub(crate) done: usize,
@@ -18,11 +20,12 @@ pub struct SeatRun<J: Plan> {
 
 impl<J: Plan> SeatRun<J> {
     /// A seat that made no requests, and its tasks.
-    pub(crate) fn new(seat: Seat<J>, tasks: Vec<Task>) -> SeatRun<J>
+    pub(crate) fn new(alloc: Global, seat: Seat<J>, tasks: Vec<Task>) -> SeatRun<J>
         requires tasks { tasks.items ≡ J.tasks seat.number }
         requires new { IsNew seat }
     {
         SeatRun {
+            alloc,
             seat,
             tasks,
             done: 0,
@@ -46,6 +49,7 @@ impl<J: Plan> SeatRun<J> {
             unreachable!()
         }
         let SeatRun {
+            alloc: _,
             seat,
             tasks,
             done: _,

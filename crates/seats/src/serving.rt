@@ -9,9 +9,10 @@ use crate::task::{Job, Task};
 use copier::Gate;
 use layers::Layered;
 use plain::{Dev, SnapId};
-use reply::Answered;
+use reply::{Answered, words_of_data};
 use rig::{Rig, Room, Seat};
-use sector::{Buf, Range, SECTOR_BYTES};
+use sector::{Buf, Range, Refusal, SECTOR_BYTES};
+use std::alloc::Global;
 use std::sync::Wait;
 
 /// A volume is one of the rig's; where it were none, this would wait for ever.
@@ -36,8 +37,10 @@ fn fits<R: Wait>(rt: &R, range: Range, bytes: &Buf)
     unreachable!()
 }
 
+/// Reads, and puts what was read into words here, beside the other seats.
 fn read<B: Layered, G: Gate + Drop, J: Room, R: Wait>(
     rt: &R,
+    alloc: Global,
     rig: &Rig<B, G, J>,
     seat: &mut Seat<J>,
     volume: usize,
@@ -48,7 +51,10 @@ fn read<B: Layered, G: Gate + Drop, J: Room, R: Wait>(
     ensures { IsReadAs volume dev range result seat.old seat.new }
 {
     match seat.read(rt, rig, volume, dev, range) {
-        Ok(bytes) => Answered::Data(bytes),
+        Ok(bytes) => match words_of_data(alloc, bytes.as_slice()) {
+            Ok(words) => Answered::Data(words),
+            Err(_) => Answered::Refused(Refusal::NoMemory),
+        },
         Err(refusal) => Answered::Refused(refusal),
     }
 }
@@ -91,6 +97,7 @@ fn merge<B: Layered, G: Gate + Drop, J: Room, R: Wait>(
 /// Does a job, and tells the gate's hold of a read that was answered.
 fn answer<B: Layered, G: Gate + Drop, J: Room, R: Wait>(
     rt: &R,
+    alloc: Global,
     rig: &Rig<B, G, J>,
     seat: &mut Seat<J>,
     volumes: usize,
@@ -103,7 +110,7 @@ fn answer<B: Layered, G: Gate + Drop, J: Room, R: Wait>(
     match job {
         Job::Read { volume, dev, range } => {
             among(rt, volume, volumes);
-            let answer = read(rt, rig, seat, volume, dev, range);
+            let answer = read(rt, alloc, rig, seat, volume, dev, range);
             hold.answer();
             answer
         }
@@ -131,6 +138,7 @@ fn answer<B: Layered, G: Gate + Drop, J: Room, R: Wait>(
 /// Does a task's job, and keeps its answer.
 fn perform<B: Layered, G: Gate + Drop, J: Room, R: Wait>(
     rt: &R,
+    alloc: Global,
     rig: &Rig<B, G, J>,
     seat: &mut Seat<J>,
     volumes: usize,
@@ -141,7 +149,7 @@ fn perform<B: Layered, G: Gate + Drop, J: Room, R: Wait>(
     ensures { IsDone task.old task.new seat.old seat.new }
 {
     if let Some(job) = task.job.take() {
-        task.answer = Some(answer(rt, rig, seat, volumes, hold, job));
+        task.answer = Some(answer(rt, alloc, rig, seat, volumes, hold, job));
     }
 }
 
@@ -158,7 +166,7 @@ impl<J: Plan> SeatRun<J> {
         requires volumes { volumes ≡ J.volumes }
     {
         let task = &mut self.tasks[self.done];
-        perform(rt, rig, &mut self.seat, volumes, hold, task);
+        perform(rt, self.alloc, rig, &mut self.seat, volumes, hold, task);
         self.done += 1;
     }
 
