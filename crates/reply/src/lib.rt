@@ -19,8 +19,8 @@ mod seated;
 
 pub use ended::{Ended, Ending};
 use itoa::Buffer;
-use runs::write_data;
 pub use runs::words_of_data;
+use runs::write_data;
 use seated::write_gate;
 pub use seated::{Answered, Seated};
 use sector::{Buf, Refusal};
