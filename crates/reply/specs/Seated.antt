@@ -6,7 +6,7 @@ use Rattle.reply.specs.declared.seated.Answered.TheVariants.{Done, Data, Refused
 use Rattle.reply.specs.declared.seated.Seated.{Seated}
 use Rattle.reply.specs.Refusals.{refusal_text}
 
--- what a line of it answers, a space before; the words of data are those of `data_words`, as the thread that read it wrote them
+-- what a line of it answers, a space before each word; data comes in words already
 abbrev pub answer_words : Answered → List ℕ
 answer_words Done = codes " ok"
 answer_words (Data words) = codes " ok" ++ words

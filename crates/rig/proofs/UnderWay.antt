@@ -1,5 +1,5 @@
 -- A call of a seat, piece after piece.
-use Rattle.std.proofs.Common.{◌≡◌, inl, inr, ℕ, List, [], ◌∷◌, ◌++◌, refl, sym, ap, ◌∙◌, subst, append_assoc, append-nil}
+use Rattle.std.proofs.Common.{◌≡◌, inl, inr, ℕ, List, [], ◌∷◌, ◌++◌, length, refl, sym, ap, ◌∙◌, subst, append_assoc, append-nil, arith}
 use Rattle.chunk.specs.Pieces.{Span}
 use Rattle.plain.specs.declared.request.Dev.{Dev}
 use Rattle.plain.specs.declared.request.Op.{Op}
@@ -54,21 +54,24 @@ module _ (op : List ℕ → Op) (reply : List ℕ → Reply) (dev : Dev) where
       → (more : List Receipt) × HasAdded volume more old now × AreServed op reply dev pieces more bytes
   ends volume pieces old now bytes h = (h.more, h.added, subst (λ (l : List Span). AreServed op reply dev l h.more bytes) (sym (append-nil h.firsts) ∙ sym h.parts) h.served)
 
-  pub stops : (volume : ℕ) (pieces left : List Span) (p : Span) (old now next : SeatShape) (bytes : List ℕ) (refusal : Refusal) → IsUnderWay volume pieces (p ∷ left) old now bytes
-      → IsPieceCut op reply dev p refusal volume now next → (more : List Receipt) × HasAdded volume more old next × IsCut op reply dev pieces more refusal
-  stops volume pieces left p old now next bytes refusal h (inl none) =
-      (h.more ++ [], added_more volume h.more [] old now next h.added none, (h.firsts, p ∷ left, h.more, bytes, h.parts, h.served, inl (append-nil h.more)))
-  stops volume pieces left p old now next bytes refusal h (inr (own, r, is, added, inl done)) = (
+  pub stops : (lost : Refusal → Type 0) (volume : ℕ) (pieces left : List Span) (p : Span) (old now next : SeatShape) (bytes : List ℕ) (refusal : Refusal) → IsUnderWay volume pieces (p ∷ left) old now bytes
+      → IsPieceCut op reply lost dev p refusal volume now next → (more : List Receipt) × HasAdded volume more old next × IsCut op reply dev lost pieces more refusal
+  stops lost volume pieces left p old now next bytes refusal h (inl none) = (
+    h.more ++ [],
+    added_more volume h.more [] old now next h.added none,
+    (h.firsts, p ∷ left, h.more, bytes, h.parts, h.served, inl (append-nil h.more, λ over. absurd (omega (arith, ap length over)))),
+  )
+  stops lost volume pieces left p old now next bytes refusal h (inr (own, r, is, added, inl done)) = (
     h.more ++ r ∷ [],
     added_more volume h.more (r ∷ []) old now next h.added added,
-    (h.firsts ++ p ∷ [], left, h.more ++ r ∷ [], bytes ++ own, h.parts ∙ sym (append_assoc h.firsts (p ∷ []) left), served_more h.firsts h.more bytes own p r h.served is done, inl refl),
+    (h.firsts ++ p ∷ [], left, h.more ++ r ∷ [], bytes ++ own, h.parts ∙ sym (append_assoc h.firsts (p ∷ []) left), served_more h.firsts h.more bytes own p r h.served is done.0, inl (refl, λ over. done.1)),
   )
-  stops volume pieces left p old now next bytes refusal h (inr (own, r, is, added, inr failed)) = (
+  stops lost volume pieces left p old now next bytes refusal h (inr (own, r, is, added, inr failed)) = (
     h.more ++ r ∷ [],
     added_more volume h.more (r ∷ []) old now next h.added added,
     (h.firsts, p ∷ left, h.more, bytes, h.parts, h.served, inr (p, left, r, own, failed.0, refl, refl, is, failed.1, failed.2)),
   )
 
   -- where nothing is asked at all
-  pub stops_at_once : (volume : ℕ) (pieces : List Span) (s : SeatShape) (refusal : Refusal) → (more : List Receipt) × HasAdded volume more s s × IsCut op reply dev pieces more refusal
-  stops_at_once volume pieces s refusal = ([], added_none volume s, ([], pieces, [], [], refl, refl, inl refl))
+  pub stops_at_once : (lost : Refusal → Type 0) (volume : ℕ) (pieces : List Span) (s : SeatShape) (refusal : Refusal) → lost refusal → (more : List Receipt) × HasAdded volume more s s × IsCut op reply dev lost pieces more refusal
+  stops_at_once lost volume pieces s refusal is = ([], added_none volume s, ([], pieces, [], [], refl, refl, inl (refl, λ over. is)))

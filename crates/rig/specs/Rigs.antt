@@ -105,12 +105,12 @@ pub record HasAdded (volume : ℕ) (more : List Receipt) (old new : SeatShape) :
   pub others : (k : ℕ) → (k ≡ volume → ⊥) → receipts_at new k ≡ receipts_at old k
   pub watches : new.watches ≡ old.watches
 
--- One piece was not done. There is a receipt of its failure; or of its being done, and then memory was refused; or none.
-abbrev pub IsPieceCut : (List ℕ → Op) → (List ℕ → Reply) → Dev → Span → Refusal → ℕ → SeatShape → SeatShape → Type 0
-IsPieceCut op reply dev piece refusal volume old new =
+-- One piece was not done. There is a receipt of its failure; or of its being done, and then it was lost; or none.
+abbrev pub IsPieceCut : (List ℕ → Op) → (List ℕ → Reply) → (Refusal → Type 0) → Dev → Span → Refusal → ℕ → SeatShape → SeatShape → Type 0
+IsPieceCut op reply lost dev piece refusal volume old new =
     HasAdded volume [] old new
     ⊎ ((own : List ℕ) × (r : Receipt) × IsOf dev (op own) piece r × HasAdded volume (r ∷ []) old new
-    × ((r.reply ≡ reply own) ⊎ ((failure : Failure) × (r.reply ≡ Refused failure) × (refusal ≡ refusal_of failure))))
+    × (((r.reply ≡ reply own) × lost refusal) ⊎ ((failure : Failure) × (r.reply ≡ Refused failure) × (refusal ≡ refusal_of failure))))
 
 -- A seat's receipts of a volume are its entries in the journal after those that it had, in their order, and there are as
 -- many.

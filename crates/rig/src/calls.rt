@@ -5,7 +5,7 @@ ghost use Rattle.plain.specs.declared.request.Op.TheVariants.{Read, Write};
 ghost use Rattle.plain.specs.declared.request.Reply.TheVariants.{Data, Written};
 ghost use Rattle.journal.specs.declared.entry.Receipt.{Receipt};
 ghost use Rattle.rig.specs.Rigs.{HasAdded, IsPieceCut, receipts_at};
-ghost use Rattle.rig.specs.Served.{IsOf, IsReadBy, IsReadCut, IsWriteCut, IsWrittenBy, read_op, written_reply};
+ghost use Rattle.rig.specs.Served.{IsOf, IsReadBy, IsReadCut, IsReadLost, IsWriteCut, IsWriteLost, IsWrittenBy, read_op, written_reply};
 
 use crate::performing::perform;
 use crate::place::Place;
@@ -74,7 +74,7 @@ impl<J: Room> Seat<J> {
     ) -> Result<(), Refusal>
         requires volume { volume < J.volumes }
         ensures ok { OnOk result ((own : List ℕ) × (r : Receipt) × IsOf dev Read (span_of part) r × (r.reply ≡ Data own) × HasAdded volume (r ∷ []) self.old self.new × (out.new.items ≡ out.old.items ++ own)) }
-        ensures err { IfErr result (λ refusal. IsPieceCut read_op Data dev (span_of part) refusal volume self.old self.new) }
+        ensures err { IfErr result (λ refusal. IsPieceCut read_op Data IsReadLost dev (span_of part) refusal volume self.old self.new) }
     {
         let request = Request {
             dev,
@@ -109,7 +109,7 @@ impl<J: Room> Seat<J> {
         requires volume { volume < J.volumes }
         requires bytes { length bytes.now ≡ 512 * part.count }
         ensures ok { OnOk result ((r : Receipt) × IsOf dev (Write bytes.now) (span_of part) r × (r.reply ≡ Written) × HasAdded volume (r ∷ []) self.old self.new) }
-        ensures err { IfErr result (λ refusal. IsPieceCut Write written_reply dev (span_of part) refusal volume self.old self.new) }
+        ensures err { IfErr result (λ refusal. IsPieceCut Write written_reply IsWriteLost dev (span_of part) refusal volume self.old self.new) }
     {
         let Ok(bytes) = Buf::from_slice(self.alloc, bytes) else {
             return Err(Refusal::NoMemory);
@@ -132,7 +132,8 @@ impl<J: Room> Seat<J> {
     }
 
     /// Reads a range of a device, piece after piece. The first piece that is refused, or that is answered by a failure, ends it,
-    /// and those before it were read. A range of no sectors is refused as the volume refuses it.
+    /// and those before it were read. Where all were read it is refused for want of memory alone (`NoMemory`). A range of no
+    /// sectors is refused as the volume refuses it.
     pub fn read<B: Layered, G: Gate + Drop, R: Wait>(
         &mut self,
         rt: &R,
@@ -193,7 +194,7 @@ impl<J: Room> Seat<J> {
     }
 
     /// Writes a range of a device, piece after piece. The first piece that is refused, or that is answered by a failure, ends
-    /// it, and those before it stand.
+    /// it, and those before it stand: a write whose pieces were all done is not refused.
     pub fn write<B: Layered, G: Gate + Drop, R: Wait>(
         &mut self,
         rt: &R,

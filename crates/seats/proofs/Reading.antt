@@ -3,12 +3,12 @@ use Rattle.std.proofs.Common.{ℕ, List, [], inl, refl, sym}
 use Rattle.std.proofs.lemmas.List.{append-nil}
 use Rattle.chunk.specs.Pieces.{Span, pieces_of}
 use Rattle.plain.specs.declared.request.Dev.{Dev}
-use Rattle.sector.specs.declared.refusal.Refusal.{Refusal}
+use Rattle.sector.specs.declared.refusal.Refusal.TheVariants.{NoMemory}
 use Rattle.journal.specs.declared.entry.Receipt.{Receipt}
 use Rattle.rig.specs.Served.{IsReadBy, IsReadCut}
 
 -- it is cut short behind its last piece
-pub unsaid : (dev : Dev) (span : Span) (receipts : List Receipt) (bytes : List ℕ) (refusal : Refusal) → IsReadBy dev span receipts bytes → IsReadCut dev span receipts refusal
-unsaid dev span receipts bytes refusal h =
+pub unsaid : (dev : Dev) (span : Span) (receipts : List Receipt) (bytes : List ℕ) → IsReadBy dev span receipts bytes → IsReadCut dev span receipts NoMemory
+unsaid dev span receipts bytes h =
     let pieces = pieces_of h.0 span in
-    (h.0, (pieces, [], receipts, bytes, sym (append-nil pieces), h.1, inl refl))
+    (h.0, (pieces, [], receipts, bytes, sym (append-nil pieces), h.1, inl (refl, λ over. refl)))

@@ -1,10 +1,9 @@
 -- A read whose bytes are not put into words is cut short behind its last piece.
 use Rattle.chunk.specs.Pieces.{span_of}
-use Rattle.sector.specs.declared.refusal.Refusal.TheVariants.{NoMemory}
 use Rattle.seats.proofs.Reading.{unsaid}
 use Rattle.seats.proofs.serving.read.Goals as goal
 
 pub returns-in-Ok : goal.returns-in-Ok
 returns-in-Ok g c =
     let done = c.in-Ok.ensures.ok in
-    (done.0, done.1, unsaid c.args.dev (span_of c.args.range) done.0 c.in-Ok.bytes NoMemory done.2)
+    (done.0, done.1, unsaid c.args.dev (span_of c.args.range) done.0 c.in-Ok.bytes done.2)

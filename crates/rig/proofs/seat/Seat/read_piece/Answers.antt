@@ -1,4 +1,4 @@
-use Rattle.std.proofs.Common.{◌++◌, [], inl, inr, ap, ◌∙◌}
+use Rattle.std.proofs.Common.{◌++◌, [], inl, inr, refl, ap, ◌∙◌}
 use Rattle.chunk.specs.Pieces.{span_of}
 use Rattle.rig.proofs.seat.Seat.read_piece.Goals as goal
 
@@ -21,7 +21,7 @@ returns-in-Ok-Data-clause-err g c =
       h.0,
       record { goes_to = ap (λ q. q.dev) h.1; asks = ap (λ q. q.op) h.1; covers = ap (λ q. span_of q.range) h.1 },
       h.3,
-      inl (h.2 ∙ c.in-Ok-Data.field-0-is),
+      inl (h.2 ∙ c.in-Ok-Data.field-0-is, refl),
     )
 
 pub returns-in-Ok-Refused-clause-err : goal.returns-in-Ok-Refused-clause-err
