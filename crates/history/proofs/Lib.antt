@@ -1,2 +1,3 @@
 mod Held
 pub mod Moves
+pub mod Begins

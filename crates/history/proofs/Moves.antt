@@ -11,7 +11,7 @@ use Rattle.journal.specs.declared.entry.Entry.{Entry}
 use Rattle.journal.specs.declared.entry.Entry.TheVariants.{Answered as WasAnswered, Spoiled, Attached, Detached, Begun, Finished}
 use Rattle.journal.specs.Entries.{entries_by}
 use Rattle.journal.specs.Seats.{Seated, seated_under, without_seated}
-use Rattle.history.specs.Keeping.{held_by, knower, nobody, after_deal, next_seat, keeper_of, seat_of, seated_with, is_silent, Answers, HasAsked, MayNote, told_of, Owns, Waits, Fits, IsKept, Knows, IsNotedAs, IsChecked}
+use Rattle.history.specs.Keeping.{Begins, held_by, knower, nobody, after_deal, next_seat, keeper_of, looking_of, seat_of, seated_with, is_silent, Answers, HasAsked, MayNote, told_of, Owns, Waits, Fits, IsKept, Knows, IsNotedAs, IsChecked}
 use Rattle.history.specs.declared.rule.View.{View}
 use Rattle.history.specs.declared.told.Told.{Told}
 use Rattle.history.specs.declared.told.Told.TheVariants.{Asked, Answered as AnsweredTold, Noted}
@@ -148,6 +148,17 @@ same_seat v (Asked number request) = refl
 same_seat v (AnsweredTold number entry) = refl
 same_seat v (Noted entry) = refl
 
+-- what was seen stays the first of all
+begins_more : (seen log : List Entry) (t : Told) → Begins seen log → Begins seen (log_after log t)
+begins_more seen log (Asked number request) h = h
+begins_more seen log (AnsweredTold number entry) h = (h.0 ++ entry.value ∷ [], ap (λ (l : List Entry). l ++ entry.value ∷ []) h.1 ∙ append_assoc seen h.0 (entry.value ∷ []))
+begins_more seen log (Noted entry) h = (h.0 ++ entry.value ∷ [], ap (λ (l : List Entry). l ++ entry.value ∷ []) h.1 ∙ append_assoc seen h.0 (entry.value ∷ []))
+
+same_seen : (v : View) (t : Told) → (told_of v t).seen ≡ v.seen
+same_seen v (Asked number request) = refl
+same_seen v (AnsweredTold number entry) = refl
+same_seen v (Noted entry) = refl
+
 pub notes : (slots id : ℕ) (me : Me Told View) (t : Told) (f : ℕ → ℕ) → me.0.keeps ≡ true → MayNote me.0 t → Allows IsKept slots id me 0 f (IsNotedAs (step slots 0 0 0 (some t)) me)
 notes slots id me t f mine may s h same at small =
     let v = me.0 in
@@ -174,7 +185,7 @@ notes slots id me t f mine may s h same at small =
               sits = λ k.
                   let x = theirs.sits k in
                   let still = theirs_still h.2 v u t may (λ y e. apart (x.0 ∙ ap h.1 (sym e) ∙ sym (known.sits y).0)) x.2 (subst (λ l. Waits l u) (sym k0.2) x.3) in
-                  (x.0, x.1, still.0, subst (λ l. Waits (flying_after v.seat l t) u) k0.2 still.1);
+                  (x.0, x.1, still.0, subst (λ l. Waits (flying_after v.seat l t) u) k0.2 still.1, begins_more u.seen h.2 t x.4);
             })
             (record {
               keeps = λ k. (k0.0, after.0, after.1, same_dealt v t ∙ k0.3);
@@ -182,10 +193,10 @@ notes slots id me t f mine may s h same at small =
                   let y = sym (same_sits v t) ∙ k in
                   let x = known.sits y in
                   let more = mine_after h.2 v t may x.2 (waits y) in
-                  (x.0 ∙ ap h.1 (sym (same_seat v t)), subst (λ n. n < h.4) (sym (same_seat v t)) x.1, more.0, subst (λ l. Waits (flying_after v.seat l t) w) k0.2 more.1);
+                  (x.0 ∙ ap h.1 (sym (same_seat v t)), subst (λ n. n < h.4) (sym (same_seat v t)) x.1, more.0, subst (λ l. Waits (flying_after v.seat l t) w) k0.2 more.1, subst (λ l. Begins l log) (sym (same_seen v t)) (begins_more v.seen h.2 t x.4));
             }),
       ),
-      (refl, refl, known_after v t may waits),
+      (refl, refl, known_after v t may waits, λ k. subst (λ l. Begins v.seen l) (sym k0.1) (known.sits k).4),
     )
 
 pub checks : (slots id : ℕ) (me : Me Told View) (f : ℕ → ℕ) → Allows IsKept slots id me 0 f (IsChecked (step slots 0 0 0 none) me)
@@ -196,7 +207,7 @@ checks slots id me f s h same at small =
       keeps,
       tt,
       (h.0, h.1, h.2, h.3, h.4, set_views (Fits h.0 h.1 h.2 h.3 h.4) s.views id v (λ j u apart is. h.5 j u is) known),
-      (refl, λ k y. (subst (λ l. Owns l v) (sym (known.keeps k).1) (known.sits y).2, subst (λ l. Waits l v) (sym (known.keeps k).2) (known.sits y).3)),
+      (refl, λ k y. (subst (λ l. Owns l v) (sym (known.keeps k).1) (known.sits y).2, subst (λ l. Waits l v) (sym (known.keeps k).2) (known.sits y).3, subst (λ l. Begins v.seen l) (sym (known.keeps k).1) (known.sits y).4)),
     )
 
 -- who has a seat now
@@ -226,15 +237,19 @@ joins id other v w sits s h at apart there =
           (λ i y _ e not_other.
           let f = h.5 i y e in record {
             keeps = f.keeps;
-            sits = λ k. let t = f.sits k in (t.0 ∙ given_else h.1 w.seat id y.seat (λ z. not_other (t.0 ∙ ap h.1 z ∙ sym had.0)), t.1, t.2, t.3);
+            sits = λ k. let t = f.sits k in (t.0 ∙ given_else h.1 w.seat id y.seat (λ z. not_other (t.0 ∙ ap h.1 z ∙ sym had.0)), t.1, t.2, t.3, t.4);
           })
-          (λ _. record { keeps = known.keeps; sits = λ k. (given_here h.1 w.seat id w.seat refl, had.1, had.2, had.3) })
+          (λ _. record { keeps = known.keeps; sits = λ k. (given_here h.1 w.seat id w.seat refl, had.1, had.2, had.3, had.4) })
           j u is off_other)
           (record { keeps = λ k. absurd (off k); sits = λ k. absurd (off k) }),
     )
 
-pub parts : (id : ℕ) (v : View) → v.keeps ≡ true → Splits IsKept id v (keeper_of v) (seat_of v)
-parts id v mine s h at =
+-- what a seat knows that has seen these
+abbrev with_seen : List Entry → View → View
+with_seen seen v = record { keeps = false; all = []; flying = []; dealt = 0; sits = v.sits; seat = v.seat; old = v.old; mine = v.mine; waits = v.waits; seen = seen }
+
+parted : (id : ℕ) (v : View) (seen : List Entry) → v.keeps ≡ true → ((log : List Entry) → v.all ≡ log → Begins v.seen log → Begins seen log) → Splits IsKept id v (keeper_of v) (with_seen seen v)
+parted id v seen mine sees s h at =
     let known = h.5 id v at in
     let new = length s.views in
     let owner = gives_to h.1 v.seat new in
@@ -252,14 +267,14 @@ parts id v mine s h at =
                 (λ i y apart is.
                 let f = h.5 i y is in record {
                   keeps = f.keeps;
-                  sits = λ k. let t = f.sits k in (t.0 ∙ given_else h.1 v.seat new y.seat (λ z. apart (t.0 ∙ ap h.1 z ∙ sym had.0)), t.1, t.2, t.3);
+                  sits = λ k. let t = f.sits k in (t.0 ∙ given_else h.1 v.seat new y.seat (λ z. apart (t.0 ∙ ap h.1 z ∙ sym had.0)), t.1, t.2, t.3, t.4);
                 })
                 (record { keeps = known.keeps; sits = λ k. absurd (off k) })
                 j u was)
-                (λ (t : (j ≡ length (set s.views id w)) × (seat_of v ≡ u)).
+                (λ (t : (j ≡ length (set s.views id w)) × (with_seen seen v ≡ u)).
                 subst (λ (y : ℕ × View). Fits h.0 owner h.2 h.3 h.4 y.0 y.1) (λ i. (sym (t.0 ∙ length-set s.views id w) i, t.1 i))
-                (record { keeps = λ k. absurd (off k); sits = λ k. (given_here h.1 v.seat new v.seat refl, had.1, had.2, had.3) }))
-                (at_end (set s.views id w) (seat_of v) u j e),
+                (record { keeps = λ k. absurd (off k); sits = λ k. (given_here h.1 v.seat new v.seat refl, had.1, had.2, had.3, sees h.2 (known.keeps mine).1 had.4) }))
+                (at_end (set s.views id w) (with_seen seen v) u j e),
           )
       | inr stands ↦ (
         h.0,
@@ -269,9 +284,9 @@ parts id v mine s h at =
         h.4,
         λ j u e. ⊎_elim
             (λ was. set_views (Fits h.0 h.1 h.2 h.3 h.4) s.views id w (λ i y apart is. h.5 i y is) (record { keeps = known.keeps; sits = λ k. absurd (off k) }) j u was)
-            (λ (t : (j ≡ length (set s.views id w)) × (seat_of v ≡ u)).
+            (λ (t : (j ≡ length (set s.views id w)) × (with_seen seen v ≡ u)).
             subst (Fits h.0 h.1 h.2 h.3 h.4 j) t.1 (record { keeps = λ k. absurd (off k); sits = λ k. absurd (off (sym stands ∙ k)) }))
-            (at_end (set s.views id w) (seat_of v) u j e),
+            (at_end (set s.views id w) (with_seen seen v) u j e),
       )
     ]
   where
@@ -281,6 +296,12 @@ parts id v mine s h at =
         go : (b : Bool) → v.sits ≡ b → (v.sits ≡ true) ⊎ (v.sits ≡ false)
         go true e = inl e
         go false e = inr e
+
+pub parts : (id : ℕ) (v : View) → v.keeps ≡ true → Splits IsKept id v (keeper_of v) (seat_of v)
+parts id v mine = parted id v v.seen mine (λ log is h. h)
+
+pub looks : (id : ℕ) (v : View) → v.keeps ≡ true → Splits IsKept id v (keeper_of v) (looking_of v)
+looks id v mine = parted id v v.all mine (λ log is h. ([], sym (append-nil v.all ∙ is)))
 
 pub deals : (id : ℕ) (v : View) → v.keeps ≡ true → v.sits ≡ false → Splits IsKept id v (after_deal v) (next_seat v)
 deals id v mine stands s h at =
@@ -299,13 +320,13 @@ deals id v mine stands s h at =
           (λ i y apart is.
           let f = h.5 i y is in record {
             keeps = λ k. absurd (apart ((f.keeps k).0 ∙ sym k0.0));
-            sits = λ k. let t = f.sits k in (t.0 ∙ given_else h.1 v.dealt new y.seat (λ z. omega (arith, z, t.1, k0.3)), omega (arith, t.1), t.2, t.3);
+            sits = λ k. let t = f.sits k in (t.0 ∙ given_else h.1 v.dealt new y.seat (λ z. omega (arith, z, t.1, k0.3)), omega (arith, t.1), t.2, t.3, t.4);
           })
           (record { keeps = λ k. (k0.0, k0.1, k0.2, ap (λ n. n + 1) k0.3); sits = λ k. absurd (off k) })
           j u was)
           (λ (t : (j ≡ length (set s.views id w)) × (next_seat v ≡ u)).
           subst (λ (y : ℕ × View). Fits h.0 owner h.2 h.3 (h.4 + 1) y.0 y.1) (λ i. (sym (t.0 ∙ length-set s.views id w) i, t.1 i))
-          (record { keeps = λ k. absurd (off k); sits = λ k. (given_here h.1 v.dealt new v.dealt refl, omega (arith, k0.3), ap (entries_by v.dealt) (sym k0.1) ∙ sym (append-nil (entries_by v.dealt v.all)), ap (held_by v.dealt) (sym k0.2)) }))
+          (record { keeps = λ k. absurd (off k); sits = λ k. (given_here h.1 v.dealt new v.dealt refl, omega (arith, k0.3), ap (entries_by v.dealt) (sym k0.1) ∙ sym (append-nil (entries_by v.dealt v.all)), ap (held_by v.dealt) (sym k0.2), ([], sym (append-nil v.all ∙ k0.1))) }))
           (at_end (set s.views id w) (next_seat v) u j e),
     )
 

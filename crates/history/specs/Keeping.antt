@@ -19,42 +19,46 @@ held_by seat (s ∷ ss) = if s.seat == seat then s ∷ held_by seat ss else held
 
 -- the pass that knows all entries, where no request is in flight
 abbrev pub knower : List Entry → ℕ → View
-knower all dealt = record { keeps = true; all = all; flying = []; dealt = dealt; sits = false; seat = 0; old = []; mine = []; waits = [] }
+knower all dealt = record { keeps = true; all = all; flying = []; dealt = dealt; sits = false; seat = 0; old = []; mine = []; waits = []; seen = [] }
 
 abbrev pub nobody : View
-nobody = record { keeps = false; all = []; flying = []; dealt = 0; sits = false; seat = 0; old = []; mine = []; waits = [] }
+nobody = record { keeps = false; all = []; flying = []; dealt = 0; sits = false; seat = 0; old = []; mine = []; waits = []; seen = [] }
 
 abbrev pub after_deal : View → View
-after_deal v = record { keeps = v.keeps; all = v.all; flying = v.flying; dealt = v.dealt + 1; sits = false; seat = 0; old = []; mine = []; waits = [] }
+after_deal v = record { keeps = v.keeps; all = v.all; flying = v.flying; dealt = v.dealt + 1; sits = false; seat = 0; old = []; mine = []; waits = []; seen = [] }
 
 abbrev pub next_seat : View → View
-next_seat v = record { keeps = false; all = []; flying = []; dealt = 0; sits = true; seat = v.dealt; old = v.all; mine = []; waits = held_by v.dealt v.flying }
+next_seat v = record { keeps = false; all = []; flying = []; dealt = 0; sits = true; seat = v.dealt; old = v.all; mine = []; waits = held_by v.dealt v.flying; seen = v.all }
 
 -- without what a seat knows
 abbrev pub keeper_of : View → View
-keeper_of v = record { keeps = v.keeps; all = v.all; flying = v.flying; dealt = v.dealt; sits = false; seat = 0; old = []; mine = []; waits = [] }
+keeper_of v = record { keeps = v.keeps; all = v.all; flying = v.flying; dealt = v.dealt; sits = false; seat = 0; old = []; mine = []; waits = []; seen = [] }
 
 abbrev pub seat_of : View → View
-seat_of v = record { keeps = false; all = []; flying = []; dealt = 0; sits = v.sits; seat = v.seat; old = v.old; mine = v.mine; waits = v.waits }
+seat_of v = record { keeps = false; all = []; flying = []; dealt = 0; sits = v.sits; seat = v.seat; old = v.old; mine = v.mine; waits = v.waits; seen = v.seen }
+
+-- what a seat knows that has now seen all entries
+abbrev pub looking_of : View → View
+looking_of v = record { keeps = false; all = []; flying = []; dealt = 0; sits = v.sits; seat = v.seat; old = v.old; mine = v.mine; waits = v.waits; seen = v.all }
 
 -- the keeper, and beside it what a seat knows
 abbrev pub seated_with : View → View → View
-seated_with v w = record { keeps = v.keeps; all = v.all; flying = v.flying; dealt = v.dealt; sits = w.sits; seat = w.seat; old = w.old; mine = w.mine; waits = w.waits }
+seated_with v w = record { keeps = v.keeps; all = v.all; flying = v.flying; dealt = v.dealt; sits = w.sits; seat = w.seat; old = w.old; mine = w.mine; waits = w.waits; seen = w.seen }
 
 -- the seat's request is in flight
 abbrev pub asked_by : ℕ → Request → View → View
 asked_by number request v =
     let x : Seated = record { number = number; seat = v.seat; request = request } in
-    record { keeps = v.keeps; all = v.all; flying = v.flying ++ x ∷ []; dealt = v.dealt; sits = v.sits; seat = v.seat; old = v.old; mine = v.mine; waits = v.waits ++ x ∷ [] }
+    record { keeps = v.keeps; all = v.all; flying = v.flying ++ x ∷ []; dealt = v.dealt; sits = v.sits; seat = v.seat; old = v.old; mine = v.mine; waits = v.waits ++ x ∷ []; seen = v.seen }
 
 -- the request under a number is in flight no more, and an entry of the seat's is there for it
 abbrev pub answered_by : ℕ → Entry → View → View
 answered_by number e v =
-    record { keeps = v.keeps; all = v.all ++ e ∷ []; flying = without_seated number v.flying; dealt = v.dealt; sits = v.sits; seat = v.seat; old = v.old; mine = v.mine ++ entries_by v.seat (e ∷ []); waits = without_seated number v.waits }
+    record { keeps = v.keeps; all = v.all ++ e ∷ []; flying = without_seated number v.flying; dealt = v.dealt; sits = v.sits; seat = v.seat; old = v.old; mine = v.mine ++ entries_by v.seat (e ∷ []); waits = without_seated number v.waits; seen = v.seen }
 
 -- one entry more, which answers no request
 abbrev pub noted_by : Entry → View → View
-noted_by e v = record { keeps = v.keeps; all = v.all ++ e ∷ []; flying = v.flying; dealt = v.dealt; sits = v.sits; seat = v.seat; old = v.old; mine = v.mine; waits = v.waits }
+noted_by e v = record { keeps = v.keeps; all = v.all ++ e ∷ []; flying = v.flying; dealt = v.dealt; sits = v.sits; seat = v.seat; old = v.old; mine = v.mine; waits = v.waits; seen = v.seen }
 
 -- an entry answers no request
 abbrev pub is_silent : Entry → Bool
@@ -97,15 +101,23 @@ Owns log v = entries_by v.seat log ≡ entries_by v.seat v.old ++ v.mine
 abbrev pub Waits : List Seated → View → Type 0
 Waits flying v = held_by v.seat flying ≡ v.waits
 
+-- the first entries of a log are these
+abbrev pub Begins : List Entry → List Entry → Type 0
+Begins seen log = (more : List Entry) × (log ≡ seen ++ more)
+
 pub record Fits (keeper : ℕ) (owner : ℕ → ℕ) (log : List Entry) (flying : List Seated) (dealt by : ℕ) (v : View) : Type 0 where
   pub keeps : v.keeps ≡ true → (by ≡ keeper) × (v.all ≡ log) × (v.flying ≡ flying) × (v.dealt ≡ dealt)
-  pub sits : v.sits ≡ true → (by ≡ owner v.seat) × (v.seat < dealt) × Owns log v × Waits flying v
+  pub sits : v.sits ≡ true → (by ≡ owner v.seat) × (v.seat < dealt) × Owns log v × Waits flying v × Begins v.seen log
 
 -- one pass at most keeps, and one has each seat
 abbrev pub IsKept : State Told View → Type 0
 IsKept s =
     (keeper : ℕ) × (owner : ℕ → ℕ) × (log : List Entry) × (flying : List Seated) × (dealt : ℕ)
     × ((by : ℕ) (v : View) → get_elem? s.views by ≡ some v → Fits keeper owner log flying dealt by v)
+
+-- What a seat has seen are the first entries of all.
+abbrev pub HasSeen : View → Type 0
+HasSeen v = v.sits ≡ true → Begins v.seen v.all
 
 -- what a request in flight is, as the seat knows it too
 abbrev pub Knows : View → Told → Type 0
@@ -122,7 +134,7 @@ KnowsSaid v (some told) = Knows v told
 KnowsSaid v none = Unit {0}
 
 abbrev pub IsNotedAs : Step Told → Me Told View → ℕ → Me Told View → Type 0
-IsNotedAs s v n w = (w.0 ≡ noted_said v.0 s.said) × (w.1 ≡ v.1) × KnowsSaid v.0 s.said
+IsNotedAs s v n w = (w.0 ≡ noted_said v.0 s.said) × (w.1 ≡ v.1) × KnowsSaid v.0 s.said × HasSeen v.0
 
 abbrev pub IsChecked : Step Told → Me Told View → ℕ → Me Told View → Type 0
-IsChecked s v n w = (w ≡ v) × (v.0.keeps ≡ true → v.0.sits ≡ true → Owns v.0.all v.0 × Waits v.0.flying v.0)
+IsChecked s v n w = (w ≡ v) × (v.0.keeps ≡ true → v.0.sits ≡ true → Owns v.0.all v.0 × Waits v.0.flying v.0 × Begins v.0.seen v.0.all)

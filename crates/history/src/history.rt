@@ -2,10 +2,10 @@
 ghost use Rattle.std.specs.Prelude.{◌≡◌, ℕ, ◌+◌, List, [], ◌∷◌, ◌++◌, true, false, IfOk};
 ghost use Rattle.journal.specs.Entries.{entries_by};
 ghost use Rattle.journal.specs.Seats.{seated_under};
-ghost use Rattle.history.specs.Keeping.{HasAsked, Answers, MayNote, answered_by, asked_by, told_of, held_by, is_silent, keeper_of, knower, next_seat, after_deal, noted_by, seat_of, seated_with, Knows};
+ghost use Rattle.history.specs.Keeping.{Begins, HasAsked, HasSeen, Answers, MayNote, answered_by, asked_by, told_of, held_by, is_silent, keeper_of, knower, looking_of, next_seat, after_deal, noted_by, seat_of, seated_with, Knows};
 ghost use Rattle.history.specs.Ties.{IsPassOf, table_of};
 
-use crate::rule::{Checks, Deals, Notes, Pass, Sits};
+use crate::rule::{Checks, Deals, Looks, Notes, Pass, Sits};
 use crate::table::History;
 use crate::told::Told;
 use atomic_table::Table;
@@ -38,6 +38,7 @@ impl History {
         ensures this { IsPassOf (table_of self.now) keeper.new }
         ensures is { keeper.new.me.0 ≡ told_of keeper.old.me.0 told.now }
         ensures knows { Knows keeper.old.me.0 told.now }
+        ensures seen { HasSeen keeper.old.me.0 }
     {
         self.table
             .shared
@@ -53,18 +54,19 @@ impl History {
         self.tell(keeper, &Told::Noted(Snapshot::of(entry)));
     }
 
-    /// The keeper takes a seat's pass in, hears what is told, and gives it back.
+    /// The keeper takes a seat's pass in, hears what is told, and gives it back, which has then seen all entries.
     fn tell_for(&self, keeper: &mut Pass, me: Pass, told: &Told) -> Pass
         requires keeper { IsPassOf (table_of self.now) keeper.old × (keeper.old.me.0.keeps ≡ true) }
         requires seat { IsPassOf (table_of self.now) me × (me.me.0.sits ≡ true) }
         requires may { MayNote (seated_with keeper.old.me.0 me.me.0) told.now }
         ensures keeper { IsPassOf (table_of self.now) keeper.new × (keeper.new.me.0 ≡ keeper_of (told_of (seated_with keeper.old.me.0 me.me.0) told.now)) }
-        ensures seat { IsPassOf (table_of self.now) result × (result.me.0 ≡ seat_of (told_of (seated_with keeper.old.me.0 me.me.0) told.now)) }
+        ensures seat { IsPassOf (table_of self.now) result × (result.me.0 ≡ looking_of (told_of (seated_with keeper.old.me.0 me.me.0) told.now)) }
         ensures knows { Knows (seated_with keeper.old.me.0 me.me.0) told.now }
+        ensures later { Begins me.me.0.seen keeper.old.me.0.all }
     {
         self.table.shared.join_seat::<Sits>(keeper, me);
         self.tell(keeper, told);
-        self.table.shared.split_seat::<Sits>(keeper)
+        self.table.shared.split_seat::<Looks>(keeper)
     }
 
     /// A request of this seat is in flight, under a number.
@@ -78,7 +80,8 @@ impl History {
         requires keeper { IsPassOf (table_of self.now) keeper.old × (keeper.old.me.0.keeps ≡ true) }
         requires seat { IsPassOf (table_of self.now) me × (me.me.0.sits ≡ true) }
         ensures keeper { IsPassOf (table_of self.now) keeper.new × (keeper.new.me.0 ≡ keeper_of (asked_by number request.value (seated_with keeper.old.me.0 me.me.0))) }
-        ensures seat { IsPassOf (table_of self.now) result × (result.me.0 ≡ seat_of (asked_by number request.value (seated_with keeper.old.me.0 me.me.0))) }
+        ensures seat { IsPassOf (table_of self.now) result × (result.me.0 ≡ looking_of (asked_by number request.value (seated_with keeper.old.me.0 me.me.0))) }
+        ensures later { Begins me.me.0.seen keeper.old.me.0.all }
     {
         self.tell_for(keeper, me, &Told::Asked(number, request))
     }
@@ -90,14 +93,28 @@ impl History {
         requires seat { IsPassOf (table_of self.now) me × (me.me.0.sits ≡ true) × Answers me.me.0.seat entry.now }
         requires asked { HasAsked number (seated_with keeper.old.me.0 me.me.0) }
         ensures keeper { IsPassOf (table_of self.now) keeper.new × (keeper.new.me.0 ≡ keeper_of (answered_by number entry.now (seated_with keeper.old.me.0 me.me.0))) }
-        ensures seat { IsPassOf (table_of self.now) result × (result.me.0 ≡ seat_of (answered_by number entry.now (seated_with keeper.old.me.0 me.me.0))) }
+        ensures seat { IsPassOf (table_of self.now) result × (result.me.0 ≡ looking_of (answered_by number entry.now (seated_with keeper.old.me.0 me.me.0))) }
         ensures knows { seated_under number me.me.0.waits ≡ seated_under number keeper.old.me.0.flying }
+        ensures later { Begins me.me.0.seen keeper.old.me.0.all }
     {
         self.tell_for(keeper, me, &Told::Answered(number, Snapshot::of(entry)))
     }
 
-    /// A seat's own entries are its entries of all, after those that it had, and its requests in flight are those that it
-    /// waits for.
+    /// A seat sees all entries. What it had seen are the first of them.
+    pub fn look(&self, keeper: &mut Pass, me: Pass) -> Pass
+        requires keeper { IsPassOf (table_of self.now) keeper.old × (keeper.old.me.0.keeps ≡ true) }
+        requires seat { IsPassOf (table_of self.now) me × (me.me.0.sits ≡ true) }
+        ensures keeper { IsPassOf (table_of self.now) keeper.new × (keeper.new.me.0 ≡ keeper_of (seated_with keeper.old.me.0 me.me.0)) }
+        ensures seat { IsPassOf (table_of self.now) result × (result.me.0 ≡ looking_of (seated_with keeper.old.me.0 me.me.0)) }
+        ensures later { Begins me.me.0.seen keeper.old.me.0.all }
+    {
+        self.table.shared.join_seat::<Sits>(keeper, me);
+        self.table.shared.load::<Checks>(keeper, 0);
+        self.table.shared.split_seat::<Looks>(keeper)
+    }
+
+    /// A seat's own entries are its entries of all, after those that it had, its requests in flight are those that it waits for,
+    /// and what it has seen are the first entries.
     pub fn settle(&self, keeper: &mut Pass, me: Pass) -> Pass
         requires keeper { IsPassOf (table_of self.now) keeper.old × (keeper.old.me.0.keeps ≡ true) }
         requires seat { IsPassOf (table_of self.now) me × (me.me.0.sits ≡ true) }
@@ -105,6 +122,7 @@ impl History {
         ensures seat { IsPassOf (table_of self.now) result × (result.me.0 ≡ seat_of (seated_with keeper.old.me.0 me.me.0)) }
         ensures own { entries_by me.me.0.seat keeper.old.me.0.all ≡ entries_by me.me.0.seat me.me.0.old ++ me.me.0.mine }
         ensures waits { held_by me.me.0.seat keeper.old.me.0.flying ≡ me.me.0.waits }
+        ensures later { Begins me.me.0.seen keeper.old.me.0.all }
     {
         self.table.shared.join_seat::<Sits>(keeper, me);
         self.table.shared.load::<Checks>(keeper, 0);

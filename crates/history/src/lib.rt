@@ -3,7 +3,8 @@
 //!
 //! It stands on `atomic_table`, for one word that never changes, and on the entries of `journal`. It promises that a seat's
 //! entries among all are those that it had when it was dealt, and then those that were noted beside its pass, in that order and
-//! no others; and that its requests in flight among all are those that were noted beside its pass.
+//! no others; that its requests in flight among all are those that were noted beside its pass; and that the entries that it saw
+//! when it looked last, as it does whenever a request of it is noted, are the first of all.
 #![tactic(auto)]
 
 mod history;

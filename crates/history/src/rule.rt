@@ -23,7 +23,8 @@ impl Model for Asked {
 }
 
 // What a pass knows. No value of it is made. The keeper: all entries, the requests in flight, and how many seats were dealt.
-// A seat: its number, the entries when it was dealt, its own entries since then, and its own requests in flight.
+// A seat: its number, the entries when it was dealt, its own entries since then, its own requests in flight, and the entries when
+// it looked last.
 pub struct View {
     pub keeps: bool,
     pub all: LinkedList<Entry>,
@@ -34,6 +35,7 @@ pub struct View {
     pub old: LinkedList<Entry>,
     pub mine: LinkedList<Answered>,
     pub waits: LinkedList<Asked>,
+    pub seen: LinkedList<Entry>,
 }
 
 /// One pass knows all entries and requests, and each seat's pass those of its seat.
@@ -85,6 +87,17 @@ impl Split<View> for Sits {
     ghost left = { keeper_of };
 
     ghost right = { seat_of };
+}
+
+/// The keeper gives a seat's pass back, which has now seen all entries.
+pub struct Looks;
+
+impl Split<View> for Looks {
+    ghost use Rattle.history.specs.Keeping.{keeper_of, looking_of};
+
+    ghost left = { keeper_of };
+
+    ghost right = { looking_of };
 }
 
 impl Join<View> for Sits {

@@ -5,7 +5,7 @@ use Rattle.std.specs.Option.{MatchOption}
 use Rattle.std.proofs.lemmas.List.{append-nil, append_assoc, drop_more, length_push, nil_from_length, same_from_push, take_more}
 use Rattle.std.proofs.lemmas.List.Elements.{All-nil, All-push, All-same}
 use Rattle.layers.specs.declared.stack.Stack.{Stack}
-use Rattle.journal.specs.declared.entry.Entry.{Entry}
+use Rattle.par.specs.Played.{Story}
 use Rattle.journal.specs.Books.{AuditShape}
 use Rattle.named.specs.State.{Volume}
 use Rattle.named_volume.specs.Parting.{Parts}
@@ -109,7 +109,7 @@ back_at used (Out parts) befores audits first old (is_used, before, last, out) l
 
 -- the entries that it adds to those of the others
 put_at : (used : Bool) (slot : Slot) (befores audits first others : List (AuditShape Stack)) (old new : Volume) → IsBackAt used slot befores audits first others old → IsPutAt slot befores audits first others old new
-    → (own : List (List Entry)) × ((uses : List Bool) (entries : List (List Entry)) (olds news : List Volume) → AreMade IsMade uses first others entries olds news → AreMade IsMade (used ∷ uses) befores audits (entries ++ own) (old ∷ olds) (new ∷ news))
+    → (own : List Story) × ((uses : List Bool) (entries : List Story) (olds news : List Volume) → AreMade IsMade uses first others entries olds news → AreMade IsMade (used ∷ uses) befores audits (entries ++ own) (old ∷ olds) (new ∷ news))
 put_at used (Stays volume) befores audits first others old new back same = (
   [],
   λ uses entries olds news made.
@@ -117,7 +117,7 @@ put_at used (Stays volume) befores audits first others old new back same = (
         same,
         subst (λ (l : List (AuditShape Stack)). AreMade IsMade uses l audits (entries ++ []) olds news) (sym back.1)
             (subst (λ (l : List (AuditShape Stack)). AreMade IsMade uses first l (entries ++ []) olds news) (sym back.2)
-            (subst (λ (l : List (List Entry)). AreMade IsMade uses first others l olds news) (sym (append-nil entries)) made)),
+            (subst (λ (l : List Story). AreMade IsMade uses first others l olds news) (sym (append-nil entries)) made)),
       ),
 )
 put_at used (Out parts) befores audits first others old new back (before, audit, entries, b, a, one) = (
@@ -131,10 +131,10 @@ pub record AreLeft (uses : List Bool) (olds : List Volume) (befores afters : Lis
   pub more : List Bool
   pub rest : List Volume
   pub first : List (AuditShape Stack)
-  pub done : List (List Entry)
+  pub done : List Story
   pub slots_are : AreSlots more slots first rest
   pub left : AllZip IsLeft first audits
-  pub made : (entries : List (List Entry)) (news : List Volume) → AreMade IsMade more first audits entries rest news → AreMade IsMade uses befores afters (entries ++ done) olds (kept ++ news)
+  pub made : (entries : List Story) (news : List Volume) → AreMade IsMade more first audits entries rest news → AreMade IsMade uses befores afters (entries ++ done) olds (kept ++ news)
 
 pub first_left : (uses : List Bool) (olds : List Volume) (befores afters : List (AuditShape Stack)) (slots : List Slot) (kept : List Volume) → kept ≡ [] → AreSlots uses slots befores olds → AllZip IsLeft befores afters → AreLeft uses olds befores afters slots afters kept
 first_left uses olds befores afters slots kept none are left = record {
@@ -146,7 +146,7 @@ first_left uses olds befores afters slots kept none are left = record {
   left = left;
   made = λ entries news h.
       subst (λ (l : List Volume). AreMade IsMade uses befores afters (entries ++ []) olds (l ++ news)) (sym none)
-      (subst (λ (l : List (List Entry)). AreMade IsMade uses befores afters l olds news) (sym (append-nil entries)) h);
+      (subst (λ (l : List Story). AreMade IsMade uses befores afters l olds news) (sym (append-nil entries)) h);
 }
 
 -- what is put back next
@@ -179,7 +179,7 @@ one_left uses olds befores afters slots slot audits after kept new left puts giv
           (subst (λ (us : List Bool). AreMade IsMade us left.first audits (entries ++ put.0) left.rest (new ∷ news)) (sym n.5)
           (subst (λ (os : List Volume). AreMade IsMade (n.0 ∷ n.3) left.first audits (entries ++ put.0) os (new ∷ news)) (sym n.6) one)) in
           subst (λ (l : List Volume). AreMade IsMade uses befores afters (entries ++ (put.0 ++ left.done)) olds l) (sym (append_assoc kept (new ∷ []) news))
-          (subst (λ (l : List (List Entry)). AreMade IsMade uses befores afters l olds (kept ++ new ∷ news)) (append_assoc entries put.0 left.done) all);
+          (subst (λ (l : List Story). AreMade IsMade uses befores afters l olds (kept ++ new ∷ news)) (append_assoc entries put.0 left.done) all);
     }
 
 -- nothing can be taken from the end
@@ -188,7 +188,7 @@ none_popped xs n m None many cases none = nil_from_length xs (sym many ∙ cases
 none_popped xs n m (Some x) many cases none = absurd (none x refl)
 
 pub none_left : (uses : List Bool) (olds : List Volume) (befores afters : List (AuditShape Stack)) (slots : List Slot) (audits : List (AuditShape Stack)) (kept : List Volume) → slots ≡ [] → AreLeft uses olds befores afters slots audits kept
-    → (entries : List (List Entry)) × AreMade IsMade uses befores afters entries olds kept
+    → (entries : List Story) × AreMade IsMade uses befores afters entries olds kept
 none_left uses olds befores afters slots audits kept none left =
     let n = none_next left.more left.first left.rest (subst (λ (l : List Slot). AreSlots left.more l left.first left.rest) none left.slots_are) in
     let after : audits ≡ [] = zip_none IsLeft audits (subst (λ (l : List (AuditShape Stack)). AllZip IsLeft l audits) n.1 left.left) in
@@ -205,7 +205,7 @@ module _ (slot : Slot) (parts : Parts) (used : Bool) (befores audits rest first 
       let same = same_from_push rest others audit one.2 (sym last ∙ one.4) in
       (one.1, one.3, same.0, subst (λ (a : AuditShape Stack). IsBack one.1 parts a old) (sym same.1) one.5)
 
-  pub put_of : (new : Volume) → ((before : AuditShape Stack) (o : Volume) → IsBack before parts audit o → (entries : List Entry) × IsMade before audit entries o new) → IsPutAt slot befores audits first others old new
+  pub put_of : (new : Volume) → ((before : AuditShape Stack) (o : Volume) → IsBack before parts audit o → (story : Story) × IsMade before audit story o new) → IsPutAt slot befores audits first others old new
   put_of new made =
       let one = back_of in
       let r = made one.0 old one.3 in

@@ -10,12 +10,16 @@ use Rattle.std.proofs.lemmas.List.Sums.{count_by-le-length, length-filter, sum_b
 use Rattle.std.proofs.lemmas.Slice.Zip.{AllZip-long}
 use native.Mathlib.Nat.{ℕ_set}
 use Rattle.block.specs.declared.seat_line.SeatLine.{SeatLine}
-use Rattle.journal.specs.declared.entry.Entry.{Entry}
+use Rattle.par.specs.Played.{Story}
 use Rattle.named.specs.State.{Table}
 use Rattle.reply.specs.declared.Reply.{Reply}
 use Rattle.reply.specs.declared.Reply.TheVariants.{Gate}
 use Rattle.rig.specs.Rigs.{SeatShape}
 use Rattle.seats.specs.declared.task.Task.{Task}
+use Rattle.journal.specs.declared.entry.Entry.{Entry}
+use Rattle.par.specs.Played.{denied_in}
+use Rattle.post.specs.Denying.{Wish}
+use Rattle.sector.specs.declared.refusal.Refusal.{Refusal}
 use Rattle.seats.specs.Tasks.{AreDone, IsEnded}
 use Rattle.par.specs.Asking.{IsTask}
 use Rattle.par.specs.Answering.{AreAsked, AreEnded, gate_replies, lines_by, replies_of, reply_of}
@@ -60,15 +64,15 @@ seat_fits i told low =
 
 -- The seats leave as many tasks as there were.
 
-done_many : (asked told : List Task) (old new : SeatShape) → AreDone asked told old new → length told ≡ length asked
-done_many [] [] old new h = refl
-done_many [] (a ∷ after) old new h = absurd h
-done_many (b ∷ before) [] old new h = absurd h
-done_many (b ∷ before) (a ∷ after) old new h = ap suc (done_many before after h.0 new h.2)
+done_many : (denies : ℕ → List Entry → Wish → Refusal → Type 0) (asked told : List Task) (old new : SeatShape) → AreDone denies asked told old new → length told ≡ length asked
+done_many denies [] [] old new h = refl
+done_many denies [] (a ∷ after) old new h = absurd h
+done_many denies (b ∷ before) [] old new h = absurd h
+done_many denies (b ∷ before) (a ∷ after) old new h = ap suc (done_many denies before after h.0 new h.2)
 
-seat_many : (asked told : List Task) (number : ℕ) (seat : SeatShape) → IsEnded asked told number seat → length told ≡ length asked
-seat_many asked told number seat (is, inl called) = ∥∥₁_elim called (ℕ_set (length told) (length asked)) (λ x. done_many asked told x.0 seat x.2)
-seat_many asked told number seat (is, inr none) = ap length none.0
+seat_many : (denies : ℕ → List Entry → Wish → Refusal → Type 0) (asked told : List Task) (number : ℕ) (seat : SeatShape) → IsEnded denies asked told number seat → length told ≡ length asked
+seat_many denies asked told number seat (is, inl called) = ∥∥₁_elim called (ℕ_set (length told) (length asked)) (λ x. done_many denies asked told x.0 seat x.2)
+seat_many denies asked told number seat (is, inr none) = ap length none.0
 
 first_many : (n : ℕ) (asked told : ℕ → List Task) → ((i : ℕ) → i < n → length (told i) ≡ length (asked i)) → length (first_replies n told) ≡ length (first_replies n asked)
 first_many zero asked told same = refl
@@ -77,8 +81,8 @@ first_many (suc n) asked told same =
     subst (λ (k : ℕ). length (first_replies k told) ≡ length (first_replies k asked)) (let is : n + 1 ≡ suc n = omega arith in is)
     (omega (arith, less, many_more n told, many_more n asked, same n (omega arith)))
 
-pub ended_many : (played : List (List Entry)) (asked told : ℕ → List Task) → AreEnded played asked told → length (replies_of told) ≡ length (replies_of asked)
-ended_many played asked told ended = first_many 8 asked told (λ i low. let e = ended i low in seat_many (asked i) (told i) (i + 1) e.0 e.1)
+pub ended_many : (played : List Story) (asked told : ℕ → List Task) → AreEnded played asked told → length (replies_of told) ≡ length (replies_of asked)
+ended_many played asked told ended = first_many 8 asked told (λ i low. let e = ended i low in seat_many (denied_in played) (asked i) (told i) (i + 1) e.0 e.1)
 
 -- There are as many tasks as lines.
 
@@ -148,13 +152,13 @@ gate_seat : (ticket : Option ℕ) (opened : Bool) → map seat_in (gate_replies 
 gate_seat None opened = refl
 gate_seat (Some ticket) opened = refl
 
-pub seats_are : (used : List Bool) (table : Table) (lines : List SeatLine) (played : List (List Entry)) (asked told : ℕ → List Task) (ticket : Option ℕ) (opened : Bool) → AreAsked used table lines asked → AreEnded played asked told
+pub seats_are : (used : List Bool) (table : Table) (lines : List SeatLine) (played : List Story) (asked told : ℕ → List Task) (ticket : Option ℕ) (opened : Bool) → AreAsked used table lines asked → AreEnded played asked told
     → map seat_in (replies_of told ++ gate_replies ticket opened) ≡ seats_told (map (λ l. l.seat) lines) ++ gate_told ticket
 seats_are used table lines played asked told ticket opened are ended =
     let seats : List ℕ = map (λ (l : SeatLine). l.seat) lines in
     map-append seat_in (replies_of told) (gate_replies ticket opened)
     ∙ ap (λ (l : List (Option ℕ)). l ++ map seat_in (gate_replies ticket opened))
-    (first_seats 8 seats told (λ i low. let e = ended i low in seat_many (asked i) (told i) (i + 1) e.0 e.1 ∙ asked_many used table lines asked are i low ∙ count_seats (i + 1) lines))
+    (first_seats 8 seats told (λ i low. let e = ended i low in seat_many (denied_in played) (asked i) (told i) (i + 1) e.0 e.1 ∙ asked_many used table lines asked are i low ∙ count_seats (i + 1) lines))
     ∙ ap (λ (l : List (Option ℕ)). seats_told seats ++ l) (gate_seat ticket opened)
 
 -- All are replies of a block.

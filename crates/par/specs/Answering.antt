@@ -4,7 +4,6 @@ use Rattle.std.specs.List.{AllZip, filter, flat_map, range_with_len}
 use Rattle.sector.specs.declared.refusal.Refusal.TheVariants.{NoMemory}
 use Rattle.block.specs.Blocks.{Lines}
 use Rattle.block.specs.declared.seat_line.SeatLine.{SeatLine}
-use Rattle.journal.specs.declared.entry.Entry.{Entry}
 use Rattle.named.specs.State.{Table}
 use Rattle.reply.specs.declared.Reply.{Reply}
 use Rattle.reply.specs.declared.Reply.TheVariants.{Seat, Gate}
@@ -12,7 +11,7 @@ use Rattle.reply.specs.declared.seated.Answered.{Answered}
 use Rattle.reply.specs.declared.seated.Answered.TheVariants.{Refused}
 use Rattle.seats.specs.declared.task.Task.{Task}
 use Rattle.par.specs.Asking.{IsTask}
-use Rattle.par.specs.Played.{ArePlayed, IsPlayedBy}
+use Rattle.par.specs.Played.{ArePlayed, IsPlayedBy, Story}
 use Rattle.par.specs.Running.{used_in}
 
 -- the lines of a seat, in their order
@@ -40,12 +39,12 @@ abbrev pub gate_replies : Option ℕ → Bool → List Reply
 gate_replies None opened = []
 gate_replies (Some ticket) opened = Gate opened ∷ []
 
--- what the seats left of their tasks, by these entries of each volume
-abbrev pub AreEnded : List (List Entry) → (ℕ → List Task) → (ℕ → List Task) → Type 0
+-- what the seats left of their tasks, by what was made at each volume
+abbrev pub AreEnded : List Story → (ℕ → List Task) → (ℕ → List Task) → Type 0
 AreEnded played asked told = (i : ℕ) → i < 8 → IsPlayedBy played (i + 1) (asked i) (told i)
 
 -- the replies of these tasks, with the gate's
-pub record AreReplied (ticket : Option ℕ) (played : List (List Entry)) (asked : ℕ → List Task) (replies : List Reply) : Type 0 where
+pub record AreReplied (ticket : Option ℕ) (played : List Story) (asked : ℕ → List Task) (replies : List Reply) : Type 0 where
   pub told : ℕ → List Task
   pub opened : Bool
   pub ended : AreEnded played asked told
@@ -55,7 +54,7 @@ pub record AreReplied (ticket : Option ℕ) (played : List (List Entry)) (asked 
 -- entries of one list for each volume, which lead from what it showed before the block to what it shows after it.
 pub record AreAnswered (block : Lines) (old new : Table) (replies : List Reply) : Type 0 where
   pub asked : ℕ → List Task
-  pub played : List (List Entry)
+  pub played : List Story
   pub asks : AreAsked (used_in block.lines old) old block.lines asked
   pub plays : ArePlayed (used_in block.lines old) played old.volumes new.volumes
   pub told : AreReplied block.opening.hold played asked replies

@@ -11,8 +11,11 @@ use Rattle.named.specs.State.{Volume}
 use Rattle.named_volume.specs.Parting.{IsParted, Parts, named_with}
 use Rattle.resting.specs.Kept.{KeepsDevices}
 use Rattle.resting.specs.Rested.{rested_of}
+use Rattle.history.specs.Keeping.{Begins}
+use Rattle.post.specs.Denying.{Wish, WasDenied}
 use Rattle.post.specs.Fixed.{StaysFrom, fixed_of}
-use Rattle.par.specs.Played.{IsPlayedIn, shown_by}
+use Rattle.sector.specs.declared.refusal.Refusal.{Refusal}
+use Rattle.par.specs.Played.{IsPlayedIn, Story, shown_by}
 use Rattle.par.specs.Running.{IsRun}
 use Rattle.par.specs.declared.taking.Slot.{Slot}
 use Rattle.par.specs.declared.taking.Slot.TheVariants.{Stays, Out}
@@ -50,11 +53,15 @@ pub record IsRested (old new : AuditShape Stack) : Type 0 where
   pub kept : KeepsDevices stack_layers stack_size (rested_of old.volume) (rested_of new.volume)
 
 -- What seats made of a volume, by its audits before and as they left it: these entries lead from the one volume to the other,
--- and each seat's among them are those that it added.
-pub record IsMade (before audit : AuditShape Stack) (entries : List Entry) (old new : Volume) : Type 0 where
+-- each seat's among them are those that it added, the first of them are those that the audit was left with, and what was denied
+-- by these is denied by them.
+pub record IsMade (before audit : AuditShape Stack) (story : Story) (old new : Volume) : Type 0 where
   pub run : IsRun old new
-  pub played : IsPlayedIn entries old new
-  pub added : (seat : ℕ) → entries_by seat audit.entries ≡ entries_by seat before.entries ++ entries_by seat entries
+  pub played : IsPlayedIn story old new
+  pub added : (seat : ℕ) → entries_by seat audit.entries ≡ entries_by seat before.entries ++ entries_by seat story.entries
+  pub first : (seen : List Entry) → Begins (before.entries ++ seen) audit.entries → Begins seen story.entries
+  pub denied : (seen : List Entry) (wish : Wish) (refusal : Refusal)
+      → WasDenied before.entries (fixed_of stack_size stack_layers before) seen wish refusal → WasDenied [] story.stood seen wish refusal
 
 -- What a place of the table has: its volume, or the names of one that lines use, whose audit is the last of all.
 abbrev pub IsSlot : Bool → Slot → List (AuditShape Stack) → List (AuditShape Stack) → Volume → Type 0
@@ -80,4 +87,4 @@ IsBackAt used (Out parts) befores audits first others old =
 abbrev pub IsPutAt : Slot → List (AuditShape Stack) → List (AuditShape Stack) → List (AuditShape Stack) → List (AuditShape Stack) → Volume → Volume → Type 0
 IsPutAt (Stays volume) befores audits first others old new = new ≡ old
 IsPutAt (Out parts) befores audits first others old new =
-    (before : AuditShape Stack) × (audit : AuditShape Stack) × (entries : List Entry) × (befores ≡ first ++ before ∷ []) × (audits ≡ others ++ audit ∷ []) × IsMade before audit entries old new
+    (before : AuditShape Stack) × (audit : AuditShape Stack) × (story : Story) × (befores ≡ first ++ before ∷ []) × (audits ≡ others ++ audit ∷ []) × IsMade before audit story old new

@@ -3,7 +3,7 @@ ghost use Rattle.std.specs.Prelude.{◌≡◌, ◌+◌, ◌<◌, ◌≤◌, ◌+
 ghost use Rattle.std.specs.List.{All, AllZip, count_by};
 ghost use Rattle.sector.specs.declared.refusal.Refusal.TheVariants.{NoMemory};
 ghost use Rattle.layers.specs.declared.stack.Stack.{Stack as StackShape};
-ghost use Rattle.journal.specs.declared.entry.Entry.{Entry as EntryShape};
+ghost use Rattle.layers.specs.Stack.{stack_layers, stack_size};
 ghost use Rattle.journal.specs.Books.{AuditShape};
 ghost use Rattle.named.specs.Naming.{AreNamed};
 ghost use Rattle.named.specs.Sound.{is_sound};
@@ -11,7 +11,7 @@ ghost use Rattle.devices.specs.Devices.{table_of};
 ghost use Rattle.seats.specs.Tasks.{AreTold, tasks_at};
 ghost use Rattle.par.specs.Answering.{AreAnswered, AreEnded, AreReplied, gate_replies, replies_of, reply_of};
 ghost use Rattle.par.specs.Looking.{block_refusal};
-ghost use Rattle.par.specs.Played.{ArePlayed};
+ghost use Rattle.par.specs.Played.{ArePlayed, Story};
 ghost use Rattle.par.specs.Running.{AreRun, IsOfBlock, IsRefusedFor, IsTableRun, all_told, seat_in};
 ghost use Rattle.par.specs.Taking.{IsLeft};
 
@@ -63,7 +63,7 @@ fn run<R: Threads + Wait + Sync>(
     ensures many { result.1 ≡ true → many ≤ length result.0.items }
     ensures left { AllZip IsLeft audits.items result.0.items }
     ensures eight { length tasks.new.items ≡ 8 }
-    ensures told { result.1 ≡ true → (i : ℕ) → i < 8 → AreTold audits.items result.0.items (i + 1) (tasks_at tasks.old.items i) (tasks_at tasks.new.items i) }
+    ensures told { result.1 ≡ true → (i : ℕ) → i < 8 → AreTold stack_size stack_layers audits.items result.0.items (i + 1) (tasks_at tasks.old.items i) (tasks_at tasks.new.items i) }
 {
     if audits.len() < many {
         return (audits, false);
@@ -96,7 +96,7 @@ fn at_once<R: Threads + Wait + Sync>(
     requires many { length used.now ≡ length (table_of held.old).volumes }
     requires eight { length tasks.old.items ≡ 8 }
     ensures eight { OnOk result (length tasks.new.items ≡ 8) }
-    ensures played { OnOk result ((played : List (List EntryShape)) × ArePlayed used.now played (table_of held.old).volumes (table_of held.new).volumes × AreEnded played (tasks_at tasks.old.items) (tasks_at tasks.new.items)) }
+    ensures played { OnOk result ((played : List Story) × ArePlayed used.now played (table_of held.old).volumes (table_of held.new).volumes × AreEnded played (tasks_at tasks.old.items) (tasks_at tasks.new.items)) }
     ensures err { IfErr result (λ e. e ≡ NoMemory) }
     ensures stacks { (table_of held.new).stacks ≡ (table_of held.old).stacks }
     ensures volumes { AreRun used.now (table_of held.old).volumes (table_of held.new).volumes }
@@ -174,7 +174,7 @@ fn run_plan<R: Threads + Wait + Sync>(
     requires eight { length plan.tasks.items ≡ 8 }
     requires none { plan.replies.items ≡ [] }
     requires room { length (replies_of (tasks_at plan.tasks.items)) < vec_capacity plan.replies }
-    ensures told { IfOk result (λ replies. (played : List (List EntryShape)) × ArePlayed plan.used.items played (table_of held.old).volumes (table_of held.new).volumes × AreReplied ticket played (tasks_at plan.tasks.items) replies.items) }
+    ensures told { IfOk result (λ replies. (played : List Story) × ArePlayed plan.used.items played (table_of held.old).volumes (table_of held.new).volumes × AreReplied ticket played (tasks_at plan.tasks.items) replies.items) }
     ensures err { IfErr result (λ e. e ≡ NoMemory) }
     ensures stacks { (table_of held.new).stacks ≡ (table_of held.old).stacks }
     ensures volumes { AreRun plan.used.items (table_of held.old).volumes (table_of held.new).volumes }

@@ -1,10 +1,10 @@
 // Volumes that are taken out of the table while their seats run, and put back.
 ghost use Rattle.std.specs.Prelude.{◌≡◌, ◌+◌, ◌<◌, ◌≤◌, Bool, List, [], true, drop, length, vec_len, vec_capacity};
 ghost use Rattle.layers.specs.declared.stack.Stack.{Stack as StackShape};
-ghost use Rattle.journal.specs.declared.entry.Entry.{Entry as EntryShape};
 ghost use Rattle.journal.specs.Books.{AuditShape};
 ghost use Rattle.volume.specs.Leaving.{is_quiet_of};
 ghost use Rattle.named.specs.State.{Volume};
+ghost use Rattle.par.specs.Played.{Story};
 ghost use Rattle.par.specs.Taking.{AreSlots, IsBack, IsBackAt, IsMade, IsPutAt, IsRested, IsSlot};
 
 use journal::Audit;
@@ -118,7 +118,7 @@ fn rest<R: Wait>(rt: &R, audit: &mut Audit<Stack>)
 /// The volume of an audit under its names again.
 fn name<R: Wait>(rt: &R, parts: NamedParts, audit: Audit<Stack>) -> NamedVolume
     requires { (before : AuditShape StackShape) × (old : Volume) × IsBack before parts audit old }
-    ensures { (before : AuditShape StackShape) (old : Volume) → IsBack before parts audit old → (entries : List EntryShape) × IsMade before audit entries old result }
+    ensures { (before : AuditShape StackShape) (old : Volume) → IsBack before parts audit old → (story : Story) × IsMade before audit story old result }
 {
     let mut audit = audit;
     rest(rt, &mut audit);

@@ -4,3 +4,4 @@ mod Matched
 mod Passes
 mod Shown
 mod Posting
+mod Denied

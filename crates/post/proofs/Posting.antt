@@ -55,6 +55,21 @@ module _ {B : Type 0} (size : B → ℕ) (layers : B → List Layer) (history : 
     stays = stays;
   }
 
+  -- a seat looked
+  pub looked_holds : (a : AuditShape B) (keeper after : Seat Told View) (me : View) → PostHolds size layers history start fixed a keeper
+      → after.table_id ≡ history → after.me.1 ≡ [] → after.me.0 ≡ keeper_of (seated_with keeper.me.0 me) → PostHolds size layers history start fixed a after
+  looked_holds a keeper after me h table bare looks = record {
+    is_keeper = record {
+      table = table;
+      bare = bare;
+      keeps = ap (λ (v : View). v.keeps) looks ∙ h.is_keeper.keeps;
+      stands = ap (λ (v : View). v.sits) looks;
+    };
+    knows = h.knows ∙ ap (λ (v : View). start ++ v.all) (sym looks);
+    flying = ap (λ (v : View). v.flying) looks ∙ h.flying;
+    stays = h.stays;
+  }
+
   -- nothing but the volume changed
   pub same_holds : (a b : AuditShape B) (keeper : Seat Told View) → PostHolds size layers history start fixed a keeper → b.entries ≡ a.entries → b.held ≡ a.held
       → StaysFrom fixed (fixed_of size layers b) → PostHolds size layers history start fixed b keeper

@@ -5,3 +5,4 @@ pub mod Boards
 pub mod Beside
 pub mod Seats
 pub mod Posts
+pub mod Denying

@@ -30,4 +30,4 @@ pub record PostHolds {B : Type 0} (size : B → ℕ) (layers : B → List Layer)
 
 -- the view of the keeper with these entries more
 abbrev pub with_more : List Entry → View → View
-with_more more v = record { keeps = v.keeps; all = v.all ++ more; flying = v.flying; dealt = v.dealt; sits = v.sits; seat = v.seat; old = v.old; mine = v.mine; waits = v.waits }
+with_more more v = record { keeps = v.keeps; all = v.all ++ more; flying = v.flying; dealt = v.dealt; sits = v.sits; seat = v.seat; old = v.old; mine = v.mine; waits = v.waits; seen = v.seen }

@@ -7,6 +7,7 @@ use Rattle.plain.specs.declared.request.Request.{Request}
 use Rattle.journal.specs.declared.entry.Receipt.{Receipt}
 use Rattle.journal.specs.Entries.{answered_of}
 use Rattle.journal.specs.Seats.{seated_under, without_seated}
+use Rattle.history.specs.Keeping.{Begins}
 use Rattle.history.specs.declared.rule.View.{View}
 use Rattle.history.specs.declared.told.Told.{Told}
 
@@ -17,12 +18,13 @@ pub record IsSeat (history : TableId) (seat : ℕ) (me : Seat Told View) : Type 
   pub sits : me.me.0.sits ≡ true
   pub number : me.me.0.seat ≡ seat
 
--- the same seat, which knows the same
+-- the same seat, which knows the same, and may have seen more
 pub record IsSameSeat (history : TableId) (seat : ℕ) (before after : Seat Told View) : Type 0 where
   pub is_seat : IsSeat history seat after
   pub old : after.me.0.old ≡ before.me.0.old
   pub mine : after.me.0.mine ≡ before.me.0.mine
   pub waits : after.me.0.waits ≡ before.me.0.waits
+  pub later : Begins before.me.0.seen after.me.0.seen
 
 -- one request more is in flight for the seat
 pub record IsAsked (history : TableId) (seat number : ℕ) (request : Request) (before after : Seat Told View) : Type 0 where
@@ -30,6 +32,7 @@ pub record IsAsked (history : TableId) (seat number : ℕ) (request : Request) (
   pub old : after.me.0.old ≡ before.me.0.old
   pub mine : after.me.0.mine ≡ before.me.0.mine
   pub waits : after.me.0.waits ≡ before.me.0.waits ++ record { number = number; seat = seat; request = request } ∷ []
+  pub later : Begins before.me.0.seen after.me.0.seen
 
 -- The seat has one entry more, which the receipt is for: it answers the request that the seat waited for.
 pub record IsReceipted (history : TableId) (seat : ℕ) (before after : Seat Told View) (answer : Reply) (receipt : Receipt) : Type 0 where
@@ -41,3 +44,4 @@ pub record IsReceipted (history : TableId) (seat : ℕ) (before after : Seat Tol
   pub number : ℕ
   pub asked : seated_under number before.me.0.waits ≡ Some (record { number = number; seat = seat; request = receipt.request })
   pub waits : after.me.0.waits ≡ without_seated number before.me.0.waits
+  pub later : Begins before.me.0.seen after.me.0.seen

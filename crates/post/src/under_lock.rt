@@ -1,13 +1,17 @@
 // What threads do with an audit while they hold its lock: each call tells the history what is new in the journal, and publishes
 // each usage that changed.
-ghost use Rattle.std.specs.Prelude.{◌≡◌, ◌≢◌, ◌*◌, ◌<◌, ◌++◌, ◌∷◌, [], ℕ, List, length, MatchOption, MatchResult, Some, None, true};
+ghost use Rattle.std.specs.Prelude.{◌≡◌, ◌≢◌, ◌||◌, ◌*◌, ◌<◌, ◌++◌, ◌∷◌, [], ℕ, List, length, IfErr, MatchOption, MatchResult, OnOk, Some, None, true};
 ghost use Rattle.chunk.specs.Sizes.{is_chunk};
+ghost use Rattle.volume.specs.Asking.{is_finished_in};
+ghost use Rattle.volume.specs.Stepping.{has_failed};
 ghost use Rattle.plain.specs.declared.event.Event.TheVariants.{Issue};
 ghost use Rattle.plain.specs.declared.request.Op.TheVariants.{Write};
 ghost use Rattle.journal.specs.Entries.{entries_by};
 ghost use Rattle.journal.specs.declared.entry.Entry.{Entry};
 ghost use Rattle.history.specs.Keeping.{held_by};
+ghost use Rattle.sector.specs.declared.refusal.Refusal.TheVariants.{NotQuiet};
 ghost use Rattle.post.specs.Beside.{IsBeside};
+ghost use Rattle.post.specs.Denying.{Begin, Serve, WasBegun, WasDenied};
 ghost use Rattle.post.specs.Fixed.{StaysFrom, fixed_of};
 ghost use Rattle.post.specs.Seats.{IsAsked, IsReceipted, IsSameSeat, IsSeat};
 
@@ -51,7 +55,8 @@ impl<B: Layered, J: Room> Post<B, J> {
         self.audit.volume().last_copy()
     }
 
-    /// Submits a request of a seat. Where it is accepted, it is one more that the seat waits for.
+    /// Submits a request of a seat. Where it is accepted, it is one more that the seat waits for. The seat has then seen all
+    /// entries, and where the request is refused, they and what stays of the volume say why.
     pub fn submit(
         &mut self,
         beside: &Beside,
@@ -65,6 +70,7 @@ impl<B: Layered, J: Room> Post<B, J> {
         requires bytes { (bytes : List ℕ) → request.op ≡ Write bytes → length bytes ≡ 512 * request.range.count }
         ensures volume { self.new.volume ≡ self.old.volume }
         ensures seat { MatchResult result.1 (λ number. IsAsked (J.history self.old.volume) seat number request me result.0) (λ _. IsSameSeat (J.history self.old.volume) seat me result.0) }
+        ensures denied { IfErr result.1 (λ refusal. WasDenied (J.start self.old.volume) (J.fixed self.old.volume) result.0.me.0.seen (Serve request) refusal) }
     {
         let said = Snapshot::of(&request);
         let from = self.audit.entries().len();
@@ -77,6 +83,7 @@ impl<B: Layered, J: Room> Post<B, J> {
             }
             Err(refusal) => {
                 beside.note(&mut self.keeper, &self.audit.entries()[from..]);
+                let me = beside.history.look(&mut self.keeper, me);
                 beside.keep_up(&mut self.publishers, &self.audit);
                 (me, Err(refusal))
             }
@@ -169,39 +176,56 @@ impl<B: Layered, J: Room> Post<B, J> {
         }
     }
 
-    /// Begins a merge.
-    pub fn begin_merge(&mut self, beside: &Beside, number: SnapId) -> Result<(), Refusal>
+    /// Begins a merge for a seat, which has then seen all entries: the last of them says that it began, or else they and what
+    /// stays of the volume say why it did not, but where the volume is not quiet.
+    pub fn begin_merge(
+        &mut self,
+        beside: &Beside,
+        me: Pass,
+        seat: u8,
+        number: SnapId,
+    ) -> (Pass, Result<(), Refusal>)
         requires beside { IsBeside (J.history self.old.volume) (J.boards self.old.volume) beside.now }
+        requires seat { IsSeat (J.history self.old.volume) seat me }
         ensures volume { self.new.volume ≡ self.old.volume }
+        ensures seat { IsSameSeat (J.history self.old.volume) seat me result.0 }
+        ensures begun { OnOk result.1 (WasBegun number me.me.0.seen result.0.me.0.seen) }
+        ensures denied { IfErr result.1 (λ refusal. refusal ≢ NotQuiet → WasDenied (J.start self.old.volume) (J.fixed self.old.volume) result.0.me.0.seen (Begin number) refusal) }
     {
+        let me = beside.history.look(&mut self.keeper, me);
         let from = self.audit.entries().len();
         match self.audit.begin_merge(number) {
             Ok(()) => {
                 beside.note(&mut self.keeper, &self.audit.entries()[from..]);
+                let me = beside.history.look(&mut self.keeper, me);
                 beside.keep_up(&mut self.publishers, &self.audit);
-                Ok(())
+                (me, Ok(()))
             }
             Err(refusal) => {
                 beside.keep_up(&mut self.publishers, &self.audit);
-                Err(refusal)
+                (me, Err(refusal))
             }
         }
     }
 
     /// Whether a merge that is begun has come to its end, or stopped at a fault.
-    pub fn is_merge_over(&self) -> bool {
+    pub fn is_merge_over(&self) -> bool
+        ensures { result ≡ (is_finished_in self.now.audit.volume.merge || has_failed self.now.audit.volume.merge) }
+    {
         let volume = self.audit.volume();
         volume.is_merge_finished() || volume.is_merge_failed()
     }
 
-    /// Compares a seat's pass with the journal.
+    /// Compares a seat's pass with the journal, whose first entries are those that the seat has seen.
     pub fn settle(&mut self, beside: &Beside, me: Pass, seat: u8) -> Pass
         requires beside { IsBeside (J.history self.old.volume) (J.boards self.old.volume) beside.now }
         requires seat { IsSeat (J.history self.old.volume) seat me }
         ensures same { self.new ≡ self.old }
         ensures seat { IsSameSeat (J.history self.old.volume) seat me result }
+        ensures still { result.me.0.seen ≡ me.me.0.seen }
         ensures own { entries_by seat self.old.audit.entries ≡ entries_by seat (J.start self.old.volume) ++ (entries_by seat me.me.0.old ++ me.me.0.mine) }
         ensures waits { held_by seat self.old.audit.held ≡ me.me.0.waits }
+        ensures seen { (more : List Entry) × (self.old.audit.entries ≡ J.start self.old.volume ++ (me.me.0.seen ++ more)) }
     {
         beside.history.settle(&mut self.keeper, me)
     }

@@ -3,7 +3,8 @@
 //! It stands on `sector` and `words` for data, refusals and texts, on `layers` for the answers to messages, on `lines`
 //! for the laws of one write after another, and on `command` for the grammar of data words, by which what is printed
 //! can be read again. It promises that exactly the stated line is written, byte by byte: data as longest runs that say
-//! the bytes again. Printing takes no memory, so a reply that was reached is never lost to want of it.
+//! the bytes again. Printing takes no memory, so a reply that was reached is never lost to want of it; the words of what a
+//! seat read are made before, and take some (`words_of_data`).
 #![tactic(auto)]
 
 ghost use Rattle.std.specs.Prelude.{◌≡◌, OnOk};

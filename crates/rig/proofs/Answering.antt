@@ -13,6 +13,7 @@ use Rattle.copier.specs.declared.worker.Ended.{Ended}
 use Rattle.copier.specs.declared.worker.Ended.TheVariants.{Stopped, NoTicket}
 use Rattle.copier.specs.declared.ticket.PendingCopy.{PendingCopy}
 use Rattle.post.specs.Seats.{IsReceipted}
+use Rattle.history.specs.Keeping.{Begins}
 use Rattle.rig.specs.Sittings.{IsAnswered, SittingShape}
 
 -- the one request in flight is the one that is found
@@ -32,8 +33,8 @@ one_found n x y e = go (x.number == n) e
 
 pub answered_at : (history : TableId) (seat : ℕ) (me after : Seat Told View) (reply : Reply) (r : Receipt) (old new : SittingShape) → IsReceipted history seat me after reply r
     → old.waits ≡ me.me.0.waits → new.waits ≡ after.me.0.waits → new.volume ≡ old.volume → new.seat ≡ old.seat → old.seat ≡ seat → new.receipts ≡ old.receipts ++ r ∷ []
-    → ((x : Seated) × (old.waits ≡ x ∷ [])) → IsAnswered reply r old new
-answered_at history seat me after reply r old new h was now volume same by receipts one =
+    → ((x : Seated) × (old.waits ≡ x ∷ [])) → Begins old.seen new.seen → IsAnswered reply r old new
+answered_at history seat me after reply r old new h was now volume same by receipts one later =
     let found = λ (x : Seated) (is : old.waits ≡ x ∷ []). one_found h.number x _ (ap (seated_under h.number) (sym is ∙ was) ∙ h.asked) in
     record {
       volume = volume;
@@ -43,6 +44,7 @@ answered_at history seat me after reply r old new h was now volume same by recei
       answer = h.reply;
       by = h.by ∙ sym by;
       asked = λ x is. sym (ap (λ (z : Seated). z.request) (found x is).0);
+      later = later;
     }
 
 -- a worker's pass stays one of its queue

@@ -6,17 +6,20 @@ use Rattle.plain.specs.declared.request.Op.{Op}
 use Rattle.plain.specs.declared.request.Reply.{Reply}
 use Rattle.sector.specs.declared.refusal.Refusal.{Refusal}
 use Rattle.journal.specs.declared.entry.Receipt.{Receipt}
-use Rattle.rig.specs.Rigs.{HasAdded, IsPieceCut, SeatShape, receipts_at}
-use Rattle.rig.specs.Served.{AreServed, IsCut, IsOf}
+use Rattle.plain.specs.declared.request.Request.{Request}
+use Rattle.history.proofs.Begins.{begins_same, begins_then}
+use Rattle.rig.specs.Rigs.{HasAdded, IsPieceCut, SeatShape, receipts_at, seen_at}
+use Rattle.rig.specs.Served.{AreServed, IsCut, IsOf, IsRefused}
 
 pub added_none : (volume : ℕ) (s : SeatShape) → HasAdded volume [] s s
-added_none volume s = record { number = refl; here = sym (append-nil (receipts_at s volume)); others = λ k apart. refl; watches = refl }
+added_none volume s = record { number = refl; here = sym (append-nil (receipts_at s volume)); others = λ k apart. refl; later = λ k. begins_same (seen_at s k); watches = refl }
 
 pub added_more : (volume : ℕ) (xs ys : List Receipt) (a b c : SeatShape) → HasAdded volume xs a b → HasAdded volume ys b c → HasAdded volume (xs ++ ys) a c
 added_more volume xs ys a b c f g = record {
   number = g.number ∙ f.number;
   here = g.here ∙ ap (λ (l : List Receipt). l ++ ys) f.here ∙ append_assoc (receipts_at a volume) xs ys;
   others = λ k apart. g.others k apart ∙ f.others k apart;
+  later = λ k. begins_then (seen_at a k) (seen_at b k) (seen_at c k) (f.later k) (g.later k);
   watches = g.watches ∙ f.watches;
 }
 
@@ -54,24 +57,50 @@ module _ (op : List ℕ → Op) (reply : List ℕ → Reply) (dev : Dev) where
       → (more : List Receipt) × HasAdded volume more old now × AreServed op reply dev pieces more bytes
   ends volume pieces old now bytes h = (h.more, h.added, subst (λ (l : List Span). AreServed op reply dev l h.more bytes) (sym (append-nil h.firsts) ∙ sym h.parts) h.served)
 
-  pub stops : (lost : Refusal → Type 0) (volume : ℕ) (pieces left : List Span) (p : Span) (old now next : SeatShape) (bytes : List ℕ) (refusal : Refusal) → IsUnderWay volume pieces (p ∷ left) old now bytes
-      → IsPieceCut op reply lost dev p refusal volume now next → (more : List Receipt) × HasAdded volume more old next × IsCut op reply dev lost pieces more refusal
-  stops lost volume pieces left p old now next bytes refusal h (inl none) = (
+  first_of : (p q : Span) (ps qs : List Span) → p ∷ ps ≡ q ∷ qs → p ≡ q
+  first_of p q ps qs e = ap head e
+    where
+      head : List Span → Span
+      head [] = p
+      head (x ∷ xs) = x
+
+  -- spare: what is lost may be said of a piece that is left, too
+  pub stops : (lost : Refusal → Type 0) (denies : Request → Refusal → Type 0) → ((q : Span) (r : Refusal) → lost r → IsRefused op dev denies q r)
+      → (volume : ℕ) (pieces left : List Span) (p : Span) (old now next : SeatShape) (bytes : List ℕ) (refusal : Refusal) → IsUnderWay volume pieces (p ∷ left) old now bytes
+      → IsPieceCut op reply lost denies dev p refusal volume now next → (more : List Receipt) × HasAdded volume more old next × IsCut op reply dev lost denies pieces more refusal
+  stops lost denies spare volume pieces left p old now next bytes refusal h (inl (none, refused)) = (
     h.more ++ [],
     added_more volume h.more [] old now next h.added none,
-    (h.firsts, p ∷ left, h.more, bytes, h.parts, h.served, inl (append-nil h.more, λ over. absurd (omega (arith, ap length over)))),
+    (
+      h.firsts,
+      p ∷ left,
+      h.more,
+      bytes,
+      h.parts,
+      h.served,
+      inl (append-nil h.more, (λ over. absurd (omega (arith, ap length over))), λ q qs e. subst (λ x. IsRefused op dev denies x refusal) (first_of p q left qs e) refused),
+    ),
   )
-  stops lost volume pieces left p old now next bytes refusal h (inr (own, r, is, added, inl done)) = (
+  stops lost denies spare volume pieces left p old now next bytes refusal h (inr (own, r, is, added, inl done)) = (
     h.more ++ r ∷ [],
     added_more volume h.more (r ∷ []) old now next h.added added,
-    (h.firsts ++ p ∷ [], left, h.more ++ r ∷ [], bytes ++ own, h.parts ∙ sym (append_assoc h.firsts (p ∷ []) left), served_more h.firsts h.more bytes own p r h.served is done.0, inl (refl, λ over. done.1)),
+    (
+      h.firsts ++ p ∷ [],
+      left,
+      h.more ++ r ∷ [],
+      bytes ++ own,
+      h.parts ∙ sym (append_assoc h.firsts (p ∷ []) left),
+      served_more h.firsts h.more bytes own p r h.served is done.0,
+      inl (refl, (λ over. done.1), λ q qs e. spare q refusal done.1),
+    ),
   )
-  stops lost volume pieces left p old now next bytes refusal h (inr (own, r, is, added, inr failed)) = (
+  stops lost denies spare volume pieces left p old now next bytes refusal h (inr (own, r, is, added, inr failed)) = (
     h.more ++ r ∷ [],
     added_more volume h.more (r ∷ []) old now next h.added added,
     (h.firsts, p ∷ left, h.more, bytes, h.parts, h.served, inr (p, left, r, own, failed.0, refl, refl, is, failed.1, failed.2)),
   )
 
   -- where nothing is asked at all
-  pub stops_at_once : (lost : Refusal → Type 0) (volume : ℕ) (pieces : List Span) (s : SeatShape) (refusal : Refusal) → lost refusal → (more : List Receipt) × HasAdded volume more s s × IsCut op reply dev lost pieces more refusal
-  stops_at_once lost volume pieces s refusal is = ([], added_none volume s, ([], pieces, [], [], refl, refl, inl (refl, λ over. is)))
+  pub stops_at_once : (lost : Refusal → Type 0) (denies : Request → Refusal → Type 0) → ((q : Span) (r : Refusal) → lost r → IsRefused op dev denies q r)
+      → (volume : ℕ) (pieces : List Span) (s : SeatShape) (refusal : Refusal) → lost refusal → (more : List Receipt) × HasAdded volume more s s × IsCut op reply dev lost denies pieces more refusal
+  stops_at_once lost denies spare volume pieces s refusal is = ([], added_none volume s, ([], pieces, [], [], refl, refl, inl (refl, (λ over. is), λ q qs e. spare q refusal is)))

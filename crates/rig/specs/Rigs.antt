@@ -13,9 +13,11 @@ use Rattle.plain.specs.declared.request.Dev.{Dev}
 use Rattle.plain.specs.declared.request.Failure.{Failure}
 use Rattle.plain.specs.declared.request.Op.{Op}
 use Rattle.plain.specs.declared.request.Reply.{Reply}
+use Rattle.plain.specs.declared.request.Request.{Request}
 use Rattle.plain.specs.declared.request.Reply.TheVariants.{Refused}
 use Rattle.sector.specs.declared.refusal.Refusal.{Refusal}
-use Rattle.rig.specs.Served.{IsOf}
+use Rattle.history.specs.Keeping.{Begins}
+use Rattle.rig.specs.Served.{IsOf, IsRefused}
 use Rattle.post.specs.Fixed.{Fixed, fixed_of}
 use Rattle.board.specs.Passes.{BoardId, Seen}
 use Rattle.post.specs.Beside.{OpenedAt}
@@ -96,26 +98,33 @@ pub record IsRoomOf {B : Type 0} (size : B → ℕ) (layers : B → List Layer) 
 
 -- the receipts of the volume at a place
 abbrev pub receipts_at : SeatShape → ℕ → List Receipt
-receipts_at s k = (slice_index_or s.sittings k (record { volume = k; seat = s.number; receipts = []; waits = []; room = 0 })).receipts
+receipts_at s k = (slice_index_or s.sittings k (record { volume = k; seat = s.number; receipts = []; waits = []; seen = []; room = 0 })).receipts
 
--- A call added these receipts at one volume, and left the seat as it was at the others.
+-- and its journal's entries since the rig was made, as far as the seat has seen them
+abbrev pub seen_at : SeatShape → ℕ → List Entry
+seen_at s k = (slice_index_or s.sittings k (record { volume = k; seat = s.number; receipts = []; waits = []; seen = []; room = 0 })).seen
+
+-- A call added these receipts at one volume, and left the seat as it was at the others, but that it may have seen more.
 pub record HasAdded (volume : ℕ) (more : List Receipt) (old new : SeatShape) : Type 0 where
   pub number : new.number ≡ old.number
   pub here : receipts_at new volume ≡ receipts_at old volume ++ more
   pub others : (k : ℕ) → (k ≡ volume → ⊥) → receipts_at new k ≡ receipts_at old k
+  pub later : (k : ℕ) → Begins (seen_at old k) (seen_at new k)
   pub watches : new.watches ≡ old.watches
 
--- One piece was not done. There is a receipt of its failure; or of its being done, and then it was lost; or none.
-abbrev pub IsPieceCut : (List ℕ → Op) → (List ℕ → Reply) → (Refusal → Type 0) → Dev → Span → Refusal → ℕ → SeatShape → SeatShape → Type 0
-IsPieceCut op reply lost dev piece refusal volume old new =
-    HasAdded volume [] old new
+-- One piece was not done. There is a receipt of its failure; or of its being done, and then it was lost; or none, and it was
+-- refused.
+abbrev pub IsPieceCut : (List ℕ → Op) → (List ℕ → Reply) → (Refusal → Type 0) → (Request → Refusal → Type 0) → Dev → Span → Refusal → ℕ → SeatShape → SeatShape → Type 0
+IsPieceCut op reply lost denies dev piece refusal volume old new =
+    (HasAdded volume [] old new × IsRefused op dev denies piece refusal)
     ⊎ ((own : List ℕ) × (r : Receipt) × IsOf dev (op own) piece r × HasAdded volume (r ∷ []) old new
     × (((r.reply ≡ reply own) × lost refusal) ⊎ ((failure : Failure) × (r.reply ≡ Refused failure) × (refusal ≡ refusal_of failure))))
 
 -- A seat's receipts of a volume are its entries in the journal after those that it had, in their order, and there are as
--- many.
-abbrev pub IsSettledAt : {B : Type 0} → List Entry → AuditShape B → ℕ → SeatShape → Type 0
-IsSettledAt start audit k s = entries_by s.number audit.entries ≡ entries_by s.number start ++ map answered_of (receipts_at s k)
+-- many; and what it has seen are the first entries after those.
+pub record IsSettledAt {B : Type 0} (start : List Entry) (audit : AuditShape B) (k : ℕ) (s : SeatShape) : Type 0 where
+  pub own : entries_by s.number audit.entries ≡ entries_by s.number start ++ map answered_of (receipts_at s k)
+  pub seen : (more : List Entry) × (audit.entries ≡ start ++ (seen_at s k ++ more))
 
 -- seat i, from 0, has number i + 1 and no receipts
 pub record AreNewSeats (seats : ℕ) (all : List SeatShape) : Type 0 where

@@ -8,15 +8,24 @@ use Rattle.plain.specs.declared.request.Op.{Op}
 use Rattle.plain.specs.declared.request.Op.TheVariants.{Read, Write}
 use Rattle.plain.specs.declared.request.Reply.{Reply}
 use Rattle.plain.specs.declared.request.Reply.TheVariants.{Data, Written, Refused}
+use Rattle.plain.specs.declared.request.Request.{Request}
 use Rattle.sector.specs.declared.refusal.Refusal.{Refusal}
 use Rattle.sector.specs.declared.refusal.Refusal.TheVariants.{NoMemory}
 use Rattle.journal.specs.declared.entry.Receipt.{Receipt}
 
--- a receipt of an operation on a piece of a device
-pub record IsOf (dev : Dev) (op : Op) (piece : Span) (r : Receipt) : Type 0 where
-  pub goes_to : r.request.dev ≡ dev
-  pub asks : r.request.op ≡ op
-  pub covers : span_of r.request.range ≡ piece
+-- a request of an operation on a piece of a device
+pub record IsFor (dev : Dev) (op : Op) (piece : Span) (request : Request) : Type 0 where
+  pub goes_to : request.dev ≡ dev
+  pub asks : request.op ≡ op
+  pub covers : span_of request.range ≡ piece
+
+-- and a receipt of it
+abbrev pub IsOf : Dev → Op → Span → Receipt → Type 0
+IsOf dev op piece r = IsFor dev op piece r.request
+
+-- There was no memory for an operation on a piece, or it was asked for and denied.
+abbrev pub IsRefused : (List ℕ → Op) → Dev → (Request → Refusal → Type 0) → Span → Refusal → Type 0
+IsRefused op dev denies piece refusal = (refusal ≡ NoMemory) ⊎ ((own : List ℕ) × (request : Request) × IsFor dev (op own) piece request × denies request refusal)
 
 module _ (op : List ℕ → Op) (reply : List ℕ → Reply) (dev : Dev) where
   -- receipts of these pieces, one for each and in order, each with its bytes and that it was done; all bytes together
@@ -31,17 +40,17 @@ module _ (op : List ℕ → Op) (reply : List ℕ → Reply) (dev : Dev) where
   abbrev pub IsServed : Span → List Receipt → List ℕ → Type 0
   IsServed span receipts bytes = (chunk : ℕ) × AreServed (pieces_of chunk span) receipts bytes
 
-  -- The first pieces were done, and then no request was made any more, though one was left, but for what is lost where none
-  -- was; or one more was made, and it was answered by a failure.
-  abbrev pub IsCut : (Refusal → Type 0) → List Span → List Receipt → Refusal → Type 0
-  IsCut lost pieces receipts refusal =
+  -- The first pieces were done, and then the next one was denied, or what was done is lost, where none is left; or one more was
+  -- asked for, and it was answered by a failure.
+  abbrev pub IsCut : (Refusal → Type 0) → (Request → Refusal → Type 0) → List Span → List Receipt → Refusal → Type 0
+  IsCut lost denies pieces receipts refusal =
       (done : List Span) × (rest : List Span) × (firsts : List Receipt) × (bytes : List ℕ) × (pieces ≡ done ++ rest) × AreServed done firsts bytes
-      × (((receipts ≡ firsts) × (rest ≡ [] → lost refusal))
+      × (((receipts ≡ firsts) × (rest ≡ [] → lost refusal) × ((p : Span) (ps : List Span) → rest ≡ p ∷ ps → IsRefused op dev denies p refusal))
       ⊎ ((p : Span) × (ps : List Span) × (r : Receipt) × (own : List ℕ) × (failure : Failure)
       × (rest ≡ p ∷ ps) × (receipts ≡ firsts ++ r ∷ []) × IsOf dev (op own) p r × (r.reply ≡ Refused failure) × (refusal ≡ refusal_of failure)))
 
-  abbrev pub IsCutShort : (Refusal → Type 0) → Span → List Receipt → Refusal → Type 0
-  IsCutShort lost span receipts refusal = (chunk : ℕ) × IsCut lost (pieces_of chunk span) receipts refusal
+  abbrev pub IsCutShort : (Refusal → Type 0) → (Request → Refusal → Type 0) → Span → List Receipt → Refusal → Type 0
+  IsCutShort lost denies span receipts refusal = (chunk : ℕ) × IsCut lost denies (pieces_of chunk span) receipts refusal
 
 abbrev pub read_op : List ℕ → Op
 read_op bytes = Read
@@ -60,12 +69,12 @@ IsWriteLost refusal = ⊥
 abbrev pub IsReadBy : Dev → Span → List Receipt → List ℕ → Type 0
 IsReadBy = IsServed read_op Data
 
-abbrev pub IsReadCut : Dev → Span → List Receipt → Refusal → Type 0
-IsReadCut dev = IsCutShort read_op Data dev IsReadLost
+abbrev pub IsReadCut : (Request → Refusal → Type 0) → Dev → Span → List Receipt → Refusal → Type 0
+IsReadCut denies dev = IsCutShort read_op Data dev IsReadLost denies
 
 -- writes of the pieces of a range, by these bytes
 abbrev pub IsWrittenBy : Dev → Span → List Receipt → List ℕ → Type 0
 IsWrittenBy = IsServed Write written_reply
 
-abbrev pub IsWriteCut : Dev → Span → List Receipt → Refusal → Type 0
-IsWriteCut dev = IsCutShort Write written_reply dev IsWriteLost
+abbrev pub IsWriteCut : (Request → Refusal → Type 0) → Dev → Span → List Receipt → Refusal → Type 0
+IsWriteCut denies dev = IsCutShort Write written_reply dev IsWriteLost denies

@@ -6,21 +6,32 @@ use Rattle.plain.specs.declared.request.Reply.{Reply}
 use Rattle.plain.specs.declared.request.Request.{Request}
 use Rattle.journal.specs.declared.entry.Receipt.{Receipt}
 use Rattle.journal.specs.Entries.{answered_of}
+use Rattle.journal.specs.declared.entry.Entry.{Entry}
 use Rattle.journal.specs.Seats.{Seated}
+use Rattle.history.specs.Keeping.{Begins}
 use Rattle.history.specs.declared.rule.View.{View}
+use Rattle.post.specs.Denying.{Wish, WasDenied}
+use Rattle.post.specs.Fixed.{Fixed}
+use Rattle.sector.specs.declared.refusal.Refusal.{Refusal}
 
 -- What callers see of a seat at one volume: the volume's place in the rig, from 0, the seat's number, the receipts since the
--- rig was made, and the requests in flight. room: for how many receipts.
+-- rig was made, the requests in flight, and the journal's entries since then, as far as the seat has seen them. room: for how many
+-- receipts.
 pub record SittingShape : Type 0 where
   pub volume : ℕ
   pub seat : ℕ
   pub receipts : List Receipt
   pub waits : List Seated
+  pub seen : List Entry
   pub room : ℕ
 
 abbrev pub waits_of : List View → List Seated
 waits_of [] = []
 waits_of (v ∷ vs) = v.waits
+
+abbrev pub seen_of : List View → List Entry
+seen_of [] = []
+seen_of (v ∷ vs) = v.seen
 
 -- the pass knows just the entries of the receipts
 pub record SittingHolds (history : TableId) (seat : ℕ) (pass : Badge View) (receipts : List Receipt) : Type 0 where
@@ -32,12 +43,18 @@ pub record SittingHolds (history : TableId) (seat : ℕ) (pass : Badge View) (re
   pub old : view.old ≡ []
   pub mine : view.mine ≡ map answered_of receipts
 
--- nothing but the room changed
+-- nothing changed but the room, and that more may be seen
 pub record IsSameSitting (old new : SittingShape) : Type 0 where
   pub volume : new.volume ≡ old.volume
   pub seat : new.seat ≡ old.seat
   pub receipts : new.receipts ≡ old.receipts
   pub waits : new.waits ≡ old.waits
+  pub later : Begins old.seen new.seen
+
+-- what was asked is denied, by what is seen then
+pub record IsTurnedAway (start : List Entry) (fixed : Fixed) (wish : Wish) (refusal : Refusal) (old new : SittingShape) : Type 0 where
+  pub same : IsSameSitting old new
+  pub denied : WasDenied start fixed new.seen wish refusal
 
 -- a request is in flight
 pub record IsWaiting (number : ℕ) (request : Request) (old new : SittingShape) : Type 0 where
@@ -46,6 +63,7 @@ pub record IsWaiting (number : ℕ) (request : Request) (old new : SittingShape)
   pub receipts : new.receipts ≡ old.receipts
   pub waits : new.waits ≡ record { number = number; seat = old.seat; request = request } ∷ []
   pub room : new.room ≡ old.room
+  pub later : Begins old.seen new.seen
 
 -- the request that was in flight is answered, and there is a receipt of it
 pub record IsAnswered (reply : Reply) (receipt : Receipt) (old new : SittingShape) : Type 0 where
@@ -56,6 +74,7 @@ pub record IsAnswered (reply : Reply) (receipt : Receipt) (old new : SittingShap
   pub answer : receipt.reply ≡ reply
   pub by : receipt.seat ≡ old.seat
   pub asked : (x : Seated) → old.waits ≡ x ∷ [] → receipt.request ≡ x.request
+  pub later : Begins old.seen new.seen
 
 -- a request was made and answered, and there is a receipt of it
 pub record IsPerformed (request : Request) (reply : Reply) (receipt : Receipt) (old new : SittingShape) : Type 0 where
@@ -66,3 +85,4 @@ pub record IsPerformed (request : Request) (reply : Reply) (receipt : Receipt) (
   pub answer : receipt.reply ≡ reply
   pub by : receipt.seat ≡ old.seat
   pub asked : receipt.request ≡ request
+  pub later : Begins old.seen new.seen

@@ -1,10 +1,12 @@
 // What a seat asks of the volumes of a rig.
-ghost use Rattle.std.specs.Prelude.{◌≡◌, ◌*◌, ◌<◌, ◌∷◌, ◌++◌, ℕ, List, [], length, IfOk, IfErr, OnErr, OnOk};
+ghost use Rattle.std.specs.Prelude.{◌≡◌, ◌*◌, ◌<◌, ◌∷◌, ◌++◌, ℕ, List, [], length, IfOk, IfErr, OnOk};
 ghost use Rattle.chunk.specs.Pieces.{span_of};
 ghost use Rattle.plain.specs.declared.request.Op.TheVariants.{Read, Write};
 ghost use Rattle.plain.specs.declared.request.Reply.TheVariants.{Data, Written};
 ghost use Rattle.journal.specs.declared.entry.Receipt.{Receipt};
-ghost use Rattle.rig.specs.Rigs.{HasAdded, IsPieceCut, receipts_at};
+ghost use Rattle.post.specs.Denying.{Begin, Serve, WasBegun, WasDenied};
+ghost use Rattle.rig.specs.Rigs.{HasAdded, IsPieceCut, receipts_at, seen_at};
+ghost use Rattle.rig.specs.Sittings.{IsSameSitting};
 ghost use Rattle.rig.specs.Served.{IsOf, IsReadBy, IsReadCut, IsReadLost, IsWriteCut, IsWriteLost, IsWrittenBy, read_op, written_reply};
 
 use crate::performing::perform;
@@ -12,6 +14,7 @@ use crate::place::Place;
 use crate::queue::{Queue, QueuePass};
 use crate::rig::Rig;
 use crate::seat::Seat;
+use crate::sitting::Sitting;
 use crate::turns::{begin, merge_turn};
 use chunk::Geometry;
 use copier::Gate;
@@ -49,7 +52,7 @@ impl<J: Room> Seat<J> {
         requires volume { volume < J.volumes }
         requires bytes { (bytes : List ℕ) → request.op ≡ Write bytes → length bytes ≡ 512 * request.range.count }
         ensures ok { IfOk result (λ reply. (r : Receipt) × (r.request ≡ request) × (r.reply ≡ reply) × HasAdded volume (r ∷ []) self.old self.new) }
-        ensures err { OnErr result (HasAdded volume [] self.old self.new) }
+        ensures err { IfErr result (λ refusal. HasAdded volume [] self.old self.new × WasDenied (J.start volume) (J.fixed volume) (seen_at self.new volume) (Serve request) refusal) }
     {
         let place = &rig.places[volume];
         perform(
@@ -74,7 +77,7 @@ impl<J: Room> Seat<J> {
     ) -> Result<(), Refusal>
         requires volume { volume < J.volumes }
         ensures ok { OnOk result ((own : List ℕ) × (r : Receipt) × IsOf dev Read (span_of part) r × (r.reply ≡ Data own) × HasAdded volume (r ∷ []) self.old self.new × (out.new.items ≡ out.old.items ++ own)) }
-        ensures err { IfErr result (λ refusal. IsPieceCut read_op Data IsReadLost dev (span_of part) refusal volume self.old self.new) }
+        ensures err { IfErr result (λ refusal. IsPieceCut read_op Data IsReadLost (λ request r. WasDenied (J.start volume) (J.fixed volume) (seen_at self.new volume) (Serve request) r) dev (span_of part) refusal volume self.old self.new) }
     {
         let request = Request {
             dev,
@@ -109,7 +112,7 @@ impl<J: Room> Seat<J> {
         requires volume { volume < J.volumes }
         requires bytes { length bytes.now ≡ 512 * part.count }
         ensures ok { OnOk result ((r : Receipt) × IsOf dev (Write bytes.now) (span_of part) r × (r.reply ≡ Written) × HasAdded volume (r ∷ []) self.old self.new) }
-        ensures err { IfErr result (λ refusal. IsPieceCut Write written_reply IsWriteLost dev (span_of part) refusal volume self.old self.new) }
+        ensures err { IfErr result (λ refusal. IsPieceCut Write written_reply IsWriteLost (λ request r. WasDenied (J.start volume) (J.fixed volume) (seen_at self.new volume) (Serve request) r) dev (span_of part) refusal volume self.old self.new) }
     {
         let Ok(bytes) = Buf::from_slice(self.alloc, bytes) else {
             return Err(Refusal::NoMemory);
@@ -132,8 +135,9 @@ impl<J: Room> Seat<J> {
     }
 
     /// Reads a range of a device, piece after piece. The first piece that is refused, or that is answered by a failure, ends it,
-    /// and those before it were read. Where all were read it is refused for want of memory alone (`NoMemory`). A range of no
-    /// sectors is refused as the volume refuses it.
+    /// and those before it were read. Where all were read it is refused for want of memory alone (`NoMemory`). A piece is refused
+    /// for want of memory, or by what the journal's entries, as far as the seat has then seen them, and what stays of the volume
+    /// say. A range of no sectors is refused as the volume refuses it.
     pub fn read<B: Layered, G: Gate + Drop, R: Wait>(
         &mut self,
         rt: &R,
@@ -144,7 +148,7 @@ impl<J: Room> Seat<J> {
     ) -> Result<Buf, Refusal>
         requires volume { volume < J.volumes }
         ensures ok { IfOk result (λ bytes. (more : List Receipt) × HasAdded volume more self.old self.new × IsReadBy dev (span_of range) more bytes) }
-        ensures err { IfErr result (λ refusal. (more : List Receipt) × HasAdded volume more self.old self.new × IsReadCut dev (span_of range) more refusal) }
+        ensures err { IfErr result (λ refusal. (more : List Receipt) × HasAdded volume more self.old self.new × IsReadCut (λ request r. WasDenied (J.start volume) (J.fixed volume) (seen_at self.new volume) (Serve request) r) dev (span_of range) more refusal) }
     {
         let Ok(mut out) = Vec::with_capacity(self.alloc, range.count as usize * SECTOR_BYTES) else {
             return Err(Refusal::NoMemory);
@@ -175,7 +179,7 @@ impl<J: Room> Seat<J> {
         requires volume { volume < J.volumes }
         requires bytes { length bytes.now ≡ 512 * range.count }
         ensures ok { OnOk result ((more : List Receipt) × HasAdded volume more self.old self.new × IsWrittenBy dev (span_of range) more bytes.now) }
-        ensures err { IfErr result (λ refusal. (more : List Receipt) × HasAdded volume more self.old self.new × IsWriteCut dev (span_of range) more refusal) }
+        ensures err { IfErr result (λ refusal. (more : List Receipt) × HasAdded volume more self.old self.new × IsWriteCut (λ request r. WasDenied (J.start volume) (J.fixed volume) (seen_at self.new volume) (Serve request) r) dev (span_of range) more refusal) }
     {
         let geometry = Geometry {
             chunk: rig.places[volume].piece,
@@ -194,7 +198,7 @@ impl<J: Room> Seat<J> {
     }
 
     /// Writes a range of a device, piece after piece. The first piece that is refused, or that is answered by a failure, ends
-    /// it, and those before it stand: a write whose pieces were all done is not refused.
+    /// it, and those before it stand: a write whose pieces were all done is not refused. A piece is refused as one that is read.
     pub fn write<B: Layered, G: Gate + Drop, R: Wait>(
         &mut self,
         rt: &R,
@@ -207,13 +211,14 @@ impl<J: Room> Seat<J> {
         requires volume { volume < J.volumes }
         requires bytes { length bytes ≡ 512 * range.count }
         ensures ok { OnOk result ((more : List Receipt) × HasAdded volume more self.old self.new × IsWrittenBy dev (span_of range) more bytes) }
-        ensures err { IfErr result (λ refusal. (more : List Receipt) × HasAdded volume more self.old self.new × IsWriteCut dev (span_of range) more refusal) }
+        ensures err { IfErr result (λ refusal. (more : List Receipt) × HasAdded volume more self.old self.new × IsWriteCut (λ request r. WasDenied (J.start volume) (J.fixed volume) (seen_at self.new volume) (Serve request) r) dev (span_of range) more refusal) }
     {
         self.write_all(rt, rig, volume, dev, range, bytes.as_slice())
     }
 
     /// Merges a snapshot into its origin: begins the merge once the volume is quiet, and works until it can be finished or has
-    /// stopped at a fault.
+    /// stopped at a fault. That it began is an entry of the journal, which the seat had not seen before and has seen then; it is
+    /// refused by what the entries that it has seen and what stays of the volume say.
     pub fn merge<B: Layered, G: Gate + Drop, R: Wait>(
         &mut self,
         rt: &R,
@@ -222,10 +227,13 @@ impl<J: Room> Seat<J> {
         snap: SnapId,
     ) -> Result<(), Refusal>
         requires volume { volume < J.volumes }
-        ensures { self.new ≡ self.old }
+        ensures added { HasAdded volume [] self.old self.new }
+        ensures begun { OnOk result (WasBegun snap (seen_at self.old volume) (seen_at self.new volume)) }
+        ensures denied { IfErr result (λ refusal. WasDenied (J.start volume) (J.fixed volume) (seen_at self.new volume) (Begin snap) refusal) }
     {
         let place = &rig.places[volume];
-        begin_merge(rt, &rig.queue, place, &mut self.pass, snap)?;
+        let sitting = &mut self.sittings[volume];
+        begin_merge(rt, &rig.queue, place, &mut self.pass, sitting, snap)?;
         work_merge(rt, &rig.queue, place, &mut self.pass);
         Ok(())
     }
@@ -237,10 +245,16 @@ fn begin_merge<B: Layered, J: Room, R: Wait>(
     queue: &Queue<J>,
     place: &Place<B, J>,
     pass: &mut QueuePass<J>,
+    sitting: &mut Sitting<J>,
     snap: SnapId,
-) -> Result<(), Refusal> {
+) -> Result<(), Refusal>
+    requires volume { sitting.old.volume ≡ place.now.volume }
+    ensures seat { IsSameSitting sitting.old sitting.new }
+    ensures begun { OnOk result (WasBegun snap sitting.old.seen sitting.new.seen) }
+    ensures denied { IfErr result (λ refusal. WasDenied (J.start sitting.old.volume) (J.fixed sitting.old.volume) sitting.new.seen (Begin snap) refusal) }
+{
     for _ in rt.forever() {
-        let (got, started) = begin(rt, place, snap);
+        let (got, started) = begin(rt, place, sitting, snap);
         queue.put(rt, pass, place.volume, started);
         if got != Err(Refusal::NotQuiet) {
             return got;

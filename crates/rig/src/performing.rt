@@ -1,8 +1,9 @@
 // One request of a seat, from its submission to its reply.
-ghost use Rattle.std.specs.Prelude.{◌≡◌, ◌*◌, ◌<◌, ℕ, List, [], length, IfOk, OnErr};
+ghost use Rattle.std.specs.Prelude.{◌≡◌, ◌*◌, ◌<◌, ℕ, List, [], length, IfErr, IfOk};
 ghost use Rattle.plain.specs.declared.request.Op.TheVariants.{Write};
 ghost use Rattle.journal.specs.declared.entry.Receipt.{Receipt};
-ghost use Rattle.rig.specs.Sittings.{IsPerformed, IsSameSitting};
+ghost use Rattle.post.specs.Denying.{Serve};
+ghost use Rattle.rig.specs.Sittings.{IsPerformed, IsTurnedAway};
 
 use crate::place::Place;
 use crate::queue::{Queue, QueuePass};
@@ -14,7 +15,8 @@ use post::Room;
 use sector::Refusal;
 use std::sync::Wait;
 
-/// Submits a request, and works until it is answered. The answer is the reply of the receipt that came with it.
+/// Submits a request, and works until it is answered. The answer is the reply of the receipt that came with it; where there is
+/// none, what the seat has then seen says why.
 pub(crate) fn perform<B: Layered, J: Room, R: Wait>(
     rt: &R,
     queue: &Queue<J>,
@@ -28,7 +30,7 @@ pub(crate) fn perform<B: Layered, J: Room, R: Wait>(
     requires idle { sitting.old.waits ≡ [] }
     requires bytes { (bytes : List ℕ) → request.op ≡ Write bytes → length bytes ≡ 512 * request.range.count }
     ensures ok { IfOk result (λ reply. (r : Receipt) × IsPerformed request reply r sitting.old sitting.new) }
-    ensures err { OnErr result (IsSameSitting sitting.old sitting.new) }
+    ensures err { IfErr result (λ refusal. IsTurnedAway (J.start sitting.old.volume) (J.fixed sitting.old.volume) (Serve request) refusal sitting.old sitting.new) }
 {
     if sitting.reserve().is_err() {
         return Err(Refusal::NoMemory);

@@ -1,19 +1,22 @@
 // What a seat does at one volume, under its lock.
-ghost use Rattle.std.specs.Prelude.{◌≡◌, ◌*◌, ◌<◌, ◌++◌, ◌∷◌, ℕ, List, [], length, map, IfOk, IfSome, IfNone, MatchResult};
+ghost use Rattle.std.specs.Prelude.{◌≡◌, ◌≢◌, ◌*◌, ◌<◌, ◌++◌, ◌∷◌, ℕ, List, [], length, map, IfErr, IfOk, IfSome, IfNone, MatchResult, OnErr, OnOk};
 ghost use Rattle.plain.specs.declared.request.Op.TheVariants.{Write};
 ghost use Rattle.journal.specs.Entries.{answered_of, entries_by};
 ghost use Rattle.journal.specs.Seats.{Seated};
+ghost use Rattle.journal.specs.declared.entry.Entry.{Entry};
 ghost use Rattle.journal.specs.declared.entry.Receipt.{Receipt};
 ghost use Rattle.post.specs.Beside.{IsBeside};
+ghost use Rattle.post.specs.Denying.{Begin, Serve, WasBegun, WasDenied};
 ghost use Rattle.post.specs.Seats.{IsSeat};
-ghost use Rattle.rig.specs.Sittings.{IsAnswered, IsSameSitting, IsWaiting};
+ghost use Rattle.sector.specs.declared.refusal.Refusal.TheVariants.{NotQuiet};
+ghost use Rattle.rig.specs.Sittings.{IsAnswered, IsSameSitting, IsTurnedAway, IsWaiting};
 
 use crate::sitting::Sitting;
 use atomic_table::Badge;
 use history::Pass;
 use journal::Receipt;
 use layers::Layered;
-use plain::{Reply, ReqId, Request};
+use plain::{Reply, ReqId, Request, SnapId};
 use post::{Beside, Post, Room};
 use sector::Refusal;
 use std::alloc::{AllocError, Global};
@@ -63,7 +66,7 @@ impl<J: Room> Sitting<J> {
         requires idle { self.old.waits ≡ [] }
         requires bytes { (bytes : List ℕ) → request.op ≡ Write bytes → length bytes ≡ 512 * request.range.count }
         ensures post { post.new.volume ≡ post.old.volume }
-        ensures seat { MatchResult result (λ number. IsWaiting number request self.old self.new) (λ _. IsSameSitting self.old self.new) }
+        ensures seat { MatchResult result (λ number. IsWaiting number request self.old self.new) (λ refusal. IsTurnedAway (J.start self.old.volume) (J.fixed self.old.volume) (Serve request) refusal self.old self.new) }
     {
         let badge = mem::replace(&mut self.pass, Badge::blank());
         let (pass, got) = post.submit(beside, badge.into_seat(), self.seat, request);
@@ -100,14 +103,35 @@ impl<J: Room> Sitting<J> {
         }
     }
 
+    /// Begins a merge for this seat.
+    pub(crate) fn begin_merge<B: Layered>(
+        &mut self,
+        post: &mut Post<B, J>,
+        beside: &Beside,
+        number: SnapId,
+    ) -> Result<(), Refusal>
+        requires beside { IsBeside (J.history post.old.volume) (J.boards post.old.volume) beside.now }
+        requires volume { post.old.volume ≡ self.old.volume }
+        ensures post { post.new.volume ≡ post.old.volume }
+        ensures seat { IsSameSitting self.old self.new }
+        ensures begun { OnOk result (WasBegun number self.old.seen self.new.seen) }
+        ensures denied { IfErr result (λ refusal. refusal ≢ NotQuiet → WasDenied (J.start self.old.volume) (J.fixed self.old.volume) self.new.seen (Begin number) refusal) }
+    {
+        let badge = mem::replace(&mut self.pass, Badge::blank());
+        let (pass, got) = post.begin_merge(beside, badge.into_seat(), self.seat, number);
+        self.pass = pass.into_badge();
+        got
+    }
+
     /// The receipts of this seat are its entries in the journal after those that it had, in their order, and there are as
-    /// many.
+    /// many; and what it has seen are the first entries since the rig was made.
     pub(crate) fn settle<B: Layered>(&mut self, post: &mut Post<B, J>, beside: &Beside)
         requires beside { IsBeside (J.history post.old.volume) (J.boards post.old.volume) beside.now }
         requires volume { post.old.volume ≡ self.old.volume }
         ensures seat { self.new ≡ self.old }
         ensures post { post.new ≡ post.old }
         ensures own { entries_by self.old.seat post.old.audit.entries ≡ entries_by self.old.seat (J.start self.old.volume) ++ map answered_of self.old.receipts }
+        ensures seen { (more : List Entry) × (post.old.audit.entries ≡ J.start self.old.volume ++ (self.old.seen ++ more)) }
     {
         let badge = mem::replace(&mut self.pass, Badge::blank());
         let pass = post.settle(beside, badge.into_seat(), self.seat);

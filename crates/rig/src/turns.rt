@@ -1,11 +1,13 @@
 // What a seat or a worker does while it holds a volume's lock once.
-ghost use Rattle.std.specs.Prelude.{◌≡◌, ◌≢◌, ◌*◌, ◌<◌, ◌∷◌, ℕ, List, [], length, IfSome, IfNone, MatchOption, MatchResult};
+ghost use Rattle.std.specs.Prelude.{◌≡◌, ◌≢◌, ◌*◌, ◌<◌, ◌∷◌, ℕ, List, [], length, IfErr, IfSome, IfNone, MatchOption, MatchResult, OnOk};
 ghost use Rattle.std.specs.Sync.Mutex.{mutex_guard_value};
 ghost use Rattle.plain.specs.declared.event.Event.TheVariants.{Issue};
 ghost use Rattle.plain.specs.declared.request.Op.TheVariants.{Write};
 ghost use Rattle.journal.specs.Seats.{Seated};
 ghost use Rattle.journal.specs.declared.entry.Receipt.{Receipt};
-ghost use Rattle.rig.specs.Sittings.{IsAnswered, IsPerformed, IsSameSitting, IsWaiting};
+ghost use Rattle.post.specs.Denying.{Begin, Serve, WasBegun, WasDenied};
+ghost use Rattle.rig.specs.Sittings.{IsAnswered, IsPerformed, IsSameSitting, IsTurnedAway, IsWaiting};
+ghost use Rattle.sector.specs.declared.refusal.Refusal.TheVariants.{NotQuiet};
 
 use crate::place::Place;
 use crate::queueing::Started;
@@ -46,7 +48,7 @@ fn make<B: Layered, J: Room, R: Wait>(
     requires idle { sitting.old.waits ≡ [] }
     requires room { length sitting.old.receipts < sitting.old.room }
     requires bytes { (bytes : List ℕ) → request.op ≡ Write bytes → length bytes ≡ 512 * request.range.count }
-    ensures { MatchResult result (λ made. MatchOption made.1 (IsWaiting made.0 request sitting.old sitting.new) (λ reply. (r : Receipt) × IsPerformed request reply r sitting.old sitting.new)) (λ _. IsSameSitting sitting.old sitting.new) }
+    ensures { MatchResult result (λ made. MatchOption made.1 (IsWaiting made.0 request sitting.old sitting.new) (λ reply. (r : Receipt) × IsPerformed request reply r sitting.old sitting.new)) (λ refusal. IsTurnedAway (J.start sitting.old.volume) (J.fixed sitting.old.volume) (Serve request) refusal sitting.old sitting.new) }
 {
     match sitting.submit(post, &place.beside, request) {
         Ok(number) => match sitting.issue(rt, post, &place.beside, number) {
@@ -69,7 +71,7 @@ pub(crate) fn submit<B: Layered, J: Room, R: Wait>(
     requires idle { sitting.old.waits ≡ [] }
     requires room { length sitting.old.receipts < sitting.old.room }
     requires bytes { (bytes : List ℕ) → request.op ≡ Write bytes → length bytes ≡ 512 * request.range.count }
-    ensures { MatchResult result.0 (λ made. MatchOption made.1 (IsWaiting made.0 request sitting.old sitting.new) (λ reply. (r : Receipt) × IsPerformed request reply r sitting.old sitting.new)) (λ _. IsSameSitting sitting.old sitting.new) }
+    ensures { MatchResult result.0 (λ made. MatchOption made.1 (IsWaiting made.0 request sitting.old sitting.new) (λ reply. (r : Receipt) × IsPerformed request reply r sitting.old sitting.new)) (λ refusal. IsTurnedAway (J.start sitting.old.volume) (J.fixed sitting.old.volume) (Serve request) refusal sitting.old sitting.new) }
 {
     let mut post = locked(rt, place);
     let after = post.last_copy();
@@ -136,15 +138,22 @@ pub(crate) fn copy<B: Layered, J: Room, R: Wait>(rt: &R, place: &Place<B, J>, ev
     place.moved.notify_all();
 }
 
-/// Tries to begin a merge. Where the volume is not quiet, does another event that is due, or waits until something happened.
+/// Tries to begin a merge for a seat. Where the volume is not quiet, does another event that is due, or waits until something
+/// happened.
 pub(crate) fn begin<B: Layered, J: Room, R: Wait>(
     rt: &R,
     place: &Place<B, J>,
+    sitting: &mut Sitting<J>,
     number: SnapId,
-) -> (Result<(), Refusal>, Started) {
+) -> (Result<(), Refusal>, Started)
+    requires volume { sitting.old.volume ≡ place.now.volume }
+    ensures seat { IsSameSitting sitting.old sitting.new }
+    ensures begun { OnOk result.0 (WasBegun number sitting.old.seen sitting.new.seen) }
+    ensures denied { IfErr result.0 (λ refusal. refusal ≢ NotQuiet → WasDenied (J.start sitting.old.volume) (J.fixed sitting.old.volume) sitting.new.seen (Begin number) refusal) }
+{
     let mut post = locked(rt, place);
     let after = post.last_copy();
-    let got = post.begin_merge(&place.beside, number);
+    let got = sitting.begin_merge(&mut post, &place.beside, number);
     if got == Err(Refusal::NotQuiet) && !post.advance(rt, &place.beside) {
         let _post = place.moved.wait(rt, post);
         return (got, Started { after, last: after });

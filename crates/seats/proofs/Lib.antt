@@ -3,3 +3,4 @@ pub mod Doing
 pub mod Reading
 pub mod Places
 pub mod Crossing
+pub mod Mapping

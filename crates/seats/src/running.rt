@@ -160,7 +160,7 @@ where
     requires quiet { (k : ℕ) (d : AuditShape B) → k < length audits.items → (slice_index_or audits.items k d).held ≡ [] }
     ensures ok { IfOk result (λ after. AreLeft B.size B.layers audits.items after.items) }
     ensures err { IfErr result (λ e. (e.0 ≡ NoMemory) × AreLeft B.size B.layers audits.items e.1.items) }
-    ensures told { IfOk result (λ after. (i : ℕ) → i < 8 → i < length tasks.old.items → AreTold audits.items after.items (i + 1) (tasks_at tasks.old.items i) (tasks_at tasks.new.items i)) }
+    ensures told { IfOk result (λ after. (i : ℕ) → i < 8 → i < length tasks.old.items → AreTold B.size B.layers audits.items after.items (i + 1) (tasks_at tasks.old.items i) (tasks_at tasks.new.items i)) }
     ensures others { (length tasks.new.items ≡ length tasks.old.items) × ((i : ℕ) → 8 ≤ i → tasks_at tasks.new.items i ≡ tasks_at tasks.old.items i) }
 {
     let volumes = audits.len();
@@ -213,7 +213,7 @@ where
     requires quiet { (k : ℕ) (d : AuditShape B) → k < length audits.items → (slice_index_or audits.items k d).held ≡ [] }
     ensures ok { IfOk result (λ after. AreLeft B.size B.layers audits.items after.items) }
     ensures err { IfErr result (λ e. (e.0 ≡ NoMemory) × AreLeft B.size B.layers audits.items e.1.items) }
-    ensures told { IfOk result (λ after. (i : ℕ) → i < 8 → i < length tasks.old.items → AreTold audits.items after.items (i + 1) (tasks_at tasks.old.items i) (tasks_at tasks.new.items i)) }
+    ensures told { IfOk result (λ after. (i : ℕ) → i < 8 → i < length tasks.old.items → AreTold B.size B.layers audits.items after.items (i + 1) (tasks_at tasks.old.items i) (tasks_at tasks.new.items i)) }
     ensures others { (length tasks.new.items ≡ length tasks.old.items) × ((i : ℕ) → 8 ≤ i → tasks_at tasks.new.items i ≡ tasks_at tasks.old.items i) }
 {
     let Ok(opened) = Opened::new(alloc, audits.len()) else {

@@ -1,4 +1,5 @@
 use Rattle.std.proofs.Common.{[], ◌∷◌, ◌++◌, ap, ◌∙◌}
+use Rattle.history.proofs.Begins.{begins_then}
 use Rattle.rig.proofs.performing.perform.Goals as goal
 
 pub returns-in-Ok-default-Some-clause-ok : goal.returns-in-Ok-default-Some-clause-ok
@@ -15,6 +16,7 @@ returns-in-Ok-default-Some-clause-ok g c =
         answer = h.1.answer;
         by = h.1.by ∙ same.seat;
         asked = h.1.asked;
+        later = begins_then _ _ _ same.later h.1.later;
       },
     )
 
@@ -31,5 +33,6 @@ returns-in-Some-reply-clause-ok g c =
         answer = h.1.answer;
         by = h.1.by ∙ was.1;
         asked = h.1.asked _ was.3;
+        later = begins_then _ _ _ was.5 h.1.later;
       },
     )

@@ -1,5 +1,6 @@
 -- A request that is issued at once was waiting just before.
 use Rattle.std.proofs.Common.{◌<◌, List, [], ◌∷◌, ◌++◌, length, sym, ap, ◌∙◌, subst}
+use Rattle.history.proofs.Begins.{begins_then}
 use Rattle.post.specs.Beside.{IsBeside}
 use Rattle.journal.specs.declared.entry.Receipt.{Receipt}
 use Rattle.rig.proofs.turns.make.Goals as goal
@@ -27,6 +28,7 @@ returns-in-Some g c =
         answer = h.1.answer;
         by = h.1.by ∙ waits.seat;
         asked = h.1.asked _ waits.waits;
+        later = begins_then _ _ _ waits.later h.1.later;
       },
     )
 
@@ -39,4 +41,5 @@ returns-in-None g c =
       receipts = same.0.receipts ∙ waits.receipts;
       waits = same.0.waits ∙ waits.waits;
       room = same.1 ∙ waits.room;
+      later = begins_then _ _ _ waits.later same.0.later;
     }

@@ -1,17 +1,18 @@
-use Rattle.std.proofs.Common.{ℕ, List, refl, sym, ◌∙◌, subst}
+use Rattle.std.proofs.Common.{ℕ, List, inl, refl, sym, ◌∙◌, subst}
 use Rattle.chunk.specs.Pieces.{Span, pieces_of, span_of}
 use Rattle.chunk.proofs.Limits.{is_chunk-some, is_chunk-small}
 use Rattle.plain.specs.declared.request.Reply.TheVariants.{Data}
 use Rattle.sector.specs.declared.refusal.Refusal.TheVariants.{NoMemory}
 use Rattle.journal.specs.declared.entry.Receipt.{Receipt}
-use Rattle.rig.specs.Rigs.{HasAdded}
+use Rattle.post.specs.Denying.{Serve, WasDenied}
+use Rattle.rig.specs.Rigs.{HasAdded, seen_at}
 use Rattle.rig.specs.Served.{IsReadBy, IsReadLost, read_op}
 use Rattle.rig.proofs.UnderWay.{IsUnderWay, begins, ends, goes, stops, stops_at_once}
 use Rattle.rig.proofs.seat.Seat.read.Goals as goal
 
 pub returns-in_default-clause-err : goal.returns-in_default-clause-err
 returns-in_default-clause-err g c =
-    let once = stops_at_once read_op Data c.args.dev IsReadLost c.args.volume (pieces_of 1 (span_of c.args.range)) c.args.self.now NoMemory refl in
+    let once = stops_at_once read_op Data c.args.dev IsReadLost (λ request r. WasDenied (g.J.Room.start c.args.volume) (g.J.Room.fixed c.args.volume) (seen_at c.args.self.now c.args.volume) (Serve request) r) (λ q r is. inl is) c.args.volume (pieces_of 1 (span_of c.args.range)) c.args.self.now NoMemory refl in
     (once.0, once.1, (1, once.2))
 
 pub invariant_of-geometry : goal.invariant_of-geometry
@@ -51,7 +52,7 @@ pub returns-in-Err-clause-err : goal.returns-in-Err-clause-err
 returns-in-Err-clause-err g c =
     let under = c.loop-part.invariant.under in
     let all = pieces_of under.0 (span_of c.args.range) in
-    let cut = stops read_op Data c.args.dev IsReadLost c.args.volume all c.next.new.self (span_of c.in-Some.part) c.args.self.now c.loop-part.self c.read_piece.new.self c.loop-part.out.items c.in-Err.refusal
+    let cut = stops read_op Data c.args.dev IsReadLost (λ request r. WasDenied (g.J.Room.start c.args.volume) (g.J.Room.fixed c.args.volume) (seen_at c.read_piece.new.self c.args.volume) (Serve request) r) (λ q r is. inl is) c.args.volume all c.next.new.self (span_of c.in-Some.part) c.args.self.now c.loop-part.self c.read_piece.new.self c.loop-part.out.items c.in-Err.refusal
     (subst (λ (left : List Span). IsUnderWay read_op Data c.args.dev c.args.volume all left c.args.self.now c.loop-part.self c.loop-part.out.items) c.in-Some.ensures.steps under.1)
     c.in-Err.ensures.err in
     (cut.0, cut.1, (under.0, cut.2))

@@ -1,5 +1,6 @@
 use Rattle.std.proofs.Common.{◌++◌, [], inl, inr, refl, ap, ◌∙◌}
 use Rattle.chunk.specs.Pieces.{span_of}
+use Rattle.plain.specs.declared.request.Op.TheVariants.{Read}
 use Rattle.rig.proofs.seat.Seat.read_piece.Goals as goal
 
 pub returns-in-Ok-clause-ok : goal.returns-in-Ok-clause-ok
@@ -34,3 +35,8 @@ returns-in-Ok-Refused-clause-err g c =
       h.3,
       inr (c.in-Ok-Refused.failure, h.2 ∙ c.in-Ok-Refused.field-0-is, c.refusal_for.ensures),
     )
+
+pub returns-clause-err : goal.returns-clause-err
+returns-clause-err g c =
+    let h = c.in-Err.ensures.err in
+    inl (h.0, inr ([], record { dev = c.args.dev; op = Read; range = c.args.part }, record { goes_to = refl; asks = refl; covers = refl }, h.1))

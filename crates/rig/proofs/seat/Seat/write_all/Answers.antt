@@ -4,7 +4,8 @@ use Rattle.chunk.specs.Pieces.{Span, pieces_of, span_of}
 use Rattle.chunk.proofs.Limits.{is_chunk-some, is_chunk-small}
 use Rattle.chunk.proofs.Runs.{first_piece, stands_first, stands_last, stands_next}
 use Rattle.plain.specs.declared.request.Op.TheVariants.{Write}
-use Rattle.rig.specs.Rigs.{HasAdded}
+use Rattle.post.specs.Denying.{Serve, WasDenied}
+use Rattle.rig.specs.Rigs.{HasAdded, seen_at}
 use Rattle.rig.specs.Served.{IsWriteLost, IsWrittenBy, written_reply}
 use Rattle.journal.specs.declared.entry.Receipt.{Receipt}
 use Rattle.rig.proofs.Parts.{part_all, part_fits, part_more}
@@ -71,7 +72,7 @@ pub returns-in-Err-clause-err : goal.returns-in-Err-clause-err
 returns-in-Err-clause-err g c =
     let under = c.loop-part.invariant.under in
     let all = pieces_of under.0 (span_of c.args.range) in
-    let cut = stops Write written_reply c.args.dev IsWriteLost c.args.volume all c.next.new.self (span_of c.in-Some.part) c.args.self.now c.loop-part.self c.write_piece.new.self (take c.loop-part.from c.args.bytes.now) c.in-Err.refusal
+    let cut = stops Write written_reply c.args.dev IsWriteLost (λ request r. WasDenied (g.J.Room.start c.args.volume) (g.J.Room.fixed c.args.volume) (seen_at c.write_piece.new.self c.args.volume) (Serve request) r) (λ q r is. absurd is) c.args.volume all c.next.new.self (span_of c.in-Some.part) c.args.self.now c.loop-part.self c.write_piece.new.self (take c.loop-part.from c.args.bytes.now) c.in-Err.refusal
     (subst (λ (left : List Span). IsUnderWay Write written_reply c.args.dev c.args.volume all left c.args.self.now c.loop-part.self (take c.loop-part.from c.args.bytes.now)) c.in-Some.ensures.steps under.2)
     c.in-Err.ensures.err in
     (cut.0, cut.1, (under.0, cut.2))

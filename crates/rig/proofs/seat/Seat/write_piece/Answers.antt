@@ -1,4 +1,4 @@
-use Rattle.std.proofs.Common.{inr, ap, ◌∙◌}
+use Rattle.std.proofs.Common.{inl, inr, refl, ap, ◌∙◌}
 use Rattle.chunk.specs.Pieces.{span_of}
 use Rattle.plain.specs.declared.request.Op.TheVariants.{Write}
 use Rattle.rig.proofs.seat.Seat.write_piece.Goals as goal
@@ -22,3 +22,8 @@ returns-in-Ok-Refused-clause-err g c =
       h.3,
       inr (c.in-Ok-Refused.failure, h.2 ∙ c.in-Ok-Refused.field-0-is, c.refusal_for.ensures),
     )
+
+pub returns-clause-err : goal.returns-clause-err
+returns-clause-err g c =
+    let h = c.in-Err.ensures.err in
+    inl (h.0, inr (c.args.bytes.now, record { dev = c.args.dev; op = Write c.in-Ok.bytes; range = c.args.part }, record { goes_to = refl; asks = ap Write c.in-Ok.ensures; covers = refl }, h.1))

@@ -1,5 +1,7 @@
-use Rattle.std.proofs.Common.{[], ◌∷◌, ◌++◌, sym, ap, ◌∙◌}
-use Rattle.rig.specs.Sittings.{waits_of}
+use Rattle.std.proofs.Common.{[], ◌∷◌, ◌++◌, sym, ap, ◌∙◌, subst}
+use Rattle.history.specs.Keeping.{Begins}
+use Rattle.history.proofs.Begins.{begins_in}
+use Rattle.rig.specs.Sittings.{seen_of, waits_of}
 use Rattle.rig.proofs.Answering.{answered_at}
 use Rattle.rig.proofs.sitting.Sitting.issue.Goals as goal
 
@@ -14,5 +16,10 @@ returns-in-Some-clause-some g c =
           (ap (λ s. s.seat) c.self.view_is)
           (sym (ap (λ s. s.seat) c.self.view_is))
           (c.push_reserved.ensures.items ∙ ap (λ s. s.receipts ++ c.in-Some.pair.1 ∷ []) c.self.view_is)
-          c.requires.one,
+          c.requires.one
+          (begins_in _ _ _
+          (subst (λ l. Begins l c.issue-pass.result.0.me.0.seen)
+          (sym (ap (λ b. seen_of b.views) (sym c.replace-badge.ensures.value) ∙ ap seen_of c.into_seat.ensures.2) ∙ ap (λ s. s.seen) c.self.view_is)
+          h.later)
+          (ap seen_of c.into_badge.ensures.2)),
     )
