@@ -1,4 +1,4 @@
--- The devices as contracts see them.
+-- What calls leave of the devices, and what they look for among them.
 use Rattle.std.specs.Prelude.{◌≡◌, ◌⊎◌, ℕ, false, List, Result, Ok}
 use Rattle.sector.specs.declared.refusal.Refusal.{Refusal}
 use Rattle.words.specs.Given.{◌>>=◌}
@@ -7,10 +7,6 @@ use Rattle.named.specs.Places.{place_of, found, stack_at, volume_at}
 use Rattle.named.specs.Sectors.{IsAtRole}
 use Rattle.named.specs.Snapshots.{Named}
 use Rattle.named_volume.specs.Names.{KeepsNames}
-use Rattle.devices.specs.declared.held.Held.{Held}
-
-abbrev pub table_of : Held → Table
-table_of held = record { stacks = held.stacks.items; volumes = held.volumes.items }
 
 -- a volume and a stack that are there, for a snapshot of the one with the other as its store
 abbrev pub named_at : ℕ → ℕ → Table → Result Named Refusal

@@ -9,14 +9,14 @@ ghost use Rattle.named.specs.Sound.{is_sound};
 ghost use Rattle.named.specs.declared.place.Place.TheVariants.{In};
 ghost use Rattle.named.specs.declared.place.Role.TheVariants.{Snapshot};
 ghost use Rattle.devices.specs.Busy.{IsBusyRefused};
-ghost use Rattle.devices.specs.Devices.{named_at, table_of};
+ghost use Rattle.device_list.specs.Tables.{table_of};
+ghost use Rattle.devices.specs.Devices.{named_at};
 ghost use Rattle.devices.specs.Ruled.{is_sound_for};
 
 use crate::back::put_stack_back;
-use crate::find::find;
-use crate::held::Held;
 use crate::lay::top;
 use crate::origins::same_size;
+use device_list::{Held, find};
 use named::{Place, Role};
 use sector::Refusal;
 use std::alloc::Global;

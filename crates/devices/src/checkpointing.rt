@@ -3,11 +3,10 @@ ghost use Rattle.std.specs.Prelude.{◌≡◌, ◌<◌, Ok, Err, IfErr, length};
 ghost use Rattle.named.specs.Changes.{Changes};
 ghost use Rattle.named.specs.Events.{origin_by};
 ghost use Rattle.named.specs.Journal.{checkpointed};
-ghost use Rattle.devices.specs.Devices.{table_of};
+ghost use Rattle.device_list.specs.Tables.{table_of};
 
-use crate::find::find_device;
 use crate::flights::origin_at;
-use crate::held::Held;
+use device_list::{Held, find_device};
 use sector::Refusal;
 use words::Name;
 

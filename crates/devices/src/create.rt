@@ -9,14 +9,13 @@ ghost use Rattle.named.specs.Naming.{AreNamed};
 ghost use Rattle.named.specs.Places.{place_of};
 ghost use Rattle.named.specs.Sound.{drops_writes, is_sound};
 ghost use Rattle.devices.specs.Busy.{IsBusyTarget};
-ghost use Rattle.devices.specs.Devices.{table_of};
+ghost use Rattle.device_list.specs.Tables.{table_of};
 ghost use Rattle.devices.specs.Ruled.{is_sound_target};
 
 use crate::attaching::make_snapshot;
-use crate::find::{find, is_full};
-use crate::held::Held;
 use crate::lay::{features_of, lay_dust, lay_error, lay_flakey};
 use crate::origins::make_origin;
+use device_list::{Held, find, is_full};
 use layers::Flakey;
 use sector::Refusal;
 use std::alloc::Global;

@@ -1,14 +1,13 @@
 // Raw disks: making one.
 ghost use Rattle.std.specs.Prelude.{◌≡◌, ◌≤◌, length, true};
 ghost use Rattle.named.specs.Changes.{Changes};
-ghost use Rattle.devices.specs.Devices.{table_of};
+ghost use Rattle.device_list.specs.Tables.{table_of};
 ghost use Rattle.named.specs.Disks.{make};
 ghost use Rattle.named.specs.Naming.{AreNamed};
 ghost use Rattle.named.specs.Sound.{is_sound};
 
-use crate::find::{find, is_full};
-use crate::held::Held;
 use device::{MAX_SECTORS, MemDisk};
+use device_list::{Held, find, is_full};
 use named_stack::NamedStack;
 use sector::Refusal;
 use std::alloc::Global;

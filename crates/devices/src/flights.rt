@@ -14,15 +14,15 @@ ghost use Rattle.named.specs.declared.place.Place.TheVariants.{In};
 ghost use Rattle.named.specs.declared.place.Role.TheVariants.{Merging, Origin, Snapshot};
 ghost use Rattle.named_volume.specs.Flights.{IsSettledBy, IsStepped};
 ghost use Rattle.named_volume.specs.Names.{KeepsNames};
-ghost use Rattle.devices.specs.Devices.{Flies, KeepsOthers, table_of};
+ghost use Rattle.device_list.specs.Tables.{table_of};
+ghost use Rattle.devices.specs.Devices.{Flies, KeepsOthers};
 ghost use Rattle.devices.specs.Flights.{IsDoneFor, IsNotDueIn, IsStartedAs, event_of, is_about_merging, number_about};
 ghost use Rattle.devices.specs.Merging.{settled_at};
 ghost use Rattle.devices.specs.Ruled.{is_alone_in, is_quiet_in, is_sound_in, rests_at, volume_for};
 ghost use Rattle.volume.specs.EventKinds.{is_of_merge};
 
-use crate::find::find_device;
-use crate::held::Held;
 use command::Event;
+use device_list::{Held, find_device};
 use named::{Place, Role};
 use named_stack::{some_sectors, whole_sectors};
 use plain::{NotDue, Op, Outcome, Replied, ReqId, SnapId};

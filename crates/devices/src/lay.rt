@@ -3,12 +3,11 @@ ghost use Rattle.std.specs.Prelude.{◌≡◌, ◌+◌, ◌<◌, ◌≤◌, fals
 ghost use Rattle.device.specs.Layers.{Dusty};
 ghost use Rattle.layers.specs.Layer.{features_of as layer_features, flakey_layer};
 ghost use Rattle.named.specs.Changes.{Changes};
-ghost use Rattle.devices.specs.Devices.{table_of};
+ghost use Rattle.device_list.specs.Tables.{table_of};
 ghost use Rattle.named.specs.Layers.{broken, features_of, laid, taken, top, unused};
 
-use crate::find::find_device;
-use crate::held::Held;
 use device::MAX_SECTORS;
+use device_list::{Held, find_device};
 use layers::{Features, Flakey};
 use named::{Place, Role};
 use named_stack::NamedStack;

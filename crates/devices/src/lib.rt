@@ -1,11 +1,11 @@
 //! The program's named devices: disks, layers over them, and volumes, and what each command does to them.
 //!
-//! It stands on `layers` for stacks of layers, on `table` for the lines that describe devices, and on `settled` for what a
-//! volume does. It promises that a command answers and leaves exactly what its definition says of the table of devices
-//! before it, with the first refusal in the stated order: in any case where it asks nothing of a volume, and else where no
-//! device of that volume drops writes and nothing is in flight in it. Want of memory may change an answer, and so may
-//! want of room in a volume's journal, of a command that takes a place there; then nothing else changed, but that some first
-//! pieces of a write may stand.
+//! It stands on `device_list` for all devices by name, on `layers` for stacks of layers, on `table` for the lines that describe
+//! devices, and on `settled` for what a volume does. It promises that a command answers and leaves exactly what its definition
+//! says of the table of devices before it, with the first refusal in the stated order: in any case where it asks nothing of a
+//! volume, and else where no device of that volume drops writes and nothing is in flight in it. Want of memory may change an
+//! answer, and so may want of room in a volume's journal, of a command that takes a place there; then nothing else changed, but
+//! that some first pieces of a write may stand.
 //!
 //! A request that is started may end in a later command. While one is in flight in a volume, a call promises what is done to
 //! it by the volume's own events and accepted requests, that it touches no device of another, and which refusals come first.
@@ -16,9 +16,7 @@ mod back;
 mod checkpointing;
 mod create;
 mod disks;
-mod find;
 mod flights;
-mod held;
 mod lay;
 mod lines;
 mod merging;
@@ -34,9 +32,7 @@ mod stopping;
 pub use checkpointing::checkpoint_device;
 pub use create::create_device;
 pub use disks::make_disk;
-pub use find::find_device;
 pub use flights::{settle_device, start_read, start_write, step_device};
-pub use held::Held;
 pub use lines::line_text;
 pub use merging::{finish_device, merge_device, resume_device};
 pub use messages::{tell, tick};

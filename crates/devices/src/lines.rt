@@ -1,12 +1,11 @@
 // Table lines of devices that are there.
 ghost use Rattle.std.specs.Prelude.{◌≡◌};
 ghost use Rattle.words.specs.Given.{Gives};
-ghost use Rattle.devices.specs.Devices.{table_of};
+ghost use Rattle.device_list.specs.Tables.{table_of};
 ghost use Rattle.named.specs.Lines.{line_at, line_text};
 ghost use Rattle.named.specs.Places.{IsPlaceIn};
 
-use crate::find::find_device;
-use crate::held::Held;
+use device_list::{Held, find_device};
 use named::Place;
 use sector::Refusal;
 use std::alloc::Global;

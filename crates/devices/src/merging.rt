@@ -10,14 +10,13 @@ ghost use Rattle.named.specs.Sectors.{IsInVolume};
 ghost use Rattle.named.specs.Sound.{is_sound};
 ghost use Rattle.named.specs.declared.place.Place.TheVariants.{In};
 ghost use Rattle.named.specs.declared.place.Role.TheVariants.{Snapshot};
-ghost use Rattle.devices.specs.Devices.{table_of};
+ghost use Rattle.device_list.specs.Tables.{table_of};
 ghost use Rattle.devices.specs.Flights.{IsDoneFor};
 ghost use Rattle.devices.specs.Merging.{IsBegunIn, IsFinishedIn, IsUnfinishedIn, finished_at, resumed_at};
 ghost use Rattle.devices.specs.Ruled.{is_sound_in, volume_for};
 
-use crate::find::find_device;
 use crate::flights::origin_at;
-use crate::held::Held;
+use device_list::{Held, find_device};
 use named::{Place, Role};
 use sector::Refusal;
 use std::alloc::Global;

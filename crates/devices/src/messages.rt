@@ -3,13 +3,12 @@ ghost use Rattle.std.specs.Prelude.{◌≡◌, ◌<◌, length, map, true};
 ghost use Rattle.named.specs.Changes.{Steps};
 ghost use Rattle.named.specs.Naming.{AreNamed};
 ghost use Rattle.named.specs.Sound.{is_sound};
-ghost use Rattle.devices.specs.Devices.{table_of};
+ghost use Rattle.device_list.specs.Tables.{table_of};
 ghost use Rattle.named.specs.Messages.{stack_ticked, tell, ticked, told_at, volume_ticked};
 ghost use Rattle.named.specs.Places.{IsPlaceIn};
 ghost use Rattle.named.specs.declared.place.Place.TheVariants.{Free, In};
 
-use crate::find::find_device;
-use crate::held::Held;
+use device_list::{Held, find_device};
 use layers::{Answer, Message};
 use named::{Place, Role};
 use named_stack::NamedStack;

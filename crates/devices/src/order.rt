@@ -1,11 +1,10 @@
 // In what order the snapshots of a volume stand, and its stores, by a name.
 ghost use Rattle.std.specs.Prelude.{◌<◌, length};
 ghost use Rattle.named.specs.Places.{volume_at};
-ghost use Rattle.devices.specs.Devices.{table_of};
+ghost use Rattle.device_list.specs.Tables.{table_of};
 ghost use Rattle.devices.specs.Order.{IsInOrderFor, IsInOrderIn};
 
-use crate::find::find;
-use crate::held::Held;
+use device_list::{Held, find};
 use named::Place;
 use words::Name;
 

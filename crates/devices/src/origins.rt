@@ -3,11 +3,11 @@ ghost use Rattle.std.specs.Prelude.{◌≡◌, ◌<◌, length, true};
 ghost use Rattle.named.specs.Changes.{Changes};
 ghost use Rattle.named.specs.Origins.{closed, origin_made, same_size};
 ghost use Rattle.named.specs.Sound.{is_sound};
-ghost use Rattle.devices.specs.Devices.{table_of};
+ghost use Rattle.device_list.specs.Tables.{table_of};
 
 use crate::back::{put_stack_back, put_volume_back};
-use crate::held::Held;
 use crate::lay::top;
+use device_list::Held;
 use named_volume::NamedVolume;
 use sector::Refusal;
 use std::alloc::Global;

@@ -5,14 +5,13 @@ ghost use Rattle.words.specs.Given.{Gives};
 ghost use Rattle.named.specs.Changes.{Changes};
 ghost use Rattle.named.specs.Naming.{AreNamed};
 ghost use Rattle.named.specs.Sound.{is_sound};
-ghost use Rattle.devices.specs.Devices.{table_of};
+ghost use Rattle.device_list.specs.Tables.{table_of};
 ghost use Rattle.named.specs.Places.{IsPlaceIn, IsRoleIn};
 ghost use Rattle.named.specs.Raw.{cut, in_use, load, loaded_at, raw_at, save};
 ghost use Rattle.named.specs.declared.place.Place.TheVariants.{Free};
 
-use crate::find::find_device;
-use crate::held::Held;
 use device::{Block, MemDisk};
+use device_list::{Held, find_device};
 use named::{Place, Role};
 use named_stack::{range_in, some_sectors, whole_sectors};
 use named_volume::NamedVolume;

@@ -6,12 +6,11 @@ ghost use Rattle.named.specs.Places.{IsPlaceIn};
 ghost use Rattle.named.specs.Removing.{lowered, take_away};
 ghost use Rattle.named.specs.Sound.{is_sound};
 ghost use Rattle.named.specs.declared.place.Place.TheVariants.{Free};
-ghost use Rattle.devices.specs.Devices.{table_of};
+ghost use Rattle.device_list.specs.Tables.{table_of};
 
 use crate::attaching::detach;
-use crate::find::find_device;
-use crate::held::Held;
 use crate::origins::close;
+use device_list::{Held, find_device};
 use named::{Place, Role};
 use sector::Refusal;
 use words::Name;

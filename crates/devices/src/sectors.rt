@@ -8,12 +8,12 @@ ghost use Rattle.named.specs.Sound.{is_sound};
 ghost use Rattle.named.specs.Starting.{asked_at, read_asked, write_asked};
 ghost use Rattle.named.specs.declared.place.Place.TheVariants.{In};
 ghost use Rattle.named_volume.specs.Names.{KeepsNames};
-ghost use Rattle.devices.specs.Devices.{KeepsOthers, table_of};
+ghost use Rattle.device_list.specs.Tables.{table_of};
+ghost use Rattle.devices.specs.Devices.{KeepsOthers};
 ghost use Rattle.devices.specs.Flights.{IsDoneFor, IsReadAmong, IsWrittenAmong};
 ghost use Rattle.devices.specs.Ruled.{is_quiet_in, is_sound_in, volume_for};
 
-use crate::find::find_device;
-use crate::held::Held;
+use device_list::{Held, find_device};
 use named::{Place, Role};
 use named_stack::{some_sectors, whole_sectors};
 use plain::Replied;

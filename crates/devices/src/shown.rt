@@ -4,12 +4,11 @@ ghost use Rattle.words.specs.Given.{Gives};
 ghost use Rattle.named.specs.Places.{IsPlaceIn, volume_at};
 ghost use Rattle.named.specs.Status.{status_at, status_text};
 ghost use Rattle.named.specs.declared.place.Place.TheVariants.{In};
-ghost use Rattle.devices.specs.Devices.{table_of};
+ghost use Rattle.device_list.specs.Tables.{table_of};
 ghost use Rattle.devices.specs.Ruled.{is_sound_in, volume_for};
 ghost use Rattle.devices.specs.Status.{IsStatusAmong, IsStatusIn};
 
-use crate::find::find_device;
-use crate::held::Held;
+use device_list::{Held, find_device};
 use named::{Place, Role};
 use sector::Refusal;
 use std::alloc::Global;

@@ -5,12 +5,11 @@ ghost use Rattle.named.specs.Events.{origin_by};
 ghost use Rattle.named.specs.Naming.{AreNamed};
 ghost use Rattle.named.specs.Sound.{is_sound};
 ghost use Rattle.named.specs.Stopping.{volume_stopped};
-ghost use Rattle.devices.specs.Devices.{table_of};
+ghost use Rattle.device_list.specs.Tables.{table_of};
 ghost use Rattle.devices.specs.Stopping.{stopped_at};
 
-use crate::find::find_device;
 use crate::flights::origin_at;
-use crate::held::Held;
+use device_list::{Held, find_device};
 use named_stack::NamedStack;
 use named_volume::StoppedVolume;
 use sector::Refusal;

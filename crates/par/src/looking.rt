@@ -1,10 +1,10 @@
 // What the lines of a block find under their names.
 ghost use Rattle.std.specs.Prelude.{◌≡◌, IfOk, map};
-ghost use Rattle.devices.specs.Devices.{table_of};
+ghost use Rattle.device_list.specs.Tables.{table_of};
 ghost use Rattle.par.specs.Looking.{found_in, name_in, serves};
 
 use block::{Found, SeatLine, Work};
-use devices::{Held, find_device};
+use device_list::{Held, find_device};
 use named::{Place, Role};
 use std::alloc::{AllocError, Global};
 use words::Name;

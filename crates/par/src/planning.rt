@@ -4,7 +4,7 @@ ghost use Rattle.sector.specs.declared.refusal.Refusal.TheVariants.{NoMemory};
 ghost use Rattle.chunk.specs.Pieces.{span_of};
 ghost use Rattle.block.specs.Blocks.{AreSeats};
 ghost use Rattle.block.specs.Lines.{IsSeat};
-ghost use Rattle.devices.specs.Devices.{table_of};
+ghost use Rattle.device_list.specs.Tables.{table_of};
 ghost use Rattle.named.specs.Places.{IsRoleIn, place_of};
 ghost use Rattle.named.specs.Sectors.{dev_of};
 ghost use Rattle.seats.specs.Tasks.{tasks_at};
@@ -15,7 +15,7 @@ ghost use Rattle.par.specs.Running.{is_in, used_in};
 
 use crate::looking::name_in;
 use block::{SeatLine, Work};
-use devices::{Held, find_device};
+use device_list::{Held, find_device};
 use named::{Place, Role};
 use named_stack::{range_in, whole_sectors};
 use named_volume::NamedVolume;

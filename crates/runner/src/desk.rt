@@ -5,7 +5,7 @@ ghost use Rattle.sector.specs.declared.refusal.Refusal.{Refusal as AnyRefusal};
 ghost use Rattle.reply.specs.declared.Reply.{Reply as AnyReply};
 ghost use Rattle.named.specs.Naming.{AreNamed};
 ghost use Rattle.named.specs.Sound.{is_sound};
-ghost use Rattle.devices.specs.Devices.{table_of};
+ghost use Rattle.device_list.specs.Tables.{table_of};
 ghost use Rattle.runner.specs.Asking.{IsFirst, line_first};
 ghost use Rattle.runner.specs.Counts.{summary_of};
 ghost use Rattle.runner.specs.Exit.{IsMemory, IsWriters};
@@ -21,7 +21,7 @@ use crate::ended::print_all;
 use crate::error::RunError;
 use crate::step::answer;
 use crate::summary::Summary;
-use devices::Held;
+use device_list::Held;
 use plain::Replied;
 use reply::Reply;
 use std::alloc::Global;
@@ -38,7 +38,7 @@ pub struct Desk {
 
 impl Model for Desk {
     ghost use Rattle.runner.specs.Output.{Standing};
-    ghost use Rattle.devices.specs.Devices.{table_of};
+    ghost use Rattle.device_list.specs.Tables.{table_of};
 
     ghost Value = { Standing };
 

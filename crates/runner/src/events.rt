@@ -4,7 +4,7 @@ ghost use Rattle.named.specs.Changes.{Does, refused};
 ghost use Rattle.named.specs.Events.{event_asked, is_merge_event, step_event};
 ghost use Rattle.named.specs.Naming.{AreNamed};
 ghost use Rattle.named.specs.Sound.{is_sound};
-ghost use Rattle.devices.specs.Devices.{table_of};
+ghost use Rattle.device_list.specs.Tables.{table_of};
 ghost use Rattle.devices.specs.Ruled.{is_quiet_in, volume_for};
 ghost use Rattle.runner.specs.Asking.{IsFirst, refusal_in};
 ghost use Rattle.runner.specs.Left.{IsStepLeft};
@@ -12,7 +12,8 @@ ghost use Rattle.runner.specs.Output.{told};
 ghost use Rattle.runner.specs.Steps.{reworded};
 
 use command::Event;
-use devices::{Held, step_device};
+use device_list::Held;
+use devices::step_device;
 use plain::{Outcome, Replied};
 use reply::Reply;
 use sector::Refusal;

@@ -8,7 +8,7 @@ ghost use Rattle.named.specs.Changes.{Does, ServesIf, kept};
 ghost use Rattle.named.specs.Messages.{tell};
 ghost use Rattle.named.specs.Naming.{AreNamed};
 ghost use Rattle.named.specs.Sound.{is_sound};
-ghost use Rattle.devices.specs.Devices.{table_of};
+ghost use Rattle.device_list.specs.Tables.{table_of};
 ghost use Rattle.runner.specs.Asking.{IsFirst, first_refusal, line_first};
 ghost use Rattle.runner.specs.Lawful.{is_lawful};
 ghost use Rattle.runner.specs.Left.{IsLeft, IsLineLeft};
@@ -27,10 +27,11 @@ use command::Command::{
     StartWrite, Status, Step, Stop, Table, Tick, Write,
 };
 use command::{Command, LINE_LIMIT, said};
+use device_list::Held;
 use devices::{
-    Held, checkpoint_device, create_device, finish_device, line_text, load_disk, make_disk,
-    merge_device, read_device, remove_device, resume_device, save_disk, settle_device, start_read,
-    start_write, status_text, stop_device, tell, tick, write_device,
+    checkpoint_device, create_device, finish_device, line_text, load_disk, make_disk, merge_device,
+    read_device, remove_device, resume_device, save_disk, settle_device, start_read, start_write,
+    status_text, stop_device, tell, tick, write_device,
 };
 use layers::{Answer, Message};
 use plain::{Replied, ReqId};

@@ -1,5 +1,5 @@
 use Rattle.std.proofs.Common.{rules}
-use Rattle.devices.specs.Devices.{table_of}
+use Rattle.device_list.specs.Tables.{table_of}
 use Rattle.devices.proofs.Leaving.{left_by_is, left_by_sound, left_by_stays}
 use Rattle.devices.proofs.attaching.detach.Goals as goal
 

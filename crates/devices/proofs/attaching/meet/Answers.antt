@@ -1,4 +1,4 @@
-use Rattle.devices.specs.Devices.{table_of}
+use Rattle.device_list.specs.Tables.{table_of}
 use Rattle.named.proofs.AtPlace.{put_back}
 use Rattle.devices.proofs.Places.{placed}
 use Rattle.devices.proofs.Meeting.{met_ok, met_err, busy_ok, busy_err, attached_named, put_back_named}

@@ -1,4 +1,4 @@
-use Rattle.devices.specs.Devices.{table_of}
+use Rattle.device_list.specs.Tables.{table_of}
 use Rattle.devices.proofs.Folds.{folds}
 use Rattle.devices.proofs.InVolume.{idle_in}
 use Rattle.devices.proofs.checkpointing.checkpoint_at.Goals as goal

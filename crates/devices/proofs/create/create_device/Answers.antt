@@ -3,7 +3,7 @@ use Rattle.named.specs.Creating.{made}
 use Rattle.named.specs.Journal.{enters_journal}
 use Rattle.named.proofs.Starving.{serves_if_keep}
 use Rattle.named.proofs.SoundRules.{IsSound, made_sound}
-use Rattle.devices.specs.Devices.{table_of}
+use Rattle.device_list.specs.Tables.{table_of}
 use Rattle.devices.proofs.Ruled.{target_ruled}
 use Rattle.devices.proofs.create.create_device.Goals as goal
 

@@ -1,7 +1,7 @@
 use Rattle.named.specs.Naming.{AreNamed}
 use Rattle.named.proofs.Keeping.{changes_keep}
 use Rattle.named.proofs.NamedRules.{broken_named, laid_named, origin_made_named}
-use Rattle.devices.specs.Devices.{table_of}
+use Rattle.device_list.specs.Tables.{table_of}
 use Rattle.devices.proofs.create.made.Goals as goal
 
 pub returns-in-Origin-clause-named : goal.returns-in-Origin-clause-named

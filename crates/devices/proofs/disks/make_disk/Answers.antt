@@ -4,7 +4,7 @@ use Rattle.named.specs.Disks.{make}
 use Rattle.named.specs.Naming.{AreNamed}
 use Rattle.named.proofs.Keeping.{changes_keep}
 use Rattle.named.proofs.NamedRules.{make_named}
-use Rattle.devices.specs.Devices.{table_of}
+use Rattle.device_list.specs.Tables.{table_of}
 use Rattle.devices.proofs.disks.make_disk.Goals as goal
 
 pub returns-clause-named : goal.returns-clause-named

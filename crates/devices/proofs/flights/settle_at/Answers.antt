@@ -1,5 +1,5 @@
 use Rattle.std.specs.Prelude.{◌≡◌}
-use Rattle.devices.specs.Devices.{table_of}
+use Rattle.device_list.specs.Tables.{table_of}
 use Rattle.named.proofs.NamedFrames.{put_volume_named}
 use Rattle.named.proofs.SoundFrames.{volume_quiet, volume_sound}
 use Rattle.named_volume.specs.Flights.{IsSettledBy}

@@ -1,4 +1,4 @@
-use Rattle.devices.specs.Devices.{table_of}
+use Rattle.device_list.specs.Tables.{table_of}
 use Rattle.named.proofs.NamedFrames.{put_volume_named}
 use Rattle.devices.proofs.InVolume.{number_did, remains_in}
 use Rattle.devices.specs.Flights.{IsStartedAs}

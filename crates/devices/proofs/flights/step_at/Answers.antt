@@ -1,6 +1,6 @@
 use Rattle.std.specs.Prelude.{not}
 use Rattle.volume.specs.EventKinds.{is_of_merge}
-use Rattle.devices.specs.Devices.{table_of}
+use Rattle.device_list.specs.Tables.{table_of}
 use Rattle.named.proofs.NamedFrames.{put_volume_named}
 use Rattle.named_volume.specs.Names.{KeepsNames}
 use Rattle.devices.proofs.InVolume.{changed_in, not_due_in, same_in, step_sound, stepped_did}

@@ -1,7 +1,7 @@
 use Rattle.std.proofs.Common.{sym}
 use Rattle.std.specs.Prelude.{false, []}
 use Rattle.device.specs.Layers.{Dusty}
-use Rattle.devices.specs.Devices.{table_of}
+use Rattle.device_list.specs.Tables.{table_of}
 use Rattle.named.proofs.InTable.{laid_at}
 use Rattle.devices.proofs.lay.lay_dust.Goals as goal
 

@@ -1,5 +1,5 @@
 use Rattle.std.proofs.Common.{sym}
-use Rattle.devices.specs.Devices.{table_of}
+use Rattle.device_list.specs.Tables.{table_of}
 use Rattle.layers.specs.Layer.{flakey_layer}
 use Rattle.named.proofs.InTable.{laid_at}
 use Rattle.devices.proofs.lay.lay_flakey.Goals as goal

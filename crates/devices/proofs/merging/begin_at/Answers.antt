@@ -1,4 +1,4 @@
-use Rattle.devices.specs.Devices.{table_of}
+use Rattle.device_list.specs.Tables.{table_of}
 use Rattle.devices.proofs.Begins.{begins, begins_named, begun_in, not_begun, same_sound}
 use Rattle.devices.proofs.Ruled.{sound_here}
 use Rattle.devices.proofs.merging.begin_at.Goals as goal

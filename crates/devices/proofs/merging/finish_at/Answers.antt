@@ -1,6 +1,6 @@
 use Rattle.std.proofs.Common.{rules}
 use Rattle.served.proofs.Starved.{other_full}
-use Rattle.devices.specs.Devices.{table_of}
+use Rattle.device_list.specs.Tables.{table_of}
 use Rattle.devices.proofs.Finishes.{finished_stays, left_named, left_sound, unfinished_in}
 use Rattle.devices.proofs.Ruled.{sound_here}
 use Rattle.devices.proofs.merging.finish_at.Goals as goal

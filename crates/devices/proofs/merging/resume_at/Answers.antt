@@ -1,4 +1,4 @@
-use Rattle.devices.specs.Devices.{table_of}
+use Rattle.device_list.specs.Tables.{table_of}
 use Rattle.devices.proofs.Begins.{goes_named, goes_on, goes_sound}
 use Rattle.devices.proofs.merging.resume_at.Goals as goal
 

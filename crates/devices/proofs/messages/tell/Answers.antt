@@ -4,7 +4,7 @@ use Rattle.named.specs.declared.place.Place.TheVariants.{Free, In}
 use Rattle.named.proofs.Keeping.{steps_keep}
 use Rattle.named.proofs.NamedRules.{told_at_named}
 use Rattle.named.proofs.SoundRules.{IsSound, told_at_sound}
-use Rattle.devices.specs.Devices.{table_of}
+use Rattle.device_list.specs.Tables.{table_of}
 use Rattle.devices.proofs.messages.tell.Goals as goal
 
 pub returns-in-Free-clause-sound : goal.returns-in-Free-clause-sound

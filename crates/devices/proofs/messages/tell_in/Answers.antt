@@ -1,4 +1,4 @@
-use Rattle.devices.specs.Devices.{table_of}
+use Rattle.device_list.specs.Tables.{table_of}
 use Rattle.named.proofs.InTable.{told_in_at}
 use Rattle.devices.proofs.messages.tell_in.Goals as goal
 

@@ -1,5 +1,5 @@
 use Rattle.named.proofs.AtPlace.{volume_here}
-use Rattle.devices.specs.Devices.{table_of}
+use Rattle.device_list.specs.Tables.{table_of}
 use Rattle.devices.proofs.Orders.{in_order}
 use Rattle.devices.proofs.order.look_in.Goals as goal
 

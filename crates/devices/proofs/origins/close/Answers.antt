@@ -1,5 +1,5 @@
 use Rattle.std.proofs.Common.{rules}
-use Rattle.devices.specs.Devices.{table_of}
+use Rattle.device_list.specs.Tables.{table_of}
 use Rattle.devices.proofs.Closing.{closed_is, closed_sound, stays}
 use Rattle.devices.proofs.origins.close.Goals as goal
 

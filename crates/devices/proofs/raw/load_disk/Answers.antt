@@ -7,7 +7,7 @@ use Rattle.named.specs.declared.place.Place.TheVariants.{Free}
 use Rattle.named.proofs.Keeping.{changes_keep}
 use Rattle.named.proofs.NamedRules.{loaded_at_named}
 use Rattle.named.proofs.SoundRules.{IsSound, loaded_at_sound}
-use Rattle.devices.specs.Devices.{table_of}
+use Rattle.device_list.specs.Tables.{table_of}
 use Rattle.devices.proofs.InVolume.{load_refused}
 use Rattle.devices.proofs.raw.load_disk.Goals as goal
 

@@ -1,4 +1,4 @@
-use Rattle.devices.specs.Devices.{table_of}
+use Rattle.device_list.specs.Tables.{table_of}
 use Rattle.named.proofs.InTable.{loaded_at_free}
 use Rattle.devices.proofs.raw.load_free.Goals as goal
 

@@ -6,7 +6,7 @@ use Rattle.named.specs.Snapshots.{left_by}
 use Rattle.named.proofs.Keeping.{changes_keep, enters_keep}
 use Rattle.named.proofs.NamedRules.{closed_named, left_by_named, lowered_top_named}
 use Rattle.named.proofs.SoundRules.{IsSound, lowered_sound}
-use Rattle.devices.specs.Devices.{table_of}
+use Rattle.device_list.specs.Tables.{table_of}
 use Rattle.devices.proofs.remove.remove_device.Goals as goal
 
 pub returns-in-Free-default-eq0-clause-sound : goal.returns-in-Free-default-eq0-clause-sound

@@ -2,7 +2,7 @@ use Rattle.std.proofs.Common.{sym, ap, ◌∙◌, List}
 use Rattle.std.specs.Prelude.{Result, Ok}
 use Rattle.sector.specs.declared.refusal.Refusal.{Refusal}
 use Rattle.named.specs.State.{Stacked, Table}
-use Rattle.devices.specs.Devices.{table_of}
+use Rattle.device_list.specs.Tables.{table_of}
 use Rattle.named_stack.proofs.Below.{lowered_some, lowered_none, nothing_left}
 use Rattle.devices.proofs.remove.take_top.Goals as goal
 

@@ -1,6 +1,6 @@
 use Rattle.std.proofs.Common.{◌≡◌, ◌∙◌}
 use Rattle.std.specs.Prelude.{Err, false}
-use Rattle.devices.specs.Devices.{table_of}
+use Rattle.device_list.specs.Tables.{table_of}
 use Rattle.named.specs.Sectors.{asked_of, IsReadAsked, read_in}
 use Rattle.named.proofs.NamedFrames.{put_volume_named}
 use Rattle.named.proofs.SoundFrames.{of_both, put_volume_sound, volume_quiet, volume_sound}

@@ -1,4 +1,4 @@
-use Rattle.devices.specs.Devices.{table_of}
+use Rattle.device_list.specs.Tables.{table_of}
 use Rattle.devices.proofs.InVolume.{among_in, shown_in}
 use Rattle.devices.proofs.Ruled.{sound_here}
 use Rattle.devices.proofs.shown.status_at.Goals as goal

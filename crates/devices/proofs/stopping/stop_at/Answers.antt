@@ -1,5 +1,5 @@
 use Rattle.std.proofs.Common.{rules}
-use Rattle.devices.specs.Devices.{table_of}
+use Rattle.device_list.specs.Tables.{table_of}
 use Rattle.devices.proofs.Stops.{stopped_is, stopped_named, stopped_sound}
 use Rattle.devices.proofs.stopping.stop_at.Goals as goal
 

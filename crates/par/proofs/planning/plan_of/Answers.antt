@@ -1,6 +1,6 @@
 -- There is a mark for each volume.
 use Rattle.std.proofs.Common.{length, ap, ◌∙◌}
-use Rattle.devices.specs.Devices.{table_of}
+use Rattle.device_list.specs.Tables.{table_of}
 use Rattle.par.proofs.Runs.{marks_many}
 use Rattle.par.proofs.planning.plan_of.Goals as goal
 

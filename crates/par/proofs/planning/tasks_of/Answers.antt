@@ -4,7 +4,7 @@ use Rattle.std.specs.Vec.Iter.{into_iter_items}
 use Rattle.std.proofs.lemmas.List.{nil_from_length}
 use Rattle.block.specs.Blocks.{AreSeats}
 use Rattle.block.specs.declared.seat_line.SeatLine.{SeatLine}
-use Rattle.devices.specs.Devices.{table_of}
+use Rattle.device_list.specs.Tables.{table_of}
 use Rattle.seats.specs.declared.task.Task.{Task}
 use Rattle.seats.specs.Tasks.{tasks_at}
 use Rattle.par.specs.Asking.{IsTask}

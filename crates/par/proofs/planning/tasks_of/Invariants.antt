@@ -2,7 +2,7 @@
 use Rattle.std.proofs.Common.{◌≡◌, length}
 use Rattle.std.specs.Vec.Iter.{into_iter_items, into_iter_len}
 use Rattle.block.specs.Blocks.{AreSeats}
-use Rattle.devices.specs.Devices.{table_of}
+use Rattle.device_list.specs.Tables.{table_of}
 use Rattle.seats.specs.Tasks.{tasks_at}
 use Rattle.par.specs.Asking.{IsTask}
 use Rattle.par.proofs.Asked.{AreSoFar}

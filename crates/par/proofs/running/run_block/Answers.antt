@@ -3,7 +3,7 @@ use Rattle.std.proofs.Common.{◌≡◌, ◌++◌, Bool, List, Option, ℕ, map,
 use Rattle.std.proofs.lemmas.List.Elements.{All-same}
 use Rattle.std.proofs.lemmas.Result.{IfOk-weaker}
 use Rattle.block.specs.declared.seat_line.SeatLine.{SeatLine}
-use Rattle.devices.specs.Devices.{table_of}
+use Rattle.device_list.specs.Tables.{table_of}
 use Rattle.seats.specs.Tasks.{tasks_at}
 use Rattle.par.specs.Answering.{AreAsked, AreReplied}
 use Rattle.par.specs.Played.{ArePlayed}

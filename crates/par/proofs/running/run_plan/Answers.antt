@@ -1,6 +1,6 @@
 -- The replies of all seats, and then the gate's.
 use Rattle.std.proofs.Common.{◌++◌, Bool, List, ap, subst, ◌∙◌, arith}
-use Rattle.devices.specs.Devices.{table_of}
+use Rattle.device_list.specs.Tables.{table_of}
 use Rattle.reply.specs.declared.Reply.{Reply}
 use Rattle.seats.specs.Tasks.{tasks_at}
 use Rattle.par.specs.Answering.{gate_replies}

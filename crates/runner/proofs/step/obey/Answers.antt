@@ -4,7 +4,7 @@ use Rattle.sector.specs.declared.refusal.Refusal.{Refusal}
 use Rattle.served.specs.Refusals.{is_starved}
 use Rattle.reply.specs.declared.Reply.TheVariants.{Data, Done}
 use Rattle.command.specs.declared.grammar.Command.{Command}
-use Rattle.devices.specs.Devices.{table_of}
+use Rattle.device_list.specs.Tables.{table_of}
 use Rattle.devices.specs.Flights.{IsDoneFor}
 use Rattle.devices.specs.Merging.{IsBegunIn, IsFinishedIn, IsUnfinishedIn}
 use Rattle.devices.specs.Ruled.{volume_for}

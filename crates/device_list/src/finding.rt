@@ -1,6 +1,6 @@
 // Finding a device by its name.
 ghost use Rattle.std.specs.Prelude.{◌≡◌, ◌<◌, ◌-◌, length, IfSome, IfOk, nat_le, sum_by, slice_get, is_some, Some, position};
-ghost use Rattle.devices.specs.Devices.{table_of};
+ghost use Rattle.device_list.specs.Tables.{table_of};
 ghost use Rattle.named.specs.Places.{place_of, place_free, place_among, found, role_of, is_among, IsDepthAt, IsRoleAt, IsPlaceIn};
 ghost use Rattle.named.specs.declared.place.Place.TheVariants.{Free, In};
 ghost use Rattle.named.specs.Disks.{device_count, devices_in, devices_of};

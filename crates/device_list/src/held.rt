@@ -1,6 +1,6 @@
 // All devices.
 ghost use Rattle.std.specs.Prelude.{◌≡◌, [], IfOk};
-ghost use Rattle.devices.specs.Devices.{table_of};
+ghost use Rattle.device_list.specs.Tables.{table_of};
 
 use named_stack::NamedStack;
 use named_volume::NamedVolume;
