@@ -1,8 +1,11 @@
 -- What is true under a lock stays true.
-use Rattle.std.proofs.Common.{◌≡◌, inl, inr, ℕ, List, [], ◌∷◌, ◌++◌, Option, Some, None, sym, ap, ◌∙◌, subst}
+use Rattle.std.proofs.Common.{◌≡◌, inl, inr, ℕ, Bool, true, List, [], ◌∷◌, ◌++◌, Option, Some, None, refl, sym, ap, ◌∙◌, subst}
+use Rattle.std.specs.Prelude.{◌&&◌}
 use Rattle.atomic_table.specs.Seated.{TableId}
 use Rattle.atomic_table.specs.declared.shared.Seat.{Seat}
 use Rattle.device.specs.Layers.{Layer}
+use Rattle.plain.specs.declared.event.Event.{Event}
+use Rattle.plain.specs.declared.event.Event.TheVariants.{Issue, CopyRead, CopyWrite, ZeroNext, WriteArea, Publish, WriteInvalid, MergeGroup, MergeAreaRead, MergeRead, MergeWrite, MergeFlush, MergeCommit, MergeRelease}
 use Rattle.plain.specs.declared.event.Outcome.{Outcome}
 use Rattle.plain.specs.declared.event.Outcome.TheVariants.{Done, Fault, Reply as Replied}
 use Rattle.plain.specs.declared.request.Reply.{Reply}
@@ -13,7 +16,7 @@ use Rattle.journal.specs.declared.entry.Receipt.{Receipt}
 use Rattle.journal.specs.Books.{AuditShape}
 use Rattle.journal.specs.Entries.{entries_by}
 use Rattle.journal.specs.Journaled.{HasReceipt, IsNotMerged, IsNoted, IsSilent, KeepsJournal}
-use Rattle.journal.specs.Seats.{Seated, seated_under}
+use Rattle.journal.specs.Seats.{Seated, may_do, seated_under}
 use Rattle.history.specs.Keeping.{asked_by, keeper_of, seated_with}
 use Rattle.history.specs.declared.rule.View.{View}
 use Rattle.history.specs.declared.told.Told.{Told}
@@ -108,3 +111,24 @@ pub settled_own : (start all entries old : List Entry) (mine : List _) (seat s :
     → entries_by seat entries ≡ entries_by seat start ++ (entries_by seat old ++ mine)
 settled_own start all entries old mine seat s is by own =
     ap (entries_by seat) is ∙ entries_by-append seat start all ∙ ap (λ l. entries_by seat start ++ l) (subst (λ n. entries_by n all ≡ entries_by n old ++ mine) by own)
+
+-- an event that is no request's may be done by anyone
+pub may_any : (seat : ℕ) (event : Event) (held : List Seated) → ((n : ℕ) → event ≡ Issue n → ⊥) → may_do seat event held ≡ true
+may_any seat (Issue n) held other = absurd (other n refl)
+may_any seat (CopyRead n) held other = refl
+may_any seat (CopyWrite n) held other = refl
+may_any seat (ZeroNext n) held other = refl
+may_any seat (WriteArea n) held other = refl
+may_any seat (Publish n) held other = refl
+may_any seat (WriteInvalid n) held other = refl
+may_any seat MergeGroup held other = refl
+may_any seat MergeAreaRead held other = refl
+may_any seat MergeRead held other = refl
+may_any seat MergeWrite held other = refl
+may_any seat MergeFlush held other = refl
+may_any seat MergeCommit held other = refl
+may_any seat MergeRelease held other = refl
+
+-- so one is done just where it is due
+pub due_so : (seat : ℕ) (event : Event) (held : List Seated) (ok due : Bool) → ((n : ℕ) → event ≡ Issue n → ⊥) → ok ≡ (may_do seat event held && due) → ok ≡ due
+due_so seat event held ok due other is = is ∙ ap (λ (b : Bool). b && due) (may_any seat event held other)

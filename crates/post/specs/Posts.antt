@@ -1,8 +1,10 @@
 -- What is true of all that lies under a volume's lock. This project's own.
-use Rattle.std.specs.Prelude.{◌≡◌, ◌++◌, ℕ, true, false, List, []}
+use Rattle.std.specs.Prelude.{◌≡◌, ◌++◌, ℕ, Bool, true, false, List, []}
 use Rattle.atomic_table.specs.Seated.{TableId}
 use Rattle.atomic_table.specs.declared.shared.Seat.{Seat}
 use Rattle.device.specs.Layers.{Layer}
+use Rattle.plain.specs.declared.event.Event.{Event}
+use Rattle.plain.specs.declared.event.Event.TheVariants.{Issue, CopyRead, CopyWrite, ZeroNext, WriteArea, Publish, WriteInvalid, MergeGroup, MergeAreaRead, MergeRead, MergeWrite, MergeFlush, MergeCommit, MergeRelease}
 use Rattle.journal.specs.declared.entry.Entry.{Entry}
 use Rattle.journal.specs.Books.{AuditShape}
 use Rattle.history.specs.declared.rule.View.{View}
@@ -31,3 +33,20 @@ pub record PostHolds {B : Type 0} (size : B → ℕ) (layers : B → List Layer)
 -- the view of the keeper with these entries more
 abbrev pub with_more : List Entry → View → View
 with_more more v = record { keeps = v.keeps; all = v.all ++ more; flying = v.flying; dealt = v.dealt; sits = v.sits; seat = v.seat; old = v.old; mine = v.mine; waits = v.waits; seen = v.seen }
+
+-- an event that not any thread may do: a request's, which its seat does, or a copy's, which the worker does that has its ticket
+abbrev pub is_apart : Event → Bool
+is_apart (Issue n) = true
+is_apart (CopyRead n) = true
+is_apart (CopyWrite n) = true
+is_apart (ZeroNext n) = false
+is_apart (WriteArea n) = false
+is_apart (Publish n) = false
+is_apart (WriteInvalid n) = false
+is_apart MergeGroup = false
+is_apart MergeAreaRead = false
+is_apart MergeRead = false
+is_apart MergeWrite = false
+is_apart MergeFlush = false
+is_apart MergeCommit = false
+is_apart MergeRelease = false

@@ -1,18 +1,24 @@
 // What threads do with an audit while they hold its lock: each call tells the history what is new in the journal, and publishes
 // each usage that changed.
-ghost use Rattle.std.specs.Prelude.{◌≡◌, ◌≢◌, ◌||◌, ◌*◌, ◌<◌, ◌++◌, ◌∷◌, [], ℕ, List, length, IfErr, MatchOption, MatchResult, OnOk, Some, None, true};
+ghost use Rattle.std.specs.Prelude.{◌≡◌, ◌≢◌, ◌&&◌, ◌||◌, false, is_some, ◌*◌, ◌<◌, ◌++◌, ◌∷◌, [], ℕ, List, length, IfErr, IfSome, MatchOption, MatchResult, OnOk, Some, None, true};
 ghost use Rattle.chunk.specs.Sizes.{is_chunk};
+ghost use Rattle.plain.specs.declared.event.Outcome.{Outcome as OutcomeShape};
 ghost use Rattle.volume.specs.Asking.{is_finished_in};
+ghost use Rattle.volume.specs.Exact.{IsExact};
 ghost use Rattle.volume.specs.Stepping.{has_failed};
+ghost use Rattle.volume.specs.Volumed.{is_due_of, next_of};
+ghost use Rattle.plain.specs.declared.event.Event.{Event as EventShape};
 ghost use Rattle.plain.specs.declared.event.Event.TheVariants.{Issue};
 ghost use Rattle.plain.specs.declared.request.Op.TheVariants.{Write};
 ghost use Rattle.journal.specs.Entries.{entries_by};
+ghost use Rattle.journal.specs.Seats.{may_do};
 ghost use Rattle.journal.specs.declared.entry.Entry.{Entry};
 ghost use Rattle.history.specs.Keeping.{held_by};
 ghost use Rattle.sector.specs.declared.refusal.Refusal.TheVariants.{NotQuiet};
 ghost use Rattle.post.specs.Beside.{IsBeside};
 ghost use Rattle.post.specs.Denying.{Begin, Serve, WasBegun, WasDenied};
 ghost use Rattle.post.specs.Fixed.{StaysFrom, fixed_of};
+ghost use Rattle.post.specs.Posts.{is_apart};
 ghost use Rattle.post.specs.Seats.{IsAsked, IsReceipted, IsSameSeat, IsSeat};
 
 use crate::beside::Beside;
@@ -102,6 +108,7 @@ impl<B: Layered, J: Room> Post<B, J> {
         requires beside { IsBeside (J.history self.old.volume) (J.boards self.old.volume) beside.now }
         requires seat { IsSeat (J.history self.old.volume) seat me }
         ensures volume { self.new.volume ≡ self.old.volume }
+        ensures due { is_some result.1 ≡ (may_do seat (Issue number) self.old.audit.held && is_due_of B.contents B.layers self.old.audit.volume (Issue number)) }
         ensures seat { MatchOption result.1 (IsSameSeat (J.history self.old.volume) seat me result.0) (λ r. IsReceipted (J.history self.old.volume) seat me result.0 r.0 r.1) }
     {
         let (outcome, receipt) = match self.audit.apply(seat, Event::Issue(number)) {
@@ -127,11 +134,14 @@ impl<B: Layered, J: Room> Post<B, J> {
         }
     }
 
-    /// Does an event that is no seat's, where it is due.
+    /// Does an event that is no seat's, where it is due, and tells whether it is.
     pub fn work<R: Wait>(&mut self, rt: &R, beside: &Beside, event: Event) -> bool
         requires beside { IsBeside (J.history self.old.volume) (J.boards self.old.volume) beside.now }
         requires event { (n : ℕ) → event ≢ Issue n }
         ensures volume { self.new.volume ≡ self.old.volume }
+        ensures first { next_of B.contents B.layers self.old.audit.volume ≡ Some event → result ≡ true }
+        ensures done { result ≡ true → (is_due_of B.contents B.layers self.old.audit.volume event ≡ true) × ((outcome : OutcomeShape) × IsExact B.contents B.layers event outcome self.old.audit.volume self.new.audit.volume) }
+        ensures still { result ≡ false → self.new ≡ self.old }
     {
         let from = self.audit.entries().len();
         match self.audit.apply(0, event) {
@@ -154,6 +164,8 @@ impl<B: Layered, J: Room> Post<B, J> {
     pub fn advance<R: Wait>(&mut self, rt: &R, beside: &Beside) -> bool
         requires beside { IsBeside (J.history self.old.volume) (J.boards self.old.volume) beside.now }
         ensures volume { self.new.volume ≡ self.old.volume }
+        ensures done { result ≡ true → (event : EventShape) × (outcome : OutcomeShape) × (next_of B.contents B.layers self.old.audit.volume ≡ Some event) × IsExact B.contents B.layers event outcome self.old.audit.volume self.new.audit.volume }
+        ensures still { result ≡ false → (self.new ≡ self.old) × IfSome (next_of B.contents B.layers self.old.audit.volume) (λ event. is_apart event ≡ true) }
     {
         let Some(event) = self.audit.volume().due() else {
             return false;
