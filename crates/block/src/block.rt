@@ -12,7 +12,7 @@ use std::alloc::Global;
 use std::marker::Model;
 
 /// The lines of a block, in order. Contracts see its opening, what the lines say, and its refusal.
-#[derive(Debug, Drop)]
+#[derive(Drop)]
 pub struct Block {
     opening: Opening,
     lines: Vec<SeatLine>,

@@ -6,7 +6,7 @@ ghost use Rattle.block.specs.Founds.{first_refusal, is_busy, is_missing, is_othe
 use sector::Refusal;
 
 /// What is found under the name of a line.
-#[derive(Clone, Copy, Debug, PartialEq, Eq)]
+#[derive(Clone, Copy, PartialEq, Eq)]
 pub enum Found {
     /// No device.
     Missing,

@@ -18,6 +18,3 @@ pub use found::{Found, refusal_among};
 pub use opening::{Opening, is_par, opening_by};
 pub use said::{Said, said_by};
 pub use seat_line::{SeatLine, Work};
-
-#[cfg(test)]
-mod tests;

@@ -10,7 +10,7 @@ use std::alloc::Global;
 use words::{numeral, words_in};
 
 /// A block is opened.
-#[derive(Clone, Copy, Debug)]
+#[derive(Clone, Copy)]
 pub struct Opening {
     /// Which copy of the block, counted from 1, is held until a read of the block is answered; `None` for none.
     pub hold: Option<u32>,

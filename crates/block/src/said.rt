@@ -14,7 +14,7 @@ use std::alloc::Global;
 use words::{Name, numeral};
 
 /// What a line of a block says.
-#[derive(Debug, Drop)]
+#[derive(Drop)]
 pub enum Said {
     /// Nothing: it is a comment, or has spaces alone.
     Nothing,

@@ -4,7 +4,7 @@ use sector::Buf;
 use words::Name;
 
 /// What a seat is to do. Numbers of sectors and places are in sectors; bytes are whole sectors.
-#[derive(Debug, Drop)]
+#[derive(Drop)]
 pub enum Work {
     /// `read DEV S N`: reads an origin or snapshot. `count` is 1 to 2048.
     Read { name: Name, first: u32, count: u32 },
@@ -19,7 +19,7 @@ pub enum Work {
 }
 
 /// A line of a block: the seat whose line it is, 1 to 8, and what that is to do.
-#[derive(Debug, Drop)]
+#[derive(Drop)]
 pub struct SeatLine {
     pub seat: u8,
     pub work: Work,

@@ -14,6 +14,3 @@ mod usage;
 pub use board::Board;
 pub use pass::Pass;
 pub use usage::{State, Usage};
-
-#[cfg(test)]
-mod tests;

@@ -7,7 +7,7 @@ ghost use Rattle.board.specs.Words.{IsNarrow, no_usage, state_code, usage_word};
 const FIELD: u64 = 1 << 28;
 
 /// What a place of a volume says of its snapshot, in the words of the kernel's status line.
-#[derive(Clone, Copy, Debug, PartialEq, Eq)]
+#[derive(Clone, Copy, PartialEq, Eq)]
 pub enum State {
     /// The snapshot is live, and the numbers count.
     Good,
@@ -22,7 +22,7 @@ pub enum State {
 }
 
 /// How much of a store is in use. Both numbers are in sectors.
-#[derive(Clone, Copy, Debug, PartialEq, Eq)]
+#[derive(Clone, Copy, PartialEq, Eq)]
 pub struct Usage {
     pub state: State,
     /// The front of the store, up to the next place.

@@ -8,7 +8,7 @@ use crate::Pieces;
 use sector::{Chunk, Range, Refusal, Sector};
 
 /// The sizes of a device and of its chunks, both in sectors.
-#[derive(Clone, Copy, Debug, PartialEq, Eq)]
+#[derive(Clone, Copy, PartialEq, Eq)]
 pub struct Geometry {
     pub chunk: u32,
     pub sectors: u64,

@@ -8,6 +8,3 @@ mod pieces;
 
 pub use geometry::{Geometry, is_chunk_size};
 pub use pieces::Pieces;
-
-#[cfg(test)]
-mod tests;

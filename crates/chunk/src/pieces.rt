@@ -6,7 +6,7 @@ use sector::Range;
 use std::marker::Model;
 
 /// The pieces of a range that are still to come. Contracts see their list.
-#[derive(Debug, Drop)]
+#[derive(Drop)]
 pub struct Pieces {
     chunk: u32,
     rest: Range,

@@ -9,7 +9,7 @@ use model::is_area_place;
 use sector::Chunk;
 
 /// The places that a store of so many sectors hands out, in chunks of so many sectors.
-#[derive(Clone, Copy, Debug, PartialEq, Eq)]
+#[derive(Clone, Copy, PartialEq, Eq)]
 pub struct Alloc {
     pub chunk: u32,
     pub sectors: u64,

@@ -8,6 +8,3 @@ mod usage;
 
 pub use alloc::Alloc;
 pub use usage::Usage;
-
-#[cfg(test)]
-mod tests;

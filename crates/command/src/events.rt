@@ -8,7 +8,7 @@ use words::{Name, numeral};
 
 /// An event of a volume. A request and a copy are told by their numbers, a snapshot by its name; a volume has one merge at
 /// most.
-#[derive(Debug, Drop)]
+#[derive(Drop)]
 pub enum Event {
     /// `issue R`: the request's one read or write, and its reply.
     Issue(u32),

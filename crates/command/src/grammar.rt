@@ -14,7 +14,7 @@ use table::{Line, parse_words};
 use words::{Name, numeral};
 
 /// A command. Numbers of sectors and places are in sectors; bytes are whole sectors.
-#[derive(Debug, Drop)]
+#[derive(Drop)]
 pub enum Command {
     /// `disk NAME N`: a disk of N zero sectors. Any N stands here, also one outside the limits of disks.
     Disk { name: Name, sectors: u32 },

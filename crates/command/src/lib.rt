@@ -16,6 +16,3 @@ mod messages;
 pub use events::Event;
 pub use grammar::Command;
 pub use line::{LINE_LIMIT, said};
-
-#[cfg(test)]
-mod tests;

@@ -2,7 +2,7 @@
 ghost use Rattle.std.specs.Prelude.{◌≡◌, ◌+◌, ◌-◌, ◌^◌, ◌<◌, ℕ, min};
 
 /// How many tickets were counted. It is kept under a lock where many threads count.
-#[derive(Debug, Drop)]
+#[derive(Drop)]
 pub struct Count {
     pub last: u64,
 }

@@ -22,6 +22,3 @@ pub use worker::{Copies, Ended, Gate, work};
 
 /// The most tickets that the queue holds: 512. A put waits while there are as many.
 pub const ROOM: usize = 512;
-
-#[cfg(test)]
-mod tests;

@@ -1,7 +1,7 @@
 // What stands on a ticket.
 
 /// A pending copy that a worker is to do.
-#[derive(Clone, Copy, Debug, PartialEq, Eq)]
+#[derive(Clone, Copy, PartialEq, Eq)]
 pub struct PendingCopy {
     /// The place of its volume, from 0.
     pub volume: usize,
@@ -12,7 +12,7 @@ pub struct PendingCopy {
 }
 
 /// A pending copy, or the word that the worker who takes it is to stop.
-#[derive(Clone, Copy, Debug, PartialEq, Eq)]
+#[derive(Clone, Copy, PartialEq, Eq)]
 pub enum Ticket {
     Copy(PendingCopy),
     Stop,

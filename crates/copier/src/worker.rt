@@ -26,7 +26,7 @@ pub trait Copies {
 }
 
 /// Why a worker ended.
-#[derive(Clone, Copy, Debug, PartialEq, Eq)]
+#[derive(Clone, Copy, PartialEq, Eq)]
 pub enum Ended {
     /// It took the word to stop.
     Stopped,

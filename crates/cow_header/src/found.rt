@@ -1,7 +1,7 @@
 // What the first sector of a store may say.
 
 /// What the first sector of a store says, where it is not refused.
-#[derive(Clone, Copy, Debug, PartialEq, Eq)]
+#[derive(Clone, Copy, PartialEq, Eq)]
 pub enum Found {
     /// Magic number 0: a store without a header yet.
     Fresh,

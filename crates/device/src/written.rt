@@ -5,7 +5,7 @@ use sector::SECTOR_BYTES;
 
 /// The shortest run of bytes that holds all that changed since the last flush: from `from` on, to before `to`. It is
 /// empty where both are the same.
-#[derive(Clone, Copy, Debug)]
+#[derive(Clone, Copy)]
 pub struct Written {
     pub from: usize,
     pub to: usize,
@@ -50,29 +50,5 @@ impl Written {
         ensures { target.new ≡ source.now }
     {
         target[self.from..self.to].copy_from_slice(&source[self.from..self.to]);
-    }
-}
-
-#[cfg(test)]
-mod tests {
-    use super::*;
-
-    #[test]
-    fn holds_what_was_written_and_what_lies_between(rt: HostRuntime) {
-        let none = Written::nothing();
-        assert_eq!(rt; (none.from, none.to), (0, 0));
-        let one = none.with(3, 512);
-        assert_eq!(rt; (one.from, one.to), (1536, 2048));
-        let both = one.with(1, 512);
-        assert_eq!(rt; (both.from, both.to), (512, 2048));
-        let same = both.with(7, 0);
-        assert_eq!(rt; (same.from, same.to), (512, 2048));
-    }
-
-    #[test]
-    fn copies_the_run(rt: HostRuntime) {
-        let mut target = [1, 2, 0, 0, 5];
-        Written { from: 2, to: 4 }.copy(&[1, 2, 3, 4, 5], &mut target);
-        assert_eq!(rt; target.as_slice(), [1, 2, 3, 4, 5].as_slice());
     }
 }

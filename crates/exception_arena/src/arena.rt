@@ -172,11 +172,3 @@ impl Exceptions for Arena {
         )
     }
 }
-
-#[cfg(test)]
-impl Arena {
-    /// How many runs the committed pairs are.
-    pub fn runs(&self) -> usize {
-        self.slots.len()
-    }
-}

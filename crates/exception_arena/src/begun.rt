@@ -5,7 +5,7 @@ use sector::Pair;
 pub type Id = u64;
 
 /// A pending pair, and its number.
-#[derive(Clone, Copy, Debug, PartialEq, Eq)]
+#[derive(Clone, Copy, PartialEq, Eq)]
 pub struct Begun {
     pub id: Id,
     pub pair: Pair,

@@ -23,6 +23,3 @@ pub use begun::{Begun, Id};
 pub use exceptions::Exceptions;
 pub use plain::PlainExceptions;
 pub use several::{abandon_all, finish_first, remove_last};
-
-#[cfg(test)]
-mod tests;

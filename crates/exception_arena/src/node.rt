@@ -5,14 +5,14 @@ ghost use Rattle.exception_arena.specs.Links.{led, recount, node_at, run_at};
 use crate::run::Run;
 
 /// Where a node leads to: to the node at a place of the arena, or nowhere.
-#[derive(Clone, Copy, Debug, PartialEq, Eq)]
+#[derive(Clone, Copy, PartialEq, Eq)]
 pub enum Link {
     Nowhere,
     To(usize),
 }
 
 /// A run of pairs, and the next node of the list that it stands on.
-#[derive(Clone, Copy, Debug, PartialEq, Eq)]
+#[derive(Clone, Copy, PartialEq, Eq)]
 pub struct Node {
     pub run: Run,
     pub next: Link,

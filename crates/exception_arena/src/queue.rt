@@ -7,7 +7,7 @@ ghost use Rattle.exception_arena.specs.declared.node.Link.TheVariants.{Nowhere};
 use crate::node::{Link, Node, lead, read};
 
 /// The first and the last node of the list, and how many there are.
-#[derive(Clone, Copy, Debug, PartialEq, Eq)]
+#[derive(Clone, Copy, PartialEq, Eq)]
 pub struct Queue {
     pub first: Link,
     pub last: Link,

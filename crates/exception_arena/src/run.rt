@@ -10,7 +10,7 @@ use sector::{Chunk, Pair};
 pub const BLOCK: u64 = 256;
 
 /// Pairs both chunks of which rise by one: the first of them, and how many they are.
-#[derive(Clone, Copy, Debug, PartialEq, Eq)]
+#[derive(Clone, Copy, PartialEq, Eq)]
 pub struct Run {
     pub first: Pair,
     pub count: u64,

@@ -6,7 +6,7 @@ use sector::{SECTOR_BYTES, Sector};
 use std::marker::Model;
 
 /// All bytes of the origin or of a snapshot, 512 for each sector. Contracts see the list of the bytes.
-#[derive(Debug, Drop)]
+#[derive(Drop)]
 pub struct Array {
     bytes: Vec<u8>,
 }

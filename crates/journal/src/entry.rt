@@ -4,7 +4,7 @@ use plain::{Reply, ReqId, Request, SnapId};
 use sector::Buf;
 
 /// A request that was answered, with the seat that submitted it.
-#[derive(Debug, Drop)]
+#[derive(Drop)]
 pub struct Answered {
     pub seat: u8,
     pub request: Request,
@@ -12,7 +12,7 @@ pub struct Answered {
 }
 
 /// One thing that callers see happen.
-#[derive(Debug, Drop)]
+#[derive(Drop)]
 pub enum Entry {
     Answered(Answered),
     /// A snapshot was spoiled. It is no seat's request: such entries belong to seat 0, and no seat's count counts them.
@@ -28,7 +28,7 @@ pub enum Entry {
 }
 
 /// For a seat's request entry with this count, from 1: those that a checkpoint folded are counted too.
-#[derive(Debug, Drop)]
+#[derive(Drop)]
 pub struct Receipt {
     pub seat: u8,
     pub count: u64,
@@ -37,7 +37,7 @@ pub struct Receipt {
 }
 
 /// What a journal says of a receipt.
-#[derive(Clone, Copy, Debug, PartialEq, Eq)]
+#[derive(Clone, Copy, PartialEq, Eq)]
 pub enum Verdict {
     /// Its entry was folded into the base arrays by a checkpoint.
     Folded,
@@ -47,14 +47,14 @@ pub enum Verdict {
 }
 
 /// A snapshot of the base: its array, or none where it was spoiled.
-#[derive(Debug, Drop)]
+#[derive(Drop)]
 pub struct Saved {
     pub number: SnapId,
     pub array: Option<Array>,
 }
 
 /// The arrays and states that the entries are replayed on.
-#[derive(Debug, Drop)]
+#[derive(Drop)]
 pub struct Base {
     pub origin: Array,
     /// The snapshot that is being merged.
@@ -64,7 +64,7 @@ pub struct Base {
 }
 
 /// A request in flight: who submitted it, and copies and room for its entry and its receipt.
-#[derive(Debug, Drop)]
+#[derive(Drop)]
 pub struct Held {
     pub number: ReqId,
     pub seat: u8,

@@ -54,7 +54,7 @@ fn ask<B: Layered>(
     for (seat, count, sector, before, after) in ROWS {
         let receipt = receipt_of(alloc, seat, count, sector)?;
         let verdict = if is_after { after } else { before };
-        assert_eq!(rt; audit.check(&receipt), verdict, "{seat} {count} {sector}");
+        assert!(rt; audit.check(&receipt) == verdict, "{seat} {count} {sector}");
     }
     Ok(())
 }
@@ -74,7 +74,7 @@ fn write<B: Layered>(
     match answer(audit, seat) {
         Some(receipt) => {
             assert_eq!(rt; receipt.count, count);
-            assert_eq!(rt; audit.check(&receipt), Verdict::Agrees);
+            assert!(rt; audit.check(&receipt) == Verdict::Agrees);
             Ok(())
         }
         None => Err(Refusal::Invalid),

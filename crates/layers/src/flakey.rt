@@ -8,7 +8,7 @@ use device::{Fate, Operation};
 use sector::Range;
 
 /// What a flakey layer does while it is unreliable. Without any of them it fails everything.
-#[derive(Clone, Copy, Debug, PartialEq, Eq)]
+#[derive(Clone, Copy, PartialEq, Eq)]
 pub struct Features {
     /// Answers writes and flushes without doing them.
     pub drop_writes: bool,

@@ -2,7 +2,7 @@
 // the command program's.
 
 /// A message to a dust layer. A block is told by its number, from 0.
-#[derive(Clone, Copy, Debug, PartialEq, Eq)]
+#[derive(Clone, Copy, PartialEq, Eq)]
 pub enum Message {
     /// Puts a block on the list.
     AddBadBlock(u64),
@@ -21,7 +21,7 @@ pub enum Message {
 }
 
 /// The answer to a message.
-#[derive(Clone, Copy, Debug, PartialEq, Eq)]
+#[derive(Clone, Copy, PartialEq, Eq)]
 pub enum Answer {
     /// Done.
     Done,

@@ -9,7 +9,7 @@ ghost use Rattle.merge.specs.Due.{last_in, read_at_progress, full_at, flush_at};
 use sector::{Chunk, Pair};
 
 /// How far a group is.
-#[derive(Clone, Copy, Debug, PartialEq, Eq)]
+#[derive(Clone, Copy, PartialEq, Eq)]
 pub enum Progress {
     /// The chunk of its last waiting pair is to be read, or none is left to wait.
     Open,
@@ -22,7 +22,7 @@ pub enum Progress {
 }
 
 /// The present group: pairs whose chunks both rise by one. Until its commit they are the last of the list.
-#[derive(Clone, Copy, Debug, PartialEq, Eq)]
+#[derive(Clone, Copy, PartialEq, Eq)]
 pub struct Group {
     pub first: Pair,
     /// How many of its first pairs have chunks that were not read.

@@ -14,7 +14,7 @@ pub(crate) const SECTOR_SLOTS: u32 = 32;
 pub(crate) const PAIR_BYTES: usize = 16;
 
 /// The bytes of an area: one chunk of so many sectors. Slots are counted from 0.
-#[derive(Debug, Drop)]
+#[derive(Drop)]
 pub struct Area {
     pub bytes: Vec<u8>,
     pub chunk: u32,

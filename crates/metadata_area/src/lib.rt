@@ -8,6 +8,3 @@ mod clear;
 mod scan;
 
 pub use area::Area;
-
-#[cfg(test)]
-mod tests;

@@ -1,7 +1,7 @@
 // Where a name stands.
 
 /// What a name is in a volume.
-#[derive(Clone, Copy, Debug)]
+#[derive(Clone, Copy)]
 pub enum Role {
     /// The origin.
     Origin,
@@ -18,7 +18,7 @@ pub enum Role {
 }
 
 /// Where a device stands.
-#[derive(Clone, Copy, Debug)]
+#[derive(Clone, Copy)]
 pub enum Place {
     /// It stands in the stack at this place among those that nothing uses, so deep from its top.
     Free(usize, usize),

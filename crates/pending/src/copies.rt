@@ -12,7 +12,7 @@ use std::alloc::{AllocError, Global};
 pub const MAX_COPIES: usize = 256;
 
 /// How far a copy is whose pair is not committed.
-#[derive(Clone, Copy, Debug, PartialEq, Eq)]
+#[derive(Clone, Copy, PartialEq, Eq)]
 pub enum Stage {
     Waiting,
     /// Its chunk was read from the origin disk, into its buffer.
@@ -22,7 +22,7 @@ pub enum Stage {
 }
 
 /// A copy of one chunk of the origin for one snapshot, whose pair is not committed.
-#[derive(Debug, Drop)]
+#[derive(Drop)]
 pub struct ChunkCopy {
     /// Its number in the volume.
     pub number: CopyId,
@@ -34,7 +34,7 @@ pub struct ChunkCopy {
 }
 
 /// A copy whose pair is committed, and which its snapshot has not published.
-#[derive(Clone, Copy, Debug, PartialEq, Eq)]
+#[derive(Clone, Copy, PartialEq, Eq)]
 pub struct Mark {
     pub number: CopyId,
     /// The chunk of the origin.

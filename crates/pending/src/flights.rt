@@ -11,7 +11,7 @@ use std::alloc::{AllocError, Global};
 pub const MAX_REQUESTS: usize = 64;
 
 /// What a request is, without its range and its bytes.
-#[derive(Clone, Copy, Debug, PartialEq, Eq)]
+#[derive(Clone, Copy, PartialEq, Eq)]
 pub enum Kind {
     OriginRead,
     OriginWrite,
@@ -20,7 +20,7 @@ pub enum Kind {
 }
 
 /// Where a request goes.
-#[derive(Clone, Copy, Debug, PartialEq, Eq)]
+#[derive(Clone, Copy, PartialEq, Eq)]
 pub enum Route {
     /// Nowhere yet: it waits for copies, for an invalid mark, or for a merge's group.
     Held,
@@ -33,7 +33,7 @@ pub enum Route {
 }
 
 /// A request that was accepted and is not answered.
-#[derive(Debug, Drop)]
+#[derive(Drop)]
 pub struct Flight {
     /// Its number in the volume.
     pub number: ReqId,

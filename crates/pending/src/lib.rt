@@ -18,6 +18,3 @@ pub use routes::{
     again_route, is_being_read, placed_route, read_route, reads_origin, refuse, refused_route,
     write_route,
 };
-
-#[cfg(test)]
-mod tests;

@@ -5,7 +5,7 @@ use crate::{Reply, ReqId, SnapId};
 pub type CopyId = u64;
 
 /// One table decision or one device operation of a volume.
-#[derive(Clone, Copy, Debug, PartialEq, Eq)]
+#[derive(Clone, Copy, PartialEq, Eq)]
 pub enum Event {
     /// Does the one read or write of a request's route, and replies.
     Issue(ReqId),
@@ -38,7 +38,7 @@ pub enum Event {
 }
 
 /// What came of an event that was due.
-#[derive(Debug, Drop)]
+#[derive(Drop)]
 pub enum Outcome {
     Done,
     /// A device failed in the event.
@@ -47,5 +47,5 @@ pub enum Outcome {
 }
 
 /// The event is not due, and nothing changed.
-#[derive(Clone, Copy, Debug, PartialEq, Eq)]
+#[derive(Clone, Copy, PartialEq, Eq)]
 pub struct NotDue;

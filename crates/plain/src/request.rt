@@ -13,21 +13,21 @@ pub type SnapId = u32;
 pub type ReqId = u64;
 
 /// What a request goes to.
-#[derive(Clone, Copy, Debug, PartialEq, Eq)]
+#[derive(Clone, Copy, PartialEq, Eq)]
 pub enum Dev {
     Origin,
     Snap(SnapId),
 }
 
 /// What is asked. A write brings the bytes of whole sectors, as many as its range.
-#[derive(Debug, Drop)]
+#[derive(Drop)]
 pub enum Op {
     Read,
     Write(Buf),
 }
 
 /// A read or a write of some sectors of the origin or of a snapshot, inside one piece of the volume.
-#[derive(Debug, Drop)]
+#[derive(Drop)]
 pub struct Request {
     pub dev: Dev,
     pub op: Op,
@@ -35,7 +35,7 @@ pub struct Request {
 }
 
 /// Why a request that was accepted is not done.
-#[derive(Clone, Copy, Debug, PartialEq, Eq)]
+#[derive(Clone, Copy, PartialEq, Eq)]
 pub enum Failure {
     /// Its snapshot is spoiled.
     Invalid,
@@ -44,7 +44,7 @@ pub enum Failure {
 }
 
 /// The answer to a request that was accepted.
-#[derive(Debug, Drop)]
+#[derive(Drop)]
 pub enum Reply {
     Data(Buf),
     Written,
@@ -52,7 +52,7 @@ pub enum Reply {
 }
 
 /// How a request that was started ended.
-#[derive(Debug, Drop)]
+#[derive(Drop)]
 pub struct Replied {
     /// Its number in the volume.
     pub number: ReqId,
@@ -118,42 +118,6 @@ impl Reply {
             }
             Reply::Written => Reply::Written,
             Reply::Refused(failure) => Reply::Refused(*failure),
-        }
-    }
-}
-
-#[cfg(test)]
-mod tests {
-    use super::*;
-    use std::test::Fail;
-
-    #[test]
-    fn copies_are_the_same_and_others_are_not(rt: HostRuntime) -> Result<(), Fail> {
-        let ones = Op::Write(Buf::from_slice(rt.alloc(), &[1; 512])?);
-        let zeros = Op::Write(Buf::zeroed(rt.alloc(), 512)?);
-        assert!(rt;
-            ones.is_same(&ones.copy(rt.alloc())?) && Op::Read.is_same(&Op::Read.copy(rt.alloc())?)
-        );
-        assert!(rt; !ones.is_same(&zeros) && !ones.is_same(&Op::Read));
-        Ok(())
-    }
-
-    #[test]
-    fn a_reply_is_copied_into_a_buffer_that_is_there(rt: HostRuntime) -> Result<(), Fail> {
-        let data = Reply::Data(Buf::from_slice(rt.alloc(), &[1; 512])?);
-        let room = Buf::zeroed(rt.alloc(), 512)?;
-        assert!(rt; room.len() == 512);
-        assert!(rt; data.is_same(&copied(&data, room)));
-        assert!(rt; !data.is_same(&Reply::Written));
-        assert!(rt; !Reply::Refused(Failure::Io).is_same(&Reply::Refused(Failure::Invalid)));
-        Ok(())
-    }
-
-    // The same reply, where the buffer is as long.
-    fn copied(reply: &Reply, room: Buf) -> Reply {
-        match reply {
-            Reply::Data(bytes) if bytes.len() != room.len() => Reply::Written,
-            _ => reply.copy_into(room),
         }
     }
 }

@@ -11,7 +11,7 @@ use std::io;
 use std::io::Write;
 
 /// How a request ended.
-#[derive(Debug, Drop)]
+#[derive(Drop)]
 pub enum Ending {
     /// A read, with these bytes.
     Data(Buf),
@@ -22,7 +22,7 @@ pub enum Ending {
 }
 
 /// A request that was started by a command of its own, by its number, and how it ended.
-#[derive(Debug, Drop)]
+#[derive(Drop)]
 pub struct Ended {
     pub request: u64,
     pub ending: Ending,

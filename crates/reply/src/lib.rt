@@ -30,7 +30,7 @@ use std::io::Write;
 use words::Text;
 
 /// What a command answers.
-#[derive(Debug, Drop)]
+#[derive(Drop)]
 pub enum Reply {
     /// It is done: `ok`.
     Done,
@@ -98,94 +98,5 @@ impl Reply {
                 writer.write_all(b"\n")
             }
         }
-    }
-}
-
-#[cfg(test)]
-mod tests {
-    use super::*;
-    use layers::Answer;
-    use std::test::Fail;
-
-    #[test]
-    fn prints_the_line_of_each_kind_of_reply(rt: HostRuntime) -> Result<(), Fail> {
-        // the first bytes of a store's header, as the kernel writes them, with a chunk size of one sector
-        let header = [
-            0x53, 0x6e, 0x41, 0x70, 1, 0, 0, 0, 1, 0, 0, 0, 1, 0, 0, 0, 0, 0,
-        ];
-        let mut out = Vec::new(rt.alloc());
-        Reply::Done.write_to(&mut out)?;
-        Reply::Data(Buf::from_slice(rt.alloc(), &header)?).write_to(&mut out)?;
-        Reply::Said(Text::from_slice(rt.alloc(), b"0 128 snapshot Invalid")?).write_to(&mut out)?;
-        Reply::Number(18_446_744_073_709_551_615).write_to(&mut out)?;
-        Reply::Fault.write_to(&mut out)?;
-        Reply::Ended(Ended {
-            request: 7,
-            ending: Ending::Written,
-        })
-        .write_to(&mut out)?;
-        Reply::Refused(Refusal::NoSuchDevice).write_to(&mut out)?;
-        Reply::Refused(Refusal::Overflow).write_to(&mut out)?;
-        let want =
-            b"ok\nok 1*53 1*6e 1*41 1*70 1*01 3*00 1*01 3*00 1*01 5*00\nok 0 128 snapshot Invalid\nok 18446744073709551615\nok fault\nreply 7 written\nerr 1 NoSuchDevice\nerr 23 Overflow\n";
-        assert_eq!(rt; out.as_slice(), want.as_slice());
-        Ok(())
-    }
-
-    #[test]
-    fn prints_the_line_of_a_request_that_ended(rt: HostRuntime) -> Result<(), Fail> {
-        let bytes = Buf::from_slice(rt.alloc(), &[0x11; 512])?;
-        let endings = [
-            (2, Ending::Data(bytes)),
-            (3, Ending::Written),
-            (4, Ending::Refused(Refusal::Invalid)),
-            (18_446_744_073_709_551_615, Ending::Refused(Refusal::Io)),
-        ];
-        let mut out = Vec::new(rt.alloc());
-        for (request, ending) in endings {
-            Ended { request, ending }.write_to(&mut out)?;
-        }
-        let want =
-            b"reply 2 512*11\nreply 3 written\nreply 4 err 6 Invalid\nreply 18446744073709551615 err 8 Io\n";
-        assert_eq!(rt; out.as_slice(), want.as_slice());
-        Ok(())
-    }
-
-    #[test]
-    fn prints_the_lines_of_a_block(rt: HostRuntime) -> Result<(), Fail> {
-        let words = words_of_data(rt.alloc(), &[0x11; 512])?;
-        let answers = [
-            (1, Answered::Done),
-            (3, Answered::Data(words)),
-            (8, Answered::Refused(Refusal::NoMemory)),
-        ];
-        let mut out = Vec::new(rt.alloc());
-        for (seat, answer) in answers {
-            Reply::Seat(Seated { seat, answer }).write_to(&mut out)?;
-        }
-        Reply::Gate(true).write_to(&mut out)?;
-        Reply::Gate(false).write_to(&mut out)?;
-        let want = b"1 ok\n3 ok 512*11\n8 err 5 NoMemory\ngate ok\ngate limit\n";
-        assert_eq!(rt; out.as_slice(), want.as_slice());
-        Ok(())
-    }
-
-    #[test]
-    fn prints_each_answer_to_a_message(rt: HostRuntime) -> Result<(), Fail> {
-        let answers = [
-            Answer::Done,
-            Answer::Already,
-            Answer::Absent,
-            Answer::Bad,
-            Answer::Good,
-            Answer::Count(32768),
-        ];
-        let mut out = Vec::new(rt.alloc());
-        for answer in answers {
-            Reply::to_message(rt.alloc(), answer)?.write_to(&mut out)?;
-        }
-        let want = b"ok\nok already\nok absent\nok bad\nok good\nok 32768\n";
-        assert_eq!(rt; out.as_slice(), want.as_slice());
-        Ok(())
     }
 }

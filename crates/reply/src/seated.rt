@@ -11,7 +11,7 @@ use std::io::Write;
 use words::Text;
 
 /// What a line of a block answers.
-#[derive(Debug, Drop)]
+#[derive(Drop)]
 pub enum Answered {
     /// It is done: `ok`.
     Done,
@@ -23,7 +23,7 @@ pub enum Answered {
 }
 
 /// The answer of a line of a block, by the number of its seat.
-#[derive(Debug, Drop)]
+#[derive(Drop)]
 pub struct Seated {
     pub seat: u8,
     pub answer: Answered,

@@ -9,7 +9,7 @@ use post::Room;
 use std::sync::Wait;
 
 /// The copies that a call under a volume's lock started: those after the first number, up to the second.
-#[derive(Clone, Copy, Debug, PartialEq, Eq)]
+#[derive(Clone, Copy, PartialEq, Eq)]
 pub(crate) struct Started {
     pub after: CopyId,
     pub last: CopyId,

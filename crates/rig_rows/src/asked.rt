@@ -16,7 +16,7 @@ use volume::Volume;
 pub const SECTORS: u64 = 64;
 
 /// A call of a seat: a read or a write of some sectors from one on, or a merge.
-#[derive(Clone, Copy, Debug, PartialEq, Eq)]
+#[derive(Clone, Copy, PartialEq, Eq)]
 pub enum Asked {
     Read(Dev, u8, u8),
     Write(Dev, u8, u8),

@@ -1,16 +1,11 @@
 //! Rigs over disks in memory, by calls.
 //!
 //! It stands on `rig` and has tests only: what seats see of the boards of a volume's places, beside a volume of its own that does
-//! the same, and while a read holds the volume's lock; that two workers are at work at once; and what an origin holds after a
-//! seat alone merged into it, as numbers worked out by hand.
+//! the same, and while a read holds the volume's lock; and that two workers are at work at once.
 #![tactic(auto)]
 
 #[cfg(test)]
-mod alone;
-#[cfg(test)]
 mod asked;
-#[cfg(test)]
-mod disks;
 #[cfg(test)]
 mod looked_at;
 #[cfg(test)]

@@ -176,7 +176,7 @@ fn a_look_is_answered_while_a_read_holds_the_lock(rt: HostRuntime) -> Result<(),
         allocated: 2,
         metadata: 2,
     };
-    assert_eq!(rt; usage, Some(fresh));
+    assert!(rt; usage == Some(fresh));
     assert!(rt; waiting.was_in_time());
     Ok(())
 }

@@ -7,7 +7,7 @@ use reply::Reply;
 use sector::Refusal;
 
 /// How many lines were printed. Each number stops at 2^64 - 1.
-#[derive(Clone, Copy, Debug, PartialEq, Eq)]
+#[derive(Clone, Copy, PartialEq, Eq)]
 pub struct Summary {
     /// All lines.
     pub lines: u64,

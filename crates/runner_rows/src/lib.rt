@@ -1,5 +1,4 @@
-//! The command program where a file of commands can't show it: readers and writers that fail, memory that is refused, and
-//! the counts of a summary.
+//! The command program where a file of commands can't show it: readers and writers that fail, and the counts of a summary.
 //!
 //! It stands on `runner` alone and has tests only. Whole texts of commands with the answers that are wanted for them are
 //! the files of `rows`.
@@ -7,5 +6,3 @@
 
 #[cfg(test)]
 mod failing;
-#[cfg(test)]
-mod refused;

@@ -8,7 +8,7 @@ use sector::{Buf, Range, Refusal};
 pub const SEATS: usize = 8;
 
 /// One thing to do. A volume is told by its place among those that are given to the run.
-#[derive(Debug, Drop)]
+#[derive(Drop)]
 pub enum Job {
     /// Reads a range of a device.
     Read {
@@ -35,7 +35,7 @@ pub enum Job {
 }
 
 /// A job, and its answer once it has one.
-#[derive(Debug, Drop)]
+#[derive(Drop)]
 pub struct Task {
     pub job: Option<Job>,
     pub answer: Option<Answered>,

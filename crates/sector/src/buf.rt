@@ -5,7 +5,7 @@ use std::alloc::{AllocError, Global};
 use std::marker::Model;
 
 /// The bytes of whole sectors, as a request or a reply holds them. Contracts see the list of the bytes.
-#[derive(Debug, Drop)]
+#[derive(Drop)]
 pub struct Buf {
     bytes: Vec<u8>,
 }
@@ -82,26 +82,5 @@ impl Buf {
         ensures { MatchBool result (self.now ≡ other.now) (self.now ≢ other.now) }
     {
         other.bytes.as_slice() == self.bytes.as_slice()
-    }
-}
-
-#[cfg(test)]
-mod tests {
-    use super::*;
-    use std::test::Fail;
-
-    #[test]
-    fn holds_the_bytes_it_was_given(rt: HostRuntime) -> Result<(), Fail> {
-        let ones = Buf::from_slice(rt.alloc(), &[1; 512])?;
-        let mut buf = Buf::zeroed(rt.alloc(), 512)?;
-        assert_eq!(rt; buf.as_slice(), [0; 512].as_slice());
-        assert!(rt; !buf.is_same(&ones));
-        assert!(rt; buf.len() == 512 && ones.len() == 512);
-        buf.copy_from(&ones);
-        assert_eq!(rt; buf.as_slice(), [1; 512].as_slice());
-        assert!(rt; buf.copy(rt.alloc())?.is_same(&ones));
-        let empty = Buf::from_vec(Vec::new(rt.alloc()));
-        assert!(rt; empty.is_empty() && !buf.is_empty());
-        Ok(())
     }
 }

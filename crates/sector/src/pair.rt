@@ -7,7 +7,7 @@ pub type Sector = u64;
 pub type Chunk = u64;
 
 /// A chunk of the origin, and the chunk of the store that has its copy: what the kernel calls an exception.
-#[derive(Clone, Copy, Debug, PartialEq, Eq)]
+#[derive(Clone, Copy, PartialEq, Eq)]
 pub struct Pair {
     pub old: Chunk,
     pub new: Chunk,

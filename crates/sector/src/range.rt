@@ -5,7 +5,7 @@ ghost use Rattle.sector.specs.declared.refusal.Refusal.TheVariants.{OutOfRange};
 use crate::{Refusal, Sector};
 
 /// The sectors from `first` on, `count` of them, of a device of `size` sectors. They lie inside it.
-#[derive(Clone, Copy, Debug, PartialEq, Eq)]
+#[derive(Clone, Copy, PartialEq, Eq)]
 pub struct Range {
     pub first: Sector,
     pub count: u32,
@@ -40,32 +40,5 @@ impl Range {
             count: self.count,
             size: self.first + by + self.count as u64,
         }
-    }
-}
-
-#[cfg(test)]
-mod tests {
-    use super::*;
-    use std::test::Fail;
-
-    #[test]
-    fn ends_at_the_size_at_most(rt: HostRuntime) {
-        for (first, count, size, inside) in [
-            (0, 1, 1, true),
-            (0, 2, 1, false),
-            (1, 0, 1, true),
-            (2, 0, 1, false),
-            (u64::MAX, 1, u64::MAX, false),
-        ] {
-            let range = Range::new(first, count, size);
-            assert_eq!(rt; range.is_ok(), inside, "{count} from {first} of {size}");
-        }
-    }
-
-    #[test]
-    fn moves_on_by_so_many_sectors(rt: HostRuntime) -> Result<(), Fail> {
-        let moved = Range::new(3, 2, 8)?.shifted(5);
-        assert_eq!(rt; (moved.first, moved.count), (8, 2));
-        Ok(())
     }
 }

@@ -92,27 +92,3 @@ impl Refusal {
         }
     }
 }
-
-#[cfg(test)]
-mod tests {
-    use super::*;
-
-    #[test]
-    fn prints_the_numbers_and_names_of_the_list(rt: HostRuntime) {
-        let table = [
-            (Refusal::NoSuchDevice, 1, "NoSuchDevice"),
-            (Refusal::OutOfRange, 2, "OutOfRange"),
-            (Refusal::NoMemory, 5, "NoMemory"),
-            (Refusal::Io, 8, "Io"),
-            (Refusal::BadTable, 10, "BadTable"),
-            (Refusal::Damaged, 14, "Damaged"),
-            (Refusal::Stale, 16, "Stale"),
-            (Refusal::NotFinished, 22, "NotFinished"),
-            (Refusal::Overflow, 23, "Overflow"),
-        ];
-        for (refusal, number, name) in table {
-            assert_eq!(rt; refusal.number(), number, "{name}");
-            assert_eq!(rt; refusal.name(), name, "{number}");
-        }
-    }
-}

@@ -12,7 +12,7 @@ use std::alloc::{AllocError, Global};
 use words::Text;
 
 /// What a status line says of a snapshot, or of one that is being merged into its origin.
-#[derive(Clone, Copy, Debug, PartialEq, Eq)]
+#[derive(Clone, Copy, PartialEq, Eq)]
 pub enum State {
     /// The snapshot is spoiled.
     Invalid,
@@ -90,39 +90,4 @@ pub fn merge_line(alloc: Global, sectors: u64, state: State) -> Result<Text, All
     ensures { IfOk result (λ text. text ≡ merge_text sectors state) }
 {
     stated_line(alloc, sectors, b" snapshot-merge ", state)
-}
-
-#[cfg(test)]
-mod tests {
-    use super::*;
-    use std::test::Fail;
-
-    #[test]
-    fn prints_each_status_line(rt: HostRuntime) -> Result<(), Fail> {
-        let origin = origin_line(rt.alloc(), 2_097_152)?;
-        assert_eq!(rt; origin.as_slice(), b"0 2097152 snapshot-origin".as_slice());
-        let state = State::Used {
-            allocated: 397_896,
-            total: 2_097_152,
-            metadata: 1_560,
-        };
-        let snapshot = snapshot_line(rt.alloc(), 8_388_608, state)?;
-        assert_eq!(rt;
-            snapshot.as_slice(),
-            b"0 8388608 snapshot 397896/2097152 1560".as_slice()
-        );
-        let spoiled = snapshot_line(rt.alloc(), 128, State::Invalid)?;
-        assert_eq!(rt; spoiled.as_slice(), b"0 128 snapshot Invalid".as_slice());
-        let merged = merge_line(rt.alloc(), 8_388_608, state)?;
-        assert_eq!(rt;
-            merged.as_slice(),
-            b"0 8388608 snapshot-merge 397896/2097152 1560".as_slice()
-        );
-        let failed = merge_line(rt.alloc(), 128, State::Failed)?;
-        assert_eq!(rt;
-            failed.as_slice(),
-            b"0 128 snapshot-merge Merge failed".as_slice()
-        );
-        Ok(())
-    }
 }

@@ -9,7 +9,7 @@ use exception_arena::Exceptions;
 use sector::Pair;
 
 /// Pairs whose chunks both rise by one.
-#[derive(Clone, Copy, Debug, PartialEq, Eq)]
+#[derive(Clone, Copy, PartialEq, Eq)]
 pub struct Run {
     pub first: Pair,
     /// How many they are.

@@ -65,7 +65,7 @@ fn read_header<B: Block>(device: &mut B) -> Result<Found, Refusal>
 }
 
 /// Whether a load found a header.
-#[derive(Clone, Copy, Debug, PartialEq, Eq)]
+#[derive(Clone, Copy, PartialEq, Eq)]
 pub enum Loaded {
     /// The store was fresh.
     Fresh,

@@ -1,7 +1,7 @@
 // What a store knows of itself, besides its pairs and the bytes of its current area.
 
 /// What is left of a load's writes.
-#[derive(Clone, Copy, Debug, PartialEq, Eq)]
+#[derive(Clone, Copy, PartialEq, Eq)]
 pub enum Left {
     /// The store is fresh: area 0 is to be zeroed, and then the header is to be written.
     FirstArea,
@@ -14,7 +14,7 @@ pub enum Left {
 }
 
 /// What a store knows of itself, besides its pairs and the bytes of its current area.
-#[derive(Clone, Copy, Debug, PartialEq, Eq)]
+#[derive(Clone, Copy, PartialEq, Eq)]
 pub struct State {
     /// The sectors of a chunk.
     pub chunk: u32,

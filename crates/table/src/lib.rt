@@ -11,6 +11,3 @@ mod reading;
 pub use lines::{Features, Line, Target};
 pub use printing::print;
 pub use reading::{parse, parse_words};
-
-#[cfg(test)]
-mod tests;

@@ -2,7 +2,7 @@
 use words::Name;
 
 /// A line of a device's table. It begins at sector 0, as each device here has one line.
-#[derive(Debug, Drop)]
+#[derive(Drop)]
 pub struct Line {
     /// The sectors of the device.
     pub sectors: u32,
@@ -10,7 +10,7 @@ pub struct Line {
 }
 
 /// What a device does, and over which devices.
-#[derive(Debug, Drop)]
+#[derive(Drop)]
 pub enum Target {
     /// `snapshot-origin`: the device that snapshots are taken of.
     Origin {
@@ -46,7 +46,7 @@ pub enum Target {
 }
 
 /// What an unreliable flakey device does. With no feature it fails all.
-#[derive(Clone, Copy, Debug, PartialEq, Eq)]
+#[derive(Clone, Copy, PartialEq, Eq)]
 pub struct Features {
     /// Fails reads.
     pub error_reads: bool,

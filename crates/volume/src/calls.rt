@@ -13,7 +13,7 @@ use sector::Refusal;
 use std::alloc::Global;
 
 /// One call of a volume.
-#[derive(Debug, Drop)]
+#[derive(Drop)]
 pub enum Call {
     /// Accepts a request.
     Submit(Request),
@@ -30,7 +30,7 @@ pub enum Call {
 }
 
 /// What a call answered.
-#[derive(Debug, Drop)]
+#[derive(Drop)]
 pub enum Returned {
     /// The number of a request, or why it is refused.
     Submitted(Result<ReqId, Refusal>),

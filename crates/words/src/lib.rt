@@ -12,6 +12,3 @@ pub use line::words_in;
 pub use names::{Name, is_a_name};
 pub use numbers::{number, numeral};
 pub use texts::Text;
-
-#[cfg(test)]
-mod tests;

@@ -9,7 +9,7 @@ use std::marker::Model;
 
 /// The name of a device: 1 to 16 of the characters a to z, 0 to 9 and `_`, the first of them a letter. Contracts
 /// see the list of its bytes. It takes no memory of the allocator.
-#[derive(Debug, Drop)]
+#[derive(Drop)]
 pub struct Name {
     bytes: [u8; 16],
     len: usize,

@@ -1,0 +1,93 @@
+// Boards that one thread publishes and others read.
+ghost use Rattle.std.specs.Prelude.{◌≡◌, ◌<◌, ◌^◌, true};
+
+use board::{Board, Pass, State, Usage};
+use std::test::Fail;
+use std::thread;
+
+// Publishes usages of more and more sectors.
+fn publish_all(board: &Board, mut pass: Pass, count: u64) -> Pass
+    requires { (pass.board ≡ board.now) × (pass.publishes ≡ true) × (count < 2 ^ 28) }
+    ensures { (result.board ≡ board.now) × (result.publishes ≡ true) }
+{
+    for sectors in 0..count {
+        board.publish(
+            &mut pass,
+            Usage {
+                state: State::Good,
+                allocated: sectors,
+                metadata: sectors,
+            },
+        );
+    }
+    pass
+}
+
+// Reads so many times, and says whether each usage was whole and none came before the one that was read last.
+fn read_all(board: &Board, mut pass: Pass, count: u64) -> (Pass, bool)
+    requires { pass.board ≡ board.now }
+    ensures { result.0.board ≡ board.now }
+{
+    let mut last = 0;
+    let mut grows = true;
+    for _ in 0..count {
+        let usage = board.read(&mut pass);
+        grows = grows && usage.allocated == usage.metadata && last <= usage.allocated;
+        last = usage.allocated;
+    }
+    (pass, grows)
+}
+
+#[test]
+fn packs_a_usage_and_takes_it_apart(rt: HostRuntime) -> Result<(), Fail> {
+    let most = (1 << 28) - 1;
+    let words = [
+        (State::Good, 0, 0, 0),
+        (State::Good, 48, 16, 0x3_0000_0010),
+        (State::Invalid, 0, 0, 0x100_0000_0000_0000),
+        (State::MergeFailed, 1, 0, 0x200_0000_1000_0000),
+        (State::Overflow, 0, 1, 0x300_0000_0000_0001),
+        (State::Empty, most, most, 0x4FF_FFFF_FFFF_FFFF),
+    ];
+    for (state, allocated, metadata, word) in words {
+        let usage = Usage {
+            state,
+            allocated,
+            metadata,
+        };
+        assert_eq!(rt; usage.to_word(), word);
+        assert!(rt; Usage::from_word(word) == usage);
+    }
+    Ok(())
+}
+
+#[test]
+fn shows_what_was_published_last(rt: HostRuntime) -> Result<(), Fail> {
+    let (board, mut publisher) = Board::new(rt.alloc())?;
+    let mut reader = board.another(&mut publisher);
+    assert!(rt; board.read(&mut reader).state == State::Empty);
+    let spoiled = Usage {
+        state: State::Invalid,
+        allocated: 64,
+        metadata: 2,
+    };
+    board.publish(&mut publisher, spoiled);
+    assert!(rt; board.read(&mut reader) == spoiled);
+    assert!(rt; board.absorb(&mut publisher, reader) == spoiled);
+    Ok(())
+}
+
+#[test]
+fn never_goes_back_between_threads(rt: HostRuntime) -> Result<(), Fail> {
+    let (board, mut publisher) = Board::new(rt.alloc())?;
+    let reader = board.another(&mut publisher);
+    let board = &board;
+    let (mut publisher, (reader, grows)) = thread::join(
+        &rt,
+        || publish_all(board, publisher, 20_000),
+        || read_all(board, reader, 20_000),
+    );
+    assert!(rt; grows);
+    assert_eq!(rt; board.absorb(&mut publisher, reader).allocated, 19_999);
+    Ok(())
+}

@@ -1,0 +1,211 @@
+// Workers that take what others put, in one thread and in several.
+ghost use Rattle.std.specs.Prelude.{◌≡◌, ⊤};
+ghost use Rattle.copier.specs.declared.ticket.PendingCopy.{PendingCopy};
+
+use copier::{Copies, Count, Ended, Gate, Pass, PendingCopy, Ticket, Tickets, work};
+use std::alloc::{AllocError, Global};
+use std::sync::atomic::{AtomicU64, Ordering};
+use std::sync::{Arc, Wait};
+use std::test::Fail;
+use std::thread::{Threads, join};
+
+// A gate that keeps the count of the last ticket and adds up all.
+#[derive(Drop)]
+struct Counts {
+    last: Arc<AtomicU64, Global>,
+    sum: AtomicU64,
+}
+
+impl Gate for Counts {
+    fn before(&self, ticket: u64) {
+        self.last.store(ticket, Ordering::SeqCst);
+        self.sum.fetch_add(ticket, Ordering::SeqCst);
+    }
+}
+
+// The counts of the copies that were done, and which of them the gate had just let through.
+#[derive(Drop)]
+struct Done {
+    counts: Vec<u64>,
+    gated: u64,
+    gate: Arc<AtomicU64, Global>,
+}
+
+impl Copies for Done {
+    ghost does = { λ before copy after. ⊤ };
+
+    fn copy<R: Wait>(&mut self, rt: &R, tickets: &Tickets, pass: &mut Pass, copy: PendingCopy) {
+        if self.gate.load(Ordering::SeqCst) == copy.count {
+            self.gated = self.gated.saturating_add(1);
+        }
+        if self.counts.push(copy.count).is_err() {
+            self.gated = 0;
+        }
+        // copy 7 of volume 1 starts another
+        if copy.volume == 1 && copy.copy == 7 {
+            let next = PendingCopy {
+                volume: copy.volume,
+                copy: 8,
+                count: 100,
+            };
+            let _ = tickets.put(rt, pass, Ticket::Copy(next));
+        }
+    }
+}
+
+fn gate(alloc: Global) -> Result<Counts, AllocError> {
+    let Ok(last) = Arc::new(alloc, AtomicU64::new(0)) else {
+        return Err(AllocError);
+    };
+    Ok(Counts {
+        last,
+        sum: AtomicU64::new(0),
+    })
+}
+
+fn none_done(alloc: Global, gate: &Counts) -> Result<Done, AllocError> {
+    Ok(Done {
+        counts: Vec::new(alloc),
+        gated: 0,
+        gate: Arc::try_clone(&gate.last)?,
+    })
+}
+
+fn numbered(copy: u64, count: u64) -> Ticket {
+    Ticket::Copy(PendingCopy {
+        volume: 1,
+        copy,
+        count,
+    })
+}
+
+#[test]
+fn a_worker_ends_at_the_word_to_stop(rt: HostRuntime) -> Result<(), Fail> {
+    let (tickets, mut pass) = Tickets::new(rt.alloc())?;
+    let gate = gate(rt.alloc())?;
+    let mut done = none_done(rt.alloc(), &gate)?;
+    assert!(rt; tickets.put(&rt, &mut pass, numbered(5, 1)) == Ok(()));
+    assert!(rt; tickets.put(&rt, &mut pass, numbered(3, 2)) == Ok(()));
+    assert!(rt; tickets.put(&rt, &mut pass, Ticket::Stop) == Ok(()));
+    assert!(rt; tickets.put(&rt, &mut pass, numbered(7, 3)) == Ok(()));
+    let ended = work(&rt, &tickets, &mut pass, &gate, &mut done);
+    assert!(rt; ended == Ended::Stopped);
+    assert_eq!(rt; done.counts.as_slice(), [1, 2].as_slice());
+    assert_eq!(rt; done.gated, 2);
+    assert!(rt; tickets.put(&rt, &mut pass, Ticket::Stop) == Ok(()));
+    let ended = work(&rt, &tickets, &mut pass, &gate, &mut done);
+    assert!(rt; ended == Ended::Stopped);
+    assert_eq!(rt; done.counts.as_slice(), [1, 2, 3].as_slice());
+    assert!(rt; tickets.take(&rt, &mut pass) == Some(numbered(8, 100)));
+    tickets.settle(&mut pass);
+    Ok(())
+}
+
+// Puts a thousand tickets, counted, and two that say stop; then says how many were put.
+fn put_all<R: Wait>(rt: &R, tickets: &Tickets, mut pass: Pass) -> (Pass, u64)
+    requires { pass.queue ≡ tickets.now }
+    ensures { (result.0.queue ≡ tickets.now) × (result.0.parts ≡ pass.parts) }
+{
+    let mut count = Count::new();
+    let mut put = 0u64;
+    for copy in 1..=1000u64 {
+        let ticket = Ticket::Copy(PendingCopy {
+            volume: 0,
+            copy,
+            count: count.draw(),
+        });
+        if tickets.put(rt, &mut pass, ticket).is_ok() {
+            put = put.saturating_add(1);
+        }
+    }
+    for _ in 0..2 {
+        if tickets.put(rt, &mut pass, Ticket::Stop).is_ok() {
+            put = put.saturating_add(1);
+        }
+    }
+    (pass, put)
+}
+
+// A worker in a thread of its own.
+fn worked<R: Wait>(
+    rt: &R,
+    tickets: &Tickets,
+    gate: &Counts,
+    mut pass: Pass,
+    mut done: Done,
+) -> (Pass, Done, Ended)
+    requires { pass.queue ≡ tickets.now }
+    ensures { (result.0.queue ≡ tickets.now) × (result.0.parts ≡ pass.parts) }
+{
+    let ended = work(rt, tickets, &mut pass, gate, &mut done);
+    (pass, done, ended)
+}
+
+// A worker beside the one that puts.
+fn beside<R: Threads + Wait + Sync>(
+    rt: &R,
+    tickets: &Tickets,
+    gate: &Counts,
+    pass: Pass,
+    done: Done,
+    putter: Pass,
+) -> ((Pass, Done, Ended), (Pass, u64))
+    requires { (pass.queue ≡ tickets.now) × (putter.queue ≡ tickets.now) }
+    ensures { (result.0.0.queue ≡ pass.queue) × (result.0.0.parts ≡ pass.parts) × (result.1.0.queue ≡ putter.queue) × (result.1.0.parts ≡ putter.parts) }
+{
+    join(
+        rt,
+        move || -> (Pass, Done, Ended)
+            requires { pass.queue ≡ tickets.now }
+            ensures { (result.0.queue ≡ pass.queue) × (result.0.parts ≡ pass.parts) }
+        { worked(rt, tickets, gate, pass, done) },
+        move || -> (Pass, u64)
+            requires { putter.queue ≡ tickets.now }
+            ensures { (result.0.queue ≡ putter.queue) × (result.0.parts ≡ putter.parts) }
+        { put_all(rt, tickets, putter) },
+    )
+}
+
+#[test]
+fn two_workers_do_what_is_put_once_each(rt: HostRuntime) -> Result<(), Fail> {
+    let (tickets, mut pass) = Tickets::new(rt.alloc())?;
+    let gate = gate(rt.alloc())?;
+    let first = none_done(rt.alloc(), &gate)?;
+    let second = none_done(rt.alloc(), &gate)?;
+    let one = tickets.another(&mut pass);
+    let other = tickets.another(&mut pass);
+    let putter = tickets.another(&mut pass);
+    let handle = &rt;
+    let queue = &tickets;
+    let shared = &gate;
+    let ((one, first, first_ended), ((other, second, second_ended), (putter, put))) = join(
+        handle,
+        move || -> (Pass, Done, Ended)
+            requires { one.queue ≡ queue.now }
+            ensures { (result.0.queue ≡ one.queue) × (result.0.parts ≡ one.parts) }
+        { worked(handle, queue, shared, one, first) },
+        move || -> ((Pass, Done, Ended), (Pass, u64))
+            requires { (other.queue ≡ queue.now) × (putter.queue ≡ queue.now) }
+            ensures { (result.0.0.queue ≡ other.queue) × (result.0.0.parts ≡ other.parts) × (result.1.0.queue ≡ putter.queue) × (result.1.0.parts ≡ putter.parts) }
+        { beside(handle, queue, shared, other, second, putter) },
+    );
+    tickets.absorb(&mut pass, one);
+    tickets.absorb(&mut pass, other);
+    tickets.absorb(&mut pass, putter);
+    tickets.settle(&mut pass);
+    assert_eq!(rt; put, 1002);
+    assert!(rt; (first_ended, second_ended) == (Ended::Stopped, Ended::Stopped));
+    assert_eq!(rt; gate.sum.load(Ordering::SeqCst), 500500);
+    let mut all = first.counts;
+    for count in second.counts.as_slice() {
+        all.push(*count)?;
+    }
+    all.sort()?;
+    let mut next = 0u64;
+    for count in all.as_slice() {
+        next = next.saturating_add(1);
+        assert_eq!(rt; *count, next);
+    }
+    assert_eq!(rt; next, 1000);
+    Ok(())
+}
