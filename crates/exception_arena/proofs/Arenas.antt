@@ -5,7 +5,7 @@ use Rattle.std.proofs.lemmas.List.{reverse-append, get_or-set_other, length-set,
 use Rattle.std.proofs.Math.Seq.{take-append_seam}
 use Rattle.sector.specs.declared.pair.Pair.{Pair}
 use Rattle.exception_arena.specs.declared.run.Run.{Run}
-use Rattle.exception_arena.specs.Runs.{pair_after, pairs_from, pairs_in, IsRun, GoesOn}
+use Rattle.exception_arena.specs.Runs.{block, pair_after, pairs_from, pairs_in, IsRun, GoesOn}
 use Rattle.exception_arena.proofs.Runs.{run_one, run_length, run_more, run_less}
 use Rattle.exception_arena.specs.Links.{node_at, run_at, begun_at, pairs_on, led, recount, list_from, Leads, count_of, omit, head_at, AreHung}
 use Rattle.exception_arena.specs.Arenas.{IsQueue, StandsOnOne, IsArena, HasRoom, HoldsRuns, IsSound, IsTaken}
@@ -96,7 +96,7 @@ abandoned nodes nodes1 heads slots free queue queue1 frees waiting j a some q ot
     }
 
 -- a pending pair is committed: its node goes to its bucket, and to the end of the slots
-pub finished : (nodes nodes1 : List Node) (heads : List Link) (slots : List ℕ) (free : Link) (queue queue1 : Queue) (frees waiting : List ℕ) (j k : ℕ) → IsArena nodes heads slots free queue frees waiting → 0 < count_of j waiting → IsQueue nodes1 queue1 (omit j waiting) → ((i : ℕ) → count_of i waiting ≡ 0 → node_at nodes1 i ≡ node_at nodes i) → length nodes1 ≡ length nodes → k ≡ (run_at nodes1 j).first.old / 256 % length heads
+pub finished : (nodes nodes1 : List Node) (heads : List Link) (slots : List ℕ) (free : Link) (queue queue1 : Queue) (frees waiting : List ℕ) (j k : ℕ) → IsArena nodes heads slots free queue frees waiting → 0 < count_of j waiting → IsQueue nodes1 queue1 (omit j waiting) → ((i : ℕ) → count_of i waiting ≡ 0 → node_at nodes1 i ≡ node_at nodes i) → length nodes1 ≡ length nodes → k ≡ (run_at nodes1 j).first.old / block % length heads
     → IsArena (led nodes1 j (head_at heads k)) (set heads k (To j)) (slots ++ j ∷ []) free queue1 frees (omit j waiting)
 finished nodes nodes1 heads slots free queue queue1 frees waiting j k a some q others len at =
     let next : Link = head_at heads k in
@@ -119,7 +119,7 @@ finished nodes nodes1 heads slots free queue queue1 frees waiting j k a some q o
     }
 
 -- the last committed pair is taken away: its node goes to the free list
-pub removed : (nodes : List Node) (heads : List Link) (slots slots1 : List ℕ) (free : Link) (queue : Queue) (frees waiting : List ℕ) (j k : ℕ) → IsArena nodes heads slots free queue frees waiting → slots ≡ slots1 ++ j ∷ [] → k ≡ (run_at nodes j).first.old / 256 % length heads
+pub removed : (nodes : List Node) (heads : List Link) (slots slots1 : List ℕ) (free : Link) (queue : Queue) (frees waiting : List ℕ) (j k : ℕ) → IsArena nodes heads slots free queue frees waiting → slots ≡ slots1 ++ j ∷ [] → k ≡ (run_at nodes j).first.old / block % length heads
     → (j < length nodes) × IsArena (led nodes j free) (set heads k (node_at nodes j).next) slots1 (To j) queue (j ∷ frees) waiting
 removed nodes heads slots slots1 free queue frees waiting j k a last at =
     let nodes1 : List Node = led nodes j free in
@@ -217,7 +217,7 @@ pub hung_none : (nodes : List Node) (n : ℕ) → AreHung nodes (replicate n Now
 hung_none nodes n b lt = get_or-replicate n b Nowhere Nowhere (omega (arith, length-replicate n Nowhere))
 
 -- one slot more
-pub hung_slot : (nodes nodes1 : List Node) (heads : List Link) (slots : List ℕ) (i j k : ℕ) → i < length slots → j ≡ get_or slots i 0 → ((x : ℕ) → count_of x slots ≤ 1) → j < length nodes → k ≡ (run_at nodes j).first.old / 256 % length heads → AreHung nodes heads (reverse (take i slots)) → nodes1 ≡ led nodes j (head_at heads k)
+pub hung_slot : (nodes nodes1 : List Node) (heads : List Link) (slots : List ℕ) (i j k : ℕ) → i < length slots → j ≡ get_or slots i 0 → ((x : ℕ) → count_of x slots ≤ 1) → j < length nodes → k ≡ (run_at nodes j).first.old / block % length heads → AreHung nodes heads (reverse (take i slots)) → nodes1 ≡ led nodes j (head_at heads k)
     → AreHung nodes1 (set heads k (To j)) (reverse (take (i + 1) slots))
 hung_slot nodes nodes1 heads slots i j k lt is once inside at hung led1 =
     let order : reverse (take (i + 1) slots) ≡ j ∷ reverse (take i slots) = ap reverse (take_more slots i 0 lt ∙ ap (λ x. take i slots ++ x ∷ []) (sym is)) ∙ reverse-append (take i slots) (j ∷ []) in
@@ -252,12 +252,12 @@ abandoned_sound nodes nodes1 nodes2 heads slots free queue queue1 count reserved
 
 pub finished_sound : (nodes nodes1 nodes2 : List Node) (heads heads1 : List Link) (slots slots1 : List ℕ) (free : Link) (queue queue1 : Queue) (count reserved nodes_capacity nodes_capacity1 slots_capacity slots_capacity1 j : ℕ) → IsSound nodes heads slots free queue count reserved nodes_capacity slots_capacity → 0 < count_of j (list_from nodes queue.first)
     → IsQueue nodes1 queue1 (omit j (list_from nodes queue.first)) → ((i : ℕ) → run_at nodes1 i ≡ run_at nodes i) → ((i : ℕ) → count_of i (list_from nodes queue.first) ≡ 0 → node_at nodes1 i ≡ node_at nodes i) → length nodes1 ≡ length nodes
-    → nodes2 ≡ led nodes1 j (head_at heads ((run_at nodes1 j).first.old / 256 % length heads)) → heads1 ≡ set heads ((run_at nodes1 j).first.old / 256 % length heads) (To j) → slots1 ≡ slots ++ j ∷ [] → nodes_capacity1 ≡ nodes_capacity → slots_capacity1 ≡ slots_capacity
+    → nodes2 ≡ led nodes1 j (head_at heads ((run_at nodes1 j).first.old / block % length heads)) → heads1 ≡ set heads ((run_at nodes1 j).first.old / block % length heads) (To j) → slots1 ≡ slots ++ j ∷ [] → nodes_capacity1 ≡ nodes_capacity → slots_capacity1 ≡ slots_capacity
     → IsSound nodes2 heads1 slots1 free queue1 (count + 1) reserved nodes_capacity1 slots_capacity1 × ((pairs_on nodes2 slots1 ≡ pairs_on nodes slots ++ (run_at nodes j).first ∷ []) × (map (begun_at nodes2) (list_from nodes2 queue1.first) ≡ map (begun_at nodes) (omit j (list_from nodes queue.first))))
 finished_sound nodes nodes1 nodes2 heads heads1 slots slots1 free queue queue1 count reserved nodes_capacity nodes_capacity1 slots_capacity slots_capacity1 j sound some q pairs others len last heads_are slots_are same same1 =
     let frees : List ℕ = list_from nodes free in
     let waiting : List ℕ = list_from nodes queue.first in
-    let k : ℕ = (run_at nodes1 j).first.old / 256 % length heads in
+    let k : ℕ = (run_at nodes1 j).first.old / block % length heads in
     let f = finished nodes nodes1 heads slots free queue queue1 frees waiting j k sound.arena some q others len refl in
     let a : IsArena nodes2 heads1 slots1 free queue1 frees (omit j waiting) = subst (λ x. IsArena x heads1 slots1 free queue1 frees (omit j waiting)) (sym last) (subst (λ x. IsArena (led nodes1 j (head_at heads k)) x slots1 free queue1 frees (omit j waiting)) (sym heads_are) (subst (λ x. IsArena (led nodes1 j (head_at heads k)) (set heads k (To j)) x free queue1 frees (omit j waiting)) (sym slots_are) f)) in
     let lt : j < length nodes1 = let h = sound.arena.queued.inside j some in omega arith in
@@ -291,12 +291,12 @@ finished_sound nodes nodes1 nodes2 heads heads1 slots slots1 free queue queue1 c
     )
 
 pub removed_sound : (nodes nodes1 : List Node) (heads heads1 : List Link) (slots slots1 : List ℕ) (free : Link) (queue : Queue) (count reserved nodes_capacity nodes_capacity1 slots_capacity slots_capacity1 j : ℕ) → IsSound nodes heads slots free queue count reserved nodes_capacity slots_capacity → slots ≡ slots1 ++ j ∷ [] → (run_at nodes j).count ≤ 1
-    → nodes1 ≡ led nodes j free → heads1 ≡ set heads ((run_at nodes j).first.old / 256 % length heads) (node_at nodes j).next → nodes_capacity1 ≡ nodes_capacity → slots_capacity1 ≡ slots_capacity
+    → nodes1 ≡ led nodes j free → heads1 ≡ set heads ((run_at nodes j).first.old / block % length heads) (node_at nodes j).next → nodes_capacity1 ≡ nodes_capacity → slots_capacity1 ≡ slots_capacity
     → IsSound nodes1 heads1 slots1 (To j) queue (count - 1) reserved nodes_capacity1 slots_capacity1 × ((pairs_on nodes1 slots1 ≡ take (length (pairs_on nodes slots) - 1) (pairs_on nodes slots)) × (map (begun_at nodes1) (list_from nodes1 queue.first) ≡ map (begun_at nodes) (list_from nodes queue.first)))
 removed_sound nodes nodes1 heads heads1 slots slots1 free queue count reserved nodes_capacity nodes_capacity1 slots_capacity slots_capacity1 j sound last short nodes_are heads_are same same1 =
     let frees : List ℕ = list_from nodes free in
     let waiting : List ℕ = list_from nodes queue.first in
-    let k : ℕ = (run_at nodes j).first.old / 256 % length heads in
+    let k : ℕ = (run_at nodes j).first.old / block % length heads in
     let (lt, f) = removed nodes heads slots slots1 free queue frees waiting j k sound.arena last refl in
     let a : IsArena nodes1 heads1 slots1 (To j) queue (j ∷ frees) waiting = subst (λ x. IsArena x heads1 slots1 (To j) queue (j ∷ frees) waiting) (sym nodes_are) (subst (λ x. IsArena (led nodes j free) x slots1 (To j) queue (j ∷ frees) waiting) (sym heads_are) f) in
     let pairs : (i : ℕ) → run_at nodes1 i ≡ run_at nodes i = λ i. ap (λ x. run_at x i) nodes_are ∙ led_run nodes j i free lt in

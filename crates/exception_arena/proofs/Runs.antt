@@ -5,7 +5,7 @@ use Rattle.std.proofs.lemmas.List.{get_or_append_left, get_or_push}
 use Rattle.sector.specs.declared.pair.Pair.{Pair}
 use Rattle.model.specs.Picture.{place_of}
 use Rattle.exception_arena.specs.declared.run.Run.{Run}
-use Rattle.exception_arena.specs.Runs.{pair_after, pairs_from, pairs_in, IsRun, GoesOn, or_else}
+use Rattle.exception_arena.specs.Runs.{block, pair_after, pairs_from, pairs_in, IsRun, GoesOn, or_else}
 
 -- the first pair that names a chunk stands in the first list or else in the second
 pub place-append : (a b : List Pair) (c : ℕ) → place_of (a ++ b) c ≡ or_else (place_of a c) (place_of b c)
@@ -69,9 +69,9 @@ pub run_passed : (run : Run) (c : ℕ) (found : Option ℕ) → (c < run.first.o
 run_passed run c found out = sym (ap (λ x. or_else x found) (run_miss run.first run.count c out))
 
 -- a chunk of another block is not named
-pub run_apart : (run : Run) (c : ℕ) → IsRun run → run.first.old / 256 ≢ c / 256 → place_of (pairs_in run) c ≡ None
+pub run_apart : (run : Run) (c : ℕ) → IsRun run → run.first.old / block ≢ c / block → place_of (pairs_in run) c ≡ None
 run_apart run c is ne =
-    let together : run.first.old % 256 + run.count ≤ 256 = is.together in
+    let together : run.first.old % block + run.count ≤ block = is.together in
     elim (cases_lt c run.first.old) [
       | inl lt ↦ run_miss run.first run.count c (inl lt)
       | inr le ↦ elim (cases_lt c (run.first.old + run.count)) [
@@ -86,14 +86,14 @@ run_more run pair is on old new =
     let next : pair ≡ pair_after run.first run.count = on.next in
     let o : pair.old ≡ run.first.old + run.count = ap (λ (p : Pair). p.old) next in
     let n : pair.new ≡ run.first.new + run.count = ap (λ (p : Pair). p.new) next in
-    let t : 0 < pair.old % 256 = on.together in
-    let t' : 0 < (run.first.old + run.count) % 256 = subst (λ x. 0 < x % 256) o t in
-    let together : run.first.old % 256 + run.count ≤ 256 = is.together in
+    let t : 0 < pair.old % block = on.together in
+    let t' : 0 < (run.first.old + run.count) % block = subst (λ x. 0 < x % block) o t in
+    let together : run.first.old % block + run.count ≤ block = is.together in
     record { some = omega arith; together = omega arith; old_fits = omega arith; new_fits = omega arith }
 
 pub run_less : (run : Run) → IsRun run → 1 < run.count → IsRun (record { first = run.first; count = run.count - 1 })
 run_less run is more =
-    let together : run.first.old % 256 + run.count ≤ 256 = is.together in
+    let together : run.first.old % block + run.count ≤ block = is.together in
     let o = is.old_fits in
     let n = is.new_fits in
     record { some = omega arith; together = omega arith; old_fits = omega arith; new_fits = omega arith }
@@ -102,9 +102,9 @@ pub run_single : (run : Run) → run.count ≡ 1 → run.first.old < 2 ^ 64 → 
 run_single run one old new = record { some = omega arith; together = omega arith; old_fits = omega arith; new_fits = omega arith }
 
 -- a run that a pair goes on has room for it
-pub room_more : (run : Run) (pair : Pair) → IsRun run → GoesOn run pair → run.count < 256
+pub room_more : (run : Run) (pair : Pair) → IsRun run → GoesOn run pair → run.count < block
 room_more run pair is on =
     let o : pair.old ≡ run.first.old + run.count = ap (λ (p : Pair). p.old) on.next in
-    let t : 0 < (run.first.old + run.count) % 256 = subst (λ x. 0 < x % 256) o on.together in
-    let together : run.first.old % 256 + run.count ≤ 256 = is.together in
+    let t : 0 < (run.first.old + run.count) % block = subst (λ x. 0 < x % block) o on.together in
+    let together : run.first.old % block + run.count ≤ block = is.together in
     omega arith

@@ -2,7 +2,7 @@
 use Rattle.std.specs.Prelude.{◌≡◌, ◌==◌, ℕ, zero, suc, ◌+◌, ◌/◌, ◌%◌, ◌<◌, List, [], ◌∷◌, ◌++◌, length, slice_set, if◌then◌else◌, slice_index_or}
 use Rattle.sector.specs.declared.pair.Pair.{Pair}
 use Rattle.exception_arena.specs.declared.run.Run.{Run}
-use Rattle.exception_arena.specs.Runs.{pairs_in}
+use Rattle.exception_arena.specs.Runs.{block, pairs_in}
 use Rattle.exception_arena.specs.declared.begun.Begun.{Begun}
 use Rattle.exception_arena.specs.declared.node.Link.{Link}
 use Rattle.exception_arena.specs.declared.node.Link.TheVariants.{Nowhere, To}
@@ -71,7 +71,7 @@ last_of link (i ∷ is) = last_of (To i) is
 -- those of a list of places whose old chunk belongs into a bucket
 abbrev pub in_bucket : List Node → ℕ → ℕ → List ℕ → List ℕ
 in_bucket nodes buckets b [] = []
-in_bucket nodes buckets b (i ∷ is) = if (node_at nodes i).run.first.old / 256 % buckets == b then (i ∷ in_bucket nodes buckets b is) else in_bucket nodes buckets b is
+in_bucket nodes buckets b (i ∷ is) = if (node_at nodes i).run.first.old / block % buckets == b then (i ∷ in_bucket nodes buckets b is) else in_bucket nodes buckets b is
 
 -- the head of a bucket
 abbrev pub head_at : List Link → ℕ → Link

@@ -3,7 +3,7 @@
 ghost use Rattle.std.specs.Prelude.{◌≡◌, ℕ, ◌<◌, ◌≤◌, ◌/◌, ◌%◌, IsOk, IfErr, OnErr, OnOk, length, replicate, reverse, vec_capacity, slice_set};
 ghost use Rattle.model.specs.Picture.{place_of};
 ghost use Rattle.exception_arena.specs.Links.{node_at, run_at, pairs_on, led, head_at, AreHung, count_of};
-ghost use Rattle.exception_arena.specs.Runs.{IsRun};
+ghost use Rattle.exception_arena.specs.Runs.{block, IsRun};
 ghost use Rattle.sector.specs.declared.refusal.Refusal.TheVariants.{NoMemory};
 ghost use Rattle.exception_arena.specs.declared.node.Link.TheVariants.{Nowhere, To};
 
@@ -15,7 +15,7 @@ use sector::{Chunk, Refusal};
 fn bucket_of(old_chunk: Chunk, buckets: usize) -> usize
     requires { 0 < buckets }
     ensures within { result < buckets }
-    ensures is { result ≡ old_chunk / 256 % buckets }
+    ensures is { result ≡ old_chunk / block % buckets }
 {
     (old_chunk / BLOCK % buckets as u64) as usize
 }
@@ -24,8 +24,8 @@ fn bucket_of(old_chunk: Chunk, buckets: usize) -> usize
 pub fn hang(nodes: &mut Vec<Node>, heads: &mut Vec<Link>, place: usize)
     requires inside { place < length nodes.old.items }
     requires some { 0 < length heads.old.items }
-    ensures nodes { nodes.new.items ≡ led nodes.old.items place (head_at heads.old.items ((run_at nodes.old.items place).first.old / 256 % length heads.old.items)) }
-    ensures heads { heads.new.items ≡ slice_set heads.old.items ((run_at nodes.old.items place).first.old / 256 % length heads.old.items) (To place) }
+    ensures nodes { nodes.new.items ≡ led nodes.old.items place (head_at heads.old.items ((run_at nodes.old.items place).first.old / block % length heads.old.items)) }
+    ensures heads { heads.new.items ≡ slice_set heads.old.items ((run_at nodes.old.items place).first.old / block % length heads.old.items) (To place) }
     ensures capacity { vec_capacity nodes.new ≡ vec_capacity nodes.old }
 {
     let bucket = bucket_of(nodes[place].run.first.old, heads.len());
@@ -95,7 +95,7 @@ const MOST_BUCKETS: usize = 0x4000_0000_0000_0000;
 pub fn take_down(nodes: &[Node], heads: &mut Vec<Link>, place: usize)
     requires inside { place < length nodes.now }
     requires some { 0 < length heads.old.items }
-    ensures heads { heads.new.items ≡ slice_set heads.old.items ((run_at nodes.now place).first.old / 256 % length heads.old.items) (node_at nodes.now place).next }
+    ensures heads { heads.new.items ≡ slice_set heads.old.items ((run_at nodes.now place).first.old / block % length heads.old.items) (node_at nodes.now place).next }
 {
     let node = nodes[place];
     let bucket = bucket_of(node.run.first.old, heads.len());

@@ -1,6 +1,7 @@
 // The nodes of the arena, and what leads from one to the next.
 ghost use Rattle.std.specs.Prelude.{◌≡◌, ◌+◌, ◌-◌, ◌<◌, vec_capacity, length};
 ghost use Rattle.exception_arena.specs.Links.{led, recount, node_at, run_at};
+ghost use Rattle.exception_arena.specs.Runs.{block};
 
 use crate::run::Run;
 
@@ -39,7 +40,7 @@ pub fn lead(nodes: &mut Vec<Node>, place: usize, next: Link)
 /// Makes the run of a node one pair longer.
 pub fn lengthen(nodes: &mut Vec<Node>, place: usize)
     requires inside { place < length nodes.old.items }
-    requires room { (run_at nodes.old.items place).count < 256 }
+    requires room { (run_at nodes.old.items place).count < block }
     ensures nodes { nodes.new.items ≡ recount nodes.old.items place ((run_at nodes.old.items place).count + 1) }
     ensures capacity { vec_capacity nodes.new ≡ vec_capacity nodes.old }
 {

@@ -5,9 +5,10 @@ ghost use Rattle.exception_arena.specs.Runs.{pair_after, pairs_in, IsRun, GoesOn
 
 use sector::{Chunk, Pair};
 
-/// So many old chunks share a bucket, and a run lies within such a block: it never goes past a multiple of this. The
-/// kernel's table of exceptions keeps as many together.
-pub const BLOCK: u64 = 256;
+/// So many old chunks, from a multiple of this on, are a block: they share a bucket, and a run lies within one block. The
+/// shorter blocks are, the fewer nodes share a bucket where pairs come in no order; the longer, the fewer nodes pairs in
+/// order take. The kernel's table of exceptions keeps 256 together.
+pub const BLOCK: u64 = 2;
 
 /// Pairs both chunks of which rise by one: the first of them, and how many they are.
 #[derive(Clone, Copy, PartialEq, Eq)]

@@ -1,13 +1,13 @@
 pub mod AreaReads
 pub mod Areas
 pub mod Commits
-pub mod Distinct
 pub mod FirstReads
 pub mod Given
 pub mod Groups
 pub mod Heads
 pub mod Judged
 pub mod Loads
+pub mod Marks
 pub mod Merges
 pub mod Messages
 pub mod Opened

@@ -1,7 +1,6 @@
 // Whether pairs are well formed.
-ghost use Rattle.std.specs.Prelude.{◌≡◌, ◌↔◌, ℕ, ◌+◌, ◌*◌, ◌<◌, ◌≤◌, ◌^◌, List, length, map, IfOk, IfErr, MatchBool, IsTrue, AllPairs};
-ghost use Rattle.std.specs.List.{All, IsDistinct};
-ghost use Rattle.std.specs.Bool.{nat_eq};
+ghost use Rattle.std.specs.Prelude.{◌≡◌, ◌↔◌, ℕ, ◌+◌, ◌*◌, ◌<◌, ◌≤◌, ◌^◌, List, length, map, replicate, slice_index_or, slice_set, false, true, IfOk, IfErr, MatchBool, IsTrue, AllPairs};
+ghost use Rattle.std.specs.List.{All};
 ghost use Rattle.sector.specs.declared.refusal.Refusal.TheVariants.{NoMemory};
 ghost use Rattle.model.specs.Pairs.{IsApart, IsInside};
 ghost use Rattle.chunk_alloc.specs.Greatest.{IsGreatest};
@@ -10,7 +9,6 @@ ghost use Rattle.store.specs.Stored.{new_of, old_of};
 use model::is_area_place;
 use sector::{Chunk, Pair, Refusal};
 use std::alloc::Global;
-use std::collections::HashSet;
 
 /// Whether each pair's chunks are there, and no chunk stands in two of them. `NoMemory` where memory for as many numbers
 /// is refused.
@@ -72,56 +70,58 @@ fn is_inside(chunk: u32, origin: u64, size: u64, pair: Pair) -> bool
         && !is_area_place(chunk, pair.new)
 }
 
-/// Whether no chunk stands in two of the pairs.
+/// Whether no chunk stands in two of the pairs. `NoMemory` where a byte for each chunk up to the greatest is refused.
 fn are_apart(alloc: Global, pairs: &[Pair]) -> Result<bool, Refusal>
+    requires old { All (λ pair. pair.old + 1 < 2 ^ 64) pairs.now }
+    requires new { All (λ pair. pair.new + 1 < 2 ^ 64) pairs.now }
     ensures apart { IfOk result (λ apart. MatchBool apart (AllPairs IsApart pairs.now) (AllPairs IsApart pairs.now → ⊥)) }
     ensures refusal { IfErr result (λ e. e ≡ NoMemory) }
 {
-    let old = old_chunks(alloc, pairs)?;
-    if !are_distinct(alloc, old.as_slice())? {
-        return Ok(false);
-    }
-    let new = new_chunks(alloc, pairs)?;
-    let distinct = are_distinct(alloc, new.as_slice())?;
-    Ok(distinct)
-}
-
-/// The old chunks of the pairs.
-fn old_chunks(alloc: Global, pairs: &[Pair]) -> Result<Vec<Chunk>, Refusal>
-    ensures chunks { IfOk result (λ chunks. chunks.items ≡ map old_of pairs.now) }
-    ensures refusal { IfErr result (λ e. e ≡ NoMemory) }
-{
-    match pairs.iter().map(|pair| pair.old).collect(alloc) {
-        Ok(chunks) => Ok(chunks),
-        Err(_) => Err(Refusal::NoMemory),
-    }
-}
-
-/// The new chunks of the pairs.
-fn new_chunks(alloc: Global, pairs: &[Pair]) -> Result<Vec<Chunk>, Refusal>
-    ensures chunks { IfOk result (λ chunks. chunks.items ≡ map new_of pairs.now) }
-    ensures refusal { IfErr result (λ e. e ≡ NoMemory) }
-{
-    match pairs.iter().map(|pair| pair.new).collect(alloc) {
-        Ok(chunks) => Ok(chunks),
-        Err(_) => Err(Refusal::NoMemory),
-    }
-}
-
-/// Whether no number stands twice.
-fn are_distinct(alloc: Global, numbers: &[u64]) -> Result<bool, Refusal>
-    ensures distinct { IfOk result (λ distinct. MatchBool distinct (IsDistinct nat_eq numbers.now) (IsDistinct nat_eq numbers.now → ⊥)) }
-    ensures refusal { IfErr result (λ e. e ≡ NoMemory) }
-{
-    let mut seen: HashSet<u64> = HashSet::new(alloc);
-    for number in numbers {
-        match seen.insert(*number) {
-            Ok(true) => {}
-            Ok(false) => return Ok(false),
-            Err(_) => return Err(Refusal::NoMemory),
+    let mut olds = no_marks(alloc, greatest_old(pairs))?;
+    let mut news = no_marks(alloc, greatest_new(pairs))?;
+    for pair in pairs {
+        if mark(&mut olds, pair.old) {
+            return Ok(false);
+        }
+        if mark(&mut news, pair.new) {
+            return Ok(false);
         }
     }
     Ok(true)
+}
+
+/// A mark for each number up to the greatest, none of which is set.
+fn no_marks(alloc: Global, greatest: u64) -> Result<Vec<bool>, Refusal>
+    requires { greatest + 1 < 2 ^ 64 }
+    ensures marks { IfOk result (λ marks. marks.items ≡ replicate (greatest + 1) false) }
+    ensures refusal { IfErr result (λ e. e ≡ NoMemory) }
+{
+    match vec![in alloc; false; greatest as usize + 1] {
+        Ok(marks) => Ok(marks),
+        Err(_) => Err(Refusal::NoMemory),
+    }
+}
+
+/// Sets a number's mark, and says whether it was set.
+fn mark(marks: &mut Vec<bool>, number: u64) -> bool
+    requires { number < length marks.old.items }
+    ensures was { result ≡ slice_index_or marks.old.items number false }
+    ensures marks { marks.new.items ≡ slice_set marks.old.items number true }
+{
+    let was = marks[number as usize];
+    marks[number as usize] = true;
+    was
+}
+
+/// The greatest old chunk of the pairs, or 1 where none is greater.
+fn greatest_old(pairs: &[Pair]) -> Chunk
+    ensures { IsGreatest (map old_of pairs.now) result }
+{
+    let mut greatest: u64 = 1;
+    for pair in pairs {
+        greatest = greatest.max(pair.old);
+    }
+    greatest
 }
 
 /// The greatest new chunk of the pairs, or 1 where there is none.

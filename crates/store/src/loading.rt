@@ -69,6 +69,9 @@ fn take_slots(area: &Area, pairs: &mut Vec<Pair>) -> Result<u32, Refusal>
     Ok(count)
 }
 
+// Room is asked for so many pairs at once. For all of them at once it would be as much as for pairs in no order.
+const AT_ONCE: usize = 64;
+
 /// Holds these pairs as committed ones, in a list that holds none. `NoMemory` where memory for them is refused.
 pub fn hold_pairs(exceptions: &mut Arena, pairs: &[Pair]) -> Result<(), Refusal>
     requires none { length (committed exceptions.old) ≡ 0 }
@@ -78,8 +81,13 @@ pub fn hold_pairs(exceptions: &mut Arena, pairs: &[Pair]) -> Result<(), Refusal>
     ensures reserved { OnOk result (reserved exceptions.new ≡ reserved exceptions.old) }
     ensures refusal { IfErr result (λ e. e ≡ NoMemory) }
 {
-    for pair in pairs {
-        exceptions.reserve(1)?;
+    let mut until = 0;
+    for (index, pair) in pairs.iter().enumerate() {
+        if index == until {
+            let more = (pairs.len() - index).min(AT_ONCE);
+            exceptions.reserve(more)?;
+            until = index + more;
+        }
         let id = exceptions.begin(pair.old, pair.new);
         exceptions.finish(id);
     }

@@ -1,7 +1,8 @@
+use Rattle.store.specs.Stored.{new_of}
 use Rattle.store.proofs.Areas.{no_chunks}
 use Rattle.store.proofs.Judged.{greatest_more}
 use Rattle.store.proofs.judging.greatest_new.Goals as goal
 
 pub loop-pair-preserved : goal.loop-pair-preserved
 unfolding no_chunks
-loop-pair-preserved c = greatest_more c.args.pairs.now c.loop-pair.pair-index c.loop-pair.greatest c.max-greatest.result no_chunks c.loop-pair-test.true c.loop-pair.invariant c.max-greatest.ensures
+loop-pair-preserved c = greatest_more new_of c.args.pairs.now c.loop-pair.pair-index c.loop-pair.greatest c.max-greatest.result no_chunks c.loop-pair-test.true c.loop-pair.invariant c.max-greatest.ensures
