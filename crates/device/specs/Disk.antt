@@ -1,6 +1,7 @@
 -- What contracts see of a disk in memory.
 use Rattle.std.specs.Prelude.{◌≡◌, ◌⊎◌, ℕ, List}
 use Rattle.sector.specs.Bytes.{sector_at}
+use Rattle.device.specs.Marks.{flushed_from}
 use Rattle.device.specs.declared.mem_disk.MemDisk.{MemDisk}
 
 -- how many sectors it has
@@ -11,9 +12,9 @@ disk_size d = d.sectors
 abbrev pub disk_contents : MemDisk → List ℕ
 disk_contents d = d.present.items
 
--- its bytes at the last flush, which last through a loss of power
+-- its bytes at the last flush, which last through a loss of power: of each sector what its mark says
 abbrev pub disk_durable : MemDisk → List ℕ
-disk_durable d = d.flushed.items
+disk_durable d = flushed_from d.present.items d.undo.aside.items 0 d.undo.marks.items
 
 -- how many operations it has done, modulo 2 ^ 64
 abbrev pub disk_done : MemDisk → ℕ
@@ -21,4 +22,4 @@ disk_done d = d.done
 
 -- what a stop may leave in a sector: what is there, or what was there at the last flush
 abbrev pub disk_may_hold : MemDisk → ℕ → List ℕ → Type 0
-disk_may_hold d s v = (v ≡ sector_at d.present.items s) ⊎ (v ≡ sector_at d.flushed.items s)
+disk_may_hold d s v = (v ≡ sector_at (disk_contents d) s) ⊎ (v ≡ sector_at (disk_durable d) s)

@@ -5,11 +5,13 @@
 #![tactic(auto)]
 
 mod block;
+mod bytes;
 mod fail_at;
 mod io;
+mod mark;
 mod mem_disk;
 mod operation;
-mod written;
+mod undo;
 
 pub use block::Block;
 pub use fail_at::FailAt;

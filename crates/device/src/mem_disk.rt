@@ -1,10 +1,13 @@
-// A disk in memory, with a volatile cache: the values that a loss of power would leave are kept beside the present ones.
-ghost use Rattle.std.specs.Prelude.{◌≡◌, ◌⊎◌, ℕ, ◌+◌, ◌*◌, ◌<◌, ◌≤◌, [], length, slice_index, replicate, IfOk, IfErr, refl};
+// A disk in memory, with a volatile cache: values that a loss of power would bring back are kept aside.
+ghost use Rattle.std.specs.Prelude.{◌≡◌, ℕ, ◌+◌, ◌*◌, ◌<◌, ◌≤◌, [], length, slice_index, replicate, IfOk, IfErr, refl};
 ghost use Rattle.std.proofs.Common.{inl, inr};
 ghost use Rattle.sector.specs.declared.refusal.Refusal.TheVariants.{NoMemory};
 ghost use Rattle.sector.specs.Bytes.{sectors_at, with_sectors};
+ghost use Rattle.device.specs.declared.mark.Mark.TheVariants.{Fresh};
+ghost use Rattle.device.specs.Marks.{mark_at};
 
-use crate::written::Written;
+use crate::bytes::write_sectors;
+use crate::undo::Undo;
 use crate::{Block, Io};
 use sector::{Range, Refusal, SECTOR_BYTES};
 use std::alloc::Global;
@@ -18,22 +21,21 @@ pub const MAX_SECTORS: u64 = 16_777_216;
 #[derive(Drop)]
 pub struct MemDisk {
     present: Vec<u8>,
-    flushed: Vec<u8>,
+    undo: Undo,
     sectors: u64,
     done: u64,
-    written: Written,
     ghost small: { sectors ≤ 16_777_216 },
     ghost whole: { length present.items ≡ 512 * sectors },
-    ghost whole_flushed: { length flushed.items ≡ 512 * sectors },
-    ghost inside: { written.to ≤ 512 * sectors },
-    ghost same_outside: { (i : ℕ) → (i < written.from) ⊎ (written.to ≤ i) → slice_index present.items i ≡ slice_index flushed.items i },
+    ghost marked: { length undo.marks.items ≡ sectors },
+    ghost fresh: { (s i : ℕ) → mark_at undo.marks.items s ≡ Fresh → i < 512 → slice_index present.items (512 * s + i) ≡ 0 },
 }
 
 impl MemDisk {
     ghost use Rattle.device.specs.Disk.{disk_size, disk_contents, disk_durable, disk_done};
 
-    /// A disk of so many sectors, all zero and flushed. `NoMemory` where the allocator refuses the room, twice as many
-    /// bytes; no later call takes memory.
+    /// A disk of so many sectors, all zero and flushed. `NoMemory` where the allocator refuses the room: twice as many
+    /// bytes, of which half are not written before there is something to keep, and 12 bytes a sector. No later call takes
+    /// memory.
     pub fn new(alloc: Global, sectors: u64) -> Result<MemDisk, Refusal>
         requires some { 1 ≤ sectors }
         requires small { sectors ≤ MAX_SECTORS }
@@ -47,15 +49,12 @@ impl MemDisk {
         let Ok(present) = vec![in alloc; 0u8; len] else {
             return Err(Refusal::NoMemory);
         };
-        let Ok(flushed) = vec![in alloc; 0u8; len] else {
-            return Err(Refusal::NoMemory);
-        };
+        let undo = Undo::new(alloc, sectors as usize)?;
         Ok(MemDisk {
             present,
-            flushed,
+            undo,
             sectors,
             done: 0,
-            written: Written::nothing(),
         })
     }
 
@@ -79,8 +78,8 @@ impl MemDisk {
         ensures done { disk_done self.new ≡ disk_done self.old }
     {
         write_sectors(&mut self.present, range.first as usize, bytes);
-        write_sectors(&mut self.flushed, range.first as usize, bytes);
-        self.written = self.written.with(range.first as usize, bytes.len());
+        self.undo
+            .put(&self.present, range.first as usize, range.count as usize);
     }
 
     /// Loses what was not flushed: each sector goes back to its value at the last flush. It counts no operation.
@@ -90,20 +89,8 @@ impl MemDisk {
         ensures size { disk_size self.new ≡ disk_size self.old }
         ensures done { disk_done self.new ≡ disk_done self.old }
     {
-        self.written.copy(&self.flushed, &mut self.present);
-        self.written = Written::nothing();
+        self.undo.take_back(&mut self.present);
     }
-}
-
-// Writes whole sectors from sector `first` on.
-#[tactic(auto, using(sector::proofs::Sectors::bytes_after))]
-fn write_sectors(all: &mut [u8], first: usize, bytes: &[u8])
-    requires { 512 * first + length bytes.now ≤ length all.old }
-    ensures all { all.new ≡ with_sectors all.old first bytes.now }
-    ensures rest { (i : ℕ) → (i < 512 * first) ⊎ (512 * first + length bytes.now ≤ i) → slice_index all.new i ≡ slice_index all.old i }
-{
-    let from = first * SECTOR_BYTES;
-    all[from..from + bytes.len()].copy_from_slice(bytes);
 }
 
 impl Block for MemDisk {
@@ -142,15 +129,15 @@ impl Block for MemDisk {
     }
 
     fn write(&mut self, range: Range, bytes: &[u8]) -> Result<(), Io> {
+        self.undo
+            .keep(&self.present, range.first as usize, range.count as usize);
         write_sectors(&mut self.present, range.first as usize, bytes);
-        self.written = self.written.with(range.first as usize, bytes.len());
         self.done = self.done.wrapping_add(1);
         Ok(())
     }
 
     fn flush(&mut self) -> Result<(), Io> {
-        self.written.copy(&self.present, &mut self.flushed);
-        self.written = Written::nothing();
+        self.undo.forget();
         self.done = self.done.wrapping_add(1);
         Ok(())
     }

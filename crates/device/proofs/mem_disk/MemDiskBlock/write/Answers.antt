@@ -1,27 +1,40 @@
-use Rattle.std.proofs.Common.{◌≡◌, inl, inr, ◌+◌, ◌*◌, ◌≤◌, length, ap, ◌∙◌, arith, rules}
-use Rattle.sector.specs.Bytes.{with_sectors}
+use Rattle.std.proofs.Common.{◌≡◌, inl, inr, ◌+◌, ◌*◌, ◌≤◌, ◌∙◌, List, ℕ, length, ap, subst, arith, rules}
+use Rattle.sector.specs.Bytes.{sector_at, with_sectors}
 use Rattle.sector.proofs.Sectors.{kept_or_written, written_back}
-use Rattle.device.proofs.Runs.{whole_back, byte_back}
+use Rattle.device.specs.Marks.{flushed_at}
+use Rattle.device.proofs.Flushed.{fresh_zero, long_back, write_flushed, write_fresh}
 use Rattle.device.proofs.mem_disk.MemDiskBlock.write.Goals as goal
+
+pub keep-requires-clause-fresh : goal.keep-requires-clause-fresh
+keep-requires-clause-fresh c t at = ap (λ b. sector_at b t) c.deref.ensures.value ∙ fresh_zero c.args.self.now.present.items c.args.self.now.undo.marks.items (omega (arith, c.args.self.now.whole, c.args.self.now.marked)) c.args.self.now.fresh t at
+
+pub invariant_of-self-clause-whole : goal.invariant_of-self-clause-whole
+invariant_of-self-clause-whole c = long_back _ _ c.write_sectors.new.all c.args.self.now.present.items (search rules) (search rules)
+
+pub invariant_of-self-clause-fresh : goal.invariant_of-self-clause-fresh
+invariant_of-self-clause-fresh c = write_fresh c.args.self.now.present.items _ c.args.bytes.now c.args.range.first c.args.range.count c.args.self.now.undo.marks.items c.keep.new.self.marks.items
+    (written_back _ _ _ (search rules) ∙ c.write_sectors.ensures.all ∙ ap (λ x. with_sectors x c.args.range.first c.args.bytes.now) c.deref_mut.ensures.value)
+    c.requires.room
+    (omega (arith, c.requires.inside, c.args.self.now.whole))
+    c.keep.ensures.kept
+    c.keep.ensures.others
+    c.args.self.now.fresh
+
+pub returns-clause-durable : goal.returns-clause-durable
+returns-clause-durable c = write_flushed c.args.self.now.present.items _ c.args.bytes.now c.args.self.now.undo.aside.items c.keep.new.self.aside.items c.args.range.first c.args.range.count c.args.self.now.undo.marks.items c.keep.new.self.marks.items
+    c.keep.ensures.len
+    (written_back _ _ _ (search rules) ∙ c.write_sectors.ensures.all ∙ ap (λ x. with_sectors x c.args.range.first c.args.bytes.now) c.deref_mut.ensures.value)
+    c.requires.room
+    (omega (arith, c.requires.inside, c.args.self.now.whole))
+    c.keep.ensures.kept
+    (λ t. subst (λ (b : List ℕ). flushed_at b c.keep.new.self.aside.items c.keep.new.self.marks.items t ≡ flushed_at b c.args.self.now.undo.aside.items c.args.self.now.undo.marks.items t) c.deref.ensures.value (c.keep.ensures.flushed t))
 
 pub returns-clause-stop : goal.returns-clause-stop
 returns-clause-stop c s v (inl now) =
-    let fits : 512 * c.args.range.first + length c.args.bytes.now ≤ length c.args.self.now.present.items = omega (arith, c.args.self.now.whole) in
+    let fits : 512 * c.args.range.first + length c.args.bytes.now ≤ length c.args.self.now.present.items = omega (arith, c.args.self.now.whole, c.requires.inside, c.requires.room) in
     let is : c.write_sectors.new.all ≡ with_sectors c.args.self.now.present.items c.args.range.first c.args.bytes.now = c.write_sectors.ensures.all ∙ ap (λ x. with_sectors x c.args.range.first c.args.bytes.now) c.deref_mut.ensures.value in
     elim (kept_or_written _ _ _ c.args.range.count _ s v (written_back _ _ _ (search rules) ∙ is) fits c.requires.room now) [
       | inl same ↦ inl (inl same)
       | inr written ↦ inr written
     ]
-returns-clause-stop c s v (inr kept) = inl (inr kept)
-
-pub invariant_of-self-clause-whole : goal.invariant_of-self-clause-whole
-invariant_of-self-clause-whole c = whole_back _ _ c.write_sectors.new.all c.args.self.now.present.items (search rules) (search rules)
-
-pub invariant_of-self-clause-inside : goal.invariant_of-self-clause-inside
-invariant_of-self-clause-inside c = c.with-self.ensures.within _ (omega arith) (omega arith)
-
-pub invariant_of-self-clause-same_outside : goal.invariant_of-self-clause-same_outside
-invariant_of-self-clause-same_outside c i out =
-    let apart = c.with-self.ensures.holds i out in
-    byte_back _ _ _ _ i (search rules) c.deref_mut.ensures.value (c.write_sectors.ensures.rest i apart.1)
-    ∙ c.args.self.now.same_outside i apart.0
+returns-clause-stop c s v (inr kept) = inl (inr (kept ∙ ap (λ b. sector_at b s) (returns-clause-durable c)))

@@ -1,0 +1,25 @@
+// Whole sectors of bytes.
+ghost use Rattle.std.specs.Prelude.{◌≡◌, ◌⊎◌, ℕ, ◌+◌, ◌*◌, ◌<◌, ◌≤◌, length, slice_index};
+ghost use Rattle.sector.specs.Bytes.{sector_at, with_sectors};
+
+use sector::SECTOR_BYTES;
+
+/// The bytes of a sector.
+pub fn sector_of(all: &[u8], s: usize) -> &[u8]
+    requires { 512 * (s + 1) ≤ length all.now }
+    ensures { result.now ≡ sector_at all.now s }
+{
+    let from = s * SECTOR_BYTES;
+    &all[from..from + SECTOR_BYTES]
+}
+
+/// Writes whole sectors from sector `first` on.
+#[tactic(auto, using(sector::proofs::Sectors::bytes_after))]
+pub fn write_sectors(all: &mut [u8], first: usize, bytes: &[u8])
+    requires { 512 * first + length bytes.now ≤ length all.old }
+    ensures all { all.new ≡ with_sectors all.old first bytes.now }
+    ensures rest { (i : ℕ) → (i < 512 * first) ⊎ (512 * first + length bytes.now ≤ i) → slice_index all.new i ≡ slice_index all.old i }
+{
+    let from = first * SECTOR_BYTES;
+    all[from..from + bytes.len()].copy_from_slice(bytes);
+}
