@@ -29,7 +29,11 @@ fn says_nothing(line: &[u8]) -> bool
 fn is_text(line: &[u8]) -> bool
     ensures { result ≡ list_all is_printable line.now }
 {
-    line.iter().all(|byte| b' ' <= *byte && *byte <= b'~')
+    let mut is_all = true;
+    for byte in line {
+        is_all &= (b' ' <= *byte) & (*byte <= b'~');
+    }
+    is_all
 }
 
 /// The command that the words of a line say.
