@@ -13,6 +13,9 @@ use words::Text;
 /// So many bytes are compared at once.
 const WIDE: usize = 32;
 
+/// Room for the longest word of a run, the space before it counted: the greatest number has 20 digits.
+const RUN_ROOM: usize = 24;
+
 /// The lower-case hexadecimal digit of a number below 16.
 fn hex_digit(d: u8) -> u8
     requires { d < 16 }
@@ -21,15 +24,30 @@ fn hex_digit(d: u8) -> u8
     if d < 10 { b'0' + d } else { b'a' - 10 + d }
 }
 
-/// Prints a space and a run.
-#[tactic(auto, using(lines::proofs::Written::appends_more))]
+/// Puts a space and a run at the front of a room, and tells how many bytes that are.
+#[tactic(auto, using(crate::proofs::RunWord::short_digits))]
+fn put_run(room: &mut [u8; RUN_ROOM], count: usize, byte: u8) -> usize
+    ensures within { result ≤ 24 }
+    ensures word { take result room.new ≡ run_word (count, byte) }
+{
+    let mut buffer = Buffer::new();
+    let digits = buffer.format(count).as_bytes();
+    let end = digits.len() + 1;
+    room[0] = b' ';
+    room[1..end].copy_from_slice(digits);
+    room[end] = b'*';
+    room[end + 1] = hex_digit(byte / 16);
+    room[end + 2] = hex_digit(byte % 16);
+    end + 3
+}
+
+/// Prints a space and a run, in one write.
 fn write_run<W: Write>(writer: &mut W, count: usize, byte: u8) -> io::Result<()>
     ensures { OnOk result (Appends (W.contents writer.old) (W.contents writer.new) (run_word (count, byte))) }
 {
-    let mut buffer = Buffer::new();
-    writer.write_all(b" ")?;
-    writer.write_all(buffer.format(count).as_bytes())?;
-    writer.write_all(&[b'*', hex_digit(byte / 16), hex_digit(byte % 16)])
+    let mut room = [b' '; RUN_ROOM];
+    let end = put_run(&mut room, count, byte);
+    writer.write_all(&room[..end])
 }
 
 /// Whether the 32 bytes from a place on are all this one.
