@@ -1,4 +1,3 @@
-pub mod Word
 pub mod Opening
 pub mod Lines
 pub mod Blocks

@@ -17,7 +17,7 @@ use Rattle.block.specs.declared.said.Said.TheVariants.{Nothing, End, Line}
 use Rattle.block.specs.declared.seat_line.SeatLine.{SeatLine}
 use Rattle.block.specs.declared.seat_line.Work.{Work}
 use Rattle.block.specs.declared.seat_line.Work.TheVariants.{Read, Write, Merge, OutsideRead, OutsideWrite}
-use Rattle.block.specs.Word.{after_word, first_word}
+use Rattle.words.specs.Word.{after_word, first_word}
 
 -- `end` alone
 abbrev pub is_end : List ℕ → Bool

@@ -7,7 +7,7 @@ use Rattle.words.specs.Given.{◌>>=◌}
 use Rattle.words.specs.Numbers.{numeral_of}
 use Rattle.words.specs.Words.{words_of}
 use Rattle.block.specs.declared.opening.Opening.{Opening}
-use Rattle.block.specs.Word.{after_word, first_word}
+use Rattle.words.specs.Word.{after_word, first_word}
 
 -- `hold K`
 abbrev pub held_of : List ℕ → List ℕ → Result Opening Refusal

@@ -11,7 +11,6 @@ mod found;
 mod opening;
 mod said;
 mod seat_line;
-mod word;
 
 pub use block::Block;
 pub use found::{Found, refusal_among};

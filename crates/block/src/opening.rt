@@ -4,10 +4,9 @@ ghost use Rattle.words.specs.Given.{Gives};
 ghost use Rattle.words.specs.Texts.{texts};
 ghost use Rattle.block.specs.Opening.{has_par, held_of, is_par, opening_in, opening_of};
 
-use crate::word::{after_word, first_word};
 use sector::Refusal;
 use std::alloc::Global;
-use words::{numeral, words_in};
+use words::{after_word, first_word, numeral, words_in};
 
 /// A block is opened.
 #[derive(Clone, Copy)]
@@ -37,9 +36,14 @@ fn opening_in(words: &[&[u8]]) -> Result<Opening, Refusal>
     }
 }
 
+// A line whose first byte is neither a space nor a p does not: so most lines are told by that byte.
+#[tactic(auto, using(crate::proofs::Par::no_par, crate::proofs::Par::other_par))]
 fn has_par(line: &[u8]) -> bool
     ensures { result ≡ has_par line.now }
 {
+    if line.is_empty() || (line[0] != b' ' && line[0] != b'p') {
+        return false;
+    }
     first_word(line) == b"par".as_slice()
 }
 

@@ -7,11 +7,10 @@ ghost use Rattle.command.specs.Line.{is_silent};
 ghost use Rattle.block.specs.Lines.{IsSeat, IsSeatSaid, ends_with, is_end, line_of, outside_by, outside_of, said_in, seat_of, work_of};
 
 use crate::seat_line::{SeatLine, Work};
-use crate::word::{after_word, first_word};
 use command::{Command, LINE_LIMIT};
 use sector::Refusal;
 use std::alloc::Global;
-use words::{Name, numeral};
+use words::{Name, after_word, first_word, numeral};
 
 /// What a line of a block says.
 #[derive(Drop)]

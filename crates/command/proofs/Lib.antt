@@ -1,3 +1,2 @@
-pub mod Counts
-pub mod FewWords
+pub mod Cut
 pub mod Kept

@@ -1,13 +1,13 @@
 // Data words, `COUNT*HH` each.
-ghost use Rattle.std.specs.Prelude.{◌≡◌, ◌≤◌, ◌<◌, ◌+◌, ◌*◌, ◌^◌, ◌++◌, length, replicate, true, OnOk, IfOk, IfSome, vec_len};
+ghost use Rattle.std.specs.Prelude.{◌≡◌, ◌≤◌, ◌<◌, ◌+◌, ◌*◌, ◌^◌, ◌++◌, length, replicate, true, false, OnOk, IfOk, IfSome, MatchOption, vec_len};
 ghost use Rattle.words.specs.Given.{Gives};
-ghost use Rattle.words.specs.Texts.{texts};
+ghost use Rattle.words.specs.Words.{words_of};
 ghost use Rattle.command.specs.Words.{sectors_of};
 ghost use Rattle.command.specs.DataWords.{is_hex, hex_value, run_of, are_runs, total, data_of, size_of, payload_of};
 
 use sector::{Buf, Refusal, SECTOR_BYTES};
 use std::alloc::{AllocError, Global};
-use words::number;
+use words::{next_word, number};
 
 /// The greatest count of a data word.
 const LONGEST_RUN: u32 = 1_048_576;
@@ -64,32 +64,20 @@ fn run_in(word: &[u8]) -> Option<Run>
     }
 }
 
-/// Whether each word is a run.
-fn are_all_runs(words: &[&[u8]]) -> bool
-    ensures { result ≡ are_runs (texts words.now) }
-{
-    for word in words {
-        if run_in(word).is_none() {
-            return false;
-        }
-    }
-    true
-}
-
-/// How many bytes the runs say.
-fn size_in(words: &[&[u8]]) -> u64
-    requires { length words.now ≤ 1048576 }
-    ensures total { result ≡ total (texts words.now) }
-    ensures small { result ≤ 2 ^ 40 }
+/// How many bytes the words of a text say; `None` where one is no run.
+#[tactic(auto, using(crate::proofs::Cut::one_run, crate::proofs::Cut::one_total, crate::proofs::Cut::no_run, crate::proofs::Cut::none_are_runs, crate::proofs::Cut::none_total))]
+fn size_in(text: &[u8]) -> Option<u64>
+    requires { length text.now ≤ 65536 }
+    ensures size { MatchOption result (are_runs (words_of text.now) ≡ false) (λ size. (are_runs (words_of text.now) ≡ true) × (size ≡ total (words_of text.now))) }
+    ensures small { IfSome result (λ size. size ≤ 2 ^ 40) }
 {
     let mut size = 0u64;
-    for word in words {
-        size += match run_in(word) {
-            Some(run) => u64::from(run.count),
-            None => 0,
-        };
+    let mut rest = text;
+    while let Some((word, left)) = next_word(rest) {
+        size += u64::from(run_in(word)?.count);
+        rest = left;
     }
-    size
+    Some(size)
 }
 
 /// Adds equal bytes at the end.
@@ -101,16 +89,19 @@ fn push_run(out: &mut Vec<u8>, run: Run) -> Result<(), AllocError>
     Ok(())
 }
 
-/// The bytes that the runs say, in a vector made with room for `size` of them.
-fn data_in(alloc: Global, words: &[&[u8]], size: usize) -> Result<Vec<u8>, AllocError>
-    requires { length words.now ≤ 1048576 }
-    ensures { IfOk result (λ v. v.items ≡ data_of (texts words.now)) }
+/// The bytes that the runs of a text say, in a vector made with room for `size` of them.
+#[tactic(auto, using(crate::proofs::Cut::one_data, crate::proofs::Cut::none_data))]
+fn data_in(alloc: Global, text: &[u8], size: usize) -> Result<Vec<u8>, AllocError>
+    requires { length text.now ≤ 65536 }
+    ensures { IfOk result (λ v. v.items ≡ data_of (words_of text.now)) }
 {
     let mut out = Vec::with_capacity(alloc, size)?;
-    for word in words {
+    let mut rest = text;
+    while let Some((word, left)) = next_word(rest) {
         if let Some(run) = run_in(word) {
             push_run(&mut out, run)?;
         }
+        rest = left;
     }
     Ok(out)
 }
@@ -126,29 +117,29 @@ pub fn sectors(count: u32) -> Result<u32, Refusal>
     }
 }
 
-/// How many bytes data words say for a command. `BadTable` where there is no word, where one has another form, or
-/// where they don't fill whole sectors, and then `OutOfRange` for more than 2048 sectors.
-fn payload_size(words: &[&[u8]]) -> Result<usize, Refusal>
-    requires { length words.now ≤ 1048576 }
-    ensures { result ≡ size_of (texts words.now) }
+/// How many bytes the data words of a text say for a command. `BadTable` where there is no word, where one has another form,
+/// or where they don't fill whole sectors, and then `OutOfRange` for more than 2048 sectors.
+#[tactic(auto, using(crate::proofs::Cut::some_words, crate::proofs::Cut::no_words))]
+fn payload_size(text: &[u8]) -> Result<usize, Refusal>
+    requires { length text.now ≤ 65536 }
+    ensures { result ≡ size_of (words_of text.now) }
 {
-    if words.is_empty() || !are_all_runs(words) {
+    let Some(size) = size_in(text) else {
         return Err(Refusal::BadTable);
-    }
-    let size = size_in(words);
-    if size % SECTOR_BYTES as u64 != 0 {
+    };
+    if size == 0 || size % SECTOR_BYTES as u64 != 0 {
         return Err(Refusal::BadTable);
     }
     sectors((size / SECTOR_BYTES as u64) as u32)?;
     Ok(size as usize)
 }
 
-/// The bytes of the sectors that data words say. Refused as `payload_size` is; then `NoMemory`.
-pub fn payload(alloc: Global, words: &[&[u8]]) -> Result<Buf, Refusal>
-    requires { length words.now ≤ 1048576 }
-    ensures { Gives result (payload_of (texts words.now)) }
+/// The bytes of the sectors that the data words of a text say. Refused as `payload_size` is; then `NoMemory`.
+pub fn payload(alloc: Global, text: &[u8]) -> Result<Buf, Refusal>
+    requires { length text.now ≤ 65536 }
+    ensures { Gives result (payload_of (words_of text.now)) }
 {
-    let size = payload_size(words)?;
-    let bytes = data_in(alloc, words, size).map_err(|_| Refusal::NoMemory)?;
+    let size = payload_size(text)?;
+    let bytes = data_in(alloc, text, size).map_err(|_| Refusal::NoMemory)?;
     Ok(Buf::from_vec(bytes))
 }

@@ -1,10 +1,10 @@
 // Events of a volume, one by one.
 ghost use Rattle.std.specs.Prelude.{◌≡◌};
-ghost use Rattle.words.specs.Texts.{texts};
+ghost use Rattle.words.specs.Words.{words_of};
 ghost use Rattle.command.specs.Events.{event_of, merge_event_of, event_in};
 
 use sector::Refusal;
-use words::{Name, numeral};
+use words::{Name, next_word, numeral};
 
 /// An event of a volume. A request and a copy are told by their numbers, a snapshot by its name; a volume has one merge at
 /// most.
@@ -88,13 +88,18 @@ fn merge_event_of(kind: &[u8]) -> Result<Event, Refusal>
     }
 }
 
-/// The event that some words say. `BadTable` for words that are none.
-pub fn event_in(words: &[&[u8]]) -> Result<Event, Refusal>
-    ensures { result ≡ event_in (texts words.now) }
+/// The event that the words of a text say. `BadTable` for words that are none.
+pub fn event_in(text: &[u8]) -> Result<Event, Refusal>
+    ensures { result ≡ event_in (words_of text.now) }
 {
-    match words {
-        [kind] => merge_event_of(kind),
-        [kind, subject] => event_of(kind, subject),
-        _ => Err(Refusal::BadTable),
+    let Some((kind, rest)) = next_word(text) else {
+        return Err(Refusal::BadTable);
+    };
+    let Some((subject, rest)) = next_word(rest) else {
+        return merge_event_of(kind);
+    };
+    if next_word(rest).is_some() {
+        return Err(Refusal::BadTable);
     }
+    event_of(kind, subject)
 }

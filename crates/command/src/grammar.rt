@@ -1,7 +1,8 @@
 // The commands, and the words that say them.
-ghost use Rattle.std.specs.Prelude.{◌≡◌, ◌≤◌, ◌∷◌, length};
+ghost use Rattle.std.specs.Prelude.{◌≡◌, ◌≤◌, [], ◌∷◌, length};
 ghost use Rattle.words.specs.Given.{Gives};
 ghost use Rattle.words.specs.Texts.{texts};
+ghost use Rattle.words.specs.Words.{words_of};
 ghost use Rattle.command.specs.Grammar.{place_of, amount_of, span_of, patch_of, alone_of, disk_of, is_merge, made_line_of, create_of, remove_of, load_of, save_of, message_of, tick_of, read_of, write_of, start_read_of, start_write_of, start_of, step_of, settle_of, merge_of, resume_of, finish_of, checkpoint_of, stop_of, status_of, table_of, command_of};
 
 use super::data_words::{payload, sectors};
@@ -11,7 +12,7 @@ use layers::Message;
 use sector::{Buf, Refusal};
 use std::alloc::Global;
 use table::{Line, parse_words};
-use words::{Name, numeral};
+use words::{Name, next_word, numeral, words_in};
 
 /// A command. Numbers of sectors and places are in sectors; bytes are whole sectors.
 #[derive(Drop)]
@@ -66,86 +67,97 @@ fn place(name: &[u8], first: &[u8]) -> Result<(Name, u32), Refusal>
     Ok((name, first))
 }
 
-fn amount(words: &[&[u8]]) -> Result<u32, Refusal>
-    ensures { result ≡ amount_of (texts words.now) }
+fn amount(text: &[u8]) -> Result<u32, Refusal>
+    ensures { result ≡ amount_of (words_of text.now) }
 {
-    match words {
-        [count] => {
-            let count = numeral(count)?;
-            sectors(count)
-        }
-        _ => Err(Refusal::BadTable),
+    let Some((count, rest)) = next_word(text) else {
+        return Err(Refusal::BadTable);
+    };
+    if next_word(rest).is_some() {
+        return Err(Refusal::BadTable);
     }
+    let count = numeral(count)?;
+    sectors(count)
 }
 
-// The sectors that some words say of what is named.
-fn span_at(name: &[u8], words: &[&[u8]]) -> Result<(Name, u32, u32), Refusal>
-    ensures { result ≡ span_of (name.now ∷ texts words.now) }
+// The sectors that the words of a text say of what is named.
+fn span_at(name: &[u8], text: &[u8]) -> Result<(Name, u32, u32), Refusal>
+    ensures { result ≡ span_of (name.now ∷ words_of text.now) }
 {
-    match words {
-        [first, words @ ..] => {
-            let (name, first) = place(name, first)?;
-            let count = amount(words)?;
-            Ok((name, first, count))
-        }
-        _ => Err(Refusal::BadTable),
-    }
+    let Some((first, rest)) = next_word(text) else {
+        return Err(Refusal::BadTable);
+    };
+    let (name, first) = place(name, first)?;
+    let count = amount(rest)?;
+    Ok((name, first, count))
 }
 
-fn span(words: &[&[u8]]) -> Result<(Name, u32, u32), Refusal>
-    ensures { result ≡ span_of (texts words.now) }
+fn span(text: &[u8]) -> Result<(Name, u32, u32), Refusal>
+    ensures { result ≡ span_of (words_of text.now) }
 {
-    match words {
-        [name, words @ ..] => span_at(name, words),
-        _ => Err(Refusal::BadTable),
-    }
+    let Some((name, rest)) = next_word(text) else {
+        return Err(Refusal::BadTable);
+    };
+    span_at(name, rest)
 }
 
-// The bytes of sectors that some words say for what is named.
-fn patch_at(alloc: Global, name: &[u8], words: &[&[u8]]) -> Result<(Name, u32, Buf), Refusal>
-    requires { length words.now ≤ 1048576 }
-    ensures { Gives result (patch_of (name.now ∷ texts words.now)) }
+// The bytes of sectors that the words of a text say for what is named.
+fn patch_at(alloc: Global, name: &[u8], text: &[u8]) -> Result<(Name, u32, Buf), Refusal>
+    requires { length text.now ≤ 65536 }
+    ensures { Gives result (patch_of (name.now ∷ words_of text.now)) }
 {
-    match words {
-        [first, words @ ..] => {
-            let (name, first) = place(name, first)?;
-            let bytes = payload(alloc, words)?;
-            Ok((name, first, bytes))
-        }
-        _ => Err(Refusal::BadTable),
-    }
+    let Some((first, rest)) = next_word(text) else {
+        return Err(Refusal::BadTable);
+    };
+    let (name, first) = place(name, first)?;
+    let bytes = payload(alloc, rest)?;
+    Ok((name, first, bytes))
 }
 
-fn patch(alloc: Global, words: &[&[u8]]) -> Result<(Name, u32, Buf), Refusal>
-    requires { length words.now ≤ 1048576 }
-    ensures { Gives result (patch_of (texts words.now)) }
+fn patch(alloc: Global, text: &[u8]) -> Result<(Name, u32, Buf), Refusal>
+    requires { length text.now ≤ 65536 }
+    ensures { Gives result (patch_of (words_of text.now)) }
 {
-    match words {
-        [name, words @ ..] => patch_at(alloc, name, words),
-        _ => Err(Refusal::BadTable),
-    }
+    let Some((name, rest)) = next_word(text) else {
+        return Err(Refusal::BadTable);
+    };
+    patch_at(alloc, name, rest)
 }
 
-fn alone(words: &[&[u8]]) -> Result<Name, Refusal>
-    ensures { result ≡ alone_of (texts words.now) }
+fn alone(text: &[u8]) -> Result<Name, Refusal>
+    ensures { result ≡ alone_of (words_of text.now) }
 {
-    match words {
-        [name] => Name::new(name),
-        _ => Err(Refusal::BadTable),
+    let Some((name, rest)) = next_word(text) else {
+        return Err(Refusal::BadTable);
+    };
+    if next_word(rest).is_some() {
+        return Err(Refusal::BadTable);
     }
+    Name::new(name)
 }
 
-fn disk(words: &[&[u8]]) -> Result<Command, Refusal>
-    ensures { result ≡ disk_of (texts words.now) }
+// A disk by its two words.
+fn disk_by(name: &[u8], sectors: &[u8]) -> Result<Command, Refusal>
+    ensures { result ≡ disk_of (name.now ∷ sectors.now ∷ []) }
 {
-    match words {
-        [name, sectors] => {
-            let name = Name::new(name)?;
-            let sectors = numeral(sectors)?;
-            Ok(Command::Disk { name, sectors })
-        }
-        _ => Err(Refusal::BadTable),
+    let name = Name::new(name)?;
+    let sectors = numeral(sectors)?;
+    Ok(Command::Disk { name, sectors })
+}
+
+fn disk(text: &[u8]) -> Result<Command, Refusal>
+    ensures { result ≡ disk_of (words_of text.now) }
+{
+    let Some((name, rest)) = next_word(text) else {
+        return Err(Refusal::BadTable);
+    };
+    let Some((sectors, rest)) = next_word(rest) else {
+        return Err(Refusal::BadTable);
+    };
+    if next_word(rest).is_some() {
+        return Err(Refusal::BadTable);
     }
+    disk_by(name, sectors)
 }
 
 /// Whether the words of a table line name a merge.
@@ -169,7 +181,8 @@ fn made_line(words: &[&[u8]]) -> Result<Line, Refusal>
     parse_words(words)
 }
 
-fn create(words: &[&[u8]]) -> Result<Command, Refusal>
+// A device by its words.
+fn create_by(words: &[&[u8]]) -> Result<Command, Refusal>
     ensures { result ≡ create_of (texts words.now) }
 {
     match words {
@@ -182,221 +195,234 @@ fn create(words: &[&[u8]]) -> Result<Command, Refusal>
     }
 }
 
-fn remove(words: &[&[u8]]) -> Result<Command, Refusal>
-    ensures { result ≡ remove_of (texts words.now) }
+fn create(alloc: Global, text: &[u8]) -> Result<Command, Refusal>
+    ensures { Gives result (create_of (words_of text.now)) }
 {
-    let name = alone(words)?;
+    let words = words_in(alloc, text).map_err(|_| Refusal::NoMemory)?;
+    create_by(&words)
+}
+
+fn remove(text: &[u8]) -> Result<Command, Refusal>
+    ensures { result ≡ remove_of (words_of text.now) }
+{
+    let name = alone(text)?;
     Ok(Command::Remove { name })
 }
 
-fn load(alloc: Global, words: &[&[u8]]) -> Result<Command, Refusal>
-    requires { length words.now ≤ 1048576 }
-    ensures { Gives result (load_of (texts words.now)) }
+fn load(alloc: Global, text: &[u8]) -> Result<Command, Refusal>
+    requires { length text.now ≤ 65536 }
+    ensures { Gives result (load_of (words_of text.now)) }
 {
-    let (disk, first, bytes) = patch(alloc, words)?;
+    let (disk, first, bytes) = patch(alloc, text)?;
     Ok(Command::Load { disk, first, bytes })
 }
 
-fn save(words: &[&[u8]]) -> Result<Command, Refusal>
-    ensures { result ≡ save_of (texts words.now) }
+fn save(text: &[u8]) -> Result<Command, Refusal>
+    ensures { result ≡ save_of (words_of text.now) }
 {
-    let (disk, first, count) = span(words)?;
+    let (disk, first, count) = span(text)?;
     Ok(Command::Save { disk, first, count })
 }
 
-#[tactic(auto, using(crate::proofs::Counts::message_short))]
-fn message(words: &[&[u8]]) -> Result<Command, Refusal>
-    ensures { result ≡ message_of (texts words.now) }
+// A message to what is named.
+fn message_by(device: &[u8], sector: &[u8], text: &[u8]) -> Result<Command, Refusal>
+    ensures { result ≡ message_of (device.now ∷ sector.now ∷ words_of text.now) }
 {
-    match words {
-        [device, sector, words @ ..] => {
-            let name = Name::new(device)?;
-            let message = message_in(words)?;
-            if *sector != b"0".as_slice() {
-                return Err(Refusal::BadTable);
-            }
-            Ok(Command::Message { name, message })
-        }
-        _ => Err(Refusal::BadTable),
+    let name = Name::new(device)?;
+    let message = message_in(text)?;
+    if sector != b"0".as_slice() {
+        return Err(Refusal::BadTable);
     }
+    Ok(Command::Message { name, message })
 }
 
-fn tick(words: &[&[u8]]) -> Result<Command, Refusal>
-    ensures { result ≡ tick_of (texts words.now) }
+fn message(text: &[u8]) -> Result<Command, Refusal>
+    ensures { result ≡ message_of (words_of text.now) }
 {
-    match words {
-        [seconds] => {
-            let seconds = numeral(seconds)?;
-            Ok(Command::Tick { seconds })
-        }
-        _ => Err(Refusal::BadTable),
-    }
+    let Some((device, rest)) = next_word(text) else {
+        return Err(Refusal::BadTable);
+    };
+    let Some((sector, rest)) = next_word(rest) else {
+        return Err(Refusal::BadTable);
+    };
+    message_by(device, sector, rest)
 }
 
-fn read(words: &[&[u8]]) -> Result<Command, Refusal>
-    ensures { result ≡ read_of (texts words.now) }
+fn tick(text: &[u8]) -> Result<Command, Refusal>
+    ensures { result ≡ tick_of (words_of text.now) }
 {
-    let (name, first, count) = span(words)?;
+    let Some((seconds, rest)) = next_word(text) else {
+        return Err(Refusal::BadTable);
+    };
+    if next_word(rest).is_some() {
+        return Err(Refusal::BadTable);
+    }
+    let seconds = numeral(seconds)?;
+    Ok(Command::Tick { seconds })
+}
+
+fn read(text: &[u8]) -> Result<Command, Refusal>
+    ensures { result ≡ read_of (words_of text.now) }
+{
+    let (name, first, count) = span(text)?;
     Ok(Command::Read { name, first, count })
 }
 
-fn write(alloc: Global, words: &[&[u8]]) -> Result<Command, Refusal>
-    requires { length words.now ≤ 1048576 }
-    ensures { Gives result (write_of (texts words.now)) }
+fn write(alloc: Global, text: &[u8]) -> Result<Command, Refusal>
+    requires { length text.now ≤ 65536 }
+    ensures { Gives result (write_of (words_of text.now)) }
 {
-    let (name, first, bytes) = patch(alloc, words)?;
+    let (name, first, bytes) = patch(alloc, text)?;
     Ok(Command::Write { name, first, bytes })
 }
 
-fn start_read(device: &[u8], words: &[&[u8]]) -> Result<Command, Refusal>
-    ensures { result ≡ start_read_of (device.now ∷ texts words.now) }
+fn start_read(device: &[u8], text: &[u8]) -> Result<Command, Refusal>
+    ensures { result ≡ start_read_of (device.now ∷ words_of text.now) }
 {
-    let (name, first, count) = span_at(device, words)?;
+    let (name, first, count) = span_at(device, text)?;
     Ok(Command::StartRead { name, first, count })
 }
 
-fn start_write(alloc: Global, device: &[u8], words: &[&[u8]]) -> Result<Command, Refusal>
-    requires { length words.now ≤ 1048576 }
-    ensures { Gives result (start_write_of (device.now ∷ texts words.now)) }
+fn start_write(alloc: Global, device: &[u8], text: &[u8]) -> Result<Command, Refusal>
+    requires { length text.now ≤ 65536 }
+    ensures { Gives result (start_write_of (device.now ∷ words_of text.now)) }
 {
-    let (name, first, bytes) = patch_at(alloc, device, words)?;
+    let (name, first, bytes) = patch_at(alloc, device, text)?;
     Ok(Command::StartWrite { name, first, bytes })
 }
 
-#[tactic(auto, using(crate::proofs::Counts::start_short))]
-fn start(alloc: Global, words: &[&[u8]]) -> Result<Command, Refusal>
-    requires { length words.now ≤ 1048576 }
-    ensures { Gives result (start_of (texts words.now)) }
+fn start(alloc: Global, text: &[u8]) -> Result<Command, Refusal>
+    requires { length text.now ≤ 65536 }
+    ensures { Gives result (start_of (words_of text.now)) }
 {
-    match words {
-        [device, kind, words @ ..] => {
-            if *kind == b"read".as_slice() {
-                start_read(device, words)
-            } else if *kind == b"write".as_slice() {
-                start_write(alloc, device, words)
-            } else {
-                Err(Refusal::BadTable)
-            }
-        }
-        _ => Err(Refusal::BadTable),
+    let Some((device, rest)) = next_word(text) else {
+        return Err(Refusal::BadTable);
+    };
+    let Some((kind, rest)) = next_word(rest) else {
+        return Err(Refusal::BadTable);
+    };
+    if kind == b"read".as_slice() {
+        start_read(device, rest)
+    } else if kind == b"write".as_slice() {
+        start_write(alloc, device, rest)
+    } else {
+        Err(Refusal::BadTable)
     }
 }
 
-fn step(words: &[&[u8]]) -> Result<Command, Refusal>
-    ensures { result ≡ step_of (texts words.now) }
+fn step(text: &[u8]) -> Result<Command, Refusal>
+    ensures { result ≡ step_of (words_of text.now) }
 {
-    match words {
-        [volume, words @ ..] => {
-            let volume = Name::new(volume)?;
-            let event = event_in(words)?;
-            Ok(Command::Step { volume, event })
-        }
-        _ => Err(Refusal::BadTable),
-    }
+    let Some((volume, rest)) = next_word(text) else {
+        return Err(Refusal::BadTable);
+    };
+    let volume = Name::new(volume)?;
+    let event = event_in(rest)?;
+    Ok(Command::Step { volume, event })
 }
 
-fn settle(words: &[&[u8]]) -> Result<Command, Refusal>
-    ensures { result ≡ settle_of (texts words.now) }
+fn settle(text: &[u8]) -> Result<Command, Refusal>
+    ensures { result ≡ settle_of (words_of text.now) }
 {
-    let volume = alone(words)?;
+    let volume = alone(text)?;
     Ok(Command::Settle { volume })
 }
 
-fn merge(words: &[&[u8]]) -> Result<Command, Refusal>
-    ensures { result ≡ merge_of (texts words.now) }
+fn merge(text: &[u8]) -> Result<Command, Refusal>
+    ensures { result ≡ merge_of (words_of text.now) }
 {
-    let name = alone(words)?;
+    let name = alone(text)?;
     Ok(Command::Merge { name })
 }
 
-fn resume(words: &[&[u8]]) -> Result<Command, Refusal>
-    ensures { result ≡ resume_of (texts words.now) }
+fn resume(text: &[u8]) -> Result<Command, Refusal>
+    ensures { result ≡ resume_of (words_of text.now) }
 {
-    let volume = alone(words)?;
+    let volume = alone(text)?;
     Ok(Command::Resume { volume })
 }
 
-fn finish(words: &[&[u8]]) -> Result<Command, Refusal>
-    ensures { result ≡ finish_of (texts words.now) }
+fn finish(text: &[u8]) -> Result<Command, Refusal>
+    ensures { result ≡ finish_of (words_of text.now) }
 {
-    let volume = alone(words)?;
+    let volume = alone(text)?;
     Ok(Command::Finish { volume })
 }
 
-fn checkpoint(words: &[&[u8]]) -> Result<Command, Refusal>
-    ensures { result ≡ checkpoint_of (texts words.now) }
+fn checkpoint(text: &[u8]) -> Result<Command, Refusal>
+    ensures { result ≡ checkpoint_of (words_of text.now) }
 {
-    let volume = alone(words)?;
+    let volume = alone(text)?;
     Ok(Command::Checkpoint { volume })
 }
 
-fn stop(words: &[&[u8]]) -> Result<Command, Refusal>
-    ensures { result ≡ stop_of (texts words.now) }
+fn stop(text: &[u8]) -> Result<Command, Refusal>
+    ensures { result ≡ stop_of (words_of text.now) }
 {
-    let volume = alone(words)?;
+    let volume = alone(text)?;
     Ok(Command::Stop { volume })
 }
 
-fn status(words: &[&[u8]]) -> Result<Command, Refusal>
-    ensures { result ≡ status_of (texts words.now) }
+fn status(text: &[u8]) -> Result<Command, Refusal>
+    ensures { result ≡ status_of (words_of text.now) }
 {
-    let name = alone(words)?;
+    let name = alone(text)?;
     Ok(Command::Status { name })
 }
 
-fn table(words: &[&[u8]]) -> Result<Command, Refusal>
-    ensures { result ≡ table_of (texts words.now) }
+fn table(text: &[u8]) -> Result<Command, Refusal>
+    ensures { result ≡ table_of (words_of text.now) }
 {
-    let name = alone(words)?;
+    let name = alone(text)?;
     Ok(Command::Table { name })
 }
 
-/// The command that some words say.
-pub fn command_in(alloc: Global, words: &[&[u8]]) -> Result<Command, Refusal>
-    requires { length words.now ≤ 1048576 }
-    ensures { Gives result (command_of (texts words.now)) }
+/// The command that the words of a text say.
+pub fn command_in(alloc: Global, text: &[u8]) -> Result<Command, Refusal>
+    requires { length text.now ≤ 65536 }
+    ensures { Gives result (command_of (words_of text.now)) }
 {
-    let Some((verb, words)) = words.split_first() else {
+    let Some((verb, rest)) = next_word(text) else {
         return Err(Refusal::BadTable);
     };
-    if *verb == b"disk".as_slice() {
-        disk(words)
-    } else if *verb == b"create".as_slice() {
-        create(words)
-    } else if *verb == b"remove".as_slice() {
-        remove(words)
-    } else if *verb == b"load".as_slice() {
-        load(alloc, words)
-    } else if *verb == b"save".as_slice() {
-        save(words)
-    } else if *verb == b"message".as_slice() {
-        message(words)
-    } else if *verb == b"tick".as_slice() {
-        tick(words)
-    } else if *verb == b"read".as_slice() {
-        read(words)
-    } else if *verb == b"write".as_slice() {
-        write(alloc, words)
-    } else if *verb == b"start".as_slice() {
-        start(alloc, words)
-    } else if *verb == b"step".as_slice() {
-        step(words)
-    } else if *verb == b"settle".as_slice() {
-        settle(words)
-    } else if *verb == b"merge".as_slice() {
-        merge(words)
-    } else if *verb == b"resume".as_slice() {
-        resume(words)
-    } else if *verb == b"finish".as_slice() {
-        finish(words)
-    } else if *verb == b"checkpoint".as_slice() {
-        checkpoint(words)
-    } else if *verb == b"stop".as_slice() {
-        stop(words)
-    } else if *verb == b"status".as_slice() {
-        status(words)
-    } else if *verb == b"table".as_slice() {
-        table(words)
+    if verb == b"disk".as_slice() {
+        disk(rest)
+    } else if verb == b"create".as_slice() {
+        create(alloc, rest)
+    } else if verb == b"remove".as_slice() {
+        remove(rest)
+    } else if verb == b"load".as_slice() {
+        load(alloc, rest)
+    } else if verb == b"save".as_slice() {
+        save(rest)
+    } else if verb == b"message".as_slice() {
+        message(rest)
+    } else if verb == b"tick".as_slice() {
+        tick(rest)
+    } else if verb == b"read".as_slice() {
+        read(rest)
+    } else if verb == b"write".as_slice() {
+        write(alloc, rest)
+    } else if verb == b"start".as_slice() {
+        start(alloc, rest)
+    } else if verb == b"step".as_slice() {
+        step(rest)
+    } else if verb == b"settle".as_slice() {
+        settle(rest)
+    } else if verb == b"merge".as_slice() {
+        merge(rest)
+    } else if verb == b"resume".as_slice() {
+        resume(rest)
+    } else if verb == b"finish".as_slice() {
+        finish(rest)
+    } else if verb == b"checkpoint".as_slice() {
+        checkpoint(rest)
+    } else if verb == b"stop".as_slice() {
+        stop(rest)
+    } else if verb == b"status".as_slice() {
+        status(rest)
+    } else if verb == b"table".as_slice() {
+        table(rest)
     } else {
         Err(Refusal::BadTable)
     }

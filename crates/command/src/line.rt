@@ -2,14 +2,11 @@
 ghost use Rattle.std.specs.Prelude.{◌≡◌, ◌≤◌, ◌==◌, length};
 ghost use Rattle.std.specs.List.{list_all};
 ghost use Rattle.words.specs.Given.{Gives};
-ghost use Rattle.words.specs.Words.{words_of};
-ghost use Rattle.command.specs.Grammar.{command_of};
 ghost use Rattle.command.specs.Line.{is_silent, is_printable, said_of};
 
 use super::grammar::{Command, command_in};
 use sector::Refusal;
 use std::alloc::Global;
-use words::words_in;
 
 /// The most bytes that a line may have, its end not counted.
 pub const LINE_LIMIT: usize = 65_536;
@@ -29,17 +26,11 @@ fn says_nothing(line: &[u8]) -> bool
 fn is_text(line: &[u8]) -> bool
     ensures { result ≡ list_all is_printable line.now }
 {
-    line.iter().all(|byte| b' ' <= *byte && *byte <= b'~')
-}
-
-/// The command that the words of a line say.
-#[tactic(auto, using(crate::proofs::FewWords::few_words))]
-fn worded(alloc: Global, line: &[u8]) -> Result<Command, Refusal>
-    requires { length line.now ≤ 65536 }
-    ensures { Gives result (command_of (words_of line.now)) }
-{
-    let words = words_in(alloc, line).map_err(|_| Refusal::NoMemory)?;
-    command_in(alloc, &words)
+    let mut is_all = true;
+    for byte in line {
+        is_all &= (b' ' <= *byte) & (*byte <= b'~');
+    }
+    is_all
 }
 
 /// The command that a line says, the line given without its end; `None` for a line that prints nothing, which is
@@ -48,8 +39,8 @@ fn worded(alloc: Global, line: &[u8]) -> Result<Command, Refusal>
 /// In this order: a line of more than `max` bytes is `BadTable`, whatever it holds; comments and blank lines say
 /// nothing; any byte that isn't printable ASCII is `BadTable`; then the words are looked at, where every word of a
 /// wrong form comes first (`BadTable`), then a table line's chunk that is not allowed (`BadChunk`), then a number
-/// of sectors outside 1 to 2048 (`OutOfRange`). `NoMemory` may stand in place of any of these; only the list of the
-/// words and the data of a command take memory.
+/// of sectors outside 1 to 2048 (`OutOfRange`). `NoMemory` may stand in place of any of these; only the words of a
+/// table line and the data of a command take memory.
 #[tactic(auto, unfolding(crate::specs::Line::said_of))]
 pub fn said(alloc: Global, line: &[u8], max: usize) -> Result<Option<Command>, Refusal>
     requires { max ≤ 65536 }
@@ -64,5 +55,5 @@ pub fn said(alloc: Global, line: &[u8], max: usize) -> Result<Option<Command>, R
     if !is_text(line) {
         return Err(Refusal::BadTable);
     }
-    Ok(Some(worded(alloc, line)?))
+    Ok(Some(command_in(alloc, line)?))
 }

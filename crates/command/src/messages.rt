@@ -1,11 +1,11 @@
 // Messages to layers.
-ghost use Rattle.std.specs.Prelude.{◌≡◌};
-ghost use Rattle.words.specs.Texts.{texts};
+ghost use Rattle.std.specs.Prelude.{◌≡◌, [], ◌∷◌};
+ghost use Rattle.words.specs.Words.{words_of};
 ghost use Rattle.command.specs.Messages.{bare_of, about_block_of, message_in};
 
 use layers::Message;
 use sector::Refusal;
-use words::numeral;
+use words::{next_word, numeral};
 
 // A message that is one word.
 fn bare(kind: &[u8]) -> Result<Message, Refusal>
@@ -39,16 +39,26 @@ fn about_block(kind: &[u8], block: u64) -> Result<Message, Refusal>
     }
 }
 
-/// The message that some words say. `BadTable` for words that are none.
-pub fn message_in(words: &[&[u8]]) -> Result<Message, Refusal>
-    ensures { result ≡ message_in (texts words.now) }
+// A message about a block, by its word.
+fn about(kind: &[u8], block: &[u8]) -> Result<Message, Refusal>
+    ensures { result ≡ message_in (kind.now ∷ block.now ∷ []) }
 {
-    match words {
-        [kind] => bare(kind),
-        [kind, block] => {
-            let block = numeral(block)?;
-            about_block(kind, u64::from(block))
-        }
-        _ => Err(Refusal::BadTable),
+    let block = numeral(block)?;
+    about_block(kind, u64::from(block))
+}
+
+/// The message that the words of a text say. `BadTable` for words that are none.
+pub fn message_in(text: &[u8]) -> Result<Message, Refusal>
+    ensures { result ≡ message_in (words_of text.now) }
+{
+    let Some((kind, rest)) = next_word(text) else {
+        return Err(Refusal::BadTable);
+    };
+    let Some((block, rest)) = next_word(rest) else {
+        return bare(kind);
+    };
+    if next_word(rest).is_some() {
+        return Err(Refusal::BadTable);
     }
+    about(kind, block)
 }

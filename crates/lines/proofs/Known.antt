@@ -1,6 +1,7 @@
 -- Known bytes that were kept, and then changed.
-use Rattle.std.proofs.Common.{ℕ, List, refl, Option, Some, None}
+use Rattle.std.proofs.Common.{◌≡◌, ℕ, List, [], ◌++◌, refl, sym, ap, ◌∙◌, Option, Some, None}
 use Rattle.std.specs.Io.KnownBytes.{Keeps, Consumes, IsAtEnd}
+use Rattle.lines.specs.Lines.{left}
 
 -- bytes that nobody touched are kept
 pub keeps_same : (a : Option (List ℕ)) → Keeps a a
@@ -26,3 +27,14 @@ pub keeps_end : (a b : Option (List ℕ)) → Keeps a b → IsAtEnd b → IsAtEn
 keeps_end None b p q = tt
 keeps_end (Some xs) None p q = absurd p
 keeps_end (Some xs) (Some ys) p q = cc
+
+-- what was read is left as before
+pub filled : (old new : List ℕ) (a b : Option (List ℕ)) → old ≡ [] → Consumes a b new → Keeps (left old a) (left new b)
+filled old new None b none took = tt
+filled old new (Some xs) None none took = absurd took
+filled old new (Some xs) (Some ys) none took = sym took ∙ sym (ap (λ zs. zs ++ xs) none)
+
+-- where nothing was read ahead, and nothing more comes, nothing is left
+pub none_left : (old : List ℕ) (a : Option (List ℕ)) → old ≡ [] → IsAtEnd a → IsAtEnd (left old a)
+none_left old None none end = tt
+none_left old (Some xs) none end = ap (λ zs. zs ++ xs) none ∙ end

@@ -1,3 +1,4 @@
 pub mod Known
 pub mod LineLemmas
+pub mod Parts
 pub mod Written

@@ -1,79 +1,97 @@
 //! Lines of a text, read one at a time into a buffer of a fixed size.
 //!
-//! It stands on std's readers alone. It promises that each call takes exactly one line from the reader, and
-//! that no line, however long, takes memory beyond that buffer. The lemmas on what a writer holds after one
-//! write and another (`proofs/Written.antt`) stand here too, since every crate above that prints uses them.
+//! It stands on std's readers alone. It promises that each call takes exactly one line from what is left, which is what was read
+//! ahead and what the reader still has, and that no line, however long, takes memory beyond the buffer. The lemmas on what a
+//! writer holds after one write and another (`proofs/Written.antt`) stand here too, since every crate above that prints uses
+//! them.
 #![tactic(auto)]
 
-ghost use Rattle.std.specs.Prelude.{◌≡◌, ◌≢◌, ◌+◌, ◌<◌, ◌≤◌, [], ◌∷◌, ◌++◌, take, IfErr, IfOk, MatchOption, vec_capacity, vec_len};
+ghost use Rattle.std.specs.Prelude.{◌≡◌, ◌≢◌, ◌+◌, ◌<◌, ◌≤◌, [], ◌++◌, length, take, IfErr, IfOk, MatchBool, vec_capacity, vec_len};
 ghost use Rattle.std.specs.IoError.{error_kind};
 ghost use Rattle.std.specs.declared.io.ErrorKind.TheVariants.{Interrupted};
-ghost use Rattle.std.specs.Io.KnownBytes.{Consumes, IsAtEnd};
-ghost use Rattle.lines.specs.Lines.{ReadsLine};
+ghost use Rattle.lines.specs.Lines.{left, ReadsLine};
 
+mod ahead;
+
+pub use ahead::Ahead;
+use std::alloc::{AllocError, Global};
 use std::io;
 use std::io::{ErrorKind, Read};
 
-/// Takes one byte, or finds the end. A read that was interrupted is made again.
-#[tactic(auto, using(crate::proofs::Known::keeps_same, crate::proofs::Known::keeps_more, crate::proofs::Known::keeps_consumes, crate::proofs::Known::keeps_end))]
-fn next_byte<R: Read>(reader: &mut R) -> io::Result<Option<u8>>
-    ensures taken { IfOk result (λ byte. MatchOption byte
-        (IsAtEnd (R.remaining reader.old) × Consumes (R.remaining reader.old) (R.remaining reader.new) [])
-        (λ b. Consumes (R.remaining reader.old) (R.remaining reader.new) (b ∷ []))) }
-    ensures retried { IfErr result (λ e. error_kind e ≢ Interrupted) }
-{
-    let mut one = [0u8; 1];
-    for _ in 0..u64::MAX {
-        match reader.read(&mut one) {
-            Ok(0) => return Ok(None),
-            Ok(_) => return Ok(Some(one[0])),
-            Err(e) => {
-                if e.kind() != ErrorKind::Interrupted {
-                    return Err(e);
-                }
-            }
-        }
-    }
-    Err(io::Error::from(ErrorKind::TimedOut))
+/// Room for a line, and for what is read ahead of it.
+#[derive(Drop)]
+pub struct LineBuffer {
+    /// The line, without its end.
+    pub line: Vec<u8>,
+    /// What was read and is not yet taken.
+    pub ahead: Ahead,
 }
 
-/// Adds a byte to a line, unless it is longer than `max` already.
-fn keep(line: &mut Vec<u8>, byte: u8, max: usize)
+impl LineBuffer {
+    /// Room for a line of `max` bytes and one more. Nothing is read ahead. An error says that the allocator refused memory.
+    pub fn new(alloc: Global, max: usize) -> Result<LineBuffer, AllocError>
+        requires { max ≤ 65536 }
+        ensures room { IfOk result (λ buffer. max < vec_capacity buffer.line) }
+        ensures ahead { IfOk result (λ buffer. buffer.ahead ≡ []) }
+    {
+        let line = Vec::with_capacity(alloc, max + 1)?;
+        let ahead = Ahead::new(alloc)?;
+        Ok(LineBuffer { line, ahead })
+    }
+}
+
+/// Adds bytes to a line, as long as it is no longer than `max`.
+fn keep(line: &mut Vec<u8>, bytes: &[u8], max: usize)
     requires room { max < vec_capacity line.old }
     requires short { vec_len line.old ≤ max + 1 }
-    ensures kept { line.new.items ≡ take (max + 1) (line.old.items ++ byte ∷ []) }
+    ensures kept { line.new.items ≡ take (max + 1) (line.old.items ++ bytes.now) }
     ensures room { vec_capacity line.old ≤ vec_capacity line.new }
 {
-    if line.len() <= max {
-        line.push(byte).unwrap();
-    }
+    let count = bytes.len().min(max + 1 - line.len());
+    line.extend_from_slice(&bytes[..count]).unwrap();
 }
 
-/// Reads the next line into `line`, without its end, and says whether there was one. What `line` held before
-/// is lost. A line of at most `max` bytes stands in it whole; of a longer one it holds the first `max + 1`
-/// bytes, so that it can be told from a shorter one. All of the line is taken from the reader, and its end
-/// with it. A last line without its end counts as a line.
-///
-/// `line` must have room for `max + 1` bytes and is never made larger. The one error is the reader's own, and no
-/// read that was interrupted; then part of a line may have been taken.
-#[tactic(auto, using(crate::proofs::LineLemmas::within_start, crate::proofs::LineLemmas::end_of_text, crate::proofs::LineLemmas::end_of_line, crate::proofs::LineLemmas::keep_byte))]
-pub fn read_line<R: Read>(reader: &mut R, line: &mut Vec<u8>, max: usize) -> io::Result<bool>
-    requires { max < vec_capacity line.old }
-    ensures line { IfOk result (λ more. ReadsLine max (R.remaining reader.old) (R.remaining reader.new) more line.new.items) }
+// What is left of the line, added to what there is of it already.
+#[tactic(auto, using(crate::proofs::LineLemmas::within_start, crate::proofs::LineLemmas::within_kept, crate::proofs::LineLemmas::end_of_text, crate::proofs::LineLemmas::end_of_line, crate::proofs::LineLemmas::part_of_line))]
+fn read_on<R: Read>(
+    reader: &mut R,
+    ahead: &mut Ahead,
+    line: &mut Vec<u8>,
+    max: usize,
+) -> io::Result<bool>
+    requires room { max < vec_capacity line.old }
+    requires none { line.old.items ≡ [] }
+    ensures line { IfOk result (λ more. ReadsLine max (left ahead.old (R.remaining reader.old)) (left ahead.new (R.remaining reader.new)) more line.new.items) }
     ensures retried { IfErr result (λ e. error_kind e ≢ Interrupted) }
     ensures room { vec_capacity line.old ≤ vec_capacity line.new }
 {
-    line.clear();
     let mut is_begun = false;
     for _ in 0..u64::MAX {
-        match next_byte(reader)? {
-            None => return Ok(is_begun),
-            Some(b'\n') => return Ok(true),
-            Some(byte) => {
-                is_begun = true;
-                keep(line, byte, max);
-            }
+        if !ahead.fill(reader)? {
+            return Ok(is_begun);
+        }
+        is_begun = true;
+        if ahead.take_line(line, max) {
+            return Ok(true);
         }
     }
     Err(io::Error::from(ErrorKind::InvalidData))
+}
+
+/// Reads the next line into the buffer, without its end, and says whether there was one. What line it held before is lost. A
+/// line of at most `max` bytes stands in it whole; of a longer one it holds the first `max + 1` bytes, so that it can be told
+/// from a shorter one. All of the line is taken from what is left, and its end with it. A last line without its end counts as a
+/// line.
+///
+/// The buffer must have room for `max + 1` bytes and is never made larger. The reader may be asked for more than the line: what
+/// it gives stays in the buffer for the next call. The one error is the reader's own, and no read that was interrupted; then
+/// part of a line may have been taken.
+pub fn read_line<R: Read>(reader: &mut R, buffer: &mut LineBuffer, max: usize) -> io::Result<bool>
+    requires { max < vec_capacity buffer.old.line }
+    ensures line { IfOk result (λ more. ReadsLine max (left buffer.old.ahead (R.remaining reader.old)) (left buffer.new.ahead (R.remaining reader.new)) more buffer.new.line.items) }
+    ensures retried { IfErr result (λ e. error_kind e ≢ Interrupted) }
+    ensures room { vec_capacity buffer.old.line ≤ vec_capacity buffer.new.line }
+{
+    buffer.line.clear();
+    read_on(reader, &mut buffer.ahead, &mut buffer.line, max)
 }

@@ -1,4 +1,5 @@
 pub mod RunLemmas
+pub mod RunWord
 pub mod WordsAgain
 pub mod RunsAgain
 pub mod DataAgain

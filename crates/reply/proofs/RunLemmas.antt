@@ -1,9 +1,13 @@
 -- The first run from the front.
-use Rattle.std.proofs.Common.{◌≡◌, ◌≢◌, ℕ, ◌+◌, ◌<◌, ◌≤◌, List, [], ◌∷◌, ◌++◌, length, get_or, drop, eqb, cond, true, false, refl, sym, ap, ◌∙◌, drop-cons, add-one, arith, rules, eq-eqb, subst, inl, inr}
+use Rattle.std.proofs.Common.{◌≡◌, ◌≢◌, ℕ, ◌+◌, ◌*◌, ◌<◌, ◌≤◌, zero, suc, Bool, map, List, [], ◌∷◌, ◌++◌, length, get_or, take, drop, eqb, cond, true, false, refl, sym, ap, ◌∙◌, drop-cons, add-one, arith, rules, eq-eqb, subst, inl, inr}
 use Rattle.std.proofs.lemmas.Bool.{cases_eq}
-use Rattle.std.specs.Prelude.{replicate}
+use Rattle.std.specs.Prelude.{not, replicate}
 use Rattle.reply.specs.Runs.{runs_of, onto_run, data_words, run_word, AreLongest, EndsBefore}
 use Rattle.std.specs.List.{flat_map}
+use borrow.Author.Tests.{tests}
+use lib.Lanes.{mask_l}
+use Rattle.std.proofs.lemmas.List.{take-append-drop, replicate-append-replicate}
+use Rattle.std.proofs.Math.Seq.{take-add}
 
 -- how many bytes at the front are b
 abbrev pub front : ℕ → List ℕ → ℕ
@@ -33,6 +37,36 @@ front_within b (x ∷ xs) =
 pub front_some : (xs : List ℕ) → 0 < length xs → 0 < front (get_or xs 0 0) xs
 front_some [] h = absurd (omega arith)
 front_some (x ∷ xs) h = rw (same x) (omega arith)
+
+-- bytes that are all b lengthen it by all of them
+front_more : (b : ℕ) (n : ℕ) (xs : List ℕ) → front b (replicate n b ++ xs) ≡ n + front b xs
+front_more b zero xs = omega arith
+front_more b (suc n) xs = rw (same b) (let more = front_more b n xs in omega arith)
+
+pub front_even : (b : ℕ) (xs : List ℕ) (n : ℕ) → take n xs ≡ replicate n b → front b xs ≡ n + front b (drop n xs)
+front_even b xs n e = ap (front b) (sym (take-append-drop n xs) ∙ ap (λ ys. ys ++ drop n xs) e) ∙ front_more b n (drop n xs)
+
+-- the same byte again and again, and then 32 times more
+pub more_even : (b : ℕ) (xs : List ℕ) (i : ℕ) → take i xs ≡ replicate i b → take 32 (drop i xs) ≡ replicate 32 b → take (i + 32) xs ≡ replicate (i + 32) b
+more_even b xs i e more = take-add i 32 xs ∙ ap (λ ys. ys ++ take 32 (drop i xs)) e ∙ ap (λ ys. replicate i b ++ ys) more ∙ replicate-append-replicate i 32 b
+
+lane : (x b : ℕ) (same : Bool) (xs : List ℕ) → eqb x b ≡ same → mask_l (map (λ y. not (eqb y b)) (x ∷ xs)) ≡ cond (not same) 1 0 + 2 * mask_l (map (λ y. not (eqb y b)) xs)
+lane x b same xs e = rw e refl
+
+-- 32 lanes none of which is another byte
+same_lanes : (xs : List ℕ) (b : ℕ) → mask_l (map (λ x. not (eqb x b)) xs) ≡ 0 → xs ≡ replicate (length xs) b
+same_lanes [] b none = refl
+same_lanes (x ∷ xs) b none = elim (cases_eq x b) [
+  | inl e ↦ let more : mask_l (map (λ y. not (eqb y b)) xs) ≡ 0 = omega (arith, lane x b true xs (eq-eqb x b e), none) in
+      ap (λ y. y ∷ xs) e ∙ ap (λ ys. b ∷ ys) (same_lanes xs b more)
+  | inr ne ↦ absurd (omega (arith, lane x b false xs (other x b ne), none))
+]
+
+pub is_zero : (n : ℕ) → eqb n 0 ≡ true → n ≡ 0
+is_zero n is = grind (arith, tests, is)
+
+pub even_lanes : (xs : List ℕ) (b : ℕ) → length xs ≡ 32 → mask_l (map (λ x. not (eqb x b)) xs) ≡ 0 → xs ≡ replicate 32 b
+even_lanes xs b long none = same_lanes xs b none ∙ ap (λ n. replicate n b) long
 
 -- a byte that is b lengthens the front
 pub front_here : (b : ℕ) (xs : List ℕ) (i : ℕ) → i < length xs → get_or xs i 0 ≡ b → front b (drop i xs) ≡ front b (drop (i + 1) xs) + 1

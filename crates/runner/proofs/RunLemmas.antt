@@ -7,7 +7,7 @@ use Rattle.std.proofs.lemmas.List.{append-nil}
 use Rattle.std.proofs.lemmas.Grind.{flat_map-append}
 use Rattle.words.proofs.Bools.{and-split}
 use Rattle.lines.proofs.Written.{appends_more}
-use Rattle.lines.specs.Lines.{lines_of, ReadsLine}
+use Rattle.lines.specs.Lines.{left, lines_of, ReadsLine}
 use Rattle.block.specs.Blocks.{Lines}
 use Rattle.block.specs.Opening.{is_par}
 use Rattle.reply.specs.declared.Reply.{Reply}
@@ -49,6 +49,16 @@ pub starts : (text before : Option (List ℕ)) (sitting : Sitting) → sitting �
 starts text before sitting is =
     let P : Sitting → Type 0 = λ s. Follows text text before before s in
     subst P (sym is) ([], nothing_written before, refl, none_on text)
+
+-- with nothing read ahead, all is left
+none_ahead : (ahead : List ℕ) (text : Option (List ℕ)) → ahead ≡ [] → left ahead text ≡ text
+none_ahead ahead None none = refl
+none_ahead ahead (Some xs) none = ap (λ bytes. Some (bytes ++ xs)) none
+
+pub starts_ahead : (text before : Option (List ℕ)) (ahead : List ℕ) (sitting : Sitting) → ahead ≡ [] → sitting ≡ begun → Follows text (left ahead text) before before sitting
+starts_ahead text before ahead sitting none is =
+    let P : Option (List ℕ) → Type 0 = λ rest. Follows text rest before before sitting in
+    subst P (sym (none_ahead ahead text none)) (starts text before sitting is)
 
 -- one line more
 one_done : (old new : Sitting) (line : List ℕ) (replies : List Reply) (mid : Sitting) (done : Outcome) → replies ≡ [] → mid ≡ old → IsNext line mid new done → AreDone old (line ∷ []) (replies ++ done.replies) new
@@ -258,6 +268,11 @@ HasTaken (Some text) (Some left) n = length (lines_of text) ≡ n + length (line
 pub none_taken : (text : Option (List ℕ)) (n : ℕ) → n ≡ 0 → HasTaken text text n
 none_taken None n e = tt
 none_taken (Some text) n e = omega arith
+
+pub ahead_taken : (text : Option (List ℕ)) (ahead : List ℕ) (n : ℕ) → ahead ≡ [] → n ≡ 0 → HasTaken text (left ahead text) n
+ahead_taken text ahead n none e =
+    let P : Option (List ℕ) → Type 0 = λ rest. HasTaken text rest n in
+    subst P (sym (none_ahead ahead text none)) (none_taken text n e)
 
 pub line_taken : (text left left' : Option (List ℕ)) (kept : List ℕ) (n : ℕ) → HasTaken text left n → ReadsLine 65536 left left' true kept → HasTaken text left' (n + 1)
 line_taken None left left' kept n taken read = tt

@@ -13,7 +13,7 @@ use crate::error::RunError;
 use crate::session::Session;
 use crate::summary::Summary;
 use command::LINE_LIMIT;
-use lines::read_line;
+use lines::{LineBuffer, read_line};
 use std::alloc::Global;
 use std::io::{Read, Write};
 use std::sync::Wait;
@@ -59,14 +59,14 @@ pub fn run<T: Threads + Wait + Sync, R: Read, W: Write>(
     // It ended early for want of memory before the first line alone, and for the number of lines where there are so many.
     ensures cause { IfErr result (IsEarly (R.remaining reader.old) (R.remaining reader.new) (W.contents writer.old) (W.contents writer.new)) }
 {
-    let mut line = Vec::with_capacity(alloc, LINE_LIMIT + 1).map_err(|_| RunError::Memory)?;
+    let mut buffer = LineBuffer::new(alloc, LINE_LIMIT).map_err(|_| RunError::Memory)?;
     let mut session = Session::new(alloc, workers)?;
     for _lines in 0..u64::MAX {
-        if !read_line(reader, &mut line, LINE_LIMIT).map_err(RunError::Read)? {
+        if !read_line(reader, &mut buffer, LINE_LIMIT).map_err(RunError::Read)? {
             session.end(rt, writer)?;
             return Ok(session.summary());
         }
-        session.line(rt, &line, writer)?;
+        session.line(rt, &buffer.line, writer)?;
     }
     Err(RunError::Endless)
 }

@@ -26,6 +26,9 @@ pub enum State {
     },
 }
 
+/// Room for the longest line, so that a line takes memory once.
+const LINE_ROOM: usize = 100;
+
 /// Adds a number in decimal digits.
 fn push_number(text: &mut Vec<u8>, number: u64) -> Result<(), AllocError>
     ensures { OnOk result (text.new.items ≡ text.old.items ++ decimal number) }
@@ -59,7 +62,7 @@ fn push_state(text: &mut Vec<u8>, state: State) -> Result<(), AllocError>
 pub fn origin_line(alloc: Global, sectors: u64) -> Result<Text, AllocError>
     ensures { IfOk result (λ text. text ≡ origin_text sectors) }
 {
-    let mut text = Vec::new(alloc);
+    let mut text = Vec::with_capacity(alloc, LINE_ROOM)?;
     text.extend_from_slice(b"0 ")?;
     push_number(&mut text, sectors)?;
     text.extend_from_slice(b" snapshot-origin")?;
@@ -70,7 +73,7 @@ pub fn origin_line(alloc: Global, sectors: u64) -> Result<Text, AllocError>
 fn stated_line(alloc: Global, sectors: u64, target: &[u8], state: State) -> Result<Text, AllocError>
     ensures { IfOk result (λ text. text ≡ stated_text sectors target.now state) }
 {
-    let mut text = Vec::new(alloc);
+    let mut text = Vec::with_capacity(alloc, LINE_ROOM)?;
     text.extend_from_slice(b"0 ")?;
     push_number(&mut text, sectors)?;
     text.extend_from_slice(target)?;

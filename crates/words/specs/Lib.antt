@@ -1,5 +1,6 @@
 pub mod Given
 pub mod Texts
 pub mod Words
+pub mod Word
 pub mod Numbers
 pub mod Names

@@ -1,14 +1,16 @@
 //! The words of a line, and the forms that every text of this project shares: numbers, names of devices, and how
 //! the answer of a call compares with a plain rule. It stands on `sector` for the refusals. Each function answers
-//! exactly what its definition in `specs/` says; splitting a line alone takes memory.
+//! exactly what its definition in `specs/` says; splitting a line into all its words alone takes memory, cutting off the first does not.
 #![tactic(auto)]
 
 mod line;
 mod names;
 mod numbers;
 mod texts;
+mod word;
 
 pub use line::words_in;
 pub use names::{Name, is_a_name};
 pub use numbers::{number, numeral};
 pub use texts::Text;
+pub use word::{after_word, first_word, next_word};

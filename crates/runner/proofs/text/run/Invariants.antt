@@ -1,10 +1,11 @@
 use Rattle.std.proofs.Common.{◌<◌, vec_capacity}
+use Rattle.lines.specs.Lines.{left}
 use Rattle.runner.proofs.RunLemmas.{Follows, HasTaken}
 use Rattle.runner.proofs.text.run.Given as goal
 
 abbrev pub invariant-loop-lines : goal.invariant-loop-lines
 invariant-loop-lines g l = record {
-  room : 65536 < vec_capacity l.line;
-  follows : Follows (g.R.Read.remaining l.fn.reader) (g.R.Read.remaining l.reader) (g.W.Write.contents l.fn.writer) (g.W.Write.contents l.writer) l.session;
-  taken : HasTaken (g.R.Read.remaining l.fn.reader) (g.R.Read.remaining l.reader) l._lines;
+  room : 65536 < vec_capacity l.buffer.line;
+  follows : Follows (g.R.Read.remaining l.fn.reader) (left l.buffer.ahead (g.R.Read.remaining l.reader)) (g.W.Write.contents l.fn.writer) (g.W.Write.contents l.writer) l.session;
+  taken : HasTaken (g.R.Read.remaining l.fn.reader) (left l.buffer.ahead (g.R.Read.remaining l.reader)) l._lines;
 }
