@@ -1,6 +1,6 @@
 -- What a call of a volume does to the requests in flight and to the live snapshots, so that there is a place for each.
 use Rattle.std.proofs.Common.{◌≡◌, inl, inr, ℕ, zero, suc, ◌+◌, ◌<◌, ◌≤◌, Bool, true, false, List, [], ◌∷◌, ◌++◌, length, get_or, set, map, max, take, Option, Some, None, refl, sym, ◌∙◌, ap, arith}
-use Rattle.std.specs.Prelude.{◌*◌, if◌then◌else◌}
+use Rattle.std.specs.Prelude.{◌-◌, ◌*◌, ◌&&◌, ◌==◌, not, if◌then◌else◌}
 use Rattle.std.specs.List.{remove}
 use Rattle.std.proofs.lemmas.List.{length-map, map-append, map-set}
 use Rattle.device.specs.Layers.{Layer}
@@ -99,7 +99,7 @@ either_live false count s = refl
 
 kept_lives : {B : Type 0} (number count : ℕ) (snaps : List (Kept B)) → map (λ s. s.live) (map (kept_for number count) snaps) ≡ map (λ s. s.live) snaps
 kept_lives number count [] = refl
-kept_lives number count (s ∷ snaps) = (λ i. either_live _ count s i ∷ kept_lives number count snaps i)
+kept_lives number count (s ∷ snaps) = (λ i. either_live (s.live && not (s.number == number)) count s i ∷ kept_lives number count snaps i)
 
 -- of volumes: what keeps a place for each
 module _ {B : Type 0} (v w : Volumed B) where

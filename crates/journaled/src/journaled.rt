@@ -73,6 +73,7 @@ impl<B: Layered> Journaled<B> {
         // A look: then none is in flight in the volume.
         audit.look_at_requests();
         let (volume, places, alloc) = audit.into_counted();
+        // Each live snapshot has its place, whatever the audit saw of it last.
         let live = count_live(&volume);
         Journaled {
             volume,
