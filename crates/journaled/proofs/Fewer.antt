@@ -1,6 +1,6 @@
 -- What a call of a volume does to the requests in flight and to the live snapshots, so that there is a place for each.
 use Rattle.std.proofs.Common.{◌≡◌, inl, inr, ℕ, zero, suc, ◌+◌, ◌<◌, ◌≤◌, Bool, true, false, List, [], ◌∷◌, ◌++◌, length, get_or, set, map, max, take, Option, Some, None, refl, sym, ◌∙◌, ap, arith}
-use Rattle.std.specs.Prelude.{◌-◌, ◌*◌, ◌&&◌, ◌==◌, not, if◌then◌else◌}
+use Rattle.std.specs.Prelude.{◌-◌, ◌*◌, ◌&&◌, ◌==◌, Err, IfErr, Ok, OnOk, Result, not, if◌then◌else◌}
 use Rattle.std.specs.List.{remove}
 use Rattle.std.proofs.lemmas.List.{length-map, map-append, map-set}
 use Rattle.device.specs.Layers.{Layer}
@@ -231,13 +231,13 @@ module _ {B : Type 0} (v w : Volumed B) where
       record { enough = omega (arith, less, e, was, h.enough); few = omega (arith, few) }
 
   -- a merge that begins, or does not, or is taken out
-  pub begun_have : (number places : ℕ) → IsMergeBegun number v w → HasPlaces v places → HasPlaces w places
+  begun_have : (number places : ℕ) → IsMergeBegun number v w → HasPlaces v places → HasPlaces w places
   begun_have number places is h =
       let e = ap (λ (x : Volumed B). length x.flights) is.becomes in
       let lives = ap lives_of is.becomes ∙ kept_lives number _ (remove v.snaps is.place) ∙ map-remove (λ (s : Kept B). s.live) v.snaps is.place in
       fewer_have places places (omega (arith, e)) (left_lives is.place lives) (omega arith) h.few h
 
-  pub unbegun_have : (number : ℕ) (refusal : Refusal) (places : ℕ) → IsNotBegun number refusal v w → HasPlaces v places → HasPlaces w places
+  unbegun_have : (number : ℕ) (refusal : Refusal) (places : ℕ) → IsNotBegun number refusal v w → HasPlaces v places → HasPlaces w places
   unbegun_have number refusal places (inl is) h =
       fewer_have places places (let e = ap (λ (x : Volumed B). length x.flights) is.1 in omega (arith, e)) (same_lives (ap lives_of is.1)) (omega arith) h.few h
   unbegun_have number refusal places (inr is) h =
@@ -247,6 +247,10 @@ module _ {B : Type 0} (v w : Volumed B) where
         | inl same ↦ ap (map (λ (s : Kept B). s.live)) same
         | inr unkept_are ↦ ap (map (λ (s : Kept B). s.live)) unkept_are ∙ unkept_lives v.snaps
       ])) (omega arith) h.few h
+
+  pub begun_or_have : {A : Type 0} (number places : ℕ) (r : Result A Refusal) → OnOk r (IsMergeBegun number v w) → IfErr r (λ refusal. IsNotBegun number refusal v w) → HasPlaces v places → HasPlaces w places
+  begun_or_have number places (Ok a) begun refused h = begun_have number places begun h
+  begun_or_have number places (Err e) begun refused h = unbegun_have number e places refused h
 
   pub finished_have : (store : StoreDev B) (places : ℕ) → IsTakenOut v w store → places + 1 ≤ 65_536 → HasPlaces v places → HasPlaces w (places + 1)
   finished_have store places is few h =

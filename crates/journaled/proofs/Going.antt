@@ -1,5 +1,6 @@
 -- A journal that kept the entries of a call would go on.
 use Rattle.std.proofs.Common.{◌≡◌, ◌≢◌, ◌⊎◌, inl, inr, ℕ, true, List, [], ◌∷◌, ◌++◌, map, refl, sym, ◌∙◌, ap, subst}
+use Rattle.std.specs.Prelude.{Err, Ok, OnOk, Result}
 use Rattle.device.specs.Layers.{Layer}
 use Rattle.sector.specs.declared.refusal.Refusal.{Refusal}
 use Rattle.plain.specs.declared.event.Event.{Event}
@@ -110,9 +111,13 @@ module _ {B : Type 0} (contents : B → List ℕ) (layers : B → List Layer) (v
   left_goes_on number store without detached =
       let d = detached_does contents layers number v w without.place [] without.found detached in one_goes_on p q (Detached number) d.1 d.0
 
-  pub begun_goes_on : (number : ℕ) → IsMergeBegun number v w → IsBegun p number q → GoesOn p (Begun number ∷ []) q
+  begun_goes_on : (number : ℕ) → IsMergeBegun number v w → IsBegun p number q → GoesOn p (Begun number ∷ []) q
   begun_goes_on number begun is =
       let d = begun_does contents layers number v w begun.place [] begun.found is in one_goes_on p q (Begun number) d.1 d.0
+
+  pub begun_or_goes_on : {A E : Type 0} (number : ℕ) (r : Result A E) → OnOk r (IsMergeBegun number v w) → OnOk r (is_loud_in_all layers v ≡ true → IsBegun p number q) → OnOk r (is_loud_in_all layers v ≡ true → GoesOn p (Begun number ∷ []) q)
+  begun_or_goes_on number (Ok a) begun is = λ loud. begun_goes_on number begun (is loud)
+  begun_or_goes_on number (Err e) begun is = tt
 
   pub finished_goes_on : IsFinished p q → GoesOn p (Finished ∷ []) q
   finished_goes_on is = let d = finished_does p q [] is in one_goes_on p q Finished d.1 d.0

@@ -102,10 +102,7 @@ impl<B: Layered> Journaled<B> {
             return Err(Refusal::JournalFull);
         }
         // Its entry has the place that was kept free, for it was live.
-        match self.volume.begin_merge(self.alloc, number) {
-            Ok(()) => Ok(()),
-            Err(refusal) => Err(refusal),
-        }
+        self.volume.begin_merge(self.alloc, number)
     }
 
     /// Lets a merge that failed go on. `NotMerging` where none is begun.

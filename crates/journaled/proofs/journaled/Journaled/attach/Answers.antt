@@ -1,6 +1,9 @@
--- Nothing that is seen changed.
-use Rattle.std.proofs.Common.{◌∙◌, ap, inr, ⊎_elim}
+-- Two places more are taken, and its entry is noted.
+use Rattle.std.proofs.Common.{◌∙◌, ap, arith, inr, ⊎_elim}
 use Rattle.served.proofs.Starved.{starved_by}
+use Rattle.snapshot.specs.Opening.{shown_array}
+use Rattle.journaled.proofs.Fewer.{gained_have}
+use Rattle.journaled.proofs.Going.{gained_goes_on}
 use Rattle.journaled.proofs.NotFull.{not_full}
 use Rattle.volume.specs.Volumed.{is_loud_in_all}
 use Rattle.journaled.proofs.journaled.Journaled.attach.Goals as goal
@@ -13,3 +16,10 @@ returns-in-Err-clause-refused g c = inr (rw (← c.self.view_is) c.in-Err.ensure
 
 pub returns-in-Err-clause-starved : goal.returns-in-Err-clause-starved
 returns-in-Err-clause-starved g c = λ is. ⊎_elim c.in-Err.ensures.starved (λ full. absurd (not_full c.args.store.stale c.args.chunk (g.B.Block.size c.self.inside.volume.origin) (g.B.Block.size c.args.store.device) (g.B.Block.contents c.args.store.device) c.self.inside.volume c.in-Err.refused.0 c.in-Err.ensures.refused full)) (starved_by c.in-Err.refused.0 is)
+
+pub returns-in-Ok-clause-goes_on : goal.returns-in-Ok-clause-goes_on
+returns-in-Ok-clause-goes_on g c = λ loud more.
+    rw (← c.self.view_is) (gained_goes_on g.B.Block.contents g.B.Block.layers c.self.inside.volume c.attach.new.self g.B.Block.size c.in-Ok.number c.args.store (shown_array (g.B.Block.contents c.self.inside.volume.origin) (g.B.Block.contents c.args.store.device)) c.in-Ok.ensures.gained (c.in-Ok.ensures.taken (ap (is_loud_in_all g.B.Block.layers) c.self.view_is ∙ loud) more))
+
+pub invariant_of-self : goal.invariant_of-self
+invariant_of-self g c = gained_have c.self.inside.volume c.attach.new.self g.B.Block.layers g.B.Block.size c.in-Ok.number c.args.store c.self.inside.places c.in-Ok.ensures.gained (omega (arith, c.if-self-gt-MAX_ENTRIES.false)) c.self.invariant
