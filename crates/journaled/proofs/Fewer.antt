@@ -35,6 +35,7 @@ use Rattle.volume.specs.Leaving.{IsWithout}
 use Rattle.volume.specs.Submitting.{IsAcceptedAs, IsFoundFull, IsRefusedAs, SameButRoom, lives_after}
 use Rattle.volume.specs.Volumed.{Volumed, plain_of}
 use Rattle.journal.specs.Noted.{is_live, live_count}
+use Rattle.journal.specs.Seats.{Seated, flight_in}
 use Rattle.journal.proofs.Beginning.{lives_more, lives_shown}
 use Rattle.journaled.specs.Places.{HasPlaces, kept_free}
 use Rattle.journaled.proofs.Flown.{fewer_fly}
@@ -262,11 +263,15 @@ pub new_have : {B : Type 0} (v : Volumed B) → v.snaps ≡ [] → v.flights ≡
 new_have v snaps flights = (let none = ap (λ (l : List (Kept _)). live_count (map (λ s. s.live) l)) snaps in let fly = ap length flights in record { enough = omega (arith, none, fly); few = omega arith })
 
 -- one in which nothing is in flight
+pub none_flying : (held : List Seated) (flights : List Flight) → map flight_in held ≡ map in_flight flights → held ≡ [] → flights ≡ []
+none_flying held [] same none = refl
+none_flying held (f ∷ fs) same none = absurd (let two : [] ≡ in_flight f ∷ map in_flight fs = ap (map flight_in) (sym none) ∙ same in cc)
+
 pub quiet_have : {B : Type 0} (v : Volumed B) (places live : ℕ) → v.flights ≡ [] → live ≡ live_count (lives_of v) → live ≤ 8 → places ≤ 65_536 → HasPlaces v (max places live)
 quiet_have v places live flights is eight few = (let fly = ap length flights in record { enough = omega (arith, fly, is); few = omega (arith, eight, few) })
 
 -- live snapshots, place after place
-pub live_next : {B : Type 0} (snaps : List (Kept B)) (k : ℕ) (s : Kept B) → k < length snaps → s ≡ get_or snaps k s → live_count (map (λ x. x.live) (take (k + 1) snaps)) ≡ live_count (map (λ x. x.live) (take k snaps)) + (if s.live then 1 else 0)
+live_next : {B : Type 0} (snaps : List (Kept B)) (k : ℕ) (s : Kept B) → k < length snaps → s ≡ get_or snaps k s → live_count (map (λ x. x.live) (take (k + 1) snaps)) ≡ live_count (map (λ x. x.live) (take k snaps)) + (if s.live then 1 else 0)
 live_next snaps k s within is =
     ap live_count (sym (lives_more snaps k s (map (λ x. x.live) (take k snaps)) within is refl)) ∙ last (map (λ x. x.live) (take k snaps)) s.live
   where
@@ -275,3 +280,17 @@ live_next snaps k s within is =
     last [] false = omega arith
     last (true ∷ bs) b = omega (arith, last bs b)
     last (false ∷ bs) b = last bs b
+
+pub live_here : {B : Type 0} (snaps : List (Kept B)) (k : ℕ) (s : Kept B) (count count' : ℕ) → k < length snaps → s ≡ get_or snaps k s → count ≡ live_count (map (λ x. x.live) (take k snaps)) → count ≤ k → s.live ≡ true → count' ≡ count + 1
+    → (count' ≡ live_count (map (λ x. x.live) (take (k + 1) snaps))) × (count' ≤ k + 1)
+live_here snaps k s count count' within is was few live more =
+    let next = live_next snaps k s within is in
+    let one : (if s.live then 1 else 0) ≡ 1 = ap (λ b. if b then 1 else 0) live in
+    (omega (arith, next, one, was, more), omega (arith, few, more))
+
+pub spoilt_here : {B : Type 0} (snaps : List (Kept B)) (k : ℕ) (s : Kept B) (count count' : ℕ) → k < length snaps → s ≡ get_or snaps k s → count ≡ live_count (map (λ x. x.live) (take k snaps)) → count ≤ k → s.live ≡ false → count' ≡ count
+    → (count' ≡ live_count (map (λ x. x.live) (take (k + 1) snaps))) × (count' ≤ k + 1)
+spoilt_here snaps k s count count' within is was few spoilt same =
+    let next = live_next snaps k s within is in
+    let none : (if s.live then 1 else 0) ≡ 0 = ap (λ b. if b then 1 else 0) spoilt in
+    (omega (arith, next, none, was, same), omega (arith, few, same))
