@@ -271,11 +271,15 @@ pub quiet_have : {B : Type 0} (v : Volumed B) (places live : ℕ) → v.flights 
 quiet_have v places live flights is eight few = (let fly = ap length flights in record { enough = omega (arith, fly, is); few = omega (arith, eight, few) })
 
 -- live snapshots, place after place
-live_next : {B : Type 0} (snaps : List (Kept B)) (k : ℕ) (s : Kept B) → k < length snaps → s ≡ get_or snaps k s → live_count (map (λ x. x.live) (take (k + 1) snaps)) ≡ live_count (map (λ x. x.live) (take k snaps)) + (if s.live then 1 else 0)
+abbrev bit : Bool → ℕ
+bit true = 1
+bit false = 0
+
+live_next : {B : Type 0} (snaps : List (Kept B)) (k : ℕ) (s : Kept B) → k < length snaps → s ≡ get_or snaps k s → live_count (map (λ x. x.live) (take (k + 1) snaps)) ≡ live_count (map (λ x. x.live) (take k snaps)) + bit s.live
 live_next snaps k s within is =
     ap live_count (sym (lives_more snaps k s (map (λ x. x.live) (take k snaps)) within is refl)) ∙ last (map (λ x. x.live) (take k snaps)) s.live
   where
-    last : (bs : List Bool) (b : Bool) → live_count (bs ++ b ∷ []) ≡ live_count bs + (if b then 1 else 0)
+    last : (bs : List Bool) (b : Bool) → live_count (bs ++ b ∷ []) ≡ live_count bs + bit b
     last [] true = omega arith
     last [] false = omega arith
     last (true ∷ bs) b = omega (arith, last bs b)
@@ -285,12 +289,12 @@ pub live_here : {B : Type 0} (snaps : List (Kept B)) (k : ℕ) (s : Kept B) (cou
     → (count' ≡ live_count (map (λ x. x.live) (take (k + 1) snaps))) × (count' ≤ k + 1)
 live_here snaps k s count count' within is was few live more =
     let next = live_next snaps k s within is in
-    let one : (if s.live then 1 else 0) ≡ 1 = ap (λ b. if b then 1 else 0) live in
+    let one : bit s.live ≡ 1 = ap bit live in
     (omega (arith, next, one, was, more), omega (arith, few, more))
 
 pub spoilt_here : {B : Type 0} (snaps : List (Kept B)) (k : ℕ) (s : Kept B) (count count' : ℕ) → k < length snaps → s ≡ get_or snaps k s → count ≡ live_count (map (λ x. x.live) (take k snaps)) → count ≤ k → s.live ≡ false → count' ≡ count
     → (count' ≡ live_count (map (λ x. x.live) (take (k + 1) snaps))) × (count' ≤ k + 1)
 spoilt_here snaps k s count count' within is was few spoilt same =
     let next = live_next snaps k s within is in
-    let none : (if s.live then 1 else 0) ≡ 0 = ap (λ b. if b then 1 else 0) spoilt in
+    let none : bit s.live ≡ 0 = ap bit spoilt in
     (omega (arith, next, none, was, same), omega (arith, few, same))
