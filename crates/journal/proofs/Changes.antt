@@ -28,7 +28,7 @@ first_on a false c e on = absurd (false≢true (sym e ∙ on))
 -- One entry more, which is of no seat's request: what the counts keep, and what the replay does.
 module _ (loud loud' told told' : Bool) (p q : Plain) (v : Books) (e : Entry) (lives' : List Bool) (room' : ℕ) (h : IsAudit loud told p v)
     (still : told' ≡ true → told ≡ true) (keeps : told' ≡ true → loud ≡ true → loud' ≡ true) (requests : q.requests ≡ p.requests) (count : length lives' ≡ length q.saved)
-    (none : (s : ℕ) (es : List Entry) → entries_by s (es ++ e ∷ []) ≡ entries_by s es) (free : length v.entries + length v.held + live_count lives' + 1 ≤ 65_536) (room : room' ≡ v.room)
+    (none : (s : ℕ) (es : List Entry) → entries_by s (es ++ e ∷ []) ≡ entries_by s es) (free : v.taken + length v.entries + length v.held + live_count lives' + 1 ≤ 65_536) (room : room' ≡ v.room)
     (does : told' ≡ true → loud ≡ true → (after (saves_of p) e ≡ saves_of q) × IsLawful (saves_of p) e × (v.lives ≡ map is_live p.saved → lives' ≡ map is_live q.saved)) where
   abbrev more_books : Books
   more_books = record v { entries = v.entries ++ e ∷ []; lives = lives'; room = room' }
@@ -57,7 +57,7 @@ module _ (loud loud' told told' : Bool) (p q : Plain) (v : Books) (e : Entry) (l
 none_finished : (s : ℕ) (es : List Entry) → entries_by s (es ++ Finished ∷ []) ≡ entries_by s es
 none_finished s es = entries_by_silent s es Finished refl
 
-finished_does : (p q : Plain) (lives : List Bool) → IsFinished p q → (after (saves_of p) Finished ≡ saves_of q) × IsLawful (saves_of p) Finished × (lives ≡ map is_live p.saved → lives ≡ map is_live q.saved)
+pub finished_does : (p q : Plain) (lives : List Bool) → IsFinished p q → (after (saves_of p) Finished ≡ saves_of q) × IsLawful (saves_of p) Finished × (lives ≡ map is_live p.saved → lives ≡ map is_live q.saved)
 finished_does p q lives f = (
   (λ i. record { origin = sym (ap (λ (x : Plain). x.origin) f.becomes) i; begun = sym (ap (λ (x : Plain). x.begun) f.becomes) i; saved = sym (ap (λ (x : Plain). x.saved) f.becomes) i }),
   (f.number, f.merged),
@@ -66,7 +66,7 @@ finished_does p q lives f = (
 
 pub finished_keeps : {B : Type 0} (contents : B → List ℕ) (layers : B → List Layer) (w w' : Volumed B) (store : StoreDev B) (loud loud' more told : Bool) (v : Books) (room' : ℕ)
     → IsAudit loud told (plain_of contents layers w) v → loud ≡ (loud' && more) → IsTakenOut w w' store → (loud ≡ true → IsFinished (plain_of contents layers w) (plain_of contents layers w'))
-    → length v.entries + length v.held + live_count v.lives + 1 ≤ 65_536 → room' ≡ v.room
+    → v.taken + length v.entries + length v.held + live_count v.lives + 1 ≤ 65_536 → room' ≡ v.room
     → IsAudit loud' told (plain_of contents layers w') (record v { entries = v.entries ++ Finished ∷ []; room = room' })
 finished_keeps contents layers w w' store loud loud' more told v room' h both taken finished free room =
     entry_keeps loud loud' told told (plain_of contents layers w) (plain_of contents layers w') v Finished v.lives room' h (λ on. on) (λ on was. first_on loud loud' more both was)

@@ -181,7 +181,7 @@ left_none s old es all none l = sym (ap (replay s) none) ∙ l.comes_to
 
 -- a checkpoint
 pub cut_keeps : (given : ℕ) (loud told : Bool) (p : Plain) (v : Books) (base : Saves) (entries : List Entry) (folded : List ℕ) (room : ℕ) → IsKept given loud told p v → (told ≡ true → base ≡ replay v.base v.entries) → entries ≡ [] → folded ≡ v.counts → room ≡ v.room
-    → IsKept given loud told p (record v { base = base; entries = entries; folded = folded; room = room })
+    → IsKept given loud told p (record v { base = base; taken = 0; entries = entries; folded = folded; room = room })
 cut_keeps given loud told p v base entries folded room h made none cut same = record {
   audit = record {
     counted = record {

@@ -105,7 +105,7 @@ module _ {B : Type 0} (contents : B → List ℕ) (layers : B → List Layer) (n
   pub left_within : (k : ℕ) (lives : List Bool) → place_of_snap number w.snaps ≡ Some k → length lives ≡ length p.saved → k < length lives
   left_within k lives found count = omega (arith, position_within (λ s. s.number == number) w.snaps k found, count, saved_count contents layers w)
 
-  detached_does : (k : ℕ) (lives : List Bool) → place_of_snap number w.snaps ≡ Some k → IsDetached p number q
+  pub detached_does : (k : ℕ) (lives : List Bool) → place_of_snap number w.snaps ≡ Some k → IsDetached p number q
       → (after (saves_of p) (Detached number) ≡ saves_of q) × IsLawful (saves_of p) (Detached number) × (lives ≡ map is_live p.saved → remove lives k ≡ map is_live q.saved)
   detached_does k lives found d = (
     sym (ap saves_of d.becomes),
@@ -113,7 +113,7 @@ module _ {B : Type 0} (contents : B → List ℕ) (layers : B → List Layer) (n
     lives_left k lives found (ap (λ (x : Plain). x.saved) d.becomes),
   )
 
-  begun_does : (k : ℕ) (lives : List Bool) → place_of_snap number w.snaps ≡ Some k → IsBegun p number q
+  pub begun_does : (k : ℕ) (lives : List Bool) → place_of_snap number w.snaps ≡ Some k → IsBegun p number q
       → (after (saves_of p) (Begun number) ≡ saves_of q) × IsLawful (saves_of p) (Begun number) × (lives ≡ map is_live p.saved → remove lives k ≡ map is_live q.saved)
   begun_does k lives found b = (
     ap (λ (o : Option Saved). record { origin = array_in o; begun = Some number; saved = without_saved number p.saved }) b.found ∙ sym (ap saves_of b.becomes),
@@ -121,7 +121,7 @@ module _ {B : Type 0} (contents : B → List ℕ) (layers : B → List Layer) (n
     lives_left k lives found (ap (λ (x : Plain). x.saved) b.becomes),
   )
 
-  module _ (loud loud' more told : Bool) (v : Books) (room' : ℕ) (h : IsAudit loud told p v) (free : length v.entries + length v.held + live_count v.lives + 1 ≤ 65_536) (room : room' ≡ v.room) (k : ℕ) (found : place_of_snap number w.snaps ≡ Some k) where
+  module _ (loud loud' more told : Bool) (v : Books) (room' : ℕ) (h : IsAudit loud told p v) (free : v.taken + length v.entries + length v.held + live_count v.lives + 1 ≤ 65_536) (room : room' ≡ v.room) (k : ℕ) (found : place_of_snap number w.snaps ≡ Some k) where
     abbrev left_books : Entry → Books
     left_books e = record v { entries = v.entries ++ e ∷ []; lives = remove v.lives k; room = room' }
 

@@ -124,7 +124,7 @@ module _ {B : Type 0} (contents : B → List ℕ) (layers : B → List Layer) (s
   pub shows_last : (array : List ℕ) → IsTaken p number array q → saved_under number q.saved ≡ Some (Live array)
   shows_last array t = ap (λ (x : Plain). saved_under number x.saved) t.becomes ∙ saved_last number (Live array) p.saved fresh_saved
 
-  attached_does : (array : List ℕ) (lives : List Bool) → IsTaken p number array q
+  pub attached_does : (array : List ℕ) (lives : List Bool) → IsTaken p number array q
       → (after (saves_of p) (Attached number array) ≡ saves_of q) × IsLawful (saves_of p) (Attached number array) × (lives ≡ map is_live p.saved → lives ++ true ∷ [] ≡ map is_live q.saved)
   attached_does array lives t = (
     sym (ap saves_of t.becomes),
@@ -133,7 +133,7 @@ module _ {B : Type 0} (contents : B → List ℕ) (layers : B → List Layer) (s
   )
 
   pub attached_keeps : (loud loud' more told told' : Bool) (v : Books) (room' : ℕ) → IsAudit loud told p v → loud' ≡ (loud && more) → told' ≡ (told && more)
-      → length v.entries + length v.held + live_count v.lives + 2 ≤ 65_536 → room' ≡ v.room → (array : List ℕ) → (shown : List ℕ) → (loud ≡ true → more ≡ true → (array ≡ shown) × IsTaken p number shown q)
+      → v.taken + length v.entries + length v.held + live_count v.lives + 2 ≤ 65_536 → room' ≡ v.room → (array : List ℕ) → (shown : List ℕ) → (loud ≡ true → more ≡ true → (array ≡ shown) × IsTaken p number shown q)
       → IsAudit loud' told' q (record v { entries = v.entries ++ Attached number array ∷ []; lives = v.lives ++ true ∷ []; room = room' })
   attached_keeps loud loud' more told told' v room' h both tells free room array shown taken =
       entry_keeps loud loud' told told' p q v (Attached number array) (v.lives ++ true ∷ []) room' h (λ on. and_left told more (sym tells ∙ on))

@@ -31,7 +31,7 @@ use Rattle.journal.specs.Replay.{Saves, saves_of, plain_in, served, replay, IsLa
 use Rattle.journal.specs.Entries.{entries_by}
 use Rattle.journal.specs.Noted.{Noted, is_live, live_count}
 use Rattle.journal.specs.Books.{Books, Counted, Replays, IsAudit, HeldFits, in_flight}
-use Rattle.journal.proofs.Lost.{all_noted, live_few, lives_now}
+use Rattle.journal.proofs.Lost.{all_noted, lives_now}
 use Rattle.journal.proofs.Replaying.{replay_then, lawful_then, replay_spoils, lawful_spoils, entries_by_spoils, entries_by_mine, entries_by_other, served_is, lawful_is, lives_served, IsFirst, asked_first, without_first}
 
 -- an event that is no Issue spoils, or is silent
@@ -257,7 +257,7 @@ pub submitted_keeps : (loud loud' told : Bool) (p q : Plain) (v : Books) (x : He
     → loud' ≡ loud → length q.saved ≡ length p.saved → q.requests ≡ p.requests ++ record { number = number; request = request } ∷ []
     → (loud ≡ true → (which : List ℕ) × IsSubmitted which p number request q)
     → Noted (length q.saved) q.saved v.lives lives' v.entries es' → room' ≡ v.room
-    → HeldFits x → x.number ≡ number → x.for_entry ≡ request → length v.entries + length v.held + live_count v.lives + 1 ≤ 65_536
+    → HeldFits x → x.number ≡ number → x.for_entry ≡ request → v.taken + length v.entries + length v.held + live_count v.lives + 1 ≤ 65_536
     → IsAudit loud' told q (record v { entries = es'; lives = lives'; held = v.held ++ x ∷ []; room = room' })
 submitted_keeps loud loud' told p q v x number request lives' es' room' h same count flown submitted noted room fits numbered asked free =
     let one : in_flight x ≡ (let y : InFlight = record { number = number; request = request } in y) = (λ i. record { number = numbered i; request = asked i }) in record {
@@ -293,8 +293,8 @@ declined_spoils request refusal p q (inl same) = ([], spoiled_nothing p q same)
 declined_spoils request refusal p q (inr full) = (full.0 ∷ [], full.5)
 
 -- a new audit
-abbrev pub new_books : Saves → List Bool → List ℕ → List ℕ → ℕ → Books
-new_books base lives counts folded room = record { base = base; entries = []; held = []; lives = lives; counts = counts; folded = folded; room = room }
+abbrev pub new_books : Saves → ℕ → List Bool → List ℕ → List ℕ → ℕ → Books
+new_books base taken lives counts folded room = record { base = base; taken = taken; entries = []; held = []; lives = lives; counts = counts; folded = folded; room = room }
 
 zeros : (n s z : ℕ) → z ≡ 0 → get_or (replicate n z) s z ≡ z
 zeros zero s z e = refl
@@ -304,9 +304,9 @@ zeros (suc n) (suc s) z e = zeros n s z e
 pub none_yet : (counts : List ℕ) (s : ℕ) → counts ≡ replicate 9 0 → get_or counts s 0 ≡ 0
 none_yet counts s nought = ap (λ (l : List ℕ). get_or l s 0) nought ∙ zeros 9 s 0 refl
 
-pub new_keeps : (loud told : Bool) (p : Plain) (base : Saves) (lives : List Bool) (counts folded : List ℕ) (room : ℕ) → p.requests ≡ [] → (told ≡ true → loud ≡ true) → (told ≡ true → base ≡ saves_of p) → lives ≡ map is_live p.saved → length lives ≤ 8 → 65_536 ≤ room → counts ≡ replicate 9 0 → folded ≡ replicate 9 0
-    → IsAudit loud told p (new_books base lives counts folded room)
-new_keeps loud told p base lives counts folded room quiet on begins are few enough nought none = record {
+pub new_keeps : (loud told : Bool) (p : Plain) (base : Saves) (taken : ℕ) (lives : List Bool) (counts folded : List ℕ) (room : ℕ) → p.requests ≡ [] → (told ≡ true → loud ≡ true) → (told ≡ true → base ≡ saves_of p) → lives ≡ map is_live p.saved → taken + live_count lives ≤ 65_536 → 65_536 ≤ room → counts ≡ replicate 9 0 → folded ≡ replicate 9 0
+    → IsAudit loud told p (new_books base taken lives counts folded room)
+new_keeps loud told p base taken lives counts folded room quiet on begins are few enough nought none = record {
   counted = record {
     fits = All-nil HeldFits;
     held = sym quiet;
@@ -314,7 +314,7 @@ new_keeps loud told p base lives counts folded room quiet on begins are few enou
     seats = ap length nought;
     folds = ap length none;
     lives = ap length are ∙ length-map p.saved is_live;
-    entries = omega (arith, live_few lives, few);
+    entries = omega (arith, few);
     room = enough;
   };
   loud_is = on;

@@ -24,12 +24,13 @@ shown_in s = record { number = s.number; saved = state_in s.array }
 abbrev pub saves_in : Base → Saves
 saves_in b = record { origin = b.origin; begun = b.begun; saved = map shown_in b.saved.items }
 
--- What callers see of an audit. lives: which snapshots were live when it looked last, in order of attaching. loud: whether no
--- device that its volume had dropped writes. folded: of each seat, from 0 to 8, how many of its request entries checkpoints
--- folded into the base.
+-- What callers see of an audit. taken: how many places of the journal were taken before it began, since the last checkpoint.
+-- lives: which snapshots were live when it looked last, in order of attaching. loud: whether no device that its volume had
+-- dropped writes. folded: of each seat, from 0 to 8, how many of its request entries checkpoints folded into the base.
 pub record AuditShape (B : Type 0) : Type 0 where
   pub volume : Volumed B
   pub base : Saves
+  pub taken : ℕ
   pub entries : List Entry
   pub held : List Seated
   pub lives : List Bool
@@ -42,6 +43,7 @@ count_of seat a = slice_index_or a.folded seat 0 + length (entries_by seat a.ent
 
 pub record Books : Type 0 where
   pub base : Saves
+  pub taken : ℕ
   pub entries : List Entry
   pub held : List Held
   pub lives : List Bool
@@ -67,7 +69,7 @@ pub record Counted (p : Plain) (v : Books) : Type 0 where
   pub seats : length v.counts ≡ 9
   pub folds : length v.folded ≡ 9
   pub lives : length v.lives ≡ length p.saved
-  pub entries : length v.entries + length v.held + live_count v.lives ≤ 65_536
+  pub entries : v.taken + length v.entries + length v.held + live_count v.lives ≤ 65_536
   pub room : 65_536 ≤ v.room
 
 -- the entries, replayed, give the plain machine's arrays and states

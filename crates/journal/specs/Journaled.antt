@@ -18,13 +18,19 @@ use Rattle.journal.specs.Noted.{live_count}
 use Rattle.journal.specs.Replay.{replay}
 use Rattle.journal.specs.Seats.{seated_under, without_seated}
 
--- whether so many entries more may be too many: each request in flight may come to one, and each live snapshot
+-- how many places are taken: before the audit began, by its entries, by each request in flight, which may come to one, and by
+-- each live snapshot, which may too
+abbrev pub places_of : {B : Type 0} → AuditShape B → ℕ
+places_of a = a.taken + length a.entries + length a.held + live_count a.lives
+
+-- whether so many more may be too many
 abbrev pub is_full_by : {B : Type 0} → ℕ → AuditShape B → Bool
-is_full_by more a = nat_lt 65_536 (length a.entries + length a.held + live_count a.lives + more)
+is_full_by more a = nat_lt 65_536 (places_of a + more)
 
 -- nothing changes what the journal began with
 pub record KeepsBase {B : Type 0} (old new : AuditShape B) : Type 0 where
   pub base : new.base ≡ old.base
+  pub taken : new.taken ≡ old.taken
   pub loud : new.loud ≡ old.loud
   pub folded : new.folded ≡ old.folded
 
@@ -96,10 +102,10 @@ abbrev pub IsNotAttached : Bool → Refusal → Type 0 → Type 0 → Type 0
 IsNotAttached full refusal same others =
     ((full ≡ true) × (refusal ≡ JournalFull) × same) ⊎ ((full ≡ false) × (((refusal ≡ NoMemory) × same) ⊎ others))
 
--- A checkpoint: no entry is left, the base is what they made of it where no device ever dropped writes, and each seat's count
--- is the same, all of it folded. Nothing else changes.
+-- A checkpoint: no entry is left, and no place is taken by any that was before; the base is what the entries made of it where
+-- no device ever dropped writes, and each seat's count is the same, all of it folded. Nothing else changes.
 pub record IsCheckpoint {B : Type 0} (old new : AuditShape B) : Type 0 where
-  pub becomes : new ≡ record old { base = new.base; entries = []; folded = new.folded }
+  pub becomes : new ≡ record old { base = new.base; taken = 0; entries = []; folded = new.folded }
   pub base : old.loud ≡ true → new.base ≡ replay old.base old.entries
   pub seats : length new.folded ≡ 9
   pub folded : (seat : ℕ) → seat < 9 → slice_index_or new.folded seat 0 ≡ count_of seat old

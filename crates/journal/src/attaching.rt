@@ -48,6 +48,7 @@ impl<B: Layered> Audit<B> {
         ensures stale { IfErr result (λ e. e.1.stale ≡ store.stale) }
     {
         if is_full(
+            self.taken,
             self.entries.len(),
             self.held.len(),
             self.lives.as_slice(),

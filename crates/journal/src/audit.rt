@@ -1,11 +1,12 @@
 // An audit, and what callers ask of it.
-ghost use Rattle.std.specs.Prelude.{◌≡◌, ◌<◌, [], IfErr, IfOk, length, map, replicate, slice_index_or, true};
+ghost use Rattle.std.specs.Prelude.{◌≡◌, ◌+◌, ◌<◌, ◌≤◌, [], IfErr, IfOk, length, map, replicate, slice_index_or, true};
 ghost use Rattle.sector.specs.declared.refusal.Refusal.TheVariants.{NoMemory};
 ghost use Rattle.pending.specs.Kinds.{in_flight};
 ghost use Rattle.volume.specs.Volumed.{is_loud_in_all, plain_of};
 ghost use Rattle.volume.specs.Causes.{lives_of};
 ghost use Rattle.journal.specs.Books.{count_of};
 ghost use Rattle.journal.specs.Entries.{HasVerdict};
+ghost use Rattle.journal.specs.Noted.{live_count};
 ghost use Rattle.journal.specs.Replay.{AllLawful, replay, saves_of};
 ghost use Rattle.journal.specs.Seats.{flight_in};
 
@@ -30,6 +31,8 @@ pub const SEATS: usize = 9;
 pub struct Audit<B: Layered> {
     pub(crate) volume: Volume<B>,
     pub(crate) base: Base,
+    /// How many places were taken before it began, since the last checkpoint.
+    pub(crate) taken: usize,
     pub(crate) entries: Vec<Entry>,
     pub(crate) held: Vec<Held>,
     /// Which snapshots were live when it looked last, in order of attaching.
@@ -53,9 +56,9 @@ impl<B: Layered> Model for Audit<B> {
     ghost use Rattle.journal.specs.Books.{IsKept, saves_in};
     ghost use Rattle.journal.specs.Seats.{seated};
 
-    ghost view = { λ a. record { volume = a.volume; base = saves_in a.base; entries = a.entries.items; held = map seated a.held.items; lives = a.lives.items; loud = a.loud; folded = a.folded.items } };
+    ghost view = { λ a. record { volume = a.volume; base = saves_in a.base; taken = a.taken; entries = a.entries.items; held = map seated a.held.items; lives = a.lives.items; loud = a.loud; folded = a.folded.items } };
 
-    ghost invariant = { λ a. IsKept a.volume.requests (is_loud_in_all B.layers a.volume) a.loud (plain_of B.contents B.layers a.volume) (record { base = saves_in a.base; entries = a.entries.items; held = a.held.items; lives = a.lives.items; counts = a.counts.items; folded = a.folded.items; room = vec_capacity a.entries }) };
+    ghost invariant = { λ a. IsKept a.volume.requests (is_loud_in_all B.layers a.volume) a.loud (plain_of B.contents B.layers a.volume) (record { base = saves_in a.base; taken = a.taken; entries = a.entries.items; held = a.held.items; lives = a.lives.items; counts = a.counts.items; folded = a.folded.items; room = vec_capacity a.entries }) };
 }
 
 impl<B: Layered> Audit<B> {
@@ -66,6 +69,26 @@ impl<B: Layered> Audit<B> {
         requires quiet { volume.flights ≡ [] }
         ensures ok { IfOk result (λ a. (a.volume ≡ volume) × (a.entries ≡ []) × (a.held ≡ []) × (a.lives ≡ lives_of volume) × (a.loud ≡ is_loud_in_all B.layers volume)) }
         ensures base { IfOk result (λ a. a.loud ≡ true → a.base ≡ saves_of (plain_of B.contents B.layers volume)) }
+        ensures taken { IfOk result (λ a. a.taken ≡ 0) }
+        ensures folded { IfOk result (λ a. a.folded ≡ replicate 9 0) }
+        ensures err { IfErr result (λ e. e ≡ record { 0 = NoMemory; 1 = volume }) }
+    {
+        // A look: it has eight snapshots at most.
+        let _ = volume.len();
+        Audit::going_on(alloc, volume, 0)
+    }
+
+    /// As `new`, where so many places of the journal are taken already. With the live snapshots they are 65,536 at most.
+    pub fn going_on(
+        alloc: Global,
+        volume: Volume<B>,
+        taken: usize,
+    ) -> Result<Audit<B>, (Refusal, Volume<B>)>
+        requires quiet { volume.flights ≡ [] }
+        requires room { taken + live_count (lives_of volume) ≤ 65_536 }
+        ensures ok { IfOk result (λ a. (a.volume ≡ volume) × (a.entries ≡ []) × (a.held ≡ []) × (a.lives ≡ lives_of volume) × (a.loud ≡ is_loud_in_all B.layers volume)) }
+        ensures base { IfOk result (λ a. a.loud ≡ true → a.base ≡ saves_of (plain_of B.contents B.layers volume)) }
+        ensures taken { IfOk result (λ a. a.taken ≡ taken) }
         ensures folded { IfOk result (λ a. a.folded ≡ replicate 9 0) }
         ensures err { IfErr result (λ e. e ≡ record { 0 = NoMemory; 1 = volume }) }
     {
@@ -88,6 +111,7 @@ impl<B: Layered> Audit<B> {
         Ok(Audit {
             volume,
             base,
+            taken,
             entries,
             held: Vec::new(alloc),
             lives,

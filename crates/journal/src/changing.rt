@@ -76,6 +76,7 @@ impl<B: Layered> Audit<B> {
         ensures err { IfErr result (λ refusal. IsUnchanged (is_full_by 1 self.old) (finish_refusal self.old.volume) refusal × (self.new ≡ self.old)) }
     {
         if is_full(
+            self.taken,
             self.entries.len(),
             self.held.len(),
             self.lives.as_slice(),

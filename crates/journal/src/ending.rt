@@ -1,13 +1,16 @@
 // An audit ends: its volume or its devices are left, and the journal is dropped.
-ghost use Rattle.std.specs.Prelude.{◌≡◌, IfErr, IfOk, None, Some, true};
+ghost use Rattle.std.specs.Prelude.{◌≡◌, ◌≤◌, IfErr, IfOk, None, Some, true};
+ghost use Rattle.journal.specs.Journaled.{places_of};
 ghost use Rattle.volume.specs.Leaving.{close_refusal};
 ghost use Rattle.volume.specs.Stopped.{devices_of};
 ghost use Rattle.volume.specs.Stopping.{StopsVolume, of_all};
 ghost use Rattle.volume.specs.Volumed.{is_loud_in_all};
 
 use crate::Audit;
+use crate::holding::count_places;
 use layers::Layered;
 use sector::Refusal;
+use std::alloc::Global;
 use volume::{Stopped, Volume};
 
 impl<B: Layered> Audit<B> {
@@ -18,6 +21,7 @@ impl<B: Layered> Audit<B> {
         let Audit {
             volume,
             base: _,
+            taken: _,
             entries: _,
             held: _,
             lives: _,
@@ -27,6 +31,18 @@ impl<B: Layered> Audit<B> {
             alloc: _,
         } = self;
         volume
+    }
+
+    /// The volume, whatever is in flight, how many places of the journal are taken, and the allocator. The journal is dropped.
+    pub fn into_counted(self) -> (Volume<B>, usize, Global)
+        ensures volume { result.0 ≡ self.volume }
+        ensures places { result.1 ≡ places_of self }
+        ensures few { result.1 ≤ 65_536 }
+    {
+        let lives = self.lives.as_slice();
+        let places = count_places(self.taken, self.entries.len(), self.held.len(), lives);
+        let alloc = self.alloc;
+        (self.into_volume(), places, alloc)
     }
 
     /// Ends the volume without a further event, whatever is in flight, as a machine does that stops: what is left are its
@@ -49,6 +65,7 @@ impl<B: Layered + Drop> Audit<B> {
         let Audit {
             volume,
             base,
+            taken,
             entries,
             held,
             lives,
@@ -64,6 +81,7 @@ impl<B: Layered + Drop> Audit<B> {
                 Audit {
                     volume,
                     base,
+                    taken,
                     entries,
                     held,
                     lives,

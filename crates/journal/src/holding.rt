@@ -24,13 +24,27 @@ fn count_live(lives: &[bool]) -> usize
     count
 }
 
-/// Whether so many entries more would be too many.
-pub(crate) fn is_full(entries: usize, held: usize, lives: &[bool], more: usize) -> bool
-    requires room { entries + held + live_count lives.now ≤ 65_536 }
-    requires more { more < 3 }
-    ensures { result ≡ nat_lt 65_536 (entries + held + live_count lives.now + more) }
+/// How many places are taken: before the journal began, by its entries, by requests in flight, and by live snapshots.
+pub(crate) fn count_places(taken: usize, entries: usize, held: usize, lives: &[bool]) -> usize
+    requires room { taken + entries + held + live_count lives.now ≤ 65_536 }
+    ensures { result ≡ taken + entries + held + live_count lives.now }
 {
-    entries + held + count_live(lives) + more > MAX_ENTRIES
+    taken + entries + held + count_live(lives)
+}
+
+/// Whether so many places more would be too many.
+pub(crate) fn is_full(
+    taken: usize,
+    entries: usize,
+    held: usize,
+    lives: &[bool],
+    more: usize,
+) -> bool
+    requires room { taken + entries + held + live_count lives.now ≤ 65_536 }
+    requires more { more < 3 }
+    ensures { result ≡ nat_lt 65_536 (taken + entries + held + live_count lives.now + more) }
+{
+    count_places(taken, entries, held, lives) + more > MAX_ENTRIES
 }
 
 /// What stands beside a request, under no number yet.

@@ -46,6 +46,7 @@ impl<B: Layered> Audit<B> {
         ensures err { IfErr result (λ refusal. IsUnchanged (is_full_by 1 self.old) (detach_refusal number self.old.volume) refusal × (self.new ≡ self.old)) }
     {
         if is_full(
+            self.taken,
             self.entries.len(),
             self.held.len(),
             self.lives.as_slice(),
@@ -79,6 +80,7 @@ impl<B: Layered> Audit<B> {
         ensures starved { OnErr result ((replied : Option Reply) → moving_of B.contents B.layers replied self.new.volume ≡ moving_of B.contents B.layers replied self.old.volume) }
     {
         if is_full(
+            self.taken,
             self.entries.len(),
             self.held.len(),
             self.lives.as_slice(),

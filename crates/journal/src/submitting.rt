@@ -41,6 +41,7 @@ impl<B: Layered> Audit<B> {
         ensures spoils { OnErr result (OnlySpoils self.old self.new × (self.new.held ≡ self.old.held)) }
     {
         if is_full(
+            self.taken,
             self.entries.len(),
             self.held.len(),
             self.lives.as_slice(),

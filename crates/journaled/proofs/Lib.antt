@@ -1,3 +1,4 @@
-pub mod Mine
-pub mod MayDo
-pub mod Refused
+pub mod NotFull
+pub mod Flown
+pub mod Fewer
+pub mod Going

@@ -37,7 +37,7 @@ impl<B: Layered> Journaled<B> {
     pub fn origin(&self) -> &B
         ensures { result.now ≡ self.now.origin }
     {
-        self.audit.volume().origin()
+        self.volume.origin()
     }
 
     /// How many snapshots there are: eight at most.
@@ -45,7 +45,7 @@ impl<B: Layered> Journaled<B> {
         ensures len { result ≡ length self.now.snaps }
         ensures few { result ≤ 8 }
     {
-        self.audit.volume().len()
+        self.volume.len()
     }
 
     /// The sectors of a piece. A request lies inside one piece.
@@ -54,7 +54,7 @@ impl<B: Layered> Journaled<B> {
         ensures same { All (λ s. s.state.chunk ≡ result) self.now.snaps }
         ensures allowed { is_chunk result ≡ true }
     {
-        self.audit.volume().piece()
+        self.volume.piece()
     }
 
     /// The event that is due first.
@@ -65,7 +65,7 @@ impl<B: Layered> Journaled<B> {
         ensures seen { IfSome result (λ event. is_of_merge event ≡ true → (m : Merging B) → self.now.merge ≡ Some m → has_group_of m.group ≡ has_group (merging_books B.contents true m)) }
         ensures quiet { IfNone result (IsQuiet (books_of B.contents B.layers B.size self.now) × IsMergeStill self.now.merge) }
     {
-        self.audit.volume().due()
+        self.volume.due()
     }
 
     /// The number of the snapshot that is being merged, if one is. It is none of the others.
@@ -74,14 +74,14 @@ impl<B: Layered> Journaled<B> {
         ensures apart { IfSome result (λ number. place_of_snap number self.now.snaps ≡ None) }
         ensures fine { (m : Merging B) → self.now.merge ≡ Some m → (is_chunk m.state.chunk ≡ true) × (m.state.origin ≡ B.size self.now.origin) }
     {
-        self.audit.volume().merging()
+        self.volume.merging()
     }
 
     /// Whether a merge is begun that stopped at a fault, and was not resumed.
     pub fn is_merge_failed(&self) -> bool
         ensures { result ≡ has_failed self.now.merge }
     {
-        self.audit.volume().is_merge_failed()
+        self.volume.is_merge_failed()
     }
 
     /// Whether no request is in flight, no group of a merge is formed, no copy is pending, and no invalid mark is untried.
@@ -93,7 +93,7 @@ impl<B: Layered> Journaled<B> {
         ensures few { length self.now.snaps ≤ 8 }
         ensures numbers { AllPairs (λ m n. m < n) (map number_of_snap self.now.snaps) }
     {
-        self.audit.volume().is_quiet()
+        self.volume.is_quiet()
     }
 
     /// How many requests are in flight: 64 at most.
@@ -101,14 +101,14 @@ impl<B: Layered> Journaled<B> {
         ensures len { result ≡ length self.now.flights }
         ensures few { result ≤ 64 }
     {
-        self.audit.volume().flying()
+        self.volume.flying()
     }
 
     /// The number of the request that was accepted last.
     pub fn last_request(&self) -> ReqId
         ensures { result ≡ self.now.requests }
     {
-        self.audit.volume().last_request()
+        self.volume.last_request()
     }
 
     /// The snapshot at a place, counted from 0 in order of attaching. It is not the one that is being merged.
@@ -120,7 +120,7 @@ impl<B: Layered> Journaled<B> {
         ensures other { is_merging result.now.number self.now.merge ≡ false }
         ensures sized { result.now.live ≡ true → result.now.state.size ≡ B.size result.now.device }
     {
-        self.audit.volume().snap(k)
+        self.volume.snap(k)
     }
 
     /// The device of a snapshot's store, also of the one that is being merged.
@@ -128,7 +128,7 @@ impl<B: Layered> Journaled<B> {
         ensures ok { IfOk result (λ device. HoldsOf (λ m. device.now ≡ m.device) (λ s. device.now ≡ s.device) number self.now) }
         ensures err { IfErr result (λ refusal. (refusal ≡ NoSuchDevice) × HasNone number self.now) }
     {
-        self.audit.volume().store(number)
+        self.volume.store(number)
     }
 
     /// The sectors in use on a snapshot's store, also of the one that is being merged; none of a snapshot that is spoiled.
@@ -136,6 +136,6 @@ impl<B: Layered> Journaled<B> {
         ensures ok { IfOk result (λ usage. HoldsOf (λ m. usage ≡ Some (merging_usage m)) (λ s. usage ≡ usage_of s) number self.now) }
         ensures err { IfErr result (λ refusal. (refusal ≡ NoSuchDevice) × HasNone number self.now) }
     {
-        self.audit.volume().usage(number)
+        self.volume.usage(number)
     }
 }

@@ -1,5 +1,5 @@
 // What changes a volume between requests.
-ghost use Rattle.std.specs.Prelude.{◌≡◌, ◌≢◌, ◌⊎◌, ◌&&◌, ◌+◌, IfErr, IfOk, MatchResult, None, OnErr, OnOk, Option, Some, false, true};
+ghost use Rattle.std.specs.Prelude.{◌≡◌, ◌≢◌, ◌⊎◌, ◌&&◌, ◌+◌, [], ◌∷◌, IfErr, IfOk, MatchResult, None, OnErr, OnOk, Option, Some, false, true};
 ghost use Rattle.sector.specs.declared.refusal.Refusal.TheVariants.{JournalFull, NotMerging};
 ghost use Rattle.device.specs.Layers.{is_loud};
 ghost use Rattle.layers.specs.Ticks.{layers_ticked};
@@ -8,6 +8,7 @@ ghost use Rattle.store.specs.Reading.{AreRead};
 ghost use Rattle.settled.specs.Attaching.{attached as attached_by, refused_attach};
 ghost use Rattle.served.specs.Refusals.{is_starved};
 ghost use Rattle.event_machine.specs.Merging.{begun, finished, resumed};
+ghost use Rattle.snapshot.specs.Opening.{shown_array};
 ghost use Rattle.volume.specs.Attached.{IsAttachedAs, IsGained, store_of, volume_in};
 ghost use Rattle.volume.specs.Beginning.{IsMergeBegun, IsNotBegun, IsResumed, begin_refusal};
 ghost use Rattle.volume.specs.Finishing.{IsTakenOut, finish_refusal};
@@ -17,17 +18,21 @@ ghost use Rattle.volume.specs.Moved.{moving_of};
 ghost use Rattle.volume.specs.Taking.{IsNotTaken, attach_refusal};
 ghost use Rattle.volume.specs.Telling.{IsNotTold, IsTold, dev_relayered, layers_told};
 ghost use Rattle.volume.specs.Volumed.{books_of, is_loud_in_all, plain_of};
+ghost use Rattle.journal.specs.declared.entry.Entry.TheVariants.{Attached, Begun, Detached, Finished};
+ghost use Rattle.journaled.specs.GoingOn.{GoesOn};
 
 use crate::Journaled;
+use crate::journaled::count_live;
+use journal::MAX_ENTRIES;
 use layers::{Answer, Layered, Message};
 use plain::{Dev, SnapId};
 use sector::Refusal;
 use snapshot::StoreDev;
 
 impl<B: Layered> Journaled<B> {
-    /// Takes a snapshot over a store, by a table line with this chunk size, and tells its number. Refused first of all: the
-    /// journal is full (`JournalFull`), or memory for its entry is refused (`NoMemory`), and the store is given back as it was;
-    /// then as the volume refuses it.
+    /// Takes a snapshot over a store, by a table line with this chunk size, and tells its number. It takes two places of the
+    /// journal: one for its entry, and one that is kept free while it is live. Refused first of all where the journal is full
+    /// (`JournalFull`), and the store is given back as it was; then as the volume refuses it.
     pub fn attach(
         &mut self,
         store: StoreDev<B>,
@@ -43,10 +48,20 @@ impl<B: Layered> Journaled<B> {
         ensures starved { IfErr result (λ e. is_starved e.0 ≡ true → (B.contents e.1.device ≡ B.contents store.device) × AreRead (B.layers store.device) (B.layers e.1.device)) }
         ensures size { IfErr result (λ e. B.size e.1.device ≡ B.size store.device) }
         ensures loud { MatchResult result (λ _. is_loud_in_all B.layers self.new ≡ (is_loud_in_all B.layers self.old && is_loud (B.layers store.device))) (λ e. is_loud (B.layers e.1.device) ≡ is_loud (B.layers store.device)) }
+        ensures goes_on { IfOk result (λ number. is_loud_in_all B.layers self.old ≡ true → is_loud (B.layers store.device) ≡ true → GoesOn (plain_of B.contents B.layers self.old) (Attached number (shown_array (B.contents self.old.origin) (B.contents store.device)) ∷ []) (plain_of B.contents B.layers self.new)) }
         ensures same { OnErr result (self.new ≡ self.old) }
         ensures stale { IfErr result (λ e. e.1.stale ≡ store.stale) }
     {
-        self.audit.attach(store, chunk)
+        if self.places + 2 > MAX_ENTRIES {
+            return Err((Refusal::JournalFull, store));
+        }
+        match self.volume.attach(self.alloc, store, chunk) {
+            Ok(number) => {
+                self.places += 2;
+                Ok(number)
+            }
+            Err(refused) => Err(refused),
+        }
     }
 
     /// Takes a snapshot away, and gives the device of its store back. Refused first of all where the journal is full
@@ -55,9 +70,21 @@ impl<B: Layered> Journaled<B> {
         ensures ok { IfOk result (λ store. detach_refusal number self.old ≡ None) }
         ensures taken { IfOk result (λ store. IsWithout number self.old self.new store) }
         ensures loud { IfOk result (λ store. is_loud_in_all B.layers self.old ≡ (is_loud_in_all B.layers self.new && is_loud (B.layers store.device))) }
+        ensures goes_on { OnOk result (is_loud_in_all B.layers self.old ≡ true → GoesOn (plain_of B.contents B.layers self.old) (Detached number ∷ []) (plain_of B.contents B.layers self.new)) }
         ensures err { IfErr result (λ refusal. ((detach_refusal number self.old ≡ Some refusal) ⊎ (refusal ≡ JournalFull)) × (self.new ≡ self.old)) }
     {
-        self.audit.detach(number)
+        if self.places + 1 > MAX_ENTRIES {
+            return Err(Refusal::JournalFull);
+        }
+        let live = count_live(&self.volume);
+        match self.volume.detach(number) {
+            Ok(store) => {
+                // Its entry has the place that was kept free, if it was live.
+                self.places = self.places + 1 - (live - count_live(&self.volume));
+                Ok(store)
+            }
+            Err(refusal) => Err(refusal),
+        }
     }
 
     /// Begins to merge a live snapshot. Refused first of all where the journal is full (`JournalFull`), and nothing changed;
@@ -67,10 +94,15 @@ impl<B: Layered> Journaled<B> {
         ensures begun { OnOk result (IsMergeBegun number self.old self.new) }
         ensures exact { OnOk result ((replied : Option Reply) → begun number (moving_of B.contents B.layers replied self.old) ≡ moving_of B.contents B.layers replied self.new) }
         ensures loud { is_loud_in_all B.layers self.new ≡ is_loud_in_all B.layers self.old }
+        ensures goes_on { OnOk result (is_loud_in_all B.layers self.old ≡ true → GoesOn (plain_of B.contents B.layers self.old) (Begun number ∷ []) (plain_of B.contents B.layers self.new)) }
         ensures refused { IfErr result (λ refusal. ((refusal ≡ JournalFull) × (self.new ≡ self.old)) ⊎ IsNotBegun number refusal self.old self.new) }
         ensures starved { OnErr result ((replied : Option Reply) → moving_of B.contents B.layers replied self.new ≡ moving_of B.contents B.layers replied self.old) }
     {
-        self.audit.begin_merge(number)
+        if self.places + 1 > MAX_ENTRIES {
+            return Err(Refusal::JournalFull);
+        }
+        // Its entry has the place that was kept free, for it was live.
+        self.volume.begin_merge(self.alloc, number)
     }
 
     /// Lets a merge that failed go on. `NotMerging` where none is begun.
@@ -80,7 +112,7 @@ impl<B: Layered> Journaled<B> {
         ensures loud { is_loud_in_all B.layers self.new ≡ is_loud_in_all B.layers self.old }
         ensures err { IfErr result (λ refusal. (refusal ≡ NotMerging) × (self.old.merge ≡ None) × (self.new ≡ self.old)) }
     {
-        self.audit.resume_merge()
+        self.volume.resume_merge()
     }
 
     /// Takes a merge out that came to its end, and gives the device of its store back. Refused first of all where the journal is
@@ -90,9 +122,19 @@ impl<B: Layered> Journaled<B> {
         ensures taken { IfOk result (λ store. IsTakenOut self.old self.new store) }
         ensures exact { IfOk result (λ store. (replied : Option Reply) → finished (moving_of B.contents B.layers replied self.old) ≡ moving_of B.contents B.layers replied self.new) }
         ensures loud { IfOk result (λ store. is_loud_in_all B.layers self.old ≡ (is_loud_in_all B.layers self.new && is_loud (B.layers store.device))) }
+        ensures goes_on { OnOk result (is_loud_in_all B.layers self.old ≡ true → GoesOn (plain_of B.contents B.layers self.old) (Finished ∷ []) (plain_of B.contents B.layers self.new)) }
         ensures err { IfErr result (λ refusal. ((finish_refusal self.old ≡ Some refusal) ⊎ (refusal ≡ JournalFull)) × (self.new ≡ self.old)) }
     {
-        self.audit.finish_merge()
+        if self.places + 1 > MAX_ENTRIES {
+            return Err(Refusal::JournalFull);
+        }
+        match self.volume.finish_merge() {
+            Ok(store) => {
+                self.places += 1;
+                Ok(store)
+            }
+            Err(refusal) => Err(refusal),
+        }
     }
 
     /// Lets so many seconds pass for the layers of every device.
@@ -101,7 +143,7 @@ impl<B: Layered> Journaled<B> {
         ensures moving { (replied : Option Reply) → moving_of B.contents B.layers replied self.new ≡ moving_relayered (layers_ticked seconds) (moving_of B.contents B.layers replied self.old) }
         ensures loud { is_loud_in_all B.layers self.new ≡ is_loud_in_all B.layers self.old }
     {
-        self.audit.tick(seconds)
+        self.volume.tick(seconds)
     }
 
     /// Tells a layer of one of the devices a message.
@@ -114,6 +156,6 @@ impl<B: Layered> Journaled<B> {
         ensures plain { plain_of B.contents B.layers self.new ≡ plain_of B.contents B.layers self.old }
         ensures loud { is_loud_in_all B.layers self.new ≡ is_loud_in_all B.layers self.old }
     {
-        self.audit.message(dev, depth, message)
+        self.volume.message(dev, depth, message)
     }
 }

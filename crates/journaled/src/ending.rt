@@ -16,7 +16,7 @@ impl<B: Layered> Journaled<B> {
         ensures devices { result ≡ devices_of self }
         ensures stops { is_loud_in_all B.layers self ≡ true → StopsVolume B.contents B.size of_all None self self }
     {
-        self.into_audit().stop()
+        self.volume.stop()
     }
 }
 
@@ -27,10 +27,21 @@ impl<B: Layered + Drop> Journaled<B> {
         ensures ok { IfOk result (λ origin. (origin ≡ self.origin) × (close_refusal self ≡ None)) }
         ensures err { IfErr result (λ e. (close_refusal self ≡ Some e.0) × (e.1 ≡ self)) }
     {
-        let Journaled { audit } = self;
-        match audit.close() {
+        let Journaled {
+            volume,
+            places,
+            alloc,
+        } = self;
+        match volume.close() {
             Ok(origin) => Ok(origin),
-            Err((refusal, audit)) => Err((refusal, Journaled { audit })),
+            Err((refusal, volume)) => Err((
+                refusal,
+                Journaled {
+                    volume,
+                    places,
+                    alloc,
+                },
+            )),
         }
     }
 }

@@ -1,4 +1,4 @@
-// Requests and events, all of the first seat.
+// Requests and events.
 ghost use Rattle.std.specs.Prelude.{◌≡◌, ◌≢◌, ◌⊎◌, ◌*◌, ◌+◌, ◌<◌, ◌≤◌, IfErr, IfOk, IsOk, List, None, OnErr, OnOk, Option, Some, is_ok, length, map, true, ℕ};
 ghost use Rattle.sector.specs.declared.refusal.Refusal.TheVariants.{Invalid};
 ghost use Rattle.plain.specs.declared.request.Failure.TheVariants.{Invalid as IsInvalid};
@@ -18,16 +18,19 @@ ghost use Rattle.volume.specs.Stepping.{KeepsAll, KeepsDevices, failed_by, has_f
 ghost use Rattle.volume.specs.Stored.{RemovesPairs, is_finished_on};
 ghost use Rattle.volume.specs.Submitting.{IsAcceptedAs, IsRefusedAs, submit_refusal};
 ghost use Rattle.volume.specs.Volumed.{is_due_of, is_loud_in_all, left_in_all, next_of, plain_of};
+ghost use Rattle.journal.specs.declared.entry.Entry.{Entry};
+ghost use Rattle.journal.specs.declared.entry.Entry.TheVariants.{Spoiled};
+ghost use Rattle.journaled.specs.GoingOn.{ComesTo, GoesOn};
 
 use crate::Journaled;
-use crate::journaled::SEAT;
+use journal::MAX_ENTRIES;
 use layers::Layered;
 use plain::{Event, NotDue, Outcome, ReqId, Request};
 use sector::Refusal;
 
 impl<B: Layered> Journaled<B> {
-    /// Accepts a request, and tells its number. Refused first of all: the journal is full (`JournalFull`), or memory for its
-    /// entry is refused (`NoMemory`), and nothing changed; then as the volume refuses it.
+    /// Accepts a request, and tells its number: it takes a place of the journal, which its reply's entry has then. Refused first of
+    /// all where the journal is full (`JournalFull`), and nothing changed; then as the volume refuses it.
     pub fn submit(&mut self, request: Request) -> Result<ReqId, Refusal>
         requires bytes { (bytes : List ℕ) → request.op ≡ Write bytes → length bytes ≡ 512 * request.range.count }
         ensures ok { IfOk result (λ number. IsAcceptedAs B.contents B.layers request number self.old self.new) }
@@ -39,11 +42,22 @@ impl<B: Layered> Journaled<B> {
         ensures declined { IfErr result (λ refusal. refusal ≡ Invalid → (number : ℕ) (replied : Option Reply) → submitted number request (moving_of B.contents B.layers replied self.old) ≡ moving_of B.contents B.layers (Some (Refused IsInvalid)) self.new) }
         ensures starved { IfErr result (λ refusal. refusal ≢ Invalid → (replied : Option Reply) → moving_of B.contents B.layers replied self.new ≡ moving_of B.contents B.layers replied self.old) }
         ensures loud { is_loud_in_all B.layers self.new ≡ is_loud_in_all B.layers self.old }
+        ensures goes_on { is_loud_in_all B.layers self.old ≡ true → (which : List ℕ) × GoesOn (plain_of B.contents B.layers self.old) (map Spoiled which) (plain_of B.contents B.layers self.new) }
     {
-        self.audit.submit(SEAT, request)
+        if self.places + 1 > MAX_ENTRIES {
+            return Err(Refusal::JournalFull);
+        }
+        match self.volume.submit(self.alloc, request) {
+            Ok(number) => {
+                self.places += 1;
+                Ok(number)
+            }
+            Err(refusal) => Err(refusal),
+        }
     }
 
-    /// Does one event, where it is due. Where it is not, nothing changes.
+    /// Does one event, where it is due. Where it is not, nothing changes. It takes no place of the journal: a reply's entry has
+    /// that of its request, and a spoiled snapshot's entry that of the snapshot.
     pub fn step(&mut self, event: Event) -> Result<Outcome, NotDue>
         ensures legal { IfOk result (λ outcome. is_loud_in_all B.layers self.old ≡ true → IsLegalStep (plain_of B.contents B.layers self.old) event outcome (plain_of B.contents B.layers self.new)) }
         ensures exact { IfOk result (λ outcome. IsExact B.contents B.layers event outcome self.old self.new) }
@@ -59,12 +73,11 @@ impl<B: Layered> Journaled<B> {
         ensures counts { OnOk result ((self.new.requests ≡ self.old.requests) × (self.new.copies ≤ self.old.copies + starts_by event) × (self.old.copies ≤ self.new.copies)) }
         ensures removes { IfOk result (λ outcome. RemovesPairs B.contents B.layers event outcome self.old self.new) }
         ensures finished { OnOk result (is_loud_in_all B.layers self.new ≡ true → is_finished_in self.new.merge ≡ is_finished_on B.contents self.new.merge) }
+        ensures goes_on { IfOk result (λ outcome. is_loud_in_all B.layers self.old ≡ true → (entries : List Entry) × ComesTo (plain_of B.contents B.layers self.old) outcome entries × GoesOn (plain_of B.contents B.layers self.old) entries (plain_of B.contents B.layers self.new)) }
         ensures same { OnErr result (self.new ≡ self.old) }
     {
-        // What is known of the requests from here on.
-        self.audit.look_at_requests();
-        match self.audit.apply(SEAT, event) {
-            Ok((outcome, _)) => Ok(outcome),
+        match self.volume.step(event) {
+            Ok(outcome) => Ok(outcome),
             Err(NotDue) => Err(NotDue),
         }
     }

@@ -1,7 +1,9 @@
-// A volume with its journal.
-ghost use Rattle.std.specs.Prelude.{◌≡◌, [], IfErr, IfOk, None};
-ghost use Rattle.std.specs.List.{All};
+// A volume, and how many places of its journal are taken.
+ghost use Rattle.std.specs.Prelude.{◌≡◌, ◌≤◌, [], IfErr, IfOk, None};
 ghost use Rattle.sector.specs.declared.refusal.Refusal.TheVariants.{NoMemory};
+ghost use Rattle.volume.specs.Causes.{lives_of};
+ghost use Rattle.volume.specs.Volumed.{is_loud_in_all};
+ghost use Rattle.journal.specs.Noted.{live_count};
 
 use journal::Audit;
 use layers::Layered;
@@ -10,72 +12,109 @@ use std::alloc::Global;
 use std::marker::Model;
 use volume::Volume;
 
-/// The seat that submits all requests.
-pub(crate) const SEAT: u8 = 1;
-
-/// A volume and its journal, in which each request in flight is of seat 1. Contracts see the volume.
+/// A volume, and how many places of its journal are taken since the last checkpoint: one by each entry that would stand in it,
+/// by each request in flight, and by each live snapshot. An event turns places into entries, and takes none. Contracts see the
+/// volume.
 #[derive(Drop)]
 pub struct Journaled<B: Layered> {
-    pub(crate) audit: Audit<B>,
+    pub(crate) volume: Volume<B>,
+    pub(crate) places: usize,
+    pub(crate) alloc: Global,
 }
 
 impl<B: Layered> Model for Journaled<B> {
-    ghost use Rattle.std.specs.Prelude.{◌≡◌};
-    ghost use Rattle.std.specs.List.{All};
     ghost use Rattle.volume.specs.Volumed.{Volumed};
 
     ghost Value = { Volumed B };
 
-    ghost view = { λ j. j.audit.volume };
+    ghost use Rattle.journaled.specs.Places.{HasPlaces};
 
-    ghost invariant = { λ j. All (λ s. s.seat ≡ 1) j.audit.held };
+    ghost view = { λ j. j.volume };
+
+    ghost invariant = { λ j. HasPlaces j.volume j.places };
+}
+
+/// How many snapshots of a volume are live.
+pub(crate) fn count_live<B: Layered>(volume: &Volume<B>) -> usize
+    ensures count { result ≡ live_count (lives_of volume.now) }
+    ensures few { result ≤ 8 }
+{
+    let mut count = 0;
+    for k in 0..volume.len() {
+        if volume.snap(k).is_live() {
+            count += 1;
+        }
+    }
+    count
 }
 
 impl<B: Layered + Drop> Journaled<B> {
-    /// A volume over an origin disk, without snapshots and requests, and a new journal of it. Where memory is refused, the disk
-    /// is given back.
+    /// A volume over an origin disk, without snapshots and requests, and no place of its journal is taken. Where memory is
+    /// refused, the disk is given back.
     pub fn new(alloc: Global, origin: B) -> Result<Journaled<B>, (Refusal, B)>
         ensures ok { IfOk result (λ v. v ≡ record { origin = origin; snaps = []; merge = None; flights = []; requests = 0; copies = 0; attached = 0 }) }
         ensures err { IfErr result (λ e. e ≡ record { 0 = NoMemory; 1 = origin }) }
     {
         let volume = Volume::new(alloc, origin)?;
-        match Audit::new(alloc, volume) {
-            Ok(audit) => Ok(Journaled { audit }),
-            Err((refusal, volume)) => match volume.close() {
-                Ok(origin) => Err((refusal, origin)),
-                Err(_) => unreachable!(),
-            },
-        }
+        Ok(Journaled {
+            volume,
+            places: 0,
+            alloc,
+        })
     }
 }
 
 impl<B: Layered> Journaled<B> {
-    /// The volume of an audit with no request in flight, and its journal goes on.
+    /// The volume of an audit with no request in flight. The places that are taken of its journal stay so.
     pub fn of_audit(audit: Audit<B>) -> Journaled<B>
         requires none { audit.held ≡ [] }
         ensures { result ≡ audit.volume }
     {
-        Journaled { audit }
-    }
-
-    /// The audit, with all that is in flight, which the first seat submitted.
-    pub fn into_audit(self) -> Audit<B>
-        ensures volume { result.volume ≡ self }
-        ensures mine { All (λ s. s.seat ≡ 1) result.held }
-        ensures idle { self.flights ≡ [] → result.held ≡ [] }
-    {
-        let Journaled { audit } = self;
-        // What is known of the requests from here on.
+        // A look: then none is in flight in the volume.
         audit.look_at_requests();
-        audit
+        let (volume, places, alloc) = audit.into_counted();
+        // Each live snapshot has its place, whatever the audit saw of it last.
+        let live = count_live(&volume);
+        Journaled {
+            volume,
+            places: places.max(live),
+            alloc,
+        }
     }
 
-    /// Folds the journal's entries into its base arrays, so that it takes as many again. `NoMemory` where the room for the
-    /// snapshots that were taken is refused. Callers see no change.
-    pub fn checkpoint(&mut self) -> Result<(), Refusal>
-        ensures same { self.new ≡ self.old }
-        ensures err { IfErr result (λ refusal. refusal ≡ NoMemory) }
+    /// An audit of the volume, which begins with what it shows now and in which as many places are taken. `NoMemory` where
+    /// memory is refused for that, and the volume is given back.
+    pub fn into_audit(self) -> Result<Audit<B>, (Refusal, Journaled<B>)>
+        requires quiet { self.flights ≡ [] }
+        ensures volume { IfOk result (λ audit. audit.volume ≡ self) }
+        ensures idle { IfOk result (λ audit. audit.held ≡ []) }
+        ensures begins { IfOk result (λ audit. audit.entries ≡ []) }
+        ensures loud { IfOk result (λ audit. audit.loud ≡ is_loud_in_all B.layers self) }
+        ensures err { IfErr result (λ e. (e.0 ≡ NoMemory) × (e.1 ≡ self)) }
     {
-        self.audit.checkpoint()
+        let Journaled {
+            volume,
+            places,
+            alloc,
+        } = self;
+        let live = count_live(&volume);
+        match Audit::going_on(alloc, volume, places - live) {
+            Ok(audit) => Ok(audit),
+            Err((refusal, volume)) => Err((
+                refusal,
+                Journaled {
+                    volume,
+                    places,
+                    alloc,
+                },
+            )),
+        }
+    }
+
+    /// Cuts the journal, so that it takes as many entries again. Callers see no change.
+    pub fn checkpoint(&mut self)
+        ensures { self.new ≡ self.old }
+    {
+        self.places = self.volume.flying() + count_live(&self.volume);
     }
 }

@@ -1,10 +1,12 @@
-//! A volume with a journal below it: the volume's own calls, each done by an audit, with every request and every event for one
-//! seat, the first. Callers see the volume alone.
+//! A volume with a count of the places that it takes in its journal: the volume's own calls, of which those that come to an
+//! entry are refused first of all where no place is left. Neither an entry nor an array is kept. Callers see the volume alone.
 //!
-//! It stands on `journal`, whose audit it keeps, and its contracts are in the words of `volume`. It promises of each call what
-//! the volume's own contract promises, but that one which may come to an entry of the journal may be refused, first of all, where
-//! the journal is full or memory for the entry is refused, and then nothing changed; that the audit's law holds at every moment;
-//! and that a checkpoint changes nothing that callers see.
+//! It stands on `volume`, which it keeps, and on `journal`, whose audits it is made of and makes: an audit goes on from the count,
+//! and gives it back. Its contracts are in the words of `volume`. It promises of each call what the volume's own contract
+//! promises, but that one for which there is no place is refused, and then nothing changed; that there is a place for each
+//! request in flight and for each live snapshot, so that no event is ever refused; which entries each call comes to, and that
+//! whatever journal led to what the volume showed before, with these behind it leads to what it shows then; and that a
+//! checkpoint changes nothing that callers see.
 #![tactic(auto)]
 
 mod asking;

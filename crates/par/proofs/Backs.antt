@@ -68,7 +68,7 @@ fits before p audit old new back kept =
     rests p (rested_of audit.volume) new (still_fits p before audit back.out.parted.all back.left.stays.snaps) kept
 
 -- whether its devices drop writes
-loud_is : (v : Volumed Stack) → is_loud_in stack_layers (rested_of v) ≡ is_loud_in_all stack_layers v
+pub loud_is : (v : Volumed Stack) → is_loud_in stack_layers (rested_of v) ≡ is_loud_in_all stack_layers v
 loud_is v = ap (λ b. is_loud_with stack_layers v.merge (is_loud (stack_layers v.origin) && b)) (list_all-map (λ (s : Attached Stack). is_loud (stack_layers s.store)) attached_of v.snaps)
 
 pub loud : (before : AuditShape Stack) (p : Parts) (audit : AuditShape Stack) (old : Volume) (new : Rested Stack) → IsBack before p audit old → KeepsDevices stack_layers stack_size (rested_of audit.volume) new → p.sound ≡ true → is_loud_in stack_layers new ≡ true

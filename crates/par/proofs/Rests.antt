@@ -21,7 +21,7 @@ use Rattle.par.specs.Taking.{IsRested}
 pub none_rested : (audit : AuditShape Stack) → audit.held ≡ [] → IsRested audit audit
 none_rested audit none = record {
   held = none;
-  base = record { base = refl; loud = refl; folded = refl };
+  base = record { base = refl; taken = refl; loud = refl; folded = refl };
   spoils = record { which = []; entries = sym (append-nil audit.entries) };
   kept = devices_none stack_size stack_layers (rested_of audit.volume);
 }
@@ -42,7 +42,7 @@ more_rested first old new outcome receipt so noted base kept loud =
     let quiet = silent outcome receipt old new so.held noted in
     record {
       held = quiet.held ∙ so.held;
-      base = record { base = base.base ∙ so.base.base; loud = base.loud ∙ so.base.loud; folded = base.folded ∙ so.base.folded };
+      base = record { base = base.base ∙ so.base.base; taken = base.taken ∙ so.base.taken; loud = base.loud ∙ so.base.loud; folded = base.folded ∙ so.base.folded };
       spoils = record {
         which = so.spoils.which ++ quiet.spoils.which;
         entries = quiet.spoils.entries ∙ ap (λ (l : List Entry). l ++ map Spoiled quiet.spoils.which) so.spoils.entries

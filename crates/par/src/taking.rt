@@ -23,14 +23,7 @@ pub enum Slot {
     Out(NamedParts),
 }
 
-/// Whether the journal knows of no device that drops writes, if the names know of none. It does: both are told of each.
-fn agrees(parts: &NamedParts, audit: &Audit<Stack>) -> bool
-    ensures { result ≡ true → parts.now.sound ≡ true → audit.now.loud ≡ true }
-{
-    audit.is_loud() || !parts.is_sound()
-}
-
-/// Takes a quiet volume out, and puts its audit after the others.
+/// Takes a quiet volume out, and puts its audit after the others. Where memory is refused for its audit, it stays.
 fn take_out(volume: NamedVolume, audits: &mut Vec<Audit<Stack>>) -> Slot
     requires quiet { volume.quiet ≡ true }
     requires room { vec_len audits.old < vec_capacity audits.old }
@@ -39,14 +32,14 @@ fn take_out(volume: NamedVolume, audits: &mut Vec<Audit<Stack>>) -> Slot
     ensures room { vec_capacity audits.new ≡ vec_capacity audits.old }
 {
     let (parts, resting) = volume.into_parts();
-    let audit = resting.into_audit();
-    if agrees(&parts, &audit) {
-        // A look: what its entries say.
-        let _ = audit.entries();
-        audits.push_reserved(audit);
-        Slot::Out(parts)
-    } else {
-        Slot::Stays(NamedVolume::of_parts(parts, Resting::of_audit(audit)))
+    match resting.into_audit() {
+        Ok(audit) => {
+            // A look: what its entries say.
+            let _ = audit.entries();
+            audits.push_reserved(audit);
+            Slot::Out(parts)
+        }
+        Err((_, resting)) => Slot::Stays(NamedVolume::of_parts(parts, resting)),
     }
 }
 

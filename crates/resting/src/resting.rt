@@ -37,7 +37,7 @@ impl<B: Layered> Model for Resting<B> {
 }
 
 impl<B: Layered + Drop> Resting<B> {
-    /// A volume over an origin disk, without snapshots, and a new journal of it. Where memory is refused, the disk is given back.
+    /// A volume over an origin disk, without snapshots. Where memory is refused, the disk is given back.
     pub fn new(alloc: Global, origin: B) -> Result<Resting<B>, (Refusal, B)>
         ensures ok { IfOk result (λ v. v ≡ rested_of (record { origin = origin; snaps = []; merge = None; flights = []; requests = 0; copies = 0; attached = 0 })) }
         ensures settled { IfOk result (λ v. is_loud (B.layers origin) ≡ true → IsSettled B.layers v) }

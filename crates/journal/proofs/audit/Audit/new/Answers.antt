@@ -1,28 +1,9 @@
-use Rattle.std.proofs.Common.{◌≡◌, ◌≤◌, ◌∙◌, ap, arith, length, map, refl, rules, sym}
-use Rattle.std.specs.Prelude.{replicate}
+-- Eight snapshots leave room.
+use Rattle.std.proofs.Common.{arith}
 use Rattle.std.proofs.lemmas.List.{length-map}
-use Rattle.volume.specs.Volumed.{plain_of}
-use Rattle.pending.specs.Kinds.{in_flight}
-use Rattle.journal.specs.Seats.{seated}
-use Rattle.journal.proofs.Beginning.{lives_shown}
-use Rattle.journal.proofs.Bounds.{new_bounds}
-use Rattle.journal.proofs.Keeping.{new_keeps, none_yet}
+use Rattle.volume.specs.Causes.{lives_of}
+use Rattle.journal.proofs.Lost.{live_few}
 use Rattle.journal.proofs.audit.Audit.new.Goals as goal
 
-pub invariant_of-result : goal.invariant_of-result
-invariant_of-result g c =
-    let w = c.args.volume in
-    let loud = c.is_loud_now-loud.ensures in
-    let quiet = ap (map in_flight) c.requires.quiet in
-    let nought : c.in-Ok-vec.counts.items ≡ replicate 9 0 = search rules in
-    let none : c.in-Ok-vec-2.folded.items ≡ replicate 9 0 = search rules in
-    let few : length c.in-Ok-lives_in.lives.items ≤ 8 = omega (arith, c.in-Ok-lives_in.ensures.few, ap length c.in-Ok-lives_in.ensures.lives, length-map w.snaps (λ s. s.live)) in
-    rw (c.new.ensures.items, c.in-Ok-with_capacity.ensures.items)
-    (record {
-      audit = new_keeps _ c.is_loud_now-loud.result (plain_of g.B.Block.contents g.B.Block.layers w) _ c.in-Ok-lives_in.lives.items c.in-Ok-vec.counts.items c.in-Ok-vec-2.folded.items _ quiet (λ on. sym loud ∙ on) (λ on. c.in-Ok.ensures (sym loud ∙ on))
-          (c.in-Ok-lives_in.ensures.lives ∙ lives_shown g.B.Block.contents (g.B.Block.contents w.origin) w.snaps) few c.in-Ok-with_capacity.ensures.capacity nought none;
-      bounded = new_bounds w.requests c.is_loud_now-loud.result (plain_of g.B.Block.contents g.B.Block.layers w) _ quiet refl refl (λ s lt. none_yet c.in-Ok-vec.counts.items s nought);
-    })
-
-pub returns-clause-ok : goal.returns-clause-ok
-returns-clause-ok g c = (refl, c.in-Ok-with_capacity.ensures.items, ap (map seated) c.new.ensures.items, c.in-Ok-lives_in.ensures.lives, c.is_loud_now-loud.ensures)
+pub going_on-requires-clause-room : goal.going_on-requires-clause-room
+going_on-requires-clause-room g c = omega (arith, live_few (lives_of c.args.volume), length-map c.args.volume.snaps (λ s. s.live), c.len.ensures.len, c.len.ensures.few)

@@ -1,7 +1,25 @@
--- Where there was room, it is refused as the volume refuses it.
-use Rattle.served.proofs.Starved.{other_full, other_memory}
-use Rattle.journaled.proofs.Refused.{err_fed}
+-- Two places more are taken, and its entry is noted.
+use Rattle.std.proofs.Common.{◌∙◌, ap, arith, inr, ⊎_elim}
+use Rattle.served.proofs.Starved.{starved_by}
+use Rattle.snapshot.specs.Opening.{shown_array}
+use Rattle.journaled.proofs.Fewer.{gained_have}
+use Rattle.journaled.proofs.Going.{gained_goes_on}
+use Rattle.journaled.proofs.NotFull.{not_full}
+use Rattle.volume.specs.Volumed.{is_loud_in_all}
 use Rattle.journaled.proofs.journaled.Journaled.attach.Goals as goal
 
-pub returns-clause-back : goal.returns-clause-back
-returns-clause-back g c = rw (← c.self.view_is) (err_fed c.attach.result _ _ (λ e back fed. back (other_full e.0 fed) (other_memory e.0 fed)) c.attach.ensures.back)
+pub returns-in-Ok-clause-exact : goal.returns-in-Ok-clause-exact
+returns-in-Ok-clause-exact g c = λ loud more. rw (← c.self.view_is) (c.in-Ok.ensures.exact (ap (is_loud_in_all g.B.Block.layers) c.self.view_is ∙ loud) more)
+
+pub returns-in-Err-clause-refused : goal.returns-in-Err-clause-refused
+returns-in-Err-clause-refused g c = inr (rw (← c.self.view_is) c.in-Err.ensures.refused)
+
+pub returns-in-Err-clause-starved : goal.returns-in-Err-clause-starved
+returns-in-Err-clause-starved g c = λ is. ⊎_elim c.in-Err.ensures.starved (λ full. absurd (not_full c.args.store.stale c.args.chunk (g.B.Block.size c.self.inside.volume.origin) (g.B.Block.size c.args.store.device) (g.B.Block.contents c.args.store.device) c.self.inside.volume c.in-Err.refused.0 c.in-Err.ensures.refused full)) (starved_by c.in-Err.refused.0 is)
+
+pub returns-in-Ok-clause-goes_on : goal.returns-in-Ok-clause-goes_on
+returns-in-Ok-clause-goes_on g c = λ loud more.
+    rw (← c.self.view_is) (gained_goes_on g.B.Block.contents g.B.Block.layers c.self.inside.volume c.attach.new.self g.B.Block.size c.in-Ok.number c.args.store (shown_array (g.B.Block.contents c.self.inside.volume.origin) (g.B.Block.contents c.args.store.device)) c.in-Ok.ensures.gained (c.in-Ok.ensures.taken (ap (is_loud_in_all g.B.Block.layers) c.self.view_is ∙ loud) more))
+
+pub invariant_of-self : goal.invariant_of-self
+invariant_of-self g c = gained_have c.self.inside.volume c.attach.new.self g.B.Block.layers g.B.Block.size c.in-Ok.number c.args.store c.self.inside.places c.in-Ok.ensures.gained (omega (arith, c.if-self-gt-MAX_ENTRIES.false)) c.self.invariant

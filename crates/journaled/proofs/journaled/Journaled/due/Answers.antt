@@ -1,5 +1,5 @@
--- The event is that of the volume.
+-- Nothing that is seen changed.
 use Rattle.journaled.proofs.journaled.Journaled.due.Goals as goal
 
 pub returns-clause-machine : goal.returns-clause-machine
-returns-clause-machine g c = rw (← c.self.view_is, ← c.volume.ensures) c.due.ensures.machine
+returns-clause-machine g c = rw (← c.self.view_is) c.due.ensures.machine

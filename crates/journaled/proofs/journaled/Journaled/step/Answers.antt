@@ -1,16 +1,18 @@
--- An event that is due is the first seat's, and takes at most one request out.
-use Rattle.std.proofs.Common.{◌∙◌}
-use Rattle.journaled.proofs.Mine.{noted_mine}
-use Rattle.journaled.proofs.MayDo.{due_may, next_may}
+-- An event takes no place, and what it comes to is noted.
+use Rattle.volume.specs.Volumed.{plain_of}
+use Rattle.journaled.proofs.Fewer.{stepped_have}
+use Rattle.journaled.proofs.Going.{stepped_goes_on}
 use Rattle.journaled.proofs.journaled.Journaled.step.Goals as goal
+use Rattle.journaled.proofs.journaled.Journaled.step.Goals.{in-Ok, in-Err}
 
 pub invariant_of-self : goal.invariant_of-self
-invariant_of-self g c = noted_mine 1 c.in-Ok.outcome c.in-Ok.field-0-1 c.self.inside.audit c.apply.new.self c.in-Ok.ensures.noted c.self.invariant
+invariant_of-self g c = elim c.match-step.branch [
+  | in-Ok w ↦ stepped_have c.self.inside.volume c.step.new.self g.B.Block.fault_count c.args.event w.in-Ok.outcome c.self.inside.places w.in-Ok.ensures.flown w.in-Ok.ensures.cause c.self.invariant
+  | in-Err w ↦ rw w.in-Err.ensures.same c.self.invariant
+]
 
-pub returns-clause-due : goal.returns-clause-due
-returns-clause-due g c =
-    rw (← c.self.view_is) (c.in-Err.ensures.due ∙ due_may g.B.Block.contents g.B.Block.layers c.self.inside.audit.held c.self.inside.audit.volume c.self.invariant c.look_at_requests.ensures c.args.event)
-
-pub returns-clause-first : goal.returns-clause-first
-returns-clause-first g c =
-    rw (← c.self.view_is) (λ next. c.in-Err.ensures.first next (next_may g.B.Block.contents g.B.Block.layers c.self.inside.audit.held c.self.inside.audit.volume c.self.invariant c.look_at_requests.ensures c.args.event next))
+pub returns-clause-goes_on : goal.returns-clause-goes_on
+returns-clause-goes_on g c = elim c.match-step.branch [
+  | in-Ok w ↦ rw w.result-is (rw (← c.self.view_is) (λ loud. stepped_goes_on (plain_of g.B.Block.contents g.B.Block.layers c.self.inside.volume) c.args.event w.in-Ok.outcome (plain_of g.B.Block.contents g.B.Block.layers c.step.new.self) (w.in-Ok.ensures.legal loud)))
+  | in-Err w ↦ rw w.result-is tt
+]

@@ -1,5 +1,27 @@
--- Nothing that is seen changed.
+-- A request has one place more, and one that is refused none.
+use Rattle.std.proofs.Common.{arith}
+use Rattle.volume.proofs.Declines.{refused_loud}
+use Rattle.journaled.proofs.Fewer.{accepted_have, refused_have}
+use Rattle.journaled.proofs.Going.{accepted_goes_on, refused_goes_on}
 use Rattle.journaled.proofs.journaled.Journaled.submit.Goals as goal
 
-pub returns-clause-starved : goal.returns-clause-starved
-returns-clause-starved g c = rw (← c.self.view_is) c.submit.ensures.starved
+pub returns-in-Err-clause-starved : goal.returns-in-Err-clause-starved
+returns-in-Err-clause-starved g c = λ other replied. rw (← c.self.view_is) (c.in-Err.ensures.starved other replied)
+
+pub returns-in-Err-clause-loud : goal.returns-in-Err-clause-loud
+returns-in-Err-clause-loud g c =
+    rw (← c.self.view_is) (refused_loud g.B.Block.contents g.B.Block.layers g.B.Block.size c.self.inside.volume c.submit.new.self c.args.request c.in-Err.refusal c.in-Err.ensures.refused)
+
+pub returns-in-Ok-clause-goes_on : goal.returns-in-Ok-clause-goes_on
+returns-in-Ok-clause-goes_on g c =
+    rw (← c.self.view_is) (accepted_goes_on g.B.Block.contents g.B.Block.layers c.self.inside.volume c.submit.new.self c.args.request c.in-Ok.number c.in-Ok.ensures.ok)
+
+pub returns-in-Err-clause-goes_on : goal.returns-in-Err-clause-goes_on
+returns-in-Err-clause-goes_on g c =
+    rw (← c.self.view_is) (refused_goes_on g.B.Block.contents g.B.Block.layers c.self.inside.volume c.submit.new.self g.B.Block.size c.args.request c.in-Err.refusal c.in-Err.ensures.refused)
+
+pub invariant_of-self : goal.invariant_of-self
+invariant_of-self g c = accepted_have c.self.inside.volume c.submit.new.self g.B.Block.contents g.B.Block.layers c.args.request c.in-Ok.number c.self.inside.places c.in-Ok.ensures.ok (omega (arith, c.if-self-gt-MAX_ENTRIES.false)) c.self.invariant
+
+pub invariant_of-self-in-Err : goal.invariant_of-self-in-Err
+invariant_of-self-in-Err g c = refused_have c.self.inside.volume c.submit.new.self g.B.Block.contents g.B.Block.layers g.B.Block.size c.args.request c.in-Err.refusal c.self.inside.places c.in-Err.ensures.refused c.self.invariant

@@ -1,0 +1,25 @@
+-- How a journal of a volume would go on: which entries a call comes to. This project's own.
+use Rattle.std.specs.Prelude.{◌≡◌, ℕ, List, [], ◌∷◌, ◌++◌, Some, map}
+use Rattle.plain.specs.declared.event.Outcome.{Outcome}
+use Rattle.plain.specs.declared.event.Outcome.TheVariants.{Done, Fault, Reply as Replied}
+use Rattle.plain.specs.declared.request.Request.{Request}
+use Rattle.plain.specs.Plain.{Plain, asked_under}
+use Rattle.journal.specs.declared.entry.Entry.{Entry}
+use Rattle.journal.specs.declared.entry.Entry.TheVariants.{Answered, Spoiled}
+use Rattle.journal.specs.Replay.{Saves, AllLawful, replay, saves_of}
+
+-- Whatever lawful entries gave what callers saw of a volume before, from whatever arrays and states: these behind them are
+-- lawful too, and give what callers see then.
+pub record GoesOn (old : Plain) (entries : List Entry) (new : Plain) : Type 0 where
+  pub lawful : (base : Saves) (past : List Entry) → AllLawful base past → replay base past ≡ saves_of old → AllLawful base (past ++ entries)
+  pub gives : (base : Saves) (past : List Entry) → replay base past ≡ saves_of old → replay base (past ++ entries) ≡ saves_of new
+
+-- the entries of snapshots that were spoiled, and no others
+abbrev pub AreSpoils : List Entry → Type 0
+AreSpoils entries = (which : List ℕ) × (entries ≡ map Spoiled which)
+
+-- What an event comes to: the reply to the request that was in flight under its number, for the first seat, or spoils alone.
+abbrev pub ComesTo : Plain → Outcome → List Entry → Type 0
+ComesTo old (Replied number reply) entries = (request : Request) × (asked_under number old.requests ≡ Some request) × (entries ≡ Answered (record { seat = 1; request = request; reply = reply }) ∷ [])
+ComesTo old Done entries = AreSpoils entries
+ComesTo old Fault entries = AreSpoils entries
