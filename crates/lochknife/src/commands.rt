@@ -2,7 +2,7 @@
 
 use crate::answers::{checked, mapped, object, raw, shown};
 use crate::input::Input;
-use crate::looking::{Seen, all_faults, chunk_of, is_good, look, numbers_of};
+use crate::looking::{Seen, all_faults, chunk_of, is_good, look};
 use crate::trouble::{Trouble, Why, held};
 use cow_map::{Failure, Reason, Told, read_slots, sectors_of};
 use image::Image;
@@ -74,23 +74,22 @@ pub fn map<'a>(rt: &'a HostRuntime, cow: &'a str) -> Result<bool, Trouble<'a>> {
     Ok(is_good(&seen.told))
 }
 
-/// Prints the slots of a store up to the first that is empty, whether it is good or not. Of a store whose header has no
-/// chunk size that is allowed it prints what `map` prints: it has no slots.
+/// Prints the slots of a store up to the first that is empty, whether it is good or not, and why it is refused, if it is. Of
+/// a store whose header has no chunk size that is allowed it prints what `map` prints: it has no slots.
 pub fn raw_map<'a>(rt: &'a HostRuntime, cow: &'a str) -> Result<bool, Trouble<'a>> {
     let mut input = Input::open(rt, cow)?;
-    let size = sectors_of(&mut input);
-    let size = of_input(&mut input, size)?;
-    let numbers = numbers_of(&mut input, size);
-    let numbers = of_input(&mut input, numbers)?;
-    let Some(chunk) = chunk_of(numbers) else {
-        return map(rt, cow);
+    let seen = seen_in(rt, &mut input, u64::MAX)?;
+    let text = match chunk_of(seen.numbers) {
+        None => held(cow, mapped(rt.alloc(), &seen))?,
+        Some(chunk) => {
+            let slots = read_slots(rt.alloc(), &mut input, chunk);
+            let (slots, listed) = of_input(&mut input, slots)?;
+            input.is_unchanged()?;
+            held(cow, raw(rt.alloc(), chunk, slots.as_slice(), listed, &seen))?
+        }
     };
-    let slots = read_slots(rt.alloc(), &mut input, chunk);
-    let (slots, listed) = of_input(&mut input, slots)?;
-    input.is_unchanged()?;
-    let text = held(cow, raw(rt.alloc(), chunk, slots.as_slice(), listed))?;
     printed(rt, text.as_slice())?;
-    Ok(true)
+    Ok(is_good(&seen.told))
 }
 
 /// Prints what a store holds for this origin, and all faults of its pairs.

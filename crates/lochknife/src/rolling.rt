@@ -52,7 +52,8 @@ pub fn salvage<'a>(
 ) -> Result<bool, Trouble<'a>> {
     is_free(rt, out)?;
     let mut marked = Cow::Marked(Input::open(rt, cow)?);
-    match seen_in(rt, &mut marked, u64::MAX)?.told {
+    let first = seen_in(rt, &mut marked, u64::MAX)?;
+    match first.told {
         Told::Refused(Reason::Header(Refusal::Invalid)) => {}
         _ => return export(rt, origin, cow, out),
     }
@@ -61,7 +62,8 @@ pub fn salvage<'a>(
     origin.is_apart(&below)?;
     let mut cow = Cow::Unmarked(Unmarked { below });
     let size = size_of(&mut origin)?;
-    let seen = seen_in(rt, &mut cow, size)?;
+    let mut seen = seen_in(rt, &mut cow, size)?;
+    seen.numbers = first.numbers;
     let Told::Written(map) = &seen.told else {
         return put_seen(rt, out, &seen);
     };
