@@ -4,4 +4,3 @@ pub mod Sorts
 pub mod Places
 pub mod Tells
 pub mod SlotFaults
-pub mod Marked

@@ -4,4 +4,3 @@ pub mod Sorted
 pub mod Listed
 pub mod Maps
 pub mod Usage
-pub mod Marks

@@ -56,7 +56,7 @@ fn is_inside(chunk: u32, origin: u64, size: u64, pair: Pair) -> bool
 }
 
 /// Whether a chunk begins before an end, which is a number of sectors.
-pub(crate) fn begins_before(chunk: u32, number: Chunk, end: u64) -> bool
+pub fn begins_before(chunk: u32, number: Chunk, end: u64) -> bool
     ensures { IsTrue result ↔ (chunk * number < end) }
 {
     match number.checked_mul(chunk as u64) {
@@ -66,7 +66,7 @@ pub(crate) fn begins_before(chunk: u32, number: Chunk, end: u64) -> bool
 }
 
 /// Whether a chunk of a store lies wholly inside it, past the header.
-pub(crate) fn lies_within(chunk: u32, size: u64, number: Chunk) -> bool
+pub fn lies_within(chunk: u32, size: u64, number: Chunk) -> bool
     requires { 0 < chunk }
     ensures { MatchBool result ((0 < number) × (chunk * (number + 1) ≤ size)) ((number ≡ 0) ⊎ (size < chunk * (number + 1))) }
 {

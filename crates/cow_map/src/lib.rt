@@ -11,15 +11,14 @@ mod map;
 mod reading;
 mod sorting;
 mod telling;
-mod unmarked;
 
 pub use failure::Failure;
 pub use fault::Fault;
 pub use faulting::faults;
 pub use finding::place_in;
 pub use found::{Reason, Told};
-pub use judging::judge;
+pub use judging::{begins_before, judge, lies_within};
 pub use map::{CowMap, Usage};
-pub use reading::{Listed, MAX_IMAGE, read_pairs};
+pub use reading::{Listed, MAX_IMAGE, read_area, read_pairs};
+pub use sorting::sort_by_old;
 pub use telling::{read_first, read_slots, read_store, sectors_of};
-pub use unmarked::Unmarked;

@@ -22,8 +22,8 @@ pub enum Listed {
     Lacks(u64),
 }
 
-/// Reads the chunk at a place.
-fn read_area<I: Image>(cow: &mut I, area: &mut Area, place: u64) -> io::Result<()>
+/// Reads the chunk at a place as an area.
+pub fn read_area<I: Image>(cow: &mut I, area: &mut Area, place: u64) -> io::Result<()>
     requires near { area.old.chunk * (place + 1) ≤ MAX_IMAGE }
     ensures data { OnOk result ((b : List ℕ) → I.bytes cow.old ≡ Some b → area.new.bytes.items ≡ chunk_at area.old.chunk b place) }
     ensures chunk { area.new.chunk ≡ area.old.chunk }

@@ -50,6 +50,35 @@ pub fn export<O: Image, C: Image, S: Sink>(
     }
 }
 
+/// Writes what a snapshot shows by these pairs, for an origin of so many sectors, from the front to the end.
+pub fn export_pairs<O: Image, C: Image, S: Sink>(
+    alloc: Global,
+    origin: &mut O,
+    cow: &mut C,
+    chunk: u32,
+    pairs: &[Pair],
+    size: u64,
+    sink: &mut S,
+) -> Result<(), Stopped>
+    requires some { 0 < chunk }
+    requires allowed { chunk ≤ 1024 }
+    requires rising { IsRisingBy old_of pairs.now }
+    requires small { size ≤ 68_719_476_736 }
+    ensures all { OnOk result ((o : List ℕ) → (b : List ℕ) → O.bytes origin.old ≡ Some o → C.bytes cow.old ≡ Some b → Appends (S.contents sink.old) (S.contents sink.new) (shown chunk o b pairs.now 0 (512 * size))) }
+    ensures part { OnErr result ((o : List ℕ) → (b : List ℕ) → O.bytes origin.old ≡ Some o → C.bytes cow.old ≡ Some b → (front : List ℕ) × IsFrontOf front (shown chunk o b pairs.now 0 (512 * size)) × Appends (S.contents sink.old) (S.contents sink.new) front) }
+{
+    let bytes = 512 * chunk as usize;
+    let Ok(mut room) = vec![in alloc; 0u8; bytes] else {
+        return Err(Stopped::NoMemory);
+    };
+    let end = 512 * size;
+    let room = room.as_mut_slice();
+    match write_all(origin, cow, chunk, pairs, end, room, sink) {
+        Ok(()) => Ok(()),
+        Err(stopped) => Err(stopped),
+    }
+}
+
 /// The chunk size with which the origin of a fresh store is copied.
 const FRESH_CHUNK: u32 = 128;
 

@@ -6,5 +6,5 @@
 mod exporting;
 mod showing;
 
-pub use exporting::{Stopped, export, export_fresh};
+pub use exporting::{Stopped, export, export_fresh, export_pairs};
 pub use showing::show_chunk;

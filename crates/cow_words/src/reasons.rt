@@ -8,7 +8,7 @@ use sector::Refusal;
 use std::alloc::AllocError;
 
 /// Adds the place of a slot, in a store whose areas have so many slots.
-fn push_slot(text: &mut Vec<u8>, slots: u64, slot: u64) -> Result<(), AllocError>
+pub(crate) fn push_slot(text: &mut Vec<u8>, slots: u64, slot: u64) -> Result<(), AllocError>
     requires { 0 < slots }
     ensures { OnOk result (text.new.items ≡ text.old.items ++ slot_text slots slot) }
 {
@@ -49,7 +49,7 @@ fn push_slot_fault(
 }
 
 /// Adds what is wrong with the pairs, in a store whose areas have so many slots.
-fn push_fault(text: &mut Vec<u8>, slots: u64, fault: Fault) -> Result<(), AllocError>
+pub(crate) fn push_fault(text: &mut Vec<u8>, slots: u64, fault: Fault) -> Result<(), AllocError>
     requires { 0 < slots }
     ensures { OnOk result (text.new.items ≡ text.old.items ++ fault_text slots fault) }
 {

@@ -35,9 +35,18 @@ map_of numbers (Refused reason) = told_text (slots_by numbers) (Refused reason)
 abbrev pub map_text : Seen → List ℕ
 map_text seen = map_of seen.numbers seen.told
 
+-- why a store is refused, if it is
+abbrev pub refusal_of : Option Numbers → Told → List ℕ
+refusal_of numbers Fresh = []
+refusal_of numbers (Refused reason) = told_text (slots_by numbers) (Refused reason)
+refusal_of numbers (Written map) = []
+
+abbrev pub refusal_text : Seen → List ℕ
+refusal_text seen = refusal_of seen.numbers seen.told
+
 -- what `map --raw` prints of slots, where a chunk has so many sectors
-abbrev pub raw_text : ℕ → List Pair → Listed → List ℕ
-raw_text chunk slots listed = slots_text (32 * chunk) 0 slots ++ listed_text listed
+abbrev pub raw_text : ℕ → List Pair → Listed → Seen → List ℕ
+raw_text chunk slots listed seen = slots_text (32 * chunk) 0 slots ++ (listed_text listed ++ refusal_text seen)
 
 -- the line of an area that is not there
 abbrev pub lacks_text : Listed → List ℕ

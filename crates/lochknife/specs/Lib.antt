@@ -1,3 +1,4 @@
 pub mod Seen
 pub mod Answers
 pub mod Arrays
+pub mod Notes

@@ -1,6 +1,6 @@
 // What is printed of what is seen of a store.
 ghost use Rattle.std.specs.Prelude.{◌≡◌, ◌*◌, ◌<◌, ◌≤◌, ◌++◌, IfOk, OnOk};
-ghost use Rattle.lochknife.specs.Answers.{shown_text, object_text, map_text, raw_text, check_text, lacks_text};
+ghost use Rattle.lochknife.specs.Answers.{shown_text, object_text, map_text, raw_text, refusal_text, check_text, lacks_text};
 
 use crate::looking::Seen;
 use cow_map::{Fault, Listed, Told};
@@ -43,15 +43,33 @@ pub fn mapped(alloc: Global, seen: &Seen) -> Result<Vec<u8>, AllocError>
 }
 
 /// What `map --raw` prints of a store's slots, where a chunk has so many sectors.
-pub fn raw(alloc: Global, chunk: u32, slots: &[Pair], listed: Listed) -> Result<Vec<u8>, AllocError>
+pub fn raw(
+    alloc: Global,
+    chunk: u32,
+    slots: &[Pair],
+    listed: Listed,
+    seen: &Seen,
+) -> Result<Vec<u8>, AllocError>
     requires some { 0 < chunk }
     requires allowed { chunk ≤ 1024 }
-    ensures { IfOk result (λ text. text.items ≡ raw_text chunk slots.now listed) }
+    ensures { IfOk result (λ text. text.items ≡ raw_text chunk slots.now listed seen.now) }
 {
     let mut text = Vec::new(alloc);
     push_slots(&mut text, 32 * chunk as u64, slots)?;
     push_listed(&mut text, listed)?;
+    push_refusal(&mut text, seen)?;
     Ok(text)
+}
+
+/// Adds why a store is refused, if it is.
+fn push_refusal(text: &mut Vec<u8>, seen: &Seen) -> Result<(), AllocError>
+    ensures { OnOk result (text.new.items ≡ text.old.items ++ refusal_text seen.now) }
+{
+    match &seen.told {
+        Told::Refused(_) => push_told(text, slots_of(seen.numbers), &seen.told),
+        Told::Fresh => Ok(()),
+        Told::Written(_) => Ok(()),
+    }
 }
 
 /// What `check` prints after what `show` prints, of a store whose pairs are refused: a line for each fault, and one for an

@@ -1,14 +1,15 @@
 // A file is made, and made to last.
 
+use crate::target::OUTPUT;
 use crate::trouble::{Trouble, Why, about, held};
 use image::FileSink;
 use std::fs::File;
 use std::io::ErrorKind;
 use std::{fs, io};
 
-/// Sees that no file has this name.
+/// Sees that no file has this name, or that it stands for standard output.
 pub fn is_free<'a>(rt: &HostRuntime, name: &'a str) -> Result<(), Trouble<'a>> {
-    if about(name, fs::exists(rt, name))? {
+    if name != OUTPUT && about(name, fs::exists(rt, name))? {
         let why = Why::Exists;
         return Err(Trouble { name, why });
     }

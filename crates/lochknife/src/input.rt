@@ -3,7 +3,7 @@ ghost use Rattle.std.specs.Prelude.{None};
 
 use crate::teller::Teller;
 use crate::trouble::{Trouble, Why, about};
-use cow_map::{Failure, Unmarked};
+use cow_map::Failure;
 use image::{FileImage, Image};
 use std::fs::{File, Metadata, TryLockError};
 use std::os::unix::fs::{FileTypeExt, MetadataExt};
@@ -140,41 +140,6 @@ impl Image for Input<'_> {
                 self.failed = Some(at);
                 Err(error)
             }
-        }
-    }
-}
-
-/// A store's image: as it is, or without its invalid mark.
-#[derive(Drop)]
-pub enum Cow<'a> {
-    Marked(Input<'a>),
-    Unmarked(Unmarked<Input<'a>>),
-}
-
-impl<'a> Cow<'a> {
-    /// The input below.
-    pub fn input(&mut self) -> &mut Input<'a> {
-        match self {
-            Cow::Marked(input) => input,
-            Cow::Unmarked(unmarked) => &mut unmarked.below,
-        }
-    }
-}
-
-impl Image for Cow<'_> {
-    ghost bytes = { λ _. None };
-
-    fn len(&mut self) -> io::Result<u64> {
-        match self {
-            Cow::Marked(input) => input.len(),
-            Cow::Unmarked(unmarked) => unmarked.len(),
-        }
-    }
-
-    fn read_at(&mut self, at: u64, out: &mut [u8]) -> io::Result<()> {
-        match self {
-            Cow::Marked(input) => input.read_at(at, out),
-            Cow::Unmarked(unmarked) => unmarked.read_at(at, out),
         }
     }
 }

@@ -7,10 +7,11 @@ ghost use Rattle.lochknife.specs.Seen.{AreNumbersIn, IsSeenOf};
 ghost use Rattle.lochknife.specs.Answers.{is_good as is_good_by};
 
 use cow_map::{
-    Failure, Fault, Listed, Told, faults, read_first, read_slots, read_store, sectors_of,
+    Failure, Fault, Listed, Reason, Told, faults, read_first, read_slots, read_store, sectors_of,
 };
 use cow_words::Numbers;
 use image::Image;
+use sector::Refusal;
 use std::alloc::Global;
 
 /// What is known of a store's image: its sectors, its header's numbers, and what is told of it.
@@ -69,6 +70,19 @@ pub fn chunk_of(numbers: Option<Numbers>) -> Option<u32>
         return None;
     }
     Some(numbers.chunk)
+}
+
+/// The chunk size of a store whose header says it, whatever else is wrong.
+pub fn chunk_listed(seen: &Seen) -> Option<u32>
+    ensures { IfSome result (λ chunk. (0 < chunk) × (chunk ≤ 1024)) }
+{
+    match &seen.told {
+        Told::Written(_) => chunk_of(seen.numbers),
+        Told::Refused(Reason::Header(Refusal::Invalid)) => chunk_of(seen.numbers),
+        Told::Refused(Reason::Pairs(_)) => chunk_of(seen.numbers),
+        Told::Refused(Reason::NoArea(_)) => chunk_of(seen.numbers),
+        _ => None,
+    }
 }
 
 /// All faults of the pairs of a store of so many sectors, for an origin of so many, and how its areas end.

@@ -64,6 +64,13 @@ pub fn held<'a, T: Drop>(name: &'a str, asked: Result<T, AllocError>) -> Result<
     }
 }
 
+impl Trouble<'_> {
+    /// Whether a read failed.
+    pub fn is_unreadable(&self) -> bool {
+        matches!(&self.why, Why::Unreadable(_, _))
+    }
+}
+
 impl Why {
     /// Why an image told nothing, a read of which failed at this byte.
     pub fn of_failure(failure: Failure, at: Option<u64>) -> Why {

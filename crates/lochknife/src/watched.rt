@@ -1,14 +1,15 @@
-// A file that is being made is watched.
+// What is being written is watched.
 ghost use Rattle.std.specs.Prelude.{None};
 
+use crate::target::Target;
 use crate::teller::Teller;
-use image::{FileSink, Sink};
+use image::Sink;
 use std::io;
 
-/// A file that is being made, of which it is told how much is written.
+/// A file that is being made, or standard output, of which it is told how much is written.
 #[derive(Drop)]
 pub struct Watched<'a> {
-    sink: FileSink,
+    sink: Target,
     teller: Teller<'a>,
     /// The bytes of the whole file, and those that are written.
     size: u64,
@@ -17,7 +18,7 @@ pub struct Watched<'a> {
 
 impl<'a> Watched<'a> {
     /// A file of so many bytes, of which none is written.
-    pub fn new(rt: &'a HostRuntime, sink: FileSink, size: u64) -> Watched<'a> {
+    pub fn new(rt: &'a HostRuntime, sink: Target, size: u64) -> Watched<'a> {
         Watched {
             sink,
             teller: Teller::new(rt),
@@ -26,7 +27,7 @@ impl<'a> Watched<'a> {
         }
     }
 
-    /// Gives the file its length, and makes it last through a stop.
+    /// Makes a file last through a stop, with its whole length.
     pub fn finish(&mut self) -> io::Result<()> {
         self.sink.finish()
     }

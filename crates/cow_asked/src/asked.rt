@@ -1,0 +1,142 @@
+// What is asked for.
+
+use crate::Wrong;
+use crate::splitting::{Words, split};
+use std::alloc::Global;
+
+/// How an answer is written.
+#[derive(Clone, Copy, PartialEq, Eq)]
+pub enum Form {
+    /// Lines of a key and a value.
+    Lines,
+    /// JSON.
+    Json,
+}
+
+/// What is asked for. A name of a file is as it was given.
+#[derive(Clone, Copy, PartialEq, Eq)]
+pub enum Asked<'a> {
+    /// The words that are taken.
+    Help,
+    /// The program's name and version.
+    Version,
+    /// A store's header, its numbers, and whether it is good.
+    Show {
+        cow: &'a str,
+        form: Form,
+    },
+    /// Its pairs.
+    Map {
+        cow: &'a str,
+    },
+    /// Its slots, whether it is good or not.
+    RawMap {
+        cow: &'a str,
+    },
+    /// Whether it is good for this origin.
+    Check {
+        origin: &'a str,
+        cow: &'a str,
+    },
+    /// The snapshot's array.
+    Export {
+        origin: &'a str,
+        cow: &'a str,
+        out: &'a str,
+    },
+    /// What is known of the array where the store is refused or can't be read everywhere: with chunks of so many sectors,
+    /// where the header does not say them, and also by the pairs behind the first empty slot.
+    Salvage {
+        origin: &'a str,
+        cow: &'a str,
+        out: &'a str,
+        chunk: Option<u32>,
+        behind: bool,
+    },
+}
+
+/// What the words of a command line say, the first of which is the program's own name.
+pub fn words_ask<'a>(alloc: Global, words: &'a [String]) -> Result<Asked<'a>, Wrong<'a>> {
+    let words = split(alloc, words)?;
+    if words.has("--help") || words.has("-h") {
+        return Ok(Asked::Help);
+    }
+    if words.has("--version") || words.has("-V") {
+        return Ok(Asked::Version);
+    }
+    let command = words.name(0, "a command")?;
+    for option in words.options.as_slice() {
+        if !takes(command, option) {
+            return Err(Wrong::Option(option));
+        }
+    }
+    match command {
+        "help" => Ok(Asked::Help),
+        "show" => show(&words),
+        "map" => map(&words),
+        "check" => check(&words),
+        "export" => export(&words),
+        "rollback" => export(&words),
+        _ => Err(Wrong::Command(command)),
+    }
+}
+
+/// Whether a command takes an option.
+fn takes(command: &str, option: &str) -> bool {
+    match (command, option) {
+        ("show", "--json") => true,
+        ("map", "--raw") => true,
+        ("export", "--salvage") => true,
+        ("export", "--behind") => true,
+        ("export", "--chunk") => true,
+        _ => false,
+    }
+}
+
+fn show<'a>(words: &Words<'a>) -> Result<Asked<'a>, Wrong<'a>> {
+    let cow = words.name(1, "COW")?;
+    words.are_so_many(2)?;
+    let form = words.form();
+    Ok(Asked::Show { cow, form })
+}
+
+fn map<'a>(words: &Words<'a>) -> Result<Asked<'a>, Wrong<'a>> {
+    let cow = words.name(1, "COW")?;
+    words.are_so_many(2)?;
+    if words.has("--raw") {
+        return Ok(Asked::RawMap { cow });
+    }
+    Ok(Asked::Map { cow })
+}
+
+fn check<'a>(words: &Words<'a>) -> Result<Asked<'a>, Wrong<'a>> {
+    let origin = words.name(1, "ORIGIN")?;
+    let cow = words.name(2, "COW")?;
+    words.are_so_many(3)?;
+    Ok(Asked::Check { origin, cow })
+}
+
+fn export<'a>(words: &Words<'a>) -> Result<Asked<'a>, Wrong<'a>> {
+    let origin = words.name(1, "ORIGIN")?;
+    let cow = words.name(2, "COW")?;
+    let out = words.name(3, "OUT")?;
+    words.are_so_many(4)?;
+    let chunk = words.chunk()?;
+    let behind = words.has("--behind");
+    if words.has("--salvage") {
+        return Ok(Asked::Salvage {
+            origin,
+            cow,
+            out,
+            chunk,
+            behind,
+        });
+    }
+    if behind {
+        return Err(Wrong::Alone("--behind"));
+    }
+    if chunk.is_some() {
+        return Err(Wrong::Alone("--chunk"));
+    }
+    Ok(Asked::Export { origin, cow, out })
+}

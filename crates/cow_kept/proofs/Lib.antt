@@ -1,0 +1,5 @@
+pub mod Ends
+pub mod UsedSlots
+pub mod BlankBytes
+pub mod Sifts
+pub mod Orders

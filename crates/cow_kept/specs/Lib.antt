@@ -1,0 +1,4 @@
+pub mod Used
+pub mod Kept
+pub mod Spans
+pub mod Blanks

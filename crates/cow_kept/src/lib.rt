@@ -1,0 +1,23 @@
+//! What can still be known of a store that is damaged: its slots whether they are good or not, which pairs of them are kept,
+//! and images of which some sectors can't be read. It stands on `image`, `metadata_area`, `cow_map` and `cow_shown`. It
+//! promises that the kept pairs and those that are skipped are just those of the definition, that what is written is what the
+//! kept ones show, and that an image reads as zeros where it is told so, and nowhere else.
+#![tactic(auto)]
+
+mod blanked;
+mod front;
+mod saving;
+mod sifting;
+mod span;
+mod spans;
+mod trying;
+mod using;
+
+pub use blanked::Blanked;
+pub use front::front_of;
+pub use saving::{Saved, export_kept, save};
+pub use sifting::{Sifted, sift};
+pub use span::Span;
+pub use spans::is_in;
+pub use trying::unreadable;
+pub use using::{Slot, Used, read_used};
