@@ -1,0 +1,98 @@
+// Real files.
+ghost use Rattle.std.specs.Prelude.{◌≡◌, ℕ, ◌+◌, ◌*◌, ◌<◌, ◌≤◌, List, [], length};
+
+use crate::FileSet;
+use std::fs::File;
+use std::io;
+use std::io::{Seek, SeekFrom};
+use std::os::unix::fs::FileExt;
+
+/// What failed: the file's number, and the byte where a read or a write began.
+#[derive(Clone, Copy, Debug, PartialEq, Eq)]
+pub struct Failed {
+    pub file: usize,
+    pub at: Option<u64>,
+}
+
+/// Two open files, under the numbers 0 and 1.
+#[derive(Drop)]
+pub struct DiskFiles {
+    first: File,
+    second: File,
+    /// What failed last.
+    failed: Option<Failed>,
+}
+
+impl DiskFiles {
+    /// The files under 0 and under 1.
+    pub fn new(first: File, second: File) -> DiskFiles {
+        DiskFiles {
+            first,
+            second,
+            failed: None,
+        }
+    }
+
+    /// What failed last, if anything has.
+    pub fn failed(&self) -> Option<Failed> {
+        self.failed
+    }
+
+    // A file under a number: under 0 the first, else the second.
+    fn file(&mut self, file: usize) -> &mut File {
+        if file == 0 {
+            &mut self.first
+        } else {
+            &mut self.second
+        }
+    }
+
+    // Notes what failed.
+    fn noted<T: Drop>(&mut self, file: usize, at: Option<u64>, done: io::Result<T>) -> io::Result<T> {
+        if done.is_err() {
+            self.failed = Some(Failed { file, at });
+        }
+        done
+    }
+}
+
+impl FileSet for DiskFiles {
+    ghost is_known = { λ _. ⊥ };
+
+    ghost bytes = { λ _ _. [] };
+
+    ghost may_hold = { λ _ _ _ _. Unit {0} };
+
+    ghost moment = { λ _. 0 };
+
+    ghost left_since = { λ _ _ _. Unit {0} };
+
+    ghost fault_count = { λ _. 0 };
+
+    fn len(&mut self, file: usize) -> io::Result<u64> {
+        let len = self.file(file).seek(SeekFrom::End(0));
+        self.noted(file, None, len)
+    }
+
+    fn read_at(&mut self, file: usize, at: u64, out: &mut [u8]) -> io::Result<()> {
+        let read = self.file(file).read_exact_at(out, at);
+        self.noted(file, Some(at), read)
+    }
+
+    fn write_at(&mut self, file: usize, sector: u64, part: &[u8]) -> io::Result<()> {
+        let Some(at) = sector.checked_mul(512) else {
+            return Err(io::ErrorKind::FileTooLarge.into());
+        };
+        let written = self.file(file).write_all_at(part, at);
+        self.noted(file, Some(at), written)
+    }
+
+    fn sync(&mut self, file: usize) -> io::Result<()> {
+        let synced = self.file(file).sync_all();
+        self.noted(file, None, synced)
+    }
+
+    ghost holds_now = { λ d known. absurd known };
+
+    ghost counts_now = { λ d t left le are. tt };
+}
