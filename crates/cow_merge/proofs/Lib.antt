@@ -1,2 +1,4 @@
 pub mod Sectors
 pub mod Shows
+pub mod Steps
+pub mod Copies

@@ -23,7 +23,7 @@ use Rattle.stop_laws.proofs.May.{slot_there}
 use Rattle.stop_laws.proofs.Open.{sector_plain, sector_copied}
 use Rattle.file_set.specs.Stops.{AreLeft}
 use Rattle.cow_merge.specs.Merges.{IsInArea, StillShows}
-use Rattle.cow_merge.specs.Holding.{Begin, pairs, array, IsBegin, OriginMay, StoreMay, Holds}
+use Rattle.cow_merge.specs.Holding.{Begin, pairs, array, IsBegin, OriginMay, StoreMay, Leaves}
 use Rattle.cow_merge.proofs.Sectors.{by_sectors, zero_pair, place_first, place_none_less, place_inside, area_from, not_in_area, head_not_in_area, slot_inside}
 
 module _ (b : Begin) (from : ℕ) (left : ℕ → List ℕ) (is : IsBegin b) (lo : length (left 0) ≡ 512 * b.sectors) (ls : length (left 1) ≡ 512 * b.size)
@@ -133,10 +133,10 @@ module _ (b : Begin) (from : ℕ) (left : ℕ → List ℕ) (is : IsBegin b) (lo
       }
 
 -- what may be left at a moment of the merge
-pub still_shows : (b : Begin) (from : ℕ) (bytes left : ℕ → List ℕ) (may_hold : ℕ → ℕ → List ℕ → Type 0) → Holds b from bytes may_hold → AreLeft bytes may_hold left → StillShows b.chunk b.sectors b.size b.origin b.store left
-still_shows b from bytes left may_hold holds are =
-    let lo = holds.origin in
-    let ls = holds.store in
-    shows_by b from left holds.begin (are.whole 0 ∙ lo) (are.whole 1 ∙ ls)
-    (λ s lt. holds.origin_may s (sector_at (left 0) s) lt (are.each 0 s (omega arith)))
-    (λ s lt. holds.store_may s (sector_at (left 1) s) lt (are.each 1 s (omega arith)))
+pub still_shows : (b : Begin) (from : ℕ) (bytes left : ℕ → List ℕ) (may_hold : ℕ → ℕ → List ℕ → Type 0) → Leaves b from bytes may_hold → AreLeft bytes may_hold left → StillShows b.chunk b.sectors b.size b.origin b.store left
+still_shows b from bytes left may_hold leaves are =
+    let lo = leaves.origin in
+    let ls = leaves.store in
+    shows_by b from left leaves.begin (are.whole 0 ∙ lo) (are.whole 1 ∙ ls)
+    (λ s lt. leaves.origin_may s (sector_at (left 0) s) lt (are.each 0 s (omega arith)))
+    (λ s lt. leaves.store_may s (sector_at (left 1) s) lt (are.each 1 s (omega arith)))

@@ -1,5 +1,5 @@
 -- What holds of an origin and its store at each moment of a merge.
-use Rattle.std.specs.Prelude.{◌≡◌, ◌≢◌, ◌⊎◌, ℕ, ◌+◌, ◌*◌, ◌/◌, ◌<◌, ◌≤◌, List, length, replicate, take, Ok, None}
+use Rattle.std.specs.Prelude.{◌≡◌, ◌≢◌, ◌⊎◌, ℕ, ◌+◌, ◌*◌, ◌/◌, ◌<◌, ◌≤◌, List, length, replicate, take, slice_index_or, Ok, None}
 use Rattle.sector.specs.Bytes.{sector_at}
 use Rattle.sector.specs.declared.pair.Pair.{Pair}
 use Rattle.model.specs.Places.{area_place}
@@ -40,16 +40,50 @@ OriginMay b from s v = (v ≡ sector_at (array b) s) ⊎ ((v ≡ sector_at b.ori
 abbrev pub StoreMay : Begin → ℕ → ℕ → List ℕ → Type 0
 StoreMay b from s v = (v ≡ sector_at b.store s) ⊎ ((v ≡ replicate 512 0) × IsInArea b.chunk from s)
 
--- what reads give, and what may be left
-pub record Holds (b : Begin) (from : ℕ) (bytes : ℕ → List ℕ) (may_hold : ℕ → ℕ → List ℕ → Type 0) : Type 0 where
+-- what may be left
+pub record Leaves (b : Begin) (from : ℕ) (bytes : ℕ → List ℕ) (may_hold : ℕ → ℕ → List ℕ → Type 0) : Type 0 where
   pub begin : IsBegin b
   pub origin : length (bytes 0) ≡ 512 * b.sectors
   pub store : length (bytes 1) ≡ 512 * b.size
-  pub origin_now : (s : ℕ) → s < b.sectors → OriginMay b from s (sector_at (bytes 0) s)
-  pub store_now : (s : ℕ) → s < b.size → StoreMay b from s (sector_at (bytes 1) s)
   pub origin_may : (s : ℕ) (v : List ℕ) → s < b.sectors → may_hold 0 s v → OriginMay b from s v
   pub store_may : (s : ℕ) (v : List ℕ) → s < b.size → may_hold 1 s v → StoreMay b from s v
 
--- each stop so far left what some stop before the merge may have left, or what still shows the snapshot
-abbrev pub IsSafe : Begin → ((ℕ → List ℕ) → Type 0) → ((ℕ → List ℕ) → Type 0) → Type 0
-IsSafe b before since = (left : ℕ → List ℕ) → since left → before left ⊎ StillShows b.chunk b.sectors b.size b.origin b.store left
+-- what may be left, and what reads give
+pub record Rolls (b : Begin) (from : ℕ) (known : Type 0) (bytes : ℕ → List ℕ) (may_hold : ℕ → ℕ → List ℕ → Type 0) : Type 0 where
+  pub is_known : known
+  pub reach : from ≤ length (pairs b) / (32 * b.chunk) + 1
+  pub leaves : Leaves b from bytes may_hold
+  pub origin_now : (s : ℕ) → s < b.sectors → OriginMay b from s (sector_at (bytes 0) s)
+  pub store_now : (s : ℕ) → s < b.size → StoreMay b from s (sector_at (bytes 1) s)
+
+-- each stop since left what a stop before might have left, or what still shows the snapshot
+pub record Passes (b : Begin) (before now : ℕ) (past since : ℕ → (ℕ → List ℕ) → Type 0) : Type 0 where
+  pub later : before ≤ now
+  pub only : (t : ℕ) (left : ℕ → List ℕ) → t ≤ before → since t left → past t left ⊎ StillShows b.chunk b.sectors b.size b.origin b.store left
+
+-- it is one of the store's pairs
+abbrev pub IsPairOf : Begin → Pair → Type 0
+IsPairOf b pair = (k : ℕ) × (k < length (pairs b)) × ((d : Pair) → slice_index_or (pairs b) k d ≡ pair)
+
+-- the sectors of a chunk of the origin are the array's
+abbrev pub IsBack : Begin → List ℕ → ℕ → Type 0
+IsBack b origin c = (s : ℕ) → s < b.sectors → s / b.chunk ≡ c → sector_at origin s ≡ sector_at (array b) s
+
+-- so are those of all chunks that the pairs from slot `low` on and below `high` name
+abbrev pub AreBack : Begin → List ℕ → ℕ → ℕ → Type 0
+AreBack b origin low high = (k : ℕ) (d : Pair) → low ≤ k → k < high → k < length (pairs b) → IsBack b origin (slice_index_or (pairs b) k d).old
+
+-- the origin is written, so that sectors that are the array's stay so
+pub record Copies (b : Begin) (from : ℕ) (known : Type 0) (bytes bytes' : ℕ → List ℕ) (may_hold : ℕ → ℕ → List ℕ → Type 0) : Type 0 where
+  pub rolls : Rolls b from known bytes' may_hold
+  pub store : bytes' 1 ≡ bytes 1
+  pub keeps : (s : ℕ) → s < b.sectors → sector_at (bytes 0) s ≡ sector_at (array b) s → sector_at (bytes' 0) s ≡ sector_at (array b) s
+
+-- an area is zeros
+abbrev pub IsZero : ℕ → List ℕ → ℕ → Type 0
+IsZero chunk store area = (s : ℕ) → s < chunk → sector_at store (chunk * area_place chunk area + s) ≡ replicate 512 0
+
+-- the store's areas are zeroed, so that zeros stay zeros
+pub record Clears (b : Begin) (from : ℕ) (known : Type 0) (bytes bytes' : ℕ → List ℕ) (may_hold : ℕ → ℕ → List ℕ → Type 0) : Type 0 where
+  pub rolls : Rolls b from known bytes' may_hold
+  pub keeps : (area : ℕ) → IsZero b.chunk (bytes 1) area → IsZero b.chunk (bytes' 1) area

@@ -1,2 +1,11 @@
 //! The copies of a store are taken back into its origin, in place.
 #![tactic(auto)]
+
+mod clearing;
+mod copying;
+mod sizes;
+mod stopped;
+
+pub use copying::{ORIGIN, STORE};
+pub use sizes::Sizes;
+pub use stopped::Stopped;
