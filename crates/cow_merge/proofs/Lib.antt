@@ -2,3 +2,4 @@ pub mod Sectors
 pub mod Shows
 pub mod Steps
 pub mod Copies
+pub mod Areas

@@ -27,7 +27,7 @@ by_sectors n a b la lb same = ext_get_or 0 a b (la ∙ sym lb) (λ i lt.
     ap (λ x. get_or a x 0) e ∙ sym (byte_read a (i / 512) 1 (i % 512) (omega arith)) ∙ ap (λ x. get_or x (i % 512) 0) (same (i / 512) q) ∙ byte_read b (i / 512) 1 (i % 512) (omega arith) ∙ sym (ap (λ x. get_or b x 0) e))
 
 -- a number in zeros
-zero_byte : (n i : ℕ) → get_or (replicate {A = ℕ} n 0) i 0 ≡ 0
+pub zero_byte : (n i : ℕ) → get_or (replicate {A = ℕ} n 0) i 0 ≡ 0
 zero_byte n i = elim (cases_lt i n) [
   | inl lt ↦ get_or-replicate n i 0 0 lt
   | inr ge ↦ get_or_past (replicate n 0) i 0 (rw length-replicate ge)
