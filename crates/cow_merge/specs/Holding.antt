@@ -87,3 +87,26 @@ IsZero chunk store area = (s : ℕ) → s < chunk → sector_at store (chunk * a
 pub record Clears (b : Begin) (from : ℕ) (known : Type 0) (bytes bytes' : ℕ → List ℕ) (may_hold : ℕ → ℕ → List ℕ → Type 0) : Type 0 where
   pub rolls : Rolls b from known bytes' may_hold
   pub keeps : (area : ℕ) → IsZero b.chunk (bytes 1) area → IsZero b.chunk (bytes' 1) area
+
+-- each value of each sector that a stop may leave in a file is what is there
+abbrev pub IsSynced : (ℕ → List ℕ) → (ℕ → ℕ → List ℕ → Type 0) → ℕ → Type 0
+IsSynced bytes may_hold file = (s : ℕ) (v : List ℕ) → 512 * s < length (bytes file) → may_hold file s v → v ≡ sector_at (bytes file) s
+
+-- files that hold what they held, all of it synced
+pub record Settles (known : Type 0) (bytes bytes' : ℕ → List ℕ) (may_hold : ℕ → ℕ → List ℕ → Type 0) : Type 0 where
+  pub is_known : known
+  pub origin : bytes' 0 ≡ bytes 0
+  pub store : bytes' 1 ≡ bytes 1
+  pub origin_synced : IsSynced bytes' may_hold 0
+  pub store_synced : IsSynced bytes' may_hold 1
+
+-- each stop since left what a stop might have left before
+pub record Stays (before now : ℕ) (past since : ℕ → (ℕ → List ℕ) → Type 0) (bytes : ℕ → List ℕ) (may_hold : ℕ → ℕ → List ℕ → Type 0) : Type 0 where
+  pub later : before ≤ now
+  pub only : (t : ℕ) (left : ℕ → List ℕ) → t ≤ before → since t left → past t left ⊎ AreLeft bytes may_hold left
+
+-- no pair is left: the origin is the array, the store's areas up to one are zeros, and all of both is synced
+pub record Ends (b : Begin) (last : ℕ) (known : Type 0) (bytes : ℕ → List ℕ) (may_hold : ℕ → ℕ → List ℕ → Type 0) : Type 0 where
+  pub rolls : Rolls b 0 known bytes may_hold
+  pub zero : (area : ℕ) → area ≤ last → IsZero b.chunk (bytes 1) area
+  pub store_synced : IsSynced bytes may_hold 1

@@ -3,6 +3,7 @@
 
 mod clearing;
 mod copying;
+mod merging;
 mod sizes;
 mod stopped;
 

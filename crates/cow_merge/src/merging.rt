@@ -1,0 +1,100 @@
+// A store's copies are taken back into its origin.
+ghost use Rattle.std.specs.Prelude.{◌≡◌, ◌≢◌, ◌⊎◌, ℕ, ◌+◌, ◌*◌, ◌-◌, ◌/◌, ◌<◌, ◌≤◌, List, length, replicate, IfErr, IfOk, IsErr, OnOk, Err};
+ghost use Rattle.cow_map.specs.Maps.{IsMapOf};
+ghost use Rattle.file_set.specs.Stops.{AreLeft, HasCause};
+ghost use Rattle.cow_merge.specs.Begun.{begun};
+ghost use Rattle.cow_merge.specs.Holding.{Rolls, Passes, Copies, Clears, IsZero, IsSynced, Settles, Stays, Ends, Begin, pairs};
+ghost use Rattle.cow_merge.specs.Merges.{StillShows, IsMerged};
+
+use crate::clearing::clear_areas;
+use crate::copying::{ORIGIN, STORE, copy_areas};
+use crate::{Sizes, Stopped};
+use cow_map::CowMap;
+use file_set::FileSet;
+use metadata_area::Area;
+use std::alloc::Global;
+
+/// Makes all that was written to both files last, the store first.
+fn settle<F: FileSet>(files: &mut F) -> Result<(), Stopped>
+    ensures stays { Stays (F.moment files.old) (F.moment files.new) (F.left_since files.old) (F.left_since files.new) (F.bytes files.old) (F.may_hold files.old) }
+    ensures settles { OnOk result (F.is_known files.old → Settles (F.is_known files.new) (F.bytes files.old) (F.bytes files.new) (F.may_hold files.new)) }
+    ensures cause { HasCause (F.is_known files.old) (F.fault_count files.old) (F.fault_count files.new) result }
+{
+    files.sync(STORE)?;
+    files.sync(ORIGIN)?;
+    Ok(())
+}
+
+/// Copies back what the pairs of areas have, and makes it last.
+fn copy_batch<F: FileSet>(
+    files: &mut F,
+    sizes: Sizes,
+    area: &mut Area,
+    room: &mut [u8],
+    from: u64,
+    end: u64,
+) -> Result<(), Stopped>
+    requires chunk { area.old.chunk ≡ sizes.chunk }
+    requires room { length room.old ≡ 512 * sizes.chunk }
+    requires low { end ≤ sizes.store }
+    requires order { from ≤ end }
+    ensures chunk { area.new.chunk ≡ sizes.chunk }
+    ensures passes { (o c : List ℕ) → Rolls (begun sizes o c) end (F.is_known files.old) (F.bytes files.old) (F.may_hold files.old) → Passes (begun sizes o c) (F.moment files.old) (F.moment files.new) (F.left_since files.old) (F.left_since files.new) }
+    ensures rolls { OnOk result ((o c : List ℕ) → Rolls (begun sizes o c) end (F.is_known files.old) (F.bytes files.old) (F.may_hold files.old) → Rolls (begun sizes o c) from (F.is_known files.new) (F.bytes files.new) (F.may_hold files.new)) }
+    ensures store { OnOk result ((o c : List ℕ) → Rolls (begun sizes o c) end (F.is_known files.old) (F.bytes files.old) (F.may_hold files.old) → F.bytes files.new 1 ≡ F.bytes files.old 1) }
+    ensures cause { HasCause ((o : List ℕ) × (c : List ℕ) × Rolls (begun sizes o c) end (F.is_known files.old) (F.bytes files.old) (F.may_hold files.old)) (F.fault_count files.old) (F.fault_count files.new) result }
+{
+    copy_areas(files, sizes, area, room, from, end)?;
+    files.sync(ORIGIN)?;
+    Ok(())
+}
+
+/// Zeroes areas, and makes it last.
+fn clear_batch<F: FileSet>(
+    files: &mut F,
+    sizes: Sizes,
+    zeros: &[u8],
+    from: u64,
+    end: u64,
+) -> Result<(), Stopped>
+    requires zeros { zeros.now ≡ replicate (512 * sizes.chunk) 0 }
+    requires low { end ≤ sizes.store }
+    ensures passes { (o c : List ℕ) → Rolls (begun sizes o c) from (F.is_known files.old) (F.bytes files.old) (F.may_hold files.old) → Passes (begun sizes o c) (F.moment files.old) (F.moment files.new) (F.left_since files.old) (F.left_since files.new) }
+    ensures clears { OnOk result ((o c : List ℕ) → Rolls (begun sizes o c) from (F.is_known files.old) (F.bytes files.old) (F.may_hold files.old) → Clears (begun sizes o c) from (F.is_known files.new) (F.bytes files.old) (F.bytes files.new) (F.may_hold files.new)) }
+    ensures zero { OnOk result ((o c : List ℕ) → Rolls (begun sizes o c) from (F.is_known files.old) (F.bytes files.old) (F.may_hold files.old) → (area : ℕ) → from ≤ area → area < end → IsZero sizes.chunk (F.bytes files.new 1) area) }
+    ensures synced { OnOk result ((o c : List ℕ) → Rolls (begun sizes o c) from (F.is_known files.old) (F.bytes files.old) (F.may_hold files.old) → IsSynced (F.bytes files.new) (F.may_hold files.new) 1) }
+    ensures cause { HasCause ((o : List ℕ) × (c : List ℕ) × (end ≤ length (pairs (begun sizes o c)) / (32 * sizes.chunk) + 1) × Rolls (begun sizes o c) from (F.is_known files.old) (F.bytes files.old) (F.may_hold files.old)) (F.fault_count files.old) (F.fault_count files.new) result }
+{
+    clear_areas(files, sizes, zeros, from, end)?;
+    files.sync(STORE)?;
+    Ok(())
+}
+
+/// Takes the copies of areas up to one back, so many areas at a time, the last ones first.
+fn merge_areas<F: FileSet>(
+    files: &mut F,
+    sizes: Sizes,
+    area: &mut Area,
+    zeros: &[u8],
+    room: &mut [u8],
+    last: u64,
+    step: u64,
+) -> Result<(), Stopped>
+    requires chunk { area.old.chunk ≡ sizes.chunk }
+    requires room { length room.old ≡ 512 * sizes.chunk }
+    requires zeros { zeros.now ≡ replicate (512 * sizes.chunk) 0 }
+    requires low { last < sizes.store }
+    requires step { 0 < step }
+    ensures passes { (o c : List ℕ) → Rolls (begun sizes o c) (last + 1) (F.is_known files.old) (F.bytes files.old) (F.may_hold files.old) → Passes (begun sizes o c) (F.moment files.old) (F.moment files.new) (F.left_since files.old) (F.left_since files.new) }
+    ensures ends { OnOk result ((o c : List ℕ) → Rolls (begun sizes o c) (last + 1) (F.is_known files.old) (F.bytes files.old) (F.may_hold files.old) → Ends (begun sizes o c) last (F.is_known files.new) (F.bytes files.new) (F.may_hold files.new)) }
+    ensures cause { HasCause ((o : List ℕ) × (c : List ℕ) × Rolls (begun sizes o c) (last + 1) (F.is_known files.old) (F.bytes files.old) (F.may_hold files.old)) (F.fault_count files.old) (F.fault_count files.new) result }
+{
+    let mut end = last + 1;
+    while 0 < end {
+        let from = end.saturating_sub(step);
+        copy_batch(files, sizes, area, room, from, end)?;
+        clear_batch(files, sizes, zeros, from, end)?;
+        end = from;
+    }
+    Ok(())
+}
