@@ -3,3 +3,4 @@ pub mod Shows
 pub mod Steps
 pub mod Copies
 pub mod Areas
+pub mod Merged

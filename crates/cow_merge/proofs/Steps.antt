@@ -3,7 +3,7 @@ use Rattle.std.proofs.Common.{◌≡◌, ◌≢◌, ◌⊎◌, inl, inr, ⊎_eli
 use Rattle.sector.specs.Bytes.{sector_at}
 use Rattle.file_set.specs.Stops.{AreLeft, Elapses}
 use Rattle.cow_merge.specs.Merges.{StillShows}
-use Rattle.cow_merge.specs.Holding.{Begin, OriginMay, StoreMay, Leaves, Rolls, Passes, array}
+use Rattle.cow_merge.specs.Holding.{Begin, OriginMay, StoreMay, Leaves, Rolls, Passes, Stays}
 use Rattle.cow_merge.proofs.Shows.{still_shows}
 
 -- one call, after which what may be left still shows the snapshot
@@ -49,3 +49,33 @@ rolls_kept b from known known' bytes bytes' may may' rolls knows same stop = rec
   origin_now = λ s lt. subst (λ (x : List ℕ). OriginMay b from s (sector_at x s)) (sym (same 0)) (rolls.origin_now s lt);
   store_now = λ s lt. subst (λ (x : List ℕ). StoreMay b from s (sector_at x s)) (sym (same 1)) (rolls.store_now s lt);
 }
+
+-- one call that adds no value
+pub stays_one : (before now : ℕ) (past since : ℕ → (ℕ → List ℕ) → Type 0) (bytes bytes' : ℕ → List ℕ) (may may' : ℕ → ℕ → List ℕ → Type 0) → Elapses before now past since bytes' may' → ((f : ℕ) → length (bytes' f) ≡ length (bytes f)) → ((f s : ℕ) (v : List ℕ) → may' f s v → may f s v) → Stays before now past since bytes may
+stays_one before now past since bytes bytes' may may' time len stop = record {
+  later = time.later;
+  only = λ t left le is. elim (time.nothing_else t left le is) [
+    | inl was ↦ inl was
+    | inr are ↦ inr (record { whole = λ f. are.whole f ∙ len f; each = λ f s lt. stop f s (sector_at (left f) s) (are.each f s (let e = len f in omega arith)) })
+  ];
+}
+
+-- and another
+pub stays_both : (m0 m1 m2 : ℕ) (p0 p1 p2 : ℕ → (ℕ → List ℕ) → Type 0) (bytes bytes' : ℕ → List ℕ) (may may' : ℕ → ℕ → List ℕ → Type 0) → Stays m0 m1 p0 p1 bytes may → Stays m1 m2 p1 p2 bytes' may' → ((f : ℕ) → length (bytes' f) ≡ length (bytes f)) → ((f s : ℕ) (v : List ℕ) → may' f s v → may f s v) → Stays m0 m2 p0 p2 bytes may
+stays_both m0 m1 m2 p0 p1 p2 bytes bytes' may may' x y len stop = let lx = x.later in let ly = y.later in record {
+  later = omega arith;
+  only = λ t left le is. elim (y.only t left (omega arith) is) [
+    | inl was ↦ x.only t left le was
+    | inr are ↦ inr (record { whole = λ f. are.whole f ∙ len f; each = λ f s lt. stop f s (sector_at (left f) s) (are.each f s (let e = len f in omega arith)) })
+  ];
+}
+
+-- all stops of a whole merge
+pub stops_all : (b : Begin) (m0 m1 m2 : ℕ) (p0 p1 p2 : ℕ → (ℕ → List ℕ) → Type 0) (bytes : ℕ → List ℕ) (may : ℕ → ℕ → List ℕ → Type 0) → Stays m0 m1 p0 p1 bytes may → Passes b m1 m2 p1 p2 → ((left : ℕ → List ℕ) → p0 m0 left → AreLeft bytes may left) → (left : ℕ → List ℕ) → p2 m0 left → AreLeft bytes may left ⊎ StillShows b.chunk b.sectors b.size b.origin b.store left
+stops_all b m0 m1 m2 p0 p1 p2 bytes may stays passes first left is = let le = stays.later in elim (passes.only m0 left le is) [
+  | inr shows ↦ inr shows
+  | inl was ↦ elim (stays.only m0 left (omega arith) was) [
+    | inl before ↦ inl (first left before)
+    | inr are ↦ inl are
+  ]
+]

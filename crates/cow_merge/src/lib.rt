@@ -8,5 +8,6 @@ mod sizes;
 mod stopped;
 
 pub use copying::{ORIGIN, STORE};
+pub use merging::{Room, merge};
 pub use sizes::Sizes;
 pub use stopped::Stopped;

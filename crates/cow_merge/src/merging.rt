@@ -12,7 +12,7 @@ use crate::{Sizes, Stopped};
 use cow_map::CowMap;
 use file_set::FileSet;
 use metadata_area::Area;
-use std::alloc::Global;
+use std::alloc::{AllocError, Global};
 
 /// Makes all that was written to both files last, the store first.
 fn settle<F: FileSet>(files: &mut F) -> Result<(), Stopped>
@@ -97,4 +97,70 @@ fn merge_areas<F: FileSet>(
         end = from;
     }
     Ok(())
+}
+
+/// Room for a merge: an area, as many zeros, and a chunk.
+#[derive(Drop)]
+pub struct Room {
+    area: Area,
+    zeros: Vec<u8>,
+    part: Vec<u8>,
+    ghost are_zeros: { zeros.items ≡ replicate (512 * area.chunk) 0 },
+    ghost is_chunk: { length part.items ≡ 512 * area.chunk },
+}
+
+impl Room {
+    /// Room for a store whose chunks have so many sectors. A merge takes no memory beside it.
+    pub fn new(alloc: Global, chunk: u32) -> Result<Room, AllocError>
+        requires some { 0 < chunk }
+        requires allowed { chunk ≤ 1024 }
+        ensures { IfOk result (λ room. room.area.chunk ≡ chunk) }
+    {
+        let Ok(area) = Area::new(alloc, chunk) else {
+            return Err(AllocError);
+        };
+        let zeros = vec![in alloc; 0u8; 512 * chunk as usize]?;
+        let part = vec![in alloc; 0u8; 512 * chunk as usize]?;
+        Ok(Room { area, zeros, part })
+    }
+}
+
+/// The areas whose pairs are merged at a time, where a chunk has so many sectors: those of 64 MiB of copies, or one.
+fn areas_at_once(chunk: u32) -> u64
+    requires some { 0 < chunk }
+    requires allowed { chunk ≤ 1024 }
+    ensures { 0 < result }
+{
+    let chunk = chunk as u64;
+    (4096 / (chunk * chunk)).max(1)
+}
+
+/// Takes a snapshot's copies back into its origin, which has so many sectors, and its pairs away from its store: what is
+/// left where it fails, or is stopped, still shows the snapshot, and is merged by another call.
+pub fn merge<F: FileSet>(
+    files: &mut F,
+    map: &CowMap,
+    origin: u64,
+    room: Room,
+) -> Result<(), Stopped>
+    requires { room.area.chunk ≡ map.now.chunk }
+    ensures stops { F.is_known files.old → length (F.bytes files.old 0) ≡ 512 * origin → IsMapOf origin (F.bytes files.old 1) map.now → (left : ℕ → List ℕ) → F.left_since files.new (F.moment files.old) left → AreLeft (F.bytes files.old) (F.may_hold files.old) left ⊎ StillShows map.now.chunk origin map.now.size (F.bytes files.old 0) (F.bytes files.old 1) left }
+    ensures done { OnOk result (F.is_known files.old → length (F.bytes files.old 0) ≡ 512 * origin → IsMapOf origin (F.bytes files.old 1) map.now → (left : ℕ → List ℕ) → AreLeft (F.bytes files.new) (F.may_hold files.new) left → IsMerged map.now.chunk map.now.size map.now.current (F.bytes files.old 0) (F.bytes files.old 1) left) }
+    ensures cause { HasCause (F.is_known files.old × (length (F.bytes files.old 0) ≡ 512 * origin) × IsMapOf origin (F.bytes files.old 1) map.now) (F.fault_count files.old) (F.fault_count files.new) result }
+{
+    let sizes = Sizes {
+        chunk: map.chunk,
+        origin,
+        store: map.size,
+    };
+    let step = areas_at_once(map.chunk);
+    let Room {
+        mut area,
+        zeros,
+        mut part,
+    } = room;
+    let zeros = zeros.as_slice();
+    let part = part.as_mut_slice();
+    settle(files)?;
+    merge_areas(files, sizes, &mut area, zeros, part, map.current, step)
 }

@@ -11,8 +11,6 @@ pub enum Stopped {
     Failed(io::Error),
     /// The store is not the one that was looked at.
     Changed,
-    /// Memory is refused. Nothing was written.
-    NoMemory,
 }
 
 impl From<io::Error> for Stopped {
