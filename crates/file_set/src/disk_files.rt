@@ -1,5 +1,6 @@
 // Real files.
-ghost use Rattle.std.specs.Prelude.{◌≡◌, ℕ, ◌+◌, ◌*◌, ◌<◌, ◌≤◌, List, [], length};
+ghost use Rattle.std.specs.Prelude.{[]};
+ghost use Rattle.file_set.specs.Stops.{AreLeft};
 
 use crate::FileSet;
 use std::fs::File;
@@ -7,11 +8,24 @@ use std::io;
 use std::io::{Seek, SeekFrom};
 use std::os::unix::fs::FileExt;
 
-/// What failed: the file's number, and the byte where a read or a write began.
+/// What was asked of a file.
+#[derive(Clone, Copy, Debug, PartialEq, Eq)]
+pub enum Asked {
+    /// How long it is.
+    Len,
+    /// To be read from this byte on.
+    Read(u64),
+    /// To be written from this byte on.
+    Write(u64),
+    /// To be synced.
+    Sync,
+}
+
+/// What failed: the file's number, and what was asked of it.
 #[derive(Clone, Copy, Debug, PartialEq, Eq)]
 pub struct Failed {
     pub file: usize,
-    pub at: Option<u64>,
+    pub asked: Asked,
 }
 
 /// Two open files, under the numbers 0 and 1.
@@ -48,9 +62,14 @@ impl DiskFiles {
     }
 
     // Notes what failed.
-    fn noted<T: Drop>(&mut self, file: usize, at: Option<u64>, done: io::Result<T>) -> io::Result<T> {
+    fn noted<T: Drop>(
+        &mut self,
+        file: usize,
+        asked: Asked,
+        done: io::Result<T>,
+    ) -> io::Result<T> {
         if done.is_err() {
-            self.failed = Some(Failed { file, at });
+            self.failed = Some(Failed { file, asked });
         }
         done
     }
@@ -65,18 +84,18 @@ impl FileSet for DiskFiles {
 
     ghost moment = { λ _. 0 };
 
-    ghost left_since = { λ _ _ _. Unit {0} };
+    ghost left_since = { λ _ _ left. AreLeft (λ _. []) (λ _ _ _. Unit {0}) left };
 
     ghost fault_count = { λ _. 0 };
 
     fn len(&mut self, file: usize) -> io::Result<u64> {
         let len = self.file(file).seek(SeekFrom::End(0));
-        self.noted(file, None, len)
+        self.noted(file, Asked::Len, len)
     }
 
     fn read_at(&mut self, file: usize, at: u64, out: &mut [u8]) -> io::Result<()> {
         let read = self.file(file).read_exact_at(out, at);
-        self.noted(file, Some(at), read)
+        self.noted(file, Asked::Read(at), read)
     }
 
     fn write_at(&mut self, file: usize, sector: u64, part: &[u8]) -> io::Result<()> {
@@ -84,15 +103,18 @@ impl FileSet for DiskFiles {
             return Err(io::ErrorKind::FileTooLarge.into());
         };
         let written = self.file(file).write_all_at(part, at);
-        self.noted(file, Some(at), written)
+        self.noted(file, Asked::Write(at), written)
     }
 
+    // The data, and what is needed to find it: files keep their length.
     fn sync(&mut self, file: usize) -> io::Result<()> {
-        let synced = self.file(file).sync_all();
-        self.noted(file, None, synced)
+        let synced = self.file(file).sync_data();
+        self.noted(file, Asked::Sync, synced)
     }
 
     ghost holds_now = { λ d known. absurd known };
 
-    ghost counts_now = { λ d t left le are. tt };
+    ghost counts_now = { λ d t left le are. are };
+
+    ghost only_now = { λ d left are. are };
 }

@@ -71,4 +71,7 @@ pub trait FileSet {
 
     /// What it may leave now counts as left since now.
     ghost counts_now: { (d : Self) (t : ℕ) (left : ℕ → List ℕ) → t ≤ moment d → AreLeft (bytes d) (may_hold d) left → left_since d t left };
+
+    /// Since now there is no other moment.
+    ghost only_now: { (d : Self) (left : ℕ → List ℕ) → left_since d (moment d) left → AreLeft (bytes d) (may_hold d) left };
 }

@@ -6,5 +6,5 @@
 mod disk_files;
 mod file_set;
 
-pub use disk_files::{DiskFiles, Failed};
+pub use disk_files::{Asked, DiskFiles, Failed};
 pub use file_set::FileSet;

@@ -14,6 +14,7 @@ mod commands;
 mod files;
 mod input;
 mod looking;
+mod merging;
 mod rolling;
 mod teller;
 mod trouble;
@@ -44,6 +45,8 @@ enum Asked<'a> {
     Export(&'a str, &'a str, &'a str),
     /// What is known of the array where the store is invalid.
     Salvage(&'a str, &'a str, &'a str),
+    /// The snapshot merged into its origin.
+    Merge(merging::Words<'a>),
 }
 
 /// What the words of the command line say. `None` where they are wrong.
@@ -51,6 +54,9 @@ fn words_ask(words: &[String]) -> Option<Asked<'_>> {
     let command = words.get(1)?.as_str();
     if words.len() == 2 && (command == "--help" || command == "help") {
         return Some(Asked::Help);
+    }
+    if command == "merge" {
+        return Some(Asked::Merge(merging::words_of(&words[2..])?));
     }
     let first = words.get(2)?.as_str();
     if words.len() == 3 && command == "show" {
@@ -86,6 +92,7 @@ const USAGE: &[u8] = b"usage: lochknife show COW [--json]
        lochknife check ORIGIN COW
        lochknife export ORIGIN COW OUT [--salvage]
        lochknife rollback ORIGIN COW OUT
+       lochknife merge ORIGIN COW [--dry-run]
 ";
 
 /// Does what is asked for, and tells whether the store is good.
@@ -102,6 +109,7 @@ fn done<'a>(rt: &'a HostRuntime, asked: Asked<'a>) -> Result<bool, Trouble<'a>> 
         Asked::Check(origin, cow) => check(rt, origin, cow),
         Asked::Export(origin, cow, out) => export(rt, origin, cow, out),
         Asked::Salvage(origin, cow, out) => salvage(rt, origin, cow, out),
+        Asked::Merge(words) => merging::merge(rt, words),
     }
 }
 
