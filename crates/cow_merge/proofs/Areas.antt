@@ -33,10 +33,10 @@ area_same b from index known bytes may rolls lt =
     let lb = begin.store in
     let len : (x : List ℕ) → length x ≡ 512 * b.size → length (chunk_at b.chunk x (area_place b.chunk index)) ≡ 512 * b.chunk = λ x lx. simp (length-take, length-drop) (omega arith) in
     by_sectors b.chunk _ _ (len (bytes 1) ls) (len b.store lb) (λ t less.
-        sector_of_part (bytes 1) (b.chunk * area_place b.chunk index) b.chunk t less ∙ elim (rolls.store_now (b.chunk * area_place b.chunk index + t) (omega arith)) [
-          | inl same ↦ same
-          | inr (zeros, there) ↦ absurd (let h = area_from b.chunk from index t less there in omega arith)
-        ] ∙ sym (sector_of_part b.store (b.chunk * area_place b.chunk index) b.chunk t less))
+    sector_of_part (bytes 1) (b.chunk * area_place b.chunk index) b.chunk t less ∙ elim (rolls.store_now (b.chunk * area_place b.chunk index + t) (omega arith)) [
+      | inl same ↦ same
+      | inr (zeros, there) ↦ absurd (let h = area_from b.chunk from index t less there in omega arith)
+    ] ∙ sym (sector_of_part b.store (b.chunk * area_place b.chunk index) b.chunk t less))
 
 -- a slot of it is the list's
 pub area_slot : (b : Begin) (from index j : ℕ) (known : Type 0) (bytes : ℕ → List ℕ) (may : ℕ → ℕ → List ℕ → Type 0) (area : List ℕ) → Rolls b from known bytes may → index < from → area ≡ chunk_at b.chunk (bytes 1) (area_place b.chunk index) → j < 32 * b.chunk → pair_in area j ≡ slot b.chunk b.store (index * (32 * b.chunk) + j)
@@ -65,12 +65,12 @@ pub slot_last : (b : Begin) (from index count k : ℕ) (known : Type 0) (bytes :
 slot_last b from index count k known bytes may area rolls lt is few empty inside below = elim (cases_lt k (index * (32 * b.chunk) + count)) [
   | inl under ↦ under
   | inr past ↦ absurd (
-    let some = rolls.leaves.begin.some in
-    let l = IsListed-of b.chunk b.store (pairs b) some refl in
-    let step : (index + 1) * (32 * b.chunk) ≡ index * (32 * b.chunk) + 32 * b.chunk = grind arith in
-    l.valid (index * (32 * b.chunk) + count) (omega arith)
-    (sym (ap (λ (p : Pair). p.new) (area_slot b from index count known bytes may area rolls lt is (omega arith))) ∙ empty (omega arith))
-  )
+      let some = rolls.leaves.begin.some in
+      let l = IsListed-of b.chunk b.store (pairs b) some refl in
+      let step : (index + 1) * (32 * b.chunk) ≡ index * (32 * b.chunk) + 32 * b.chunk = grind arith in
+      l.valid (index * (32 * b.chunk) + count) (omega arith)
+      (sym (ap (λ (p : Pair). p.new) (area_slot b from index count known bytes may area rolls lt is (omega arith))) ∙ empty (omega arith))
+      )
 ]
 
 -- one run of copies after the other

@@ -52,7 +52,7 @@ part_array b from known bytes may pair count t part rolls of size is lt =
     ap (λ x. sector_at x t) is ∙ sector_of_part (bytes 1) (b.chunk * pair.new) count t lt ∙ elim (rolls.store_now (b.chunk * pair.new + t) (omega arith)) [
       | inr (zeros, there) ↦ absurd (not_in_area b.chunk from pair.new t some short free there)
       | inl same ↦ same ∙ ap (λ x. sector_at b.store (b.chunk * pair.new + x)) (sym r)
-        ∙ sym (sector_copied b.chunk b.sectors b.size (b.chunk * pair.old + t) pair.new b.origin b.store (pairs b) some begin.origin begin.store (omega arith) (omega arith) refl (ap (place_of (pairs b)) q ∙ place))
+          ∙ sym (sector_copied b.chunk b.sectors b.size (b.chunk * pair.old + t) pair.new b.origin b.store (pairs b) some begin.origin begin.store (omega arith) (omega arith) refl (ap (place_of (pairs b)) q ∙ place))
     ]
 
 pub length_part : (b : Begin) (from : ℕ) (known : Type 0) (bytes : ℕ → List ℕ) (may : ℕ → ℕ → List ℕ → Type 0) (pair : Pair) (count : ℕ) (part : List ℕ) → Rolls b from known bytes may → IsPairOf b pair → count ≡ min b.chunk (b.sectors - b.chunk * pair.old) → part ≡ sectors_at (bytes 1) (b.chunk * pair.new) count → length part ≡ 512 * count

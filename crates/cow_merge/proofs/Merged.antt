@@ -45,16 +45,16 @@ sector_by b from end s v None is le (inr (old, named)) back at = named_by (place
         elim (cases_lt k (from * (32 * b.chunk))) [
           | inr past ↦ inl (back k d past bounds.0 bounds.1 (sym old_is))
           | inl below ↦ absurd (
-            let len : k < length (take (from * (32 * b.chunk)) (pairs b)) = elim (cases_lt (length (pairs b)) (from * (32 * b.chunk))) [
-              | inl all ↦ (let h = ap length (take_all (from * (32 * b.chunk)) (pairs b) (omega arith)) in let g = bounds.1 in omega arith)
-              | inr some ↦ (let h = length-take-le (from * (32 * b.chunk)) (pairs b) some in omega arith)
-            ] in
-            let here : (get_or (take (from * (32 * b.chunk)) (pairs b)) k d).old ≡ s / b.chunk = ap (λ (p : Pair). p.old) (get_or-take (from * (32 * b.chunk)) (pairs b) k d below) ∙ old_is in
-            let place = place_first (take (from * (32 * b.chunk)) (pairs b)) k (s / b.chunk) d len (λ j e' less same.
-                (is.formed.apart j k e' less bounds.1).old (sym (ap (λ (p : Pair). p.old) (get_or-take (from * (32 * b.chunk)) (pairs b) j e' (omega arith))) ∙ same ∙ sym here
-                ∙ ap (λ (p : Pair). p.old) (get_or-take (from * (32 * b.chunk)) (pairs b) k d below ∙ other k d e' bounds.1))) here in
-            let h : Some (get_or (take (from * (32 * b.chunk)) (pairs b)) k d).new ≡ None = sym place ∙ at in cc
-          )
+              let len : k < length (take (from * (32 * b.chunk)) (pairs b)) = elim (cases_lt (length (pairs b)) (from * (32 * b.chunk))) [
+                | inl all ↦ (let h = ap length (take_all (from * (32 * b.chunk)) (pairs b) (omega arith)) in let g = bounds.1 in omega arith)
+                | inr some ↦ (let h = length-take-le (from * (32 * b.chunk)) (pairs b) some in omega arith)
+              ] in
+              let here : (get_or (take (from * (32 * b.chunk)) (pairs b)) k d).old ≡ s / b.chunk = ap (λ (p : Pair). p.old) (get_or-take (from * (32 * b.chunk)) (pairs b) k d below) ∙ old_is in
+              let place = place_first (take (from * (32 * b.chunk)) (pairs b)) k (s / b.chunk) d len (λ j e' less same.
+              (is.formed.apart j k e' less bounds.1).old (sym (ap (λ (p : Pair). p.old) (get_or-take (from * (32 * b.chunk)) (pairs b) j e' (omega arith))) ∙ same ∙ sym here
+              ∙ ap (λ (p : Pair). p.old) (get_or-take (from * (32 * b.chunk)) (pairs b) k d below ∙ other k d e' bounds.1))) here in
+              let h : Some (get_or (take (from * (32 * b.chunk)) (pairs b)) k d).new ≡ None = sym place ∙ at in cc
+              )
         ]
       where
         other : (k : ℕ) (d e' : Pair) → k < length (pairs b) → get_or (pairs b) k d ≡ get_or (pairs b) k e'

@@ -28,7 +28,6 @@ use Rattle.cow_merge.proofs.Sectors.{by_sectors, zero_pair, place_first, place_n
 
 module _ (b : Begin) (from : ℕ) (left : ℕ → List ℕ) (is : IsBegin b) (lo : length (left 0) ≡ 512 * b.sectors) (ls : length (left 1) ≡ 512 * b.size)
     (os : (s : ℕ) → s < b.sectors → OriginMay b from s (sector_at (left 0) s)) (ss : (s : ℕ) → s < b.size → StoreMay b from s (sector_at (left 1) s)) where
-
   -- a slot is as it was, or empty
   slot_cases : (i : ℕ) → i ≤ length (pairs b) → (slot b.chunk (left 1) i ≡ slot b.chunk b.store i) ⊎ (((slot b.chunk (left 1) i).new ≡ 0) × (from * (32 * b.chunk) ≤ i))
   slot_cases i le =
@@ -38,9 +37,9 @@ module _ (b : Begin) (from : ℕ) (left : ℕ → List ℕ) (is : IsBegin b) (lo
         | inr (zeros, there) ↦ inr (
           ap (λ (p : Pair). p.new) (sym (slot_there b.chunk (left 1) i is.some) ∙ ap (λ v. pair_in v (number_of b.chunk i)) zeros) ∙ zero_pair 512 (number_of b.chunk i),
           (let low : i % (32 * b.chunk) < 32 * b.chunk = mod_below i (32 * b.chunk) (omega arith) in
-          let a : from ≤ i / (32 * b.chunk) = area_from b.chunk from (i / (32 * b.chunk)) (i % (32 * b.chunk) / 32) (omega arith) there in
-          let up : from * (32 * b.chunk) ≤ i / (32 * b.chunk) * (32 * b.chunk) = mul-le-mul_right (32 * b.chunk) a in
-          let h = div-mul-le_self i (32 * b.chunk) in omega arith)
+              let a : from ≤ i / (32 * b.chunk) = area_from b.chunk from (i / (32 * b.chunk)) (i % (32 * b.chunk) / 32) (omega arith) there in
+              let up : from * (32 * b.chunk) ≤ i / (32 * b.chunk) * (32 * b.chunk) = mul-le-mul_right (32 * b.chunk) a in
+              let h = div-mul-le_self i (32 * b.chunk) in omega arith),
         )
       ]
 
@@ -81,7 +80,7 @@ module _ (b : Begin) (from : ℕ) (left : ℕ → List ℕ) (is : IsBegin b) (lo
       elim (ss (b.chunk * n + s % b.chunk) inside) [
         | inr (zeros, there) ↦ absurd (not_in_area b.chunk from n (s % b.chunk) is.some off free there)
         | inl same ↦ sector_copied b.chunk b.sectors b.size s n (left 0) (left 1) (take m (pairs b)) is.some lo ls lt inside list at ∙ same
-          ∙ sym (sector_copied b.chunk b.sectors b.size s n b.origin b.store (pairs b) is.some is.origin is.store lt inside refl whole)
+            ∙ sym (sector_copied b.chunk b.sectors b.size s n b.origin b.store (pairs b) is.some is.origin is.store lt inside refl whole)
       ]
   shown_at m s None low high list lt at =
       sector_plain b.chunk b.sectors s (left 0) (left 1) (take m (pairs b)) is.some lo lt list at ∙ elim (os s lt) [

@@ -8,22 +8,12 @@ ghost use Rattle.cow_merge.specs.Merges.{StillShows, IsMerged};
 
 use crate::clearing::clear_areas;
 use crate::copying::{ORIGIN, STORE, copy_areas};
+use crate::settling::settle;
 use crate::{Sizes, Stopped};
 use cow_map::CowMap;
 use file_set::FileSet;
 use metadata_area::Area;
 use std::alloc::{AllocError, Global};
-
-/// Makes all that was written to both files last, the store first.
-fn settle<F: FileSet>(files: &mut F) -> Result<(), Stopped>
-    ensures stays { Stays (F.moment files.old) (F.moment files.new) (F.left_since files.old) (F.left_since files.new) (F.bytes files.old) (F.may_hold files.old) }
-    ensures settles { OnOk result (F.is_known files.old → Settles (F.is_known files.new) (F.bytes files.old) (F.bytes files.new) (F.may_hold files.new)) }
-    ensures cause { HasCause (F.is_known files.old) (F.fault_count files.old) (F.fault_count files.new) result }
-{
-    files.sync(STORE)?;
-    files.sync(ORIGIN)?;
-    Ok(())
-}
 
 /// Copies back what the pairs of areas have, and makes it last.
 fn copy_batch<F: FileSet>(

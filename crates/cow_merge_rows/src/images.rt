@@ -86,7 +86,10 @@ fn put(bytes: &mut [u8], at: usize, byte: u8) {
 /// is full of the byte 100 + k.
 pub fn two_areas(alloc: Global) -> Result<Vec<u8>, AllocError> {
     let mut bytes = vec![in alloc; 0u8; 512 * 80]?;
-    for (at, byte) in [0x53, 0x6e, 0x41, 0x70, 1, 0, 0, 0, 1, 0, 0, 0, 1].iter().enumerate() {
+    for (at, byte) in [0x53, 0x6e, 0x41, 0x70, 1, 0, 0, 0, 1, 0, 0, 0, 1]
+        .iter()
+        .enumerate()
+    {
         put(&mut bytes, at, *byte);
     }
     for k in 0..40usize {

@@ -41,11 +41,7 @@ fn two(alloc: Global) -> Result<Case, Fail> {
 }
 
 // The map of a store, for an origin of so many bytes.
-fn map_of(
-    rt: &(impl Abort + AllocGlobal),
-    store: &[u8],
-    bytes: usize,
-) -> Result<CowMap, Fail> {
+fn map_of(rt: &(impl Abort + AllocGlobal), store: &[u8], bytes: usize) -> Result<CowMap, Fail> {
     let mut cow = MemImage {
         bytes: store.to_vec(rt.alloc())?,
     };
@@ -56,11 +52,7 @@ fn map_of(
 }
 
 // What an origin and a store show.
-fn shown_by(
-    rt: &(impl Abort + AllocGlobal),
-    origin: &[u8],
-    store: &[u8],
-) -> Result<Vec<u8>, Fail> {
+fn shown_by(rt: &(impl Abort + AllocGlobal), origin: &[u8], store: &[u8]) -> Result<Vec<u8>, Fail> {
     let map = map_of(rt, store, origin.len())?;
     let mut cow = MemImage {
         bytes: store.to_vec(rt.alloc())?,

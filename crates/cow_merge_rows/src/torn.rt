@@ -170,7 +170,9 @@ impl FileSet for TornFiles {
         let old = fails && self.torn == Torn::Old;
         let file = self.file(file);
         if !old && file.synced.len() == file.now.len() {
-            file.synced.as_mut_slice().copy_from_slice(file.now.as_slice());
+            file.synced
+                .as_mut_slice()
+                .copy_from_slice(file.now.as_slice());
         }
         if fails {
             return Err(io::ErrorKind::Other.into());

@@ -1,6 +1,6 @@
 use Rattle.std.proofs.Common.{◌≡◌, inl, inr, ℕ, ◌*◌, ◌<◌, ◌≤◌, List, length, arith, refl, ap, ◌∙◌, sym, subst}
 use Rattle.cow_merge.proofs.Steps.{stays_one, stays_both}
-use Rattle.cow_merge.proofs.merging.settle.Goals as goal
+use Rattle.cow_merge.proofs.settling.settle.Goals as goal
 
 pub returns-in_err-sync-2-clause-stays : goal.returns-in_err-sync-2-clause-stays
 returns-in_err-sync-2-clause-stays g c =
