@@ -1,17 +1,16 @@
 -- Areas are read, copied back, and zeroed.
-use Rattle.std.proofs.Common.{◌≡◌, ◌≢◌, ◌⊎◌, inl, inr, ℕ, ◌+◌, ◌*◌, ◌-◌, ◌/◌, ◌%◌, ◌<◌, ◌≤◌, List, length, take, drop, get_or, replicate, arith, refl, ap, ◌∙◌, sym, subst, min, length-take, length-drop}
+use Rattle.std.proofs.Common.{◌≡◌, ◌≢◌, ◌⊎◌, inl, inr, ℕ, ◌+◌, ◌*◌, ◌-◌, ◌/◌, ◌<◌, ◌≤◌, List, length, get_or, replicate, arith, refl, ap, ◌∙◌, sym, subst, length-take, length-drop}
 use Rattle.std.proofs.lemmas.Bool.{cases_lt, cases_eq}
-use Rattle.std.proofs.lemmas.Nat.{le-div}
 use Rattle.std.proofs.Math.Nat.{mul-le-mul_left, mul-le-mul_right, div-mul-le_self}
 use Rattle.std.proofs.lemmas.List.{ext_get_or, length-replicate}
-use Rattle.sector.specs.Bytes.{sector_at, sectors_at, with_sectors}
+use Rattle.sector.specs.Bytes.{sector_at, with_sectors}
 use Rattle.sector.specs.declared.pair.Pair.{Pair}
 use Rattle.sector.proofs.Sectors.{byte_read, sector_after_write, sectors_at-with_inside}
 use Rattle.model.specs.Slots.{pair_in}
 use Rattle.model.specs.Places.{area_place, chunk_at, slot}
 use Rattle.model.proofs.Slots.{slot-at, IsListed-of}
 use Rattle.cow_merge.specs.Merges.{IsInArea}
-use Rattle.cow_merge.specs.Holding.{Begin, pairs, array, IsBegin, OriginMay, StoreMay, Leaves, Rolls, IsPairOf, IsBack, AreBack, Copies, IsZero, Clears}
+use Rattle.cow_merge.specs.Holding.{Begin, pairs, array, IsBegin, OriginMay, StoreMay, Leaves, Rolls, IsBack, AreBack, Copies, IsZero, Clears}
 use Rattle.cow_merge.proofs.Sectors.{by_sectors, zero_byte, area_from}
 use Rattle.cow_merge.proofs.Copies.{sector_of_part}
 

@@ -1,6 +1,5 @@
 -- A copy is taken back.
-use Rattle.std.proofs.Common.{◌≡◌, ◌≢◌, ◌⊎◌, inl, inr, false, ℕ, ◌+◌, ◌*◌, ◌-◌, ◌/◌, ◌%◌, ◌<◌, ◌≤◌, List, length, take, drop, get_or, arith, refl, ap, ◌∙◌, sym, subst, min, length-take, length-drop, Some}
-use Rattle.std.proofs.lemmas.Bool.{cases_lt}
+use Rattle.std.proofs.Common.{◌≡◌, ◌⊎◌, inl, inr, false, ℕ, ◌+◌, ◌*◌, ◌-◌, ◌/◌, ◌%◌, ◌<◌, ◌≤◌, List, length, take, drop, get_or, arith, refl, ap, ◌∙◌, sym, subst, min, length-take, length-drop, Some}
 use Rattle.std.proofs.lemmas.Nat.{mod_below, div-mul-add, mod-mul-add, div-add-mod'}
 use Rattle.std.proofs.lemmas.List.{ext_get_or, length-take-le}
 use Rattle.sector.specs.Bytes.{sector_at, sectors_at, with_sectors}

@@ -1,27 +1,24 @@
 -- The beginning and the end of a merge, and of a batch.
-use Rattle.std.proofs.Common.{◌≡◌, ◌≢◌, ◌⊎◌, inl, inr, ℕ, ◌+◌, ◌*◌, ◌-◌, ◌/◌, ◌%◌, ◌<◌, ◌≤◌, List, [], length, take, get_or, replicate, arith, refl, ap, ◌∙◌, sym, subst, Some, None, Ok}
+use Rattle.std.proofs.Common.{◌≡◌, inl, inr, ℕ, ◌+◌, ◌*◌, ◌/◌, ◌%◌, ◌<◌, ◌≤◌, List, [], length, take, get_or, replicate, arith, refl, ap, ◌∙◌, sym, subst, Some, None}
 use Rattle.std.specs.Prelude.{Option}
 use Rattle.std.proofs.lemmas.Bool.{cases_lt}
 use Rattle.std.proofs.lemmas.Nat.{mod_below, div-add-mod'}
-use Rattle.std.proofs.Math.Nat.{mul-le-mul_right, mul-le-mul_left}
 use Rattle.std.proofs.lemmas.List.{take_all, get_or-take, get_or_default, length-take-le}
 use Rattle.sector.specs.Bytes.{sector_at}
 use Rattle.sector.specs.declared.pair.Pair.{Pair}
 use Rattle.model.specs.Slots.{pair_in}
-use Rattle.model.specs.Places.{area_place, slot}
-use Rattle.model.specs.Pairs.{pairs_of, AreWellFormed}
-use Rattle.model.specs.Picture.{place_of, picture}
+use Rattle.model.specs.Places.{area_place}
+use Rattle.model.specs.Pairs.{pairs_of}
+use Rattle.model.specs.Picture.{place_of}
 use Rattle.model.proofs.Pictures.{place_found, length-picture}
 use Rattle.model.proofs.Slots.{pairs-are}
-use Rattle.cow_header.specs.HeaderText.{found_in}
-use Rattle.cow_header.specs.declared.found.Found.TheVariants.{Header}
 use Rattle.cow_map.proofs.Places.{place_first}
 use Rattle.stop_laws.specs.May.{sector_of, number_of}
 use Rattle.stop_laws.proofs.May.{slot_there}
 use Rattle.stop_laws.proofs.Open.{sector_plain}
-use Rattle.file_set.specs.Stops.{AreLeft, Elapses}
-use Rattle.cow_merge.specs.Merges.{IsInArea, StillShows, IsMerged}
-use Rattle.cow_merge.specs.Holding.{Begin, pairs, array, IsBegin, OriginMay, StoreMay, Leaves, Rolls, IsBack, AreBack, IsZero, IsSynced, Settles, Stays, Ends, Passes}
+use Rattle.file_set.specs.Stops.{AreLeft}
+use Rattle.cow_merge.specs.Merges.{IsMerged}
+use Rattle.cow_merge.specs.Holding.{Begin, pairs, array, IsBegin, OriginMay, StoreMay, Rolls, AreBack, Settles, Ends}
 use Rattle.cow_merge.proofs.Sectors.{by_sectors, zero_pair}
 use Rattle.cow_merge.proofs.Shows.{still_shows}
 use Rattle.cow_merge.proofs.Areas.{area_room}

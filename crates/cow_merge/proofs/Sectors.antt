@@ -1,11 +1,11 @@
 -- Sectors of areas and of copies, and lists of pairs.
-use Rattle.std.proofs.Common.{◌≡◌, ◌≢◌, ◌⊎◌, inl, inr, ℕ, zero, suc, ◌+◌, ◌*◌, ◌-◌, ◌/◌, ◌%◌, ◌<◌, ◌≤◌, List, [], ◌∷◌, length, take, get_or, replicate, arith, refl, ap, ◌∙◌, sym, subst, cond, Some, None}
-use Rattle.std.specs.Prelude.{Option, true, false, ◌==◌}
+use Rattle.std.proofs.Common.{◌≡◌, inl, inr, ℕ, zero, suc, ◌+◌, ◌*◌, ◌/◌, ◌%◌, ◌<◌, ◌≤◌, List, [], ◌∷◌, length, take, get_or, replicate, arith, refl, ap, ◌∙◌, sym, subst, Some, None}
+use Rattle.std.specs.Prelude.{Option, false, ◌==◌}
 use Rattle.std.specs.List.{All}
 use Rattle.std.proofs.lemmas.Bool.{cases_lt, cases_Bool, cond-true, cond-false, true≢false}
-use Rattle.std.proofs.lemmas.Nat.{mod_below, div-mul-add, le-div, div-add-mod'}
+use Rattle.std.proofs.lemmas.Nat.{mod_below, div-mul-add, le-div}
 use Rattle.std.proofs.Math.Nat.{mul-le-mul_left, mul-le-mul_right, div-mul-le_self}
-use Rattle.std.proofs.lemmas.List.{ext_get_or, get_or-replicate, get_or_past, length-replicate, take_all, length-take-le}
+use Rattle.std.proofs.lemmas.List.{ext_get_or, get_or-replicate, get_or_past, length-replicate, take_all}
 use Rattle.sector.specs.Bytes.{sector_at}
 use Rattle.sector.specs.Number.{number_at}
 use Rattle.sector.specs.declared.pair.Pair.{Pair}

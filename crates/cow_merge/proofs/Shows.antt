@@ -1,21 +1,20 @@
 -- What may be left at each moment of a merge still shows the snapshot.
-use Rattle.std.proofs.Common.{◌≡◌, ◌≢◌, ◌⊎◌, inl, inr, ℕ, ◌+◌, ◌*◌, ◌-◌, ◌/◌, ◌%◌, ◌<◌, ◌≤◌, List, [], length, take, get_or, replicate, arith, refl, ap, ◌∙◌, sym, subst, min, Ok, None, Some}
+use Rattle.std.proofs.Common.{◌≡◌, ◌≢◌, ◌⊎◌, inl, inr, ℕ, ◌+◌, ◌*◌, ◌/◌, ◌%◌, ◌<◌, ◌≤◌, List, length, take, replicate, arith, refl, ap, ◌∙◌, sym, min, Ok, None, Some}
 use Rattle.std.specs.Prelude.{Option}
 use Rattle.std.proofs.lemmas.Bool.{cases_lt}
-use Rattle.std.proofs.lemmas.Nat.{mod_below, div-add-mod'}
+use Rattle.std.proofs.lemmas.Nat.{mod_below}
 use Rattle.std.proofs.Math.Nat.{mul-le-mul_right, div-mul-le_self}
-use Rattle.std.proofs.lemmas.List.{take_all, length-take-le}
+use Rattle.std.proofs.lemmas.List.{take_all}
 use Rattle.sector.specs.Bytes.{sector_at}
 use Rattle.sector.specs.declared.pair.Pair.{Pair}
 use Rattle.model.specs.Slots.{pair_in}
-use Rattle.model.specs.Places.{area_place, is_area_place, slot}
+use Rattle.model.specs.Places.{area_place, slot}
 use Rattle.model.specs.Pairs.{pairs_of}
 use Rattle.model.specs.Picture.{place_of, picture}
 use Rattle.model.proofs.Slots.{IsListed-of}
 use Rattle.model.proofs.Pictures.{length-picture}
 use Rattle.cow_header.specs.HeaderText.{found_in}
 use Rattle.cow_header.specs.declared.found.Found.TheVariants.{Header}
-use Rattle.stop_laws.specs.Again.{LoadsAgain}
 use Rattle.stop_laws.specs.May.{sector_of, number_of}
 use Rattle.stop_laws.proofs.Between.{IsBetween, pairs_between}
 use Rattle.stop_laws.proofs.Loads.{formed_first}

@@ -1,5 +1,5 @@
 -- How a run of calls goes on.
-use Rattle.std.proofs.Common.{◌≡◌, ◌≢◌, ◌⊎◌, inl, inr, ⊎_elim, ℕ, ◌+◌, ◌*◌, ◌-◌, ◌<◌, ◌≤◌, List, length, arith, refl, ap, ◌∙◌, sym, subst}
+use Rattle.std.proofs.Common.{◌≡◌, ◌⊎◌, inl, inr, ℕ, List, length, arith, ap, ◌∙◌, sym, subst}
 use Rattle.sector.specs.Bytes.{sector_at}
 use Rattle.file_set.specs.Stops.{AreLeft, Elapses}
 use Rattle.cow_merge.specs.Merges.{StillShows}

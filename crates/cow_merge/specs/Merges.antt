@@ -1,9 +1,9 @@
 -- To be believed: a merge's clauses are said in these words.
 -- What a stop may leave of an origin and its store while the store's copies are taken back, and what is there in the end. The
 -- files are an origin's under 0 and a store's under 1. The format is that of dm-snap-persistent.c; the rest is this project's.
-use Rattle.std.specs.Prelude.{◌≡◌, ◌≢◌, ◌⊎◌, ℕ, ◌+◌, ◌*◌, ◌/◌, ◌<◌, ◌≤◌, List, [], length, replicate, take, None, true}
+use Rattle.std.specs.Prelude.{◌≡◌, ◌≢◌, ◌⊎◌, ℕ, ◌+◌, ◌*◌, ◌/◌, ◌<◌, ◌≤◌, List, [], length, replicate, take, None}
 use Rattle.sector.specs.Bytes.{sector_at}
-use Rattle.model.specs.Places.{area_place, is_area_place}
+use Rattle.model.specs.Places.{area_place}
 use Rattle.model.specs.Pairs.{pairs_of}
 use Rattle.model.specs.Picture.{place_of, picture}
 use Rattle.stop_laws.specs.Again.{LoadsAgain}

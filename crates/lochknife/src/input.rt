@@ -72,11 +72,7 @@ impl<'a> Input<'a> {
     }
 
     /// An input over a file that is open, and is locked elsewhere.
-    pub fn over(
-        rt: &'a HostRuntime,
-        name: &'a str,
-        file: &File,
-    ) -> Result<Input<'a>, Trouble<'a>> {
+    pub fn over(rt: &'a HostRuntime, name: &'a str, file: &File) -> Result<Input<'a>, Trouble<'a>> {
         let file = about(name, file.try_clone())?;
         let stamp = Stamp::of(&about(name, file.metadata())?);
         let image = FileImage::new(about(name, file.try_clone())?);

@@ -100,7 +100,12 @@ fn merge_files<'a>(
     map: &CowMap,
     size: u64,
 ) -> Result<(), Trouble<'a>> {
-    let room = held(words.cow, Room::new(rt.alloc(), map.chunk))?;
+    let Ok(room) = Room::new(rt.alloc(), map.chunk) else {
+        return Err(Trouble {
+            name: words.cow,
+            why: Why::NoMemory,
+        });
+    };
     about(words.origin, folder_synced(rt, words.origin))?;
     about(words.cow, folder_synced(rt, words.cow))?;
     let merged = cow_merge::merge(&mut files, map, size, room);

@@ -1,7 +1,7 @@
-use Rattle.std.proofs.Common.{◌≡◌, ℕ, ◌+◌, ◌*◌, ◌<◌, ◌≤◌, List, length, arith, refl, ap, ◌∙◌, sym}
+use Rattle.std.proofs.Common.{◌≡◌, ◌+◌, ◌*◌, length, arith, ap, ◌∙◌}
 use Rattle.std.proofs.lemmas.List.{length-replicate}
 use Rattle.cow_merge.specs.Begun.{begun}
-use Rattle.cow_merge.proofs.Steps.{passes_one, rolls_kept}
+use Rattle.cow_merge.proofs.Steps.{passes_one}
 use Rattle.cow_merge.proofs.Areas.{area_room, leaves_cleared, clears_written, zero_written}
 use Rattle.cow_merge.proofs.clearing.clear_area.Goals as goal
 

@@ -1,6 +1,5 @@
-use Rattle.std.proofs.Common.{◌≡◌, inl, inr, ℕ, ◌+◌, ◌*◌, ◌-◌, ◌<◌, ◌≤◌, List, length, arith, refl, ap, ◌∙◌, sym, subst}
+use Rattle.std.proofs.Common.{inl, inr, ◌-◌, arith, refl, sym, subst}
 use Rattle.std.proofs.lemmas.Bool.{cases_eq}
-use Rattle.cow_merge.specs.Begun.{begun}
 use Rattle.cow_merge.specs.Holding.{IsZero}
 use Rattle.cow_merge.proofs.Steps.{passes_both, passes_none}
 use Rattle.cow_merge.proofs.Areas.{clears_both, clears_none}

@@ -1,4 +1,4 @@
-use Rattle.std.proofs.Common.{◌≡◌, List, ℕ, ◌+◌, ◌*◌, ◌<◌, ◌≤◌, length}
+use Rattle.std.proofs.Common.{List, ℕ, ◌<◌, ◌≤◌}
 use Rattle.cow_merge.specs.Begun.{begun}
 use Rattle.cow_merge.specs.Holding.{Rolls, Passes, Clears, IsZero}
 use Rattle.cow_merge.proofs.clearing.clear_areas.Given as goal

@@ -1,4 +1,4 @@
-use Rattle.std.proofs.Common.{◌≡◌, List, ℕ, ◌+◌, ◌*◌, ◌<◌, ◌≤◌, length}
+use Rattle.std.proofs.Common.{◌≡◌, List, ℕ, ◌*◌, ◌≤◌, length}
 use Rattle.cow_merge.specs.Begun.{begun}
 use Rattle.cow_merge.specs.Holding.{Rolls, Passes, Copies, AreBack}
 use Rattle.cow_merge.proofs.copying.copy_areas.Given as goal

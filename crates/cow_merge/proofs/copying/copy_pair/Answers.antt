@@ -1,6 +1,6 @@
-use Rattle.std.proofs.Common.{◌≡◌, ℕ, ◌+◌, ◌*◌, ◌-◌, ◌<◌, ◌≤◌, List, length, min, take, arith, refl, ap, ◌∙◌, sym}
+use Rattle.std.proofs.Common.{length, arith, refl, ap, ◌∙◌}
 use Rattle.cow_merge.specs.Begun.{begun}
-use Rattle.cow_merge.proofs.Steps.{passes_one, passes_both, leaves_kept, rolls_kept}
+use Rattle.cow_merge.proofs.Steps.{passes_one, passes_both, rolls_kept}
 use Rattle.cow_merge.proofs.Copies.{pair_place, arrays_at, read_part, length_part, leaves_written, copies_written, back_written}
 use Rattle.cow_merge.proofs.copying.copy_pair.Goals as goal
 

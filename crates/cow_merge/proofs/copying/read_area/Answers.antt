@@ -1,4 +1,4 @@
-use Rattle.std.proofs.Common.{◌≡◌, ℕ, ◌+◌, ◌*◌, ◌<◌, ◌≤◌, List, length, arith, refl, ap, ◌∙◌, sym}
+use Rattle.std.proofs.Common.{arith, ap, ◌∙◌}
 use Rattle.sector.specs.Bytes.{sector_at}
 use Rattle.cow_merge.specs.Begun.{begun}
 use Rattle.cow_merge.proofs.Steps.{passes_one, rolls_kept}

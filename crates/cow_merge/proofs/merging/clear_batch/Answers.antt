@@ -1,7 +1,5 @@
-use Rattle.std.proofs.Common.{◌≡◌, ℕ, ◌+◌, ◌*◌, ◌<◌, ◌≤◌, List, length, replicate, arith, refl, ap, ◌∙◌, sym, subst}
+use Rattle.std.proofs.Common.{ℕ, List, length, arith, ap, ◌∙◌, sym, subst}
 use Rattle.sector.specs.Bytes.{sector_at}
-use Rattle.model.specs.Places.{area_place}
-use Rattle.cow_merge.specs.Begun.{begun}
 use Rattle.cow_merge.specs.Holding.{IsZero}
 use Rattle.cow_merge.proofs.Steps.{passes_one, passes_both, leaves_kept, rolls_kept}
 use Rattle.cow_merge.proofs.merging.clear_batch.Goals as goal

@@ -1,6 +1,5 @@
-use Rattle.std.proofs.Common.{◌≡◌, ℕ, ◌*◌, ◌<◌, ◌≤◌, List, length, arith, refl, ap, ◌∙◌, sym}
-use Rattle.cow_merge.specs.Begun.{begun}
-use Rattle.cow_merge.proofs.Steps.{passes_one, passes_both, leaves_kept, rolls_kept}
+use Rattle.std.proofs.Common.{◌∙◌}
+use Rattle.cow_merge.proofs.Steps.{passes_one, passes_both, leaves_kept}
 use Rattle.cow_merge.proofs.Merged.{rolls_synced}
 use Rattle.cow_merge.proofs.merging.copy_batch.Goals as goal
 

@@ -1,10 +1,8 @@
-use Rattle.std.proofs.Common.{◌≡◌, ◌⊎◌, inl, inr, ℕ, ◌+◌, ◌*◌, ◌/◌, ◌<◌, ◌≤◌, List, length, arith, refl, ap, ◌∙◌, sym}
+use Rattle.std.proofs.Common.{◌≡◌, ℕ, ◌+◌, ◌*◌, List, length, arith, refl}
 use Rattle.std.proofs.lemmas.Result.{on_ok_weaker}
-use Rattle.model.specs.Pairs.{pairs_of}
 use Rattle.cow_map.specs.declared.map.CowMap.{CowMap}
 use Rattle.cow_map.specs.Maps.{IsMapOf}
-use Rattle.file_set.specs.Stops.{AreLeft}
-use Rattle.cow_merge.specs.Holding.{Begin, IsBegin, Settles, Rolls, Passes}
+use Rattle.cow_merge.specs.Holding.{Begin, IsBegin, Settles, Rolls}
 use Rattle.cow_merge.proofs.Steps.{stops_all, passes_none}
 use Rattle.cow_merge.proofs.Merged.{rolls_first, merged}
 use Rattle.cow_merge.proofs.merging.merge.Goals as goal

@@ -1,8 +1,8 @@
-use Rattle.std.proofs.Common.{◌≡◌, inl, inr, ℕ, ◌+◌, ◌*◌, ◌-◌, ◌<◌, ◌≤◌, List, length, arith, refl, ap, ◌∙◌, sym, subst}
+use Rattle.std.proofs.Common.{◌≡◌, inl, inr, ℕ, List, arith, refl, sym, subst}
 use Rattle.std.proofs.lemmas.Bool.{cases_lt}
 use Rattle.cow_merge.specs.Begun.{begun}
 use Rattle.cow_merge.specs.Holding.{Rolls, IsZero}
-use Rattle.cow_merge.proofs.Steps.{passes_both, passes_none}
+use Rattle.cow_merge.proofs.Steps.{passes_both}
 use Rattle.cow_merge.proofs.merging.merge_areas.Goals as goal
 
 pub returns-in_err-copy_batch-clause-cause : goal.returns-in_err-copy_batch-clause-cause

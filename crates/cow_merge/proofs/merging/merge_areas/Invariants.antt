@@ -1,4 +1,4 @@
-use Rattle.std.proofs.Common.{◌≡◌, List, ℕ, ◌+◌, ◌*◌, ◌<◌, ◌≤◌, length}
+use Rattle.std.proofs.Common.{◌≡◌, List, ℕ, ◌+◌, ◌*◌, ◌≤◌, length}
 use Rattle.cow_merge.specs.Begun.{begun}
 use Rattle.cow_merge.specs.Holding.{Rolls, Passes, IsZero, IsSynced}
 use Rattle.cow_merge.proofs.merging.merge_areas.Given as goal

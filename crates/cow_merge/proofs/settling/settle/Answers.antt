@@ -1,4 +1,3 @@
-use Rattle.std.proofs.Common.{◌≡◌, inl, inr, ℕ, ◌*◌, ◌<◌, ◌≤◌, List, length, arith, refl, ap, ◌∙◌, sym, subst}
 use Rattle.cow_merge.proofs.Steps.{stays_one, stays_both}
 use Rattle.cow_merge.proofs.settling.settle.Goals as goal
 
