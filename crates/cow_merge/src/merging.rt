@@ -135,7 +135,7 @@ pub fn merge<F: FileSet>(
 ) -> Result<(), Stopped>
     requires { room.area.chunk ≡ map.now.chunk }
     ensures stops { F.is_known files.old → length (F.bytes files.old 0) ≡ 512 * origin → IsMapOf origin (F.bytes files.old 1) map.now → (left : ℕ → List ℕ) → F.left_since files.new (F.moment files.old) left → AreLeft (F.bytes files.old) (F.may_hold files.old) left ⊎ StillShows map.now.chunk origin map.now.size (F.bytes files.old 0) (F.bytes files.old 1) left }
-    ensures done { OnOk result (F.is_known files.old → length (F.bytes files.old 0) ≡ 512 * origin → IsMapOf origin (F.bytes files.old 1) map.now → (left : ℕ → List ℕ) → AreLeft (F.bytes files.new) (F.may_hold files.new) left → IsMerged map.now.chunk map.now.size map.now.current (F.bytes files.old 0) (F.bytes files.old 1) left) }
+    ensures done { OnOk result (F.is_known files.old → length (F.bytes files.old 0) ≡ 512 * origin → IsMapOf origin (F.bytes files.old 1) map.now → F.is_known files.new × ((left : ℕ → List ℕ) → AreLeft (F.bytes files.new) (F.may_hold files.new) left → IsMerged map.now.chunk map.now.size map.now.current (F.bytes files.old 0) (F.bytes files.old 1) left)) }
     ensures cause { HasCause (F.is_known files.old × (length (F.bytes files.old 0) ≡ 512 * origin) × IsMapOf origin (F.bytes files.old 1) map.now) (F.fault_count files.old) (F.fault_count files.new) result }
 {
     let sizes = Sizes {

@@ -52,7 +52,7 @@ impl DiskFiles {
         self.failed
     }
 
-    // A file under a number: under 0 the first, else the second.
+    // A file under a number that is there: under 0 the first, under 1 the second.
     fn file(&mut self, file: usize) -> &mut File {
         if file == 0 {
             &mut self.first
@@ -75,6 +75,15 @@ impl DiskFiles {
     }
 }
 
+// Sees that a number is a file's.
+fn is_there(file: usize) -> io::Result<()> {
+    if file < 2 {
+        Ok(())
+    } else {
+        Err(io::ErrorKind::NotFound.into())
+    }
+}
+
 impl FileSet for DiskFiles {
     ghost is_known = { λ _. ⊥ };
 
@@ -89,16 +98,19 @@ impl FileSet for DiskFiles {
     ghost fault_count = { λ _. 0 };
 
     fn len(&mut self, file: usize) -> io::Result<u64> {
+        is_there(file)?;
         let len = self.file(file).seek(SeekFrom::End(0));
         self.noted(file, Asked::Len, len)
     }
 
     fn read_at(&mut self, file: usize, at: u64, out: &mut [u8]) -> io::Result<()> {
+        is_there(file)?;
         let read = self.file(file).read_exact_at(out, at);
         self.noted(file, Asked::Read(at), read)
     }
 
     fn write_at(&mut self, file: usize, sector: u64, part: &[u8]) -> io::Result<()> {
+        is_there(file)?;
         let Some(at) = sector.checked_mul(512) else {
             return Err(io::ErrorKind::FileTooLarge.into());
         };
@@ -108,6 +120,7 @@ impl FileSet for DiskFiles {
 
     // The data, and what is needed to find it: files keep their length.
     fn sync(&mut self, file: usize) -> io::Result<()> {
+        is_there(file)?;
         let synced = self.file(file).sync_data();
         self.noted(file, Asked::Sync, synced)
     }

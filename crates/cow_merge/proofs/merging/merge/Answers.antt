@@ -28,10 +28,11 @@ returns-clause-stops g c = λ known len is left since.
     stops_all b _ _ _ _ _ _ (g.F.FileSet.bytes c.args.files.now) (g.F.FileSet.may_hold c.args.files.now) c.settle.ensures.stays (c.merge_areas.ensures.passes (g.F.FileSet.bytes c.args.files.now 0) (g.F.FileSet.bytes c.args.files.now 1) rolls) (λ l now. g.met.F.FileSet.only_now c.args.files.now l now) left since
 
 pub returns-clause-done : goal.returns-clause-done
-returns-clause-done g c = on_ok_weaker c.merge_areas.result (λ ends known len is left are.
+returns-clause-done g c = on_ok_weaker c.merge_areas.result (λ ends known len is.
     let b = begin_of c.args.map.now c.args.origin (g.F.FileSet.bytes c.args.files.now 0) (g.F.FileSet.bytes c.args.files.now 1) in
     let rolls = first c.args.map.now c.args.origin _ (g.F.FileSet.bytes c.args.files.now) _ _ len is (c.in_ok-settle.ensures.settles known) in
-    merged b c.args.map.now.current _ _ left _ is.current (ends (g.F.FileSet.bytes c.args.files.now 0) (g.F.FileSet.bytes c.args.files.now 1) rolls) are) c.merge_areas.ensures.ends
+    let ended = ends (g.F.FileSet.bytes c.args.files.now 0) (g.F.FileSet.bytes c.args.files.now 1) rolls in
+    (ended.rolls.is_known, λ left are. merged b c.args.map.now.current _ _ left _ is.current ended are)) c.merge_areas.ensures.ends
 
 pub returns-clause-cause : goal.returns-clause-cause
 returns-clause-cause g c = record {
