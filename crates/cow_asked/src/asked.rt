@@ -53,6 +53,17 @@ pub enum Asked<'a> {
         chunk: Option<u32>,
         behind: bool,
     },
+    /// The snapshot's copies taken back into its origin, in place, or only told of.
+    Merge {
+        origin: &'a str,
+        cow: &'a str,
+        dry: bool,
+    },
+    /// The snapshot and its origin served to a client on standard input and output.
+    Serve {
+        origin: &'a str,
+        cow: &'a str,
+    },
 }
 
 /// What the words of a command line say, the first of which is the program's own name.
@@ -77,6 +88,8 @@ pub fn words_ask<'a>(alloc: Global, words: &'a [String]) -> Result<Asked<'a>, Wr
         "check" => check(&words),
         "export" => export(&words),
         "rollback" => export(&words),
+        "merge" => merge(&words),
+        "nbd" => serve(&words),
         _ => Err(Wrong::Command(command)),
     }
 }
@@ -89,6 +102,7 @@ fn takes(command: &str, option: &str) -> bool {
         ("export", "--salvage") => true,
         ("export", "--behind") => true,
         ("export", "--chunk") => true,
+        ("merge", "--dry-run") => true,
         _ => false,
     }
 }
@@ -139,4 +153,19 @@ fn export<'a>(words: &Words<'a>) -> Result<Asked<'a>, Wrong<'a>> {
         return Err(Wrong::Alone("--chunk"));
     }
     Ok(Asked::Export { origin, cow, out })
+}
+
+fn merge<'a>(words: &Words<'a>) -> Result<Asked<'a>, Wrong<'a>> {
+    let origin = words.name(1, "ORIGIN")?;
+    let cow = words.name(2, "COW")?;
+    words.are_so_many(3)?;
+    let dry = words.has("--dry-run");
+    Ok(Asked::Merge { origin, cow, dry })
+}
+
+fn serve<'a>(words: &Words<'a>) -> Result<Asked<'a>, Wrong<'a>> {
+    let origin = words.name(1, "ORIGIN")?;
+    let cow = words.name(2, "COW")?;
+    words.are_so_many(3)?;
+    Ok(Asked::Serve { origin, cow })
 }

@@ -5,13 +5,15 @@ pub const VERSION: &[u8] = b"lochknife 1\n";
 
 /// The words that are taken.
 pub const HELP: &[u8] =
-    b"lochknife looks at images of dm-snapshot's stores, and never writes to an image.
+    b"lochknife looks at images of dm-snapshot's stores. But for merge it never writes to an image.
 
 usage: lochknife show COW [--json]
        lochknife map COW [--raw]
        lochknife check ORIGIN COW
        lochknife export ORIGIN COW OUT [--salvage [--chunk N] [--behind]]
        lochknife rollback ORIGIN COW OUT
+       lochknife merge ORIGIN COW [--dry-run]
+       lochknife nbd ORIGIN COW
        lochknife --help | --version
 
   show      the header's numbers, how many pairs, where they end, the numbers of the status line
@@ -19,6 +21,8 @@ usage: lochknife show COW [--json]
   check     as show, for this origin, and every fault of the pairs
   export    the array that the snapshot shows, into a new file OUT
   rollback  the same file: what the origin holds after the whole merge
+  merge     takes the copies back into ORIGIN itself, and its pairs away from COW; stopped at any moment, run it again
+  nbd       serves the snapshot, for reading, to a client on standard input and output
 
 COW is an image of a snapshot's store, ORIGIN one of its origin: files or block devices. OUT must not be there; as - it
 is standard output. Options stand anywhere; after -- there are names only.
@@ -28,6 +32,7 @@ is standard output. Options stand anywhere; after -- there are names only.
   --salvage   of a store that is refused, or can't be read everywhere: what is known of the array, and a list of what is not
   --chunk N   the sectors of a chunk, where the header is gone
   --behind    also by the pairs behind the first empty slot
+  --dry-run   what a merge would do; nothing is written
   -h, --help, -V, --version
 
 Exit status: 0 the store is good; 1 it is refused; 2 something could not be read or written, or the words are wrong.

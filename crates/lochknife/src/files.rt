@@ -60,7 +60,7 @@ pub fn named<'a>(rt: &HostRuntime, partial: &str, out: &'a str) -> Result<(), Tr
 }
 
 /// Makes a file's name last.
-fn folder_synced(rt: &HostRuntime, out: &str) -> io::Result<()> {
+pub fn folder_synced(rt: &HostRuntime, out: &str) -> io::Result<()> {
     let folder = match out.rsplit_once('/') {
         None => ".",
         Some(("", _)) => "/",

@@ -71,6 +71,22 @@ impl<'a> Input<'a> {
         })
     }
 
+    /// An input over a file that is open, and is locked elsewhere.
+    pub fn over(rt: &'a HostRuntime, name: &'a str, file: &File) -> Result<Input<'a>, Trouble<'a>> {
+        let file = about(name, file.try_clone())?;
+        let stamp = Stamp::of(&about(name, file.metadata())?);
+        let image = FileImage::new(about(name, file.try_clone())?);
+        Ok(Input {
+            name,
+            image,
+            file,
+            stamp,
+            teller: Teller::new(rt),
+            read: 0,
+            failed: None,
+        })
+    }
+
     /// Sees that a store, which is another input, is not the same file.
     pub fn is_apart(&self, cow: &Input<'a>) -> Result<(), Trouble<'a>> {
         if self.stamp.device == cow.stamp.device && self.stamp.number == cow.stamp.number {

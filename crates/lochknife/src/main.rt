@@ -14,6 +14,7 @@ mod commands;
 mod files;
 mod input;
 mod looking;
+mod merging;
 mod notes;
 mod rolling;
 mod salvaging;
@@ -24,6 +25,7 @@ mod watched;
 mod writing;
 
 use crate::commands::{check, map, printed, raw_map, show};
+use crate::merging::{Words, merge};
 use crate::rolling::export;
 use crate::salvaging::{Salvage, salvage_array};
 use crate::trouble::Trouble;

@@ -2,6 +2,7 @@
 
 use cow_map::Failure;
 use cow_shown::Stopped;
+use file_set::Asked;
 use std::alloc::AllocError;
 use std::{fmt, io};
 
@@ -40,6 +41,12 @@ pub enum Why {
     Exists,
     /// So is the file that it is to be until it is whole.
     PartialExists,
+    /// A merge stopped at it: what was asked of it, and why it failed.
+    Unmerged(Asked, io::Error),
+    /// It is no file, and is to be written in place.
+    NoFile,
+    /// It was opened in the place of a standard stream.
+    NoStream,
 }
 
 /// Says with which file something went wrong.
@@ -93,6 +100,9 @@ impl Why {
     }
 }
 
+/// What is to be done where a merge stopped.
+const AGAIN: &str = "both files still show the snapshot: run the same command again";
+
 impl fmt::Display for Trouble<'_> {
     fn fmt<W: fmt::Write>(&self, f: &mut fmt::Formatter<W>) -> fmt::Result {
         write!(f, "{}: {}", self.name, self.why)
@@ -114,6 +124,16 @@ impl fmt::Display for Why {
             Why::SameFile => write!(f, "is the origin's file too"),
             Why::Locked => write!(f, "another program has locked it"),
             Why::Exists => write!(f, "is there already"),
+            Why::Unmerged(Asked::Len, error) => write!(f, "{error}: {AGAIN}"),
+            Why::Unmerged(Asked::Read(at), error) => {
+                write!(f, "cannot read at byte {at}: {error}: {AGAIN}")
+            }
+            Why::Unmerged(Asked::Write(at), error) => {
+                write!(f, "cannot write at byte {at}: {error}: {AGAIN}")
+            }
+            Why::Unmerged(Asked::Sync, error) => write!(f, "cannot sync: {error}: {AGAIN}"),
+            Why::NoFile => write!(f, "no file: only files are merged"),
+            Why::NoStream => write!(f, "standard input, output or error is closed"),
             Why::PartialExists => write!(
                 f,
                 "the file of this name and .partial is there already: remove it if no export runs"

@@ -1,0 +1,23 @@
+use Rattle.std.proofs.Common.{◌≡◌, List, ℕ, ◌+◌, ◌*◌, ◌≤◌, length}
+use Rattle.cow_merge.specs.Begun.{begun}
+use Rattle.cow_merge.specs.Holding.{Rolls, Passes, IsZero, IsSynced}
+use Rattle.cow_merge.proofs.merging.merge_areas.Given as goal
+
+abbrev pub invariant-loop-end : goal.invariant-loop-end
+invariant-loop-end g l =
+    let known = g.F.FileSet.is_known in
+    let bytes = g.F.FileSet.bytes in
+    let may = g.F.FileSet.may_hold in
+    record {
+      chunk : l.area.chunk ≡ l.sizes.chunk;
+      room : length l.room ≡ 512 * l.sizes.chunk;
+      high : l.end ≤ l.last + 1;
+      faults : g.F.FileSet.fault_count l.fn.files ≤ g.F.FileSet.fault_count l.files;
+      passes : (o c : List ℕ) → Rolls (begun l.sizes o c) (l.last + 1) (known l.fn.files) (bytes l.fn.files) (may l.fn.files) → Passes (begun l.sizes o c) (g.F.FileSet.moment l.fn.files) (g.F.FileSet.moment l.files) (g.F.FileSet.left_since l.fn.files) (g.F.FileSet.left_since l.files);
+      rolls : (o c : List ℕ) → Rolls (begun l.sizes o c) (l.last + 1) (known l.fn.files) (bytes l.fn.files) (may l.fn.files) → Rolls (begun l.sizes o c) l.end (known l.files) (bytes l.files) (may l.files);
+      zero : (o c : List ℕ) → Rolls (begun l.sizes o c) (l.last + 1) (known l.fn.files) (bytes l.fn.files) (may l.fn.files) → (area : ℕ) → l.end ≤ area → area ≤ l.last → IsZero l.sizes.chunk (bytes l.files 1) area;
+      synced : (o c : List ℕ) → Rolls (begun l.sizes o c) (l.last + 1) (known l.fn.files) (bytes l.fn.files) (may l.fn.files) → l.end ≤ l.last → IsSynced (bytes l.files) (may l.files) 1;
+    }
+
+abbrev pub decreases-loop-end : goal.decreases-loop-end
+decreases-loop-end g l = l.end

@@ -1,0 +1,112 @@
+-- What holds of an origin and its store at each moment of a merge.
+use Rattle.std.specs.Prelude.{◌≡◌, ◌≢◌, ◌⊎◌, ℕ, ◌+◌, ◌*◌, ◌/◌, ◌<◌, ◌≤◌, List, length, replicate, take, slice_index_or, Ok, None}
+use Rattle.sector.specs.Bytes.{sector_at}
+use Rattle.sector.specs.declared.pair.Pair.{Pair}
+use Rattle.model.specs.Places.{area_place}
+use Rattle.model.specs.Pairs.{pairs_of, AreWellFormed}
+use Rattle.model.specs.Picture.{place_of, picture}
+use Rattle.cow_header.specs.HeaderText.{found_in}
+use Rattle.cow_header.specs.declared.found.Found.TheVariants.{Header}
+use Rattle.file_set.specs.Stops.{AreLeft}
+use Rattle.cow_merge.specs.Merges.{IsInArea, StillShows}
+
+-- an origin and a store, as a merge begins
+pub record Begin : Type 0 where
+  pub chunk : ℕ
+  pub sectors : ℕ
+  pub size : ℕ
+  pub origin : List ℕ
+  pub store : List ℕ
+
+abbrev pub pairs : Begin → List Pair
+pairs b = pairs_of b.chunk b.store
+
+abbrev pub array : Begin → List ℕ
+array b = picture b.chunk b.origin b.store
+
+-- the store is loaded
+pub record IsBegin (b : Begin) : Type 0 where
+  pub some : 0 < b.chunk
+  pub origin : length b.origin ≡ 512 * b.sectors
+  pub store : length b.store ≡ 512 * b.size
+  pub header : found_in (sector_at b.store 0) ≡ Ok (Header b.chunk)
+  pub formed : AreWellFormed b.chunk b.sectors b.size (pairs b)
+
+-- a sector of the origin, where the pairs of the areas from one on are copied back
+abbrev pub OriginMay : Begin → ℕ → ℕ → List ℕ → Type 0
+OriginMay b from s v = (v ≡ sector_at (array b) s) ⊎ ((v ≡ sector_at b.origin s) × (place_of (take (from * (32 * b.chunk)) (pairs b)) (s / b.chunk) ≢ None))
+
+-- a sector of the store, where slots of the areas from one on may be zero
+abbrev pub StoreMay : Begin → ℕ → ℕ → List ℕ → Type 0
+StoreMay b from s v = (v ≡ sector_at b.store s) ⊎ ((v ≡ replicate 512 0) × IsInArea b.chunk from s)
+
+-- what may be left
+pub record Leaves (b : Begin) (from : ℕ) (bytes : ℕ → List ℕ) (may_hold : ℕ → ℕ → List ℕ → Type 0) : Type 0 where
+  pub begin : IsBegin b
+  pub origin : length (bytes 0) ≡ 512 * b.sectors
+  pub store : length (bytes 1) ≡ 512 * b.size
+  pub origin_may : (s : ℕ) (v : List ℕ) → s < b.sectors → may_hold 0 s v → OriginMay b from s v
+  pub store_may : (s : ℕ) (v : List ℕ) → s < b.size → may_hold 1 s v → StoreMay b from s v
+
+-- what may be left, and what reads give
+pub record Rolls (b : Begin) (from : ℕ) (known : Type 0) (bytes : ℕ → List ℕ) (may_hold : ℕ → ℕ → List ℕ → Type 0) : Type 0 where
+  pub is_known : known
+  pub reach : from ≤ length (pairs b) / (32 * b.chunk) + 1
+  pub leaves : Leaves b from bytes may_hold
+  pub origin_now : (s : ℕ) → s < b.sectors → OriginMay b from s (sector_at (bytes 0) s)
+  pub store_now : (s : ℕ) → s < b.size → StoreMay b from s (sector_at (bytes 1) s)
+
+-- each stop since left what a stop before might have left, or what still shows the snapshot
+pub record Passes (b : Begin) (before now : ℕ) (past since : ℕ → (ℕ → List ℕ) → Type 0) : Type 0 where
+  pub later : before ≤ now
+  pub only : (t : ℕ) (left : ℕ → List ℕ) → t ≤ before → since t left → past t left ⊎ StillShows b.chunk b.sectors b.size b.origin b.store left
+
+-- it is one of the store's pairs
+abbrev pub IsPairOf : Begin → Pair → Type 0
+IsPairOf b pair = (k : ℕ) × (k < length (pairs b)) × ((d : Pair) → slice_index_or (pairs b) k d ≡ pair)
+
+-- the sectors of a chunk of the origin are the array's
+abbrev pub IsBack : Begin → List ℕ → ℕ → Type 0
+IsBack b origin c = (s : ℕ) → s < b.sectors → s / b.chunk ≡ c → sector_at origin s ≡ sector_at (array b) s
+
+-- so are those of all chunks that the pairs from slot `low` on and below `high` name
+abbrev pub AreBack : Begin → List ℕ → ℕ → ℕ → Type 0
+AreBack b origin low high = (k : ℕ) (d : Pair) → low ≤ k → k < high → k < length (pairs b) → IsBack b origin (slice_index_or (pairs b) k d).old
+
+-- the origin is written, so that sectors that are the array's stay so
+pub record Copies (b : Begin) (from : ℕ) (known : Type 0) (bytes bytes' : ℕ → List ℕ) (may_hold : ℕ → ℕ → List ℕ → Type 0) : Type 0 where
+  pub rolls : Rolls b from known bytes' may_hold
+  pub store : bytes' 1 ≡ bytes 1
+  pub keeps : (s : ℕ) → s < b.sectors → sector_at (bytes 0) s ≡ sector_at (array b) s → sector_at (bytes' 0) s ≡ sector_at (array b) s
+
+-- an area is zeros
+abbrev pub IsZero : ℕ → List ℕ → ℕ → Type 0
+IsZero chunk store area = (s : ℕ) → s < chunk → sector_at store (chunk * area_place chunk area + s) ≡ replicate 512 0
+
+-- the store's areas are zeroed, so that zeros stay zeros
+pub record Clears (b : Begin) (from : ℕ) (known : Type 0) (bytes bytes' : ℕ → List ℕ) (may_hold : ℕ → ℕ → List ℕ → Type 0) : Type 0 where
+  pub rolls : Rolls b from known bytes' may_hold
+  pub keeps : (area : ℕ) → IsZero b.chunk (bytes 1) area → IsZero b.chunk (bytes' 1) area
+
+-- each value of each sector that a stop may leave in a file is what is there
+abbrev pub IsSynced : (ℕ → List ℕ) → (ℕ → ℕ → List ℕ → Type 0) → ℕ → Type 0
+IsSynced bytes may_hold file = (s : ℕ) (v : List ℕ) → 512 * s < length (bytes file) → may_hold file s v → v ≡ sector_at (bytes file) s
+
+-- files that hold what they held, all of it synced
+pub record Settles (known : Type 0) (bytes bytes' : ℕ → List ℕ) (may_hold : ℕ → ℕ → List ℕ → Type 0) : Type 0 where
+  pub is_known : known
+  pub origin : bytes' 0 ≡ bytes 0
+  pub store : bytes' 1 ≡ bytes 1
+  pub origin_synced : IsSynced bytes' may_hold 0
+  pub store_synced : IsSynced bytes' may_hold 1
+
+-- each stop since left what a stop might have left before
+pub record Stays (before now : ℕ) (past since : ℕ → (ℕ → List ℕ) → Type 0) (bytes : ℕ → List ℕ) (may_hold : ℕ → ℕ → List ℕ → Type 0) : Type 0 where
+  pub later : before ≤ now
+  pub only : (t : ℕ) (left : ℕ → List ℕ) → t ≤ before → since t left → past t left ⊎ AreLeft bytes may_hold left
+
+-- no pair is left: the origin is the array, the store's areas up to one are zeros, and all of both is synced
+pub record Ends (b : Begin) (last : ℕ) (known : Type 0) (bytes : ℕ → List ℕ) (may_hold : ℕ → ℕ → List ℕ → Type 0) : Type 0 where
+  pub rolls : Rolls b 0 known bytes may_hold
+  pub zero : (area : ℕ) → area ≤ last → IsZero b.chunk (bytes 1) area
+  pub store_synced : IsSynced bytes may_hold 1

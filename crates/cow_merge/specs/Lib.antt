@@ -1,0 +1,3 @@
+pub mod Merges
+pub mod Holding
+pub mod Begun

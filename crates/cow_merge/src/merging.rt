@@ -1,0 +1,156 @@
+// A store's copies are taken back into its origin.
+ghost use Rattle.std.specs.Prelude.{◌≡◌, ◌≢◌, ◌⊎◌, ℕ, ◌+◌, ◌*◌, ◌-◌, ◌/◌, ◌<◌, ◌≤◌, List, length, replicate, IfErr, IfOk, IsErr, OnOk, Err};
+ghost use Rattle.cow_map.specs.Maps.{IsMapOf};
+ghost use Rattle.file_set.specs.Stops.{AreLeft, HasCause};
+ghost use Rattle.cow_merge.specs.Begun.{begun};
+ghost use Rattle.cow_merge.specs.Holding.{Rolls, Passes, Copies, Clears, IsZero, IsSynced, Settles, Stays, Ends, Begin, pairs};
+ghost use Rattle.cow_merge.specs.Merges.{StillShows, IsMerged};
+
+use crate::clearing::clear_areas;
+use crate::copying::{ORIGIN, STORE, copy_areas};
+use crate::settling::settle;
+use crate::{Sizes, Stopped};
+use cow_map::CowMap;
+use file_set::FileSet;
+use metadata_area::Area;
+use std::alloc::{AllocError, Global};
+
+/// Copies back what the pairs of areas have, and makes it last.
+fn copy_batch<F: FileSet>(
+    files: &mut F,
+    sizes: Sizes,
+    area: &mut Area,
+    room: &mut [u8],
+    from: u64,
+    end: u64,
+) -> Result<(), Stopped>
+    requires chunk { area.old.chunk ≡ sizes.chunk }
+    requires room { length room.old ≡ 512 * sizes.chunk }
+    requires low { end ≤ sizes.store }
+    requires order { from ≤ end }
+    ensures chunk { area.new.chunk ≡ sizes.chunk }
+    ensures passes { (o c : List ℕ) → Rolls (begun sizes o c) end (F.is_known files.old) (F.bytes files.old) (F.may_hold files.old) → Passes (begun sizes o c) (F.moment files.old) (F.moment files.new) (F.left_since files.old) (F.left_since files.new) }
+    ensures rolls { OnOk result ((o c : List ℕ) → Rolls (begun sizes o c) end (F.is_known files.old) (F.bytes files.old) (F.may_hold files.old) → Rolls (begun sizes o c) from (F.is_known files.new) (F.bytes files.new) (F.may_hold files.new)) }
+    ensures store { OnOk result ((o c : List ℕ) → Rolls (begun sizes o c) end (F.is_known files.old) (F.bytes files.old) (F.may_hold files.old) → F.bytes files.new 1 ≡ F.bytes files.old 1) }
+    ensures cause { HasCause ((o : List ℕ) × (c : List ℕ) × Rolls (begun sizes o c) end (F.is_known files.old) (F.bytes files.old) (F.may_hold files.old)) (F.fault_count files.old) (F.fault_count files.new) result }
+{
+    copy_areas(files, sizes, area, room, from, end)?;
+    files.sync(ORIGIN)?;
+    Ok(())
+}
+
+/// Zeroes areas, and makes it last.
+fn clear_batch<F: FileSet>(
+    files: &mut F,
+    sizes: Sizes,
+    zeros: &[u8],
+    from: u64,
+    end: u64,
+) -> Result<(), Stopped>
+    requires zeros { zeros.now ≡ replicate (512 * sizes.chunk) 0 }
+    requires low { end ≤ sizes.store }
+    ensures passes { (o c : List ℕ) → Rolls (begun sizes o c) from (F.is_known files.old) (F.bytes files.old) (F.may_hold files.old) → Passes (begun sizes o c) (F.moment files.old) (F.moment files.new) (F.left_since files.old) (F.left_since files.new) }
+    ensures clears { OnOk result ((o c : List ℕ) → Rolls (begun sizes o c) from (F.is_known files.old) (F.bytes files.old) (F.may_hold files.old) → Clears (begun sizes o c) from (F.is_known files.new) (F.bytes files.old) (F.bytes files.new) (F.may_hold files.new)) }
+    ensures zero { OnOk result ((o c : List ℕ) → Rolls (begun sizes o c) from (F.is_known files.old) (F.bytes files.old) (F.may_hold files.old) → (area : ℕ) → from ≤ area → area < end → IsZero sizes.chunk (F.bytes files.new 1) area) }
+    ensures synced { OnOk result ((o c : List ℕ) → Rolls (begun sizes o c) from (F.is_known files.old) (F.bytes files.old) (F.may_hold files.old) → IsSynced (F.bytes files.new) (F.may_hold files.new) 1) }
+    ensures cause { HasCause ((o : List ℕ) × (c : List ℕ) × (end ≤ length (pairs (begun sizes o c)) / (32 * sizes.chunk) + 1) × Rolls (begun sizes o c) from (F.is_known files.old) (F.bytes files.old) (F.may_hold files.old)) (F.fault_count files.old) (F.fault_count files.new) result }
+{
+    clear_areas(files, sizes, zeros, from, end)?;
+    files.sync(STORE)?;
+    Ok(())
+}
+
+/// Takes the copies of areas up to one back, so many areas at a time, the last ones first.
+fn merge_areas<F: FileSet>(
+    files: &mut F,
+    sizes: Sizes,
+    area: &mut Area,
+    zeros: &[u8],
+    room: &mut [u8],
+    last: u64,
+    step: u64,
+) -> Result<(), Stopped>
+    requires chunk { area.old.chunk ≡ sizes.chunk }
+    requires room { length room.old ≡ 512 * sizes.chunk }
+    requires zeros { zeros.now ≡ replicate (512 * sizes.chunk) 0 }
+    requires low { last < sizes.store }
+    requires step { 0 < step }
+    ensures passes { (o c : List ℕ) → Rolls (begun sizes o c) (last + 1) (F.is_known files.old) (F.bytes files.old) (F.may_hold files.old) → Passes (begun sizes o c) (F.moment files.old) (F.moment files.new) (F.left_since files.old) (F.left_since files.new) }
+    ensures ends { OnOk result ((o c : List ℕ) → Rolls (begun sizes o c) (last + 1) (F.is_known files.old) (F.bytes files.old) (F.may_hold files.old) → Ends (begun sizes o c) last (F.is_known files.new) (F.bytes files.new) (F.may_hold files.new)) }
+    ensures cause { HasCause ((o : List ℕ) × (c : List ℕ) × Rolls (begun sizes o c) (last + 1) (F.is_known files.old) (F.bytes files.old) (F.may_hold files.old)) (F.fault_count files.old) (F.fault_count files.new) result }
+{
+    let mut end = last + 1;
+    while 0 < end {
+        let from = end.saturating_sub(step);
+        copy_batch(files, sizes, area, room, from, end)?;
+        clear_batch(files, sizes, zeros, from, end)?;
+        end = from;
+    }
+    Ok(())
+}
+
+/// Room for a merge: an area, as many zeros, and a chunk.
+#[derive(Drop)]
+pub struct Room {
+    area: Area,
+    zeros: Vec<u8>,
+    part: Vec<u8>,
+    ghost are_zeros: { zeros.items ≡ replicate (512 * area.chunk) 0 },
+    ghost is_chunk: { length part.items ≡ 512 * area.chunk },
+}
+
+impl Room {
+    /// Room for a store whose chunks have so many sectors. A merge takes no memory beside it.
+    pub fn new(alloc: Global, chunk: u32) -> Result<Room, AllocError>
+        requires some { 0 < chunk }
+        requires allowed { chunk ≤ 1024 }
+        ensures { IfOk result (λ room. room.area.chunk ≡ chunk) }
+    {
+        let Ok(area) = Area::new(alloc, chunk) else {
+            return Err(AllocError);
+        };
+        let zeros = vec![in alloc; 0u8; 512 * chunk as usize]?;
+        let part = vec![in alloc; 0u8; 512 * chunk as usize]?;
+        Ok(Room { area, zeros, part })
+    }
+}
+
+/// The areas whose pairs are merged at a time, where a chunk has so many sectors: those of 64 MiB of copies, or one.
+fn areas_at_once(chunk: u32) -> u64
+    requires some { 0 < chunk }
+    requires allowed { chunk ≤ 1024 }
+    ensures { 0 < result }
+{
+    let chunk = chunk as u64;
+    (4096 / (chunk * chunk)).max(1)
+}
+
+/// Takes a snapshot's copies back into its origin, which has so many sectors, and its pairs away from its store: what is
+/// left where it fails, or is stopped, still shows the snapshot, and is merged by another call.
+pub fn merge<F: FileSet>(
+    files: &mut F,
+    map: &CowMap,
+    origin: u64,
+    room: Room,
+) -> Result<(), Stopped>
+    requires { room.area.chunk ≡ map.now.chunk }
+    ensures stops { F.is_known files.old → length (F.bytes files.old 0) ≡ 512 * origin → IsMapOf origin (F.bytes files.old 1) map.now → (left : ℕ → List ℕ) → F.left_since files.new (F.moment files.old) left → AreLeft (F.bytes files.old) (F.may_hold files.old) left ⊎ StillShows map.now.chunk origin map.now.size (F.bytes files.old 0) (F.bytes files.old 1) left }
+    ensures done { OnOk result (F.is_known files.old → length (F.bytes files.old 0) ≡ 512 * origin → IsMapOf origin (F.bytes files.old 1) map.now → F.is_known files.new × ((left : ℕ → List ℕ) → AreLeft (F.bytes files.new) (F.may_hold files.new) left → IsMerged map.now.chunk map.now.size map.now.current (F.bytes files.old 0) (F.bytes files.old 1) left)) }
+    ensures cause { HasCause (F.is_known files.old × (length (F.bytes files.old 0) ≡ 512 * origin) × IsMapOf origin (F.bytes files.old 1) map.now) (F.fault_count files.old) (F.fault_count files.new) result }
+{
+    let sizes = Sizes {
+        chunk: map.chunk,
+        origin,
+        store: map.size,
+    };
+    let step = areas_at_once(map.chunk);
+    let Room {
+        mut area,
+        zeros,
+        mut part,
+    } = room;
+    let zeros = zeros.as_slice();
+    let part = part.as_mut_slice();
+    settle(files)?;
+    merge_areas(files, sizes, &mut area, zeros, part, map.current, step)
+}

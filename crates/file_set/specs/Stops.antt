@@ -1,0 +1,22 @@
+-- To be believed: a merge's clauses are said in these words.
+-- What a stop may leave of files that are written together. A page cache may write a sector at any time, each by itself; a
+-- sync that succeeds has written all of a file (fsync of POSIX). This project's own words.
+use Rattle.std.specs.Prelude.{◌≡◌, ◌⊎◌, ℕ, ◌*◌, ◌<◌, ◌≤◌, List, length, Result, IsErr}
+use Rattle.sector.specs.Bytes.{sector_at}
+
+-- Bytes of all files that a stop may leave now: each file is as long as it is, and each sector holds a value that it may
+-- hold, each by itself.
+pub record AreLeft (bytes : ℕ → List ℕ) (may_hold : ℕ → ℕ → List ℕ → Type 0) (left : ℕ → List ℕ) : Type 0 where
+  pub whole : (file : ℕ) → length (left file) ≡ length (bytes file)
+  pub each : (file s : ℕ) → 512 * s < length (bytes file) → may_hold file s (sector_at (left file) s)
+
+-- Time goes on: a stop since t might have left what it might have left before, or what it may leave now.
+pub record Elapses (before now : ℕ) (past since : ℕ → (ℕ → List ℕ) → Type 0) (bytes : ℕ → List ℕ) (may_hold : ℕ → ℕ → List ℕ → Type 0) : Type 0 where
+  pub later : before ≤ now
+  pub nothing_else : (t : ℕ) (left : ℕ → List ℕ) → t ≤ before → since t left → past t left ⊎ AreLeft bytes may_hold left
+  pub keeps : (t : ℕ) (left : ℕ → List ℕ) → t ≤ before → past t left → since t left
+
+-- A call fails only where a read, a write or a sync of a file has failed since, if what it asks for is there.
+pub record HasCause {T E : Type 0} (there : Type 0) (before now : ℕ) (result : Result T E) : Type 0 where
+  pub later : before ≤ now
+  pub failed : IsErr result → there → before < now

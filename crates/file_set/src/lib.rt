@@ -1,0 +1,10 @@
+//! Files that are read, written and synced together: what a read gives, what a stop may leave of each sector of each file at
+//! this moment, and what it might have left of all files at any moment since an earlier one. It stands on `sector`. It
+//! promises nothing of a real file, whose bytes are known to no contract: there the clauses say nothing.
+#![tactic(auto)]
+
+mod disk_files;
+mod file_set;
+
+pub use disk_files::{Asked, DiskFiles, Failed};
+pub use file_set::FileSet;
