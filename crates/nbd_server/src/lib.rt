@@ -1,0 +1,11 @@
+//! A server of the Network Block Device protocol for one client, over any reader, any writer, and any arrays that are read.
+#![tactic(auto)]
+
+mod finding;
+mod hearing;
+mod replying;
+mod served;
+mod session;
+
+pub use served::{Export, Fault, Served};
+pub use session::{Place, Session, Stage};
