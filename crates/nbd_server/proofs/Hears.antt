@@ -2,7 +2,8 @@
 use Rattle.std.proofs.Common.{◌≡◌, ℕ, ◌+◌, ◌-◌, ◌<◌, ◌≤◌, List, [], ◌++◌, length, take, Option, None, Some, IfSome, arith, rules, refl, ap, ◌∙◌, sym, subst, length-append}
 use Rattle.std.proofs.lemmas.List.{places, same_lists}
 use Rattle.std.specs.Io.KnownBytes.{Consumes, Keeps, IsAtEnd}
-use Rattle.std.proofs.KnownBytes.{Consumes-trans, Consumes-kept}
+use Rattle.std.proofs.KnownBytes.{Consumes-nil, Consumes-trans, Consumes-kept}
+use Rattle.nbd_server.specs.Heard.{IsShort, IsRead}
 use borrow.Rule.Slice.PartMut.{put_mid}
 
 -- the front of a buffer of which another front was filled
@@ -29,4 +30,20 @@ heard_short None b bytes n consumes ends short = tt
 heard_short (Some xs) None bytes n consumes ends short = absurd consumes
 heard_short (Some xs) (Some ys) bytes n consumes ends short =
     let len : length xs ≡ length bytes = ap length consumes ∙ ap (λ (l : List ℕ). length (bytes ++ l)) ends ∙ (simp length-append (omega arith)) in
+    omega arith
+
+-- nothing is read yet
+pub none_read : (a : Option (List ℕ)) → IsRead a a 0
+none_read a = ([], refl, Consumes-nil a)
+
+-- so many more
+pub more_read : (a b c : Option (List ℕ)) (m n k : ℕ) (bytes : List ℕ) → IsRead a b m → Consumes b c bytes → length bytes ≡ n → m + n ≡ k → IsRead a c k
+more_read a b c m n k bytes (before, len, consumes) now is all = (before ++ bytes, length-append before bytes ∙ omega arith, Consumes-trans a b c before bytes consumes now)
+
+-- and then too few
+pub then_short : (a b : Option (List ℕ)) (m n k : ℕ) → IsRead a b m → IsShort b n → m + n ≤ k → IsShort a k
+then_short None b m n k read short le = tt
+then_short (Some xs) None m n k (bytes, len, consumes) short le = absurd consumes
+then_short (Some xs) (Some ys) m n k (bytes, len, consumes) short le =
+    let whole : length xs ≡ length bytes + length ys = ap length consumes ∙ length-append bytes ys in
     omega arith

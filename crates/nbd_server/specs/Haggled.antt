@@ -1,6 +1,6 @@
 -- To be believed: what an option is answered before a client uses an export, by doc/proto.md of the NBD project: "Newstyle
 -- negotiation", "Option types", "Option reply types".
-use Rattle.std.specs.Prelude.{◌==◌, ℕ, ◌+◌, ◌*◌, Bool, true, false, List, [], ◌∷◌, ◌++◌, length, slice_range, bytes_eq, nat_lt, Option, Some, None, if◌then◌else◌}
+use Rattle.std.specs.Prelude.{◌≡◌, ◌==◌, ℕ, ◌+◌, ◌*◌, Bool, true, false, List, [], ◌∷◌, ◌++◌, length, slice_range, bytes_eq, nat_lt, Option, Some, None, if◌then◌else◌}
 use Rattle.std.specs.List.{flat_map}
 use Rattle.nbd_messages.specs.Layout.{number_at}
 use Rattle.nbd_messages.specs.Replies.{option_reply, listed_name, export_info, export_reply}
@@ -95,20 +95,16 @@ informed session option stage (Some place) = record {
   after = moved session stage;
 }
 
-abbrev pub told : Session → Option Place → Haggled
-told session place = informed session 6 session.stage place
+-- where the client waits for requests, if it goes on with the export
+abbrev pub stage_at : Session → Bool → Option Place → Stage
+stage_at session goes None = session.stage
+stage_at session false (Some place) = session.stage
+stage_at session true (Some place) = Serving place
 
--- where the client goes on with the export
-abbrev pub stage_at : Session → Option Place → Stage
-stage_at session None = session.stage
-stage_at session (Some place) = Serving place
-
-abbrev pub gone : Session → Option Place → Haggled
-gone session place = informed session 7 (stage_at session place) place
-
-abbrev pub on_export : (Option Place → Haggled) → List Export → Session → ℕ → Option (List ℕ) → Haggled
-on_export f exports session option None = bare session option malformed
-on_export f exports session option (Some name) = f (named exports name)
+-- What an option on an export is answered, with which the client goes on or not.
+abbrev pub on_export : ℕ → Bool → List Export → Session → Option (List ℕ) → Haggled
+on_export option goes exports session None = bare session option malformed
+on_export option goes exports session (Some name) = informed session option (stage_at session goes (named exports name)) (named exports name)
 
 -- structured replies are taken from then on
 abbrev pub with_structure : Session → Haggled
@@ -127,8 +123,8 @@ haggled exports session option text =
     if option == 1 then named_export session (named exports text) else
     if option == 2 then record { answer = option_reply 2 acknowledged []; after = moved session Over } else
     if option == 3 then without_data session 3 text (record { answer = listed exports; after = session }) else
-    if option == 6 then on_export (told session) exports session 6 (asked_name text) else
-    if option == 7 then on_export (gone session) exports session 7 (asked_name text) else
+    if option == 6 then on_export 6 false exports session (asked_name text) else
+    if option == 7 then on_export 7 true exports session (asked_name text) else
     if option == 8 then without_data session 8 text (with_structure session) else
     bare session option unsupported
 
@@ -140,3 +136,7 @@ longest_text = 65536
 abbrev pub haggled_unread : Session → ℕ → Haggled
 haggled_unread session option =
     if option == 1 then record { answer = []; after = moved session Over } else bare session option too_long
+
+-- this is said, and the session is then so
+abbrev pub IsHaggled : List ℕ → Session → Haggled → Type 0
+IsHaggled answer after haggled = (answer ≡ haggled.answer) × (after ≡ haggled.after)

@@ -1,13 +1,13 @@
 // An export is found by its name.
 ghost use Rattle.std.specs.Prelude.{◌≡◌};
-ghost use Rattle.nbd_server.specs.Haggled.{named as named_by, first_of};
+ghost use Rattle.nbd_server.specs.Haggled.{named, first_of};
 
 use crate::Export;
 use crate::session::Place;
 
 /// The export that a name means: the first one of this name, and where the name is empty the first one of all.
-pub fn named(exports: &[Export<'_>], name: &[u8]) -> Option<Place>
-    ensures { result ≡ named_by exports.now name.now }
+pub fn found(exports: &[Export<'_>], name: &[u8]) -> Option<Place>
+    ensures { result ≡ named exports.now name.now }
 {
     if name.is_empty() {
         return first(exports);

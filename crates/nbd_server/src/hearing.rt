@@ -1,7 +1,7 @@
 // What a client says is read.
 ghost use Rattle.std.specs.Prelude.{◌≡◌, ℕ, List, length, IfOk, MatchBool};
 ghost use Rattle.std.specs.Io.KnownBytes.{Consumes};
-ghost use Rattle.nbd_server.specs.Heard.{IsShort};
+ghost use Rattle.nbd_server.specs.Heard.{IsShort, IsRead};
 
 use std::io;
 use std::io::{ErrorKind, Read};
@@ -26,4 +26,23 @@ pub fn fill<R: Read>(reader: &mut R, out: &mut [u8]) -> io::Result<bool>
         }
     }
     Err(ErrorKind::TimedOut.into())
+}
+
+/// How many bytes are read at once that nobody wants.
+const PART: usize = 4096;
+
+/// Reads so many bytes that nobody wants, or tells that the input ends before.
+pub fn skip<R: Read>(reader: &mut R, count: u64) -> io::Result<bool>
+    ensures { IfOk result (λ whole. MatchBool whole (IsRead (R.remaining reader.old) (R.remaining reader.new) count) (IsShort (R.remaining reader.old) count)) }
+{
+    let mut unwanted = [0u8; PART];
+    let mut left = count;
+    while 0 < left {
+        let part = left.min(PART as u64) as usize;
+        if !fill(reader, &mut unwanted[..part])? {
+            return Ok(false);
+        }
+        left -= part as u64;
+    }
+    Ok(true)
 }

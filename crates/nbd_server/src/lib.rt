@@ -2,6 +2,7 @@
 #![tactic(auto)]
 
 mod finding;
+mod haggling;
 mod hearing;
 mod replying;
 mod served;

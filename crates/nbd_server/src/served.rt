@@ -16,6 +16,7 @@ pub struct Export<'a> {
     pub name: &'a [u8],
     /// Bytes.
     pub size: u64,
+    pub ghost short: { length name.now < 2 ^ 31 },
 }
 
 /// Arrays of bytes that are read, by their numbers from 0 on. Any read may fail.
