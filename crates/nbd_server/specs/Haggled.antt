@@ -7,7 +7,7 @@ use Rattle.nbd_messages.specs.Replies.{option_reply, listed_name, export_info, e
 use Rattle.nbd_server.specs.declared.served.Export.{Export}
 use Rattle.nbd_server.specs.declared.session.Place.{Place}
 use Rattle.nbd_server.specs.declared.session.Stage.{Stage}
-use Rattle.nbd_server.specs.declared.session.Stage.TheVariants.{Haggling, Serving, Over}
+use Rattle.nbd_server.specs.declared.session.Stage.TheVariants.{Serving, Over}
 use Rattle.nbd_server.specs.declared.session.Session.{Session}
 
 -- the types of replies: an acknowledgement, an export of a list, a fact of an export; unknown, malformed, no such export, too long
@@ -52,7 +52,7 @@ abbrev pub named : List Export → List ℕ → Option Place
 named exports name = if length name == 0 then first_of exports else named_from 0 exports name
 
 -- what is said, and what the session is then
-pub record Haggled : Type 0 where
+pub record Reaction : Type 0 where
   pub answer : List ℕ
   pub after : Session
 
@@ -61,11 +61,11 @@ abbrev pub moved : Session → Stage → Session
 moved session stage = record { no_zeroes = session.no_zeroes; structured = session.structured; stage = stage }
 
 -- a reply without data, after which the haggling goes on
-abbrev pub bare : Session → ℕ → ℕ → Haggled
+abbrev pub bare : Session → ℕ → ℕ → Reaction
 bare session option kind = record { answer = option_reply option kind []; after = session }
 
 -- the end of the haggling by an export's name, after which a name that is none ends the session
-abbrev pub named_export : Session → Option Place → Haggled
+abbrev pub named_export : Session → Option Place → Reaction
 named_export session None = record { answer = []; after = moved session Over }
 named_export session (Some place) = record {
   answer = export_reply place.size export_flags (if session.no_zeroes then 0 else 124);
@@ -88,7 +88,7 @@ asked_name text =
     None
 
 -- an export's size and flags
-abbrev pub informed : Session → ℕ → Stage → Option Place → Haggled
+abbrev pub informed : Session → ℕ → Stage → Option Place → Reaction
 informed session option stage None = bare session option unknown
 informed session option stage (Some place) = record {
   answer = option_reply option informing (export_info place.size export_flags) ++ option_reply option acknowledged [];
@@ -102,26 +102,30 @@ stage_at session false (Some place) = session.stage
 stage_at session true (Some place) = Serving place
 
 -- What an option on an export is answered, with which the client goes on or not.
-abbrev pub on_export : ℕ → Bool → List Export → Session → Option (List ℕ) → Haggled
+abbrev pub on_export : ℕ → Bool → List Export → Session → Option (List ℕ) → Reaction
 on_export option goes exports session None = bare session option malformed
 on_export option goes exports session (Some name) = informed session option (stage_at session goes (named exports name)) (named exports name)
 
 -- structured replies are taken from then on
-abbrev pub with_structure : Session → Haggled
+abbrev pub with_structure : Session → Reaction
 with_structure session = record {
   answer = option_reply 8 acknowledged [];
   after = record { no_zeroes = session.no_zeroes; structured = true; stage = session.stage };
 }
 
 -- where an option's data are to be none
-abbrev pub without_data : Session → ℕ → List ℕ → Haggled → Haggled
-without_data session option text haggled = if length text == 0 then haggled else bare session option malformed
+abbrev pub without_data : Session → ℕ → List ℕ → Reaction → Reaction
+without_data session option text reaction = if length text == 0 then reaction else bare session option malformed
+
+-- the session ends
+abbrev pub aborted : Session → Reaction
+aborted session = record { answer = option_reply 2 acknowledged []; after = moved session Over }
 
 -- What an option with these data is answered.
-abbrev pub haggled : List Export → Session → ℕ → List ℕ → Haggled
+abbrev pub haggled : List Export → Session → ℕ → List ℕ → Reaction
 haggled exports session option text =
     if option == 1 then named_export session (named exports text) else
-    if option == 2 then record { answer = option_reply 2 acknowledged []; after = moved session Over } else
+    if option == 2 then aborted session else
     if option == 3 then without_data session 3 text (record { answer = listed exports; after = session }) else
     if option == 6 then on_export 6 false exports session (asked_name text) else
     if option == 7 then on_export 7 true exports session (asked_name text) else
@@ -133,10 +137,15 @@ abbrev pub longest_text : ℕ
 longest_text = 65536
 
 -- the same where the data are too long: of a name there is no export
-abbrev pub haggled_unread : Session → ℕ → Haggled
+abbrev pub haggled_unread : Session → ℕ → Reaction
 haggled_unread session option =
     if option == 1 then record { answer = []; after = moved session Over } else bare session option too_long
 
 -- this is said, and the session is then so
-abbrev pub IsHaggled : List ℕ → Session → Haggled → Type 0
-IsHaggled answer after haggled = (answer ≡ haggled.answer) × (after ≡ haggled.after)
+abbrev pub IsReaction : List ℕ → Session → Reaction → Type 0
+IsReaction answer after reaction = (answer ≡ reaction.answer) × (after ≡ reaction.after)
+
+-- what an option with any data is answered
+abbrev pub haggled_any : List Export → Session → ℕ → List ℕ → Reaction
+haggled_any exports session option text =
+    if nat_lt longest_text (length text) then haggled_unread session option else haggled exports session option text

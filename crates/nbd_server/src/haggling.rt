@@ -1,7 +1,7 @@
 // An option is answered.
 ghost use Rattle.std.specs.Prelude.{◌≡◌, ◌≤◌, [], ◌++◌, OnOk, IfOk, length};
 ghost use Rattle.std.specs.Option.{option_map};
-ghost use Rattle.nbd_server.specs.Haggled.{named, Haggled, IsHaggled, haggled, haggled_unread, named_export, listed, asked_name as asked_name_of, informed, on_export, without_data, with_structure};
+ghost use Rattle.nbd_server.specs.Haggled.{named, IsReaction, haggled, haggled_unread, named_export, listed, asked_name as asked_name_of, informed, on_export, without_data, with_structure, aborted};
 ghost use Rattle.nbd_server.specs.declared.session.Place.{Place as PlaceOf};
 
 use crate::finding::found;
@@ -50,7 +50,7 @@ fn name_export(
     answer: &mut Vec<u8>,
 ) -> Result<(), AllocError>
     requires { answer.old.items ≡ [] }
-    ensures { OnOk result (IsHaggled answer.new.items session.new (named_export session.old (named exports.now name.now))) }
+    ensures { OnOk result (IsReaction answer.new.items session.new (named_export session.old (named exports.now name.now))) }
 {
     let Some(place) = found(exports, name) else {
         session.stage = Stage::Over;
@@ -82,7 +82,7 @@ fn inform(
     answer: &mut Vec<u8>,
 ) -> Result<Session, AllocError>
     requires { answer.old.items ≡ [] }
-    ensures { IfOk result (λ after. IsHaggled answer.new.items after (informed session.now option stage place)) }
+    ensures { IfOk result (λ after. IsReaction answer.new.items after (informed session.now option stage place)) }
 {
     let Some(place) = place else {
         push_bare_reply(answer, option, UNKNOWN)?;
@@ -105,7 +105,7 @@ fn on_place(
     answer: &mut Vec<u8>,
 ) -> Result<(), AllocError>
     requires { answer.old.items ≡ [] }
-    ensures { OnOk result (IsHaggled answer.new.items session.new (on_export option goes exports.now session.old (asked_name_of text.now))) }
+    ensures { OnOk result (IsReaction answer.new.items session.new (on_export option goes exports.now session.old (asked_name_of text.now))) }
 {
     let Some(name) = asked_name(text) else {
         return push_bare_reply(answer, option, MALFORMED);
@@ -117,4 +117,85 @@ fn on_place(
     };
     *session = inform(session, option, stage, place, answer)?;
     Ok(())
+}
+
+/// Answers an option whose data are to be none: the list of all exports.
+fn list_all(
+    exports: &[Export<'_>],
+    session: &mut Session,
+    text: &[u8],
+    answer: &mut Vec<u8>,
+) -> Result<(), AllocError>
+    requires { answer.old.items ≡ [] }
+    ensures { OnOk result (IsReaction answer.new.items session.new (without_data session.old 3 text.now (record { answer = listed exports.now; after = session.old }))) }
+{
+    if !text.is_empty() {
+        return push_bare_reply(answer, 3, MALFORMED);
+    }
+    list(exports, answer)
+}
+
+/// Answers an option whose data are to be none: structured replies are taken from then on.
+fn structure(
+    session: &mut Session,
+    text: &[u8],
+    answer: &mut Vec<u8>,
+) -> Result<(), AllocError>
+    requires { answer.old.items ≡ [] }
+    ensures { OnOk result (IsReaction answer.new.items session.new (without_data session.old 8 text.now (with_structure session.old))) }
+{
+    if !text.is_empty() {
+        return push_bare_reply(answer, 8, MALFORMED);
+    }
+    push_bare_reply(answer, 8, ACKNOWLEDGED)?;
+    session.structured = true;
+    Ok(())
+}
+
+/// Ends the session, as the client asks.
+fn abort(session: &mut Session, answer: &mut Vec<u8>) -> Result<(), AllocError>
+    requires { answer.old.items ≡ [] }
+    ensures { OnOk result (IsReaction answer.new.items session.new (aborted session.old)) }
+{
+    push_bare_reply(answer, 2, ACKNOWLEDGED)?;
+    session.stage = Stage::Over;
+    Ok(())
+}
+
+/// Answers an option with these data.
+pub fn haggle(
+    exports: &[Export<'_>],
+    session: &mut Session,
+    option: u32,
+    text: &[u8],
+    answer: &mut Vec<u8>,
+) -> Result<(), AllocError>
+    requires { answer.old.items ≡ [] }
+    ensures { OnOk result (IsReaction answer.new.items session.new (haggled exports.now session.old option text.now)) }
+{
+    match option {
+        1 => name_export(exports, session, text, answer),
+        2 => abort(session, answer),
+        3 => list_all(exports, session, text, answer),
+        6 => on_place(exports, session, 6, false, text, answer),
+        7 => on_place(exports, session, 7, true, text, answer),
+        8 => structure(session, text, answer),
+        _ => push_bare_reply(answer, option, UNSUPPORTED),
+    }
+}
+
+/// Answers an option whose data are too long.
+pub fn haggle_unread(
+    session: &mut Session,
+    option: u32,
+    answer: &mut Vec<u8>,
+) -> Result<(), AllocError>
+    requires { answer.old.items ≡ [] }
+    ensures { OnOk result (IsReaction answer.new.items session.new (haggled_unread session.old option)) }
+{
+    if option == 1 {
+        session.stage = Stage::Over;
+        return Ok(());
+    }
+    push_bare_reply(answer, option, TOO_LONG)
 }
