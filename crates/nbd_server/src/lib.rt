@@ -7,6 +7,9 @@ mod hearing;
 mod replying;
 mod served;
 mod session;
+mod stopped;
+mod turning;
 
 pub use served::{Export, Fault, Served};
 pub use session::{Place, Session, Stage};
+pub use stopped::Stopped;

@@ -10,6 +10,8 @@ pub struct Place {
 /// What a session waits for.
 #[derive(Clone, Copy, PartialEq, Eq)]
 pub enum Stage {
+    /// The client's flags.
+    Opening,
     /// Options.
     Haggling,
     /// Requests of an export.
