@@ -6,10 +6,12 @@ mod haggling;
 mod hearing;
 mod replying;
 mod served;
+mod serving;
 mod session;
 mod stopped;
 mod turning;
 
 pub use served::{Export, Fault, Served};
+pub use serving::serve;
 pub use session::{Place, Session, Stage};
 pub use stopped::Stopped;

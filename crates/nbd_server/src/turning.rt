@@ -191,3 +191,31 @@ fn request<T: Served, R: Read>(
     serve_request(served, place, &request, session, answer)?;
     Ok(true)
 }
+
+/// Reads a message and answers it. `false` where no whole message comes.
+pub fn turn<T: Served, R: Read>(
+    served: &mut T,
+    exports: &[Export<'_>],
+    session: &mut Session,
+    reader: &mut R,
+    text: &mut Vec<u8>,
+    answer: &mut Vec<u8>,
+) -> Result<bool, Stopped>
+    requires { answer.old.items ≡ [] }
+    ensures turn { IfOk result (λ went. MatchBool went
+        ((arrays : ℕ → List ℕ) → AreArrays (T.bytes served.old) arrays → IsTurn exports.now arrays (R.remaining reader.old) (R.remaining reader.new) session.old session.new answer.new.items)
+        (IsEnd (R.remaining reader.old) session.old)) }
+    ensures bytes { (k : ℕ) → T.bytes served.new k ≡ T.bytes served.old k }
+{
+    match session.stage {
+        Stage::Opening => {
+            if !open(session, reader)? {
+                return Ok(false);
+            }
+            Ok(true)
+        }
+        Stage::Haggling => option(exports, session, reader, text, answer),
+        Stage::Serving(place) => request(served, place, session, reader, answer),
+        Stage::Over => Ok(false),
+    }
+}
