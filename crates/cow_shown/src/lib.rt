@@ -4,7 +4,9 @@
 #![tactic(auto)]
 
 mod exporting;
+mod ranging;
 mod showing;
 
 pub use exporting::{Stopped, export, export_fresh};
+pub use ranging::show_range;
 pub use showing::show_chunk;
