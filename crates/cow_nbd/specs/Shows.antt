@@ -1,23 +1,32 @@
--- To be believed: the arrays that a store and its origin make for the clients of a server.
-use Rattle.std.specs.Prelude.{ℕ, zero, suc, ◌*◌, List, [], length, Option, Some, None}
+-- To be believed: the two arrays that a server of a store shows, and what it says to a client.
+use Rattle.std.specs.Prelude.{◌≡◌, ℕ, zero, suc, ◌*◌, List, [], ◌∷◌, ◌++◌, length, codes, Option, Some, None}
+use Rattle.std.specs.Io.KnownBytes.{Appends}
 use Rattle.sector.specs.declared.pair.Pair.{Pair}
-use Rattle.model.specs.Picture.{picture}
-use Rattle.cow_map.specs.declared.found.Told.{Told}
-use Rattle.cow_map.specs.declared.found.Told.TheVariants.{Fresh, Refused, Written}
 use Rattle.cow_shown.specs.Shown.{shown}
+use Rattle.nbd_messages.specs.Replies.{greeting}
+use Rattle.nbd_server.specs.declared.served.Export.{Export}
+use Rattle.nbd_server.specs.Talk.{Talk, Turn, beginning}
 
--- what the snapshot of a store's bytes shows, of which this is told, over an origin's bytes
-abbrev pub snapshot_of : Told → List ℕ → List ℕ → List ℕ
-snapshot_of Fresh origin store = origin
-snapshot_of (Refused reason) origin store = []
-snapshot_of (Written map) origin store = picture map.chunk origin store
+-- the arrays, by their numbers: the snapshot's, and then the origin's
+abbrev pub arrays : List ℕ → List ℕ → ℕ → List ℕ
+arrays snapshot origin zero = snapshot
+arrays snapshot origin (suc k) = origin
 
--- the arrays: the snapshot, and then the origin
-abbrev pub arrays_of : Told → List ℕ → List ℕ → ℕ → List ℕ
-arrays_of told origin store zero = snapshot_of told origin store
-arrays_of told origin store (suc k) = origin
+-- An export of this name, of so many sectors.
+abbrev pub IsExport : ℕ → List ℕ → Export → Type 0
+IsExport size name export = (export.name.now ≡ name) × (export.size ≡ 512 * size)
 
--- the snapshot's bytes by pairs, where both images' bytes are known
+-- the two exports
+abbrev pub AreExports : ℕ → List Export → Type 0
+AreExports size exports = (first : Export) × (second : Export) × (exports ≡ first ∷ second ∷ []) × IsExport size (codes "snapshot") first × IsExport size (codes "origin") second
+
+-- All that is written to a client of whom this was heard: the greeting, and the answers to the messages.
+abbrev pub IsServed : ℕ → List ℕ → List ℕ → List ℕ → Option (List ℕ) → Option (List ℕ) → Type 0
+IsServed size snapshot origin heard old new =
+    (exports : List Export) × AreExports size exports
+    × (said : List ℕ) × (turns : List Turn) × Talk exports (arrays snapshot origin) beginning heard said turns × Appends old new (greeting ++ said)
+
+-- an array's bytes by pairs, where both images' bytes are known
 abbrev pub known_shown : ℕ → List Pair → ℕ → Option (List ℕ) → Option (List ℕ) → Option (List ℕ)
 known_shown chunk pairs size None store = None
 known_shown chunk pairs size (Some origin) None = None

@@ -6,4 +6,5 @@
 mod pictures;
 mod serving;
 
-pub use serving::serve_store;
+pub use pictures::Pictures;
+pub use serving::{serve_fresh, serve_written};

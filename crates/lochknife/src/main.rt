@@ -15,12 +15,14 @@ mod files;
 mod input;
 mod looking;
 mod rolling;
+mod serving;
 mod teller;
 mod trouble;
 mod watched;
 
 use crate::commands::{check, map, printed, raw_map, show, show_json};
 use crate::rolling::{export, salvage};
+use crate::serving::serve;
 use crate::trouble::Trouble;
 use std::io;
 use std::process::ExitCode;
@@ -44,6 +46,8 @@ enum Asked<'a> {
     Export(&'a str, &'a str, &'a str),
     /// What is known of the array where the store is invalid.
     Salvage(&'a str, &'a str, &'a str),
+    /// The snapshot and the origin, for a client on standard input and output: the origin's image, the store's image.
+    Serve(&'a str, &'a str),
 }
 
 /// What the words of the command line say. `None` where they are wrong.
@@ -69,6 +73,9 @@ fn words_ask(words: &[String]) -> Option<Asked<'_>> {
     if words.len() == 4 && command == "check" {
         return Some(Asked::Check(first, second));
     }
+    if words.len() == 4 && command == "nbd" {
+        return Some(Asked::Serve(first, second));
+    }
     let third = words.get(4)?.as_str();
     if words.len() == 5 && (command == "export" || command == "rollback") {
         return Some(Asked::Export(first, second, third));
@@ -86,6 +93,7 @@ const USAGE: &[u8] = b"usage: lochknife show COW [--json]
        lochknife check ORIGIN COW
        lochknife export ORIGIN COW OUT [--salvage]
        lochknife rollback ORIGIN COW OUT
+       lochknife nbd ORIGIN COW
 ";
 
 /// Does what is asked for, and tells whether the store is good.
@@ -102,6 +110,7 @@ fn done<'a>(rt: &'a HostRuntime, asked: Asked<'a>) -> Result<bool, Trouble<'a>> 
         Asked::Check(origin, cow) => check(rt, origin, cow),
         Asked::Export(origin, cow, out) => export(rt, origin, cow, out),
         Asked::Salvage(origin, cow, out) => salvage(rt, origin, cow, out),
+        Asked::Serve(origin, cow) => serve(rt, origin, cow),
     }
 }
 

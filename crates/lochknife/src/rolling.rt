@@ -74,7 +74,7 @@ pub fn salvage<'a>(
 }
 
 /// How many sectors an origin has.
-fn size_of<'a>(origin: &mut Input<'a>) -> Result<u64, Trouble<'a>>
+pub fn size_of<'a>(origin: &mut Input<'a>) -> Result<u64, Trouble<'a>>
     ensures { IfOk result (λ size. size ≤ MAX_IMAGE) }
 {
     match sectors_of(origin) {
