@@ -5,25 +5,42 @@ use crate::images::{WRITTEN_ORIGIN, WRITTEN_STORE, bytes_of, image_of};
 use crate::worked::WORKED;
 use cow_map::{CowMap, Told, read_store};
 use cow_nbd::{serve_fresh, serve_written};
-use image::FailingImage;
+use image::{FailingImage, MemImage};
 use std::alloc::Global;
 use std::process::Abort;
 use std::test::Fail;
 
 // The map of the kernel's store.
-fn map_of(rt: &(impl Abort + AllocGlobal)) -> Result<CowMap, Fail> {
-    let mut cow = image_of(rt.alloc(), WRITTEN_STORE)?;
-    match read_store(rt.alloc(), &mut cow, 128)? {
+fn map_in(rt: &(impl Abort + AllocGlobal), cow: &mut MemImage) -> Result<CowMap, Fail> {
+    match read_store(rt.alloc(), cow, 128)? {
         Told::Written(map) => Ok(map),
         _ => rt.abort(),
     }
 }
 
+// The bytes of both images.
+#[derive(Drop)]
+struct Bytes {
+    origin: Vec<u8>,
+    store: Vec<u8>,
+}
+
+fn bytes_of_both(alloc: Global) -> Result<Bytes, Fail> {
+    Ok(Bytes {
+        origin: bytes_of(alloc, WRITTEN_ORIGIN)?,
+        store: bytes_of(alloc, WRITTEN_STORE)?,
+    })
+}
+
 // What is said to a client of which this is heard.
-fn said(rt: &(impl Abort + AllocGlobal), heard: &[u8]) -> Result<Vec<u8>, Fail> {
-    let origin = image_of(rt.alloc(), WRITTEN_ORIGIN)?;
-    let cow = image_of(rt.alloc(), WRITTEN_STORE)?;
-    let map = map_of(rt)?;
+fn said(rt: &(impl Abort + AllocGlobal), both: &Bytes, heard: &[u8]) -> Result<Vec<u8>, Fail> {
+    let origin = MemImage {
+        bytes: both.origin.clone()?,
+    };
+    let mut cow = MemImage {
+        bytes: both.store.clone()?,
+    };
+    let map = map_in(rt, &mut cow)?;
     let mut reader = heard;
     let mut writer = Vec::new(rt.alloc());
     serve_written(rt.alloc(), origin, cow, map, 128, &mut reader, &mut writer)?;
@@ -31,7 +48,8 @@ fn said(rt: &(impl Abort + AllocGlobal), heard: &[u8]) -> Result<Vec<u8>, Fail> 
 }
 
 fn is_answered(rt: &(impl Abort + AllocGlobal), client: &Client) -> Result<bool, Fail> {
-    let answer = said(rt, client.heard)?;
+    let both = bytes_of_both(rt.alloc())?;
+    let answer = said(rt, &both, client.heard)?;
     let wanted = bytes_of(rt.alloc(), client.said)?;
     Ok(answer.as_slice() == wanted.as_slice())
 }
@@ -55,9 +73,10 @@ fn worked_sessions_are_answered(rt: HostRuntime) -> Result<(), Fail> {
 // Whether a client that leaves after any byte is told a front of what it would be told.
 fn is_cut(rt: &(impl Abort + AllocGlobal), client: &Client) -> Result<bool, Fail> {
     let wanted = bytes_of(rt.alloc(), client.said)?;
+    let both = bytes_of_both(rt.alloc())?;
     let mut most = 0;
     for end in 0..client.heard.len() {
-        let answer = said(rt, &client.heard[..end])?;
+        let answer = said(rt, &both, &client.heard[..end])?;
         if !wanted.as_slice().starts_with(answer.as_slice()) || answer.len() < most {
             return Ok(false);
         }
