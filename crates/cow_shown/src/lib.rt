@@ -5,6 +5,7 @@
 
 mod exporting;
 mod ranging;
+mod running;
 mod showing;
 
 pub use exporting::{Stopped, export, export_fresh};

@@ -4,31 +4,10 @@ ghost use Rattle.cow_map.specs.Sorted.{IsRisingBy, old_of};
 ghost use Rattle.cow_shown.specs.Runs.{IsRun};
 ghost use Rattle.cow_shown.specs.Shown.{shown};
 
-use cow_map::place_in;
+use crate::running::{Run, run_at};
 use image::Image;
 use sector::{Chunk, Pair};
 use std::io;
-
-/// Chunks in a row that have no copies, or copies in a row.
-#[derive(Clone, Copy)]
-struct Run {
-    /// Where the first one's copy is.
-    place: Option<Chunk>,
-    /// How many they are.
-    chunks: u64,
-}
-
-/// The chunks from one on that are read at once.
-fn run_at(pairs: &[Pair], number: Chunk) -> Run
-    requires { IsRisingBy old_of pairs.now }
-    ensures some { 0 < result.chunks }
-    ensures run { IsRun pairs.now number result.place result.chunks }
-{
-    Run {
-        place: place_in(pairs, number),
-        chunks: 1,
-    }
-}
 
 /// Reads what a snapshot shows in chunks in a row, from a byte of the first one on.
 fn show_run<O: Image, C: Image>(
@@ -79,6 +58,9 @@ fn byte_in(bytes: u64, number: Chunk, inside: u64) -> Option<u64>
     bytes.checked_mul(number)?.checked_add(inside)
 }
 
+/// How many copies in a row are read at once.
+const MOST: u64 = 65536;
+
 /// Reads what a snapshot shows by these pairs, from a byte on.
 pub fn show_range<O: Image, C: Image>(
     origin: &mut O,
@@ -102,7 +84,7 @@ pub fn show_range<O: Image, C: Image>(
         let from = at + done as u64;
         let number = from / bytes;
         let inside = from % bytes;
-        let run = run_at(pairs, number);
+        let run = run_at(pairs, number, MOST);
         let most = run.chunks.saturating_mul(bytes) - inside;
         let len = most.min((out.len() - done) as u64) as usize;
         let part = &mut out[done..done + len];

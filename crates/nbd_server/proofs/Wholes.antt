@@ -1,5 +1,6 @@
 -- Messages in what is heard.
-use Rattle.std.proofs.Common.{◌≡◌, ℕ, ◌+◌, ◌<◌, ◌≤◌, List, [], ◌++◌, length, drop, Option, None, Some, IfSome, refl, arith, ap, ◌∙◌, sym, subst, length-append, drop_at}
+use Rattle.std.proofs.Common.{◌≡◌, ℕ, ◌+◌, ◌<◌, ◌≤◌, List, [], ◌++◌, length, take, drop, Option, None, Some, IfSome, refl, arith, ap, ◌∙◌, sym, subst, length-append, drop_at}
+use Rattle.std.proofs.Math.Seq.{take-append_seam}
 use Rattle.std.specs.Io.KnownBytes.{Consumes}
 use Rattle.std.proofs.KnownBytes.{Consumes-trans}
 use Rattle.nbd_messages.specs.Requests.{request_in, asked_in}
@@ -9,7 +10,7 @@ use Rattle.nbd_messages.proofs.Fronts.{asked_front, request_front}
 use Rattle.nbd_server.specs.declared.served.Export.{Export}
 use Rattle.nbd_server.specs.declared.session.Place.{Place}
 use Rattle.nbd_server.specs.declared.session.Stage.{Stage}
-use Rattle.nbd_server.specs.declared.session.Stage.TheVariants.{Haggling, Serving}
+use Rattle.nbd_server.specs.declared.session.Stage.TheVariants.{Opening, Haggling, Serving, Over}
 use Rattle.nbd_server.specs.declared.session.Session.{Session}
 use Rattle.nbd_server.specs.Heard.{IsShort, IsRead}
 use Rattle.nbd_server.specs.Haggled.{IsReaction, Reaction, haggled_any}
@@ -105,3 +106,19 @@ option_end a b asked session at is short = subst (λ (s : Stage). IfSome a (None
 
 pub request_end : (a b : Option (List ℕ)) (request : Request) (place : Place) (session : Session) → session.stage ≡ Serving place → IsRequested a b request → IsShort b (payload request) → IsEnd a session
 request_end a b request place session at is short = subst (λ (s : Stage). IfSome a (NoneIsWhole s)) (sym at) (request_short place a b request is short)
+
+same_front : (m r m' r' : List ℕ) → m ++ r ≡ m' ++ r' → length m ≡ length m' → m ≡ m'
+same_front m r m' r' e len = sym (take-append_seam m r) ∙ ap (take (length m)) e ∙ ap (λ n. take n (m' ++ r')) len ∙ take-append_seam m' r'
+
+-- what is heard begins with one message at most
+pub one_message : (stage : Stage) (m r m' r' : List ℕ) → m ++ r ≡ m' ++ r' → IsWhole stage m → IsWhole stage m' → m ≡ m'
+one_message Opening m r m' r' e whole whole' = same_front m r m' r' e (whole.0 ∙ sym whole'.0)
+one_message Haggling m r m' r' e (asked, is, len) (asked', is', len') =
+    let same : asked_in m' ≡ asked_in m = same_asked m r m' r' e (omega arith) (omega arith) in
+    let one : asked' ≡ asked = some_inj asked' asked (sym is' ∙ same ∙ is) in
+    same_front m r m' r' e (len ∙ ap (λ (x : Asked). 16 + x.length) (sym one) ∙ sym len')
+one_message (Serving place) m r m' r' e (request, is, len) (request', is', len') =
+    let same : request_in m' ≡ request_in m = same_request m r m' r' e (omega arith) (omega arith) in
+    let one : request' ≡ request = some_inj request' request (sym is' ∙ same ∙ is) in
+    same_front m r m' r' e (len ∙ ap (λ (x : Request). 28 + payload x) (sym one) ∙ sym len')
+one_message Over m r m' r' e whole whole' = absurd whole

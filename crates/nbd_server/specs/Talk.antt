@@ -1,6 +1,6 @@
 -- To be believed: a whole session with a client, by doc/proto.md of the NBD project: "Newstyle negotiation", "Option
 -- haggling", "Transmission". What a client sends is a list of messages, and each is answered before the next is read.
-use Rattle.std.specs.Prelude.{◌≡◌, ◌==◌, ℕ, ◌+◌, ◌<◌, Bool, true, false, List, [], ◌∷◌, ◌++◌, length, drop, nat_le, Option, Some, None, if◌then◌else◌}
+use Rattle.std.specs.Prelude.{◌≡◌, ◌==◌, ℕ, ◌+◌, ◌<◌, Bool, true, false, List, [], ◌∷◌, ◌++◌, length, drop, nat_le, Option, Some, None, ⊤, if◌then◌else◌}
 use Rattle.nbd_messages.specs.Layout.{number_at}
 use Rattle.nbd_messages.specs.Requests.{request_in, asked_in}
 use Rattle.nbd_messages.specs.declared.asked.Asked.{Asked}
@@ -102,3 +102,8 @@ beginning = record { no_zeroes = false; structured = false; stage = Opening }
 -- the bytes of the arrays that are served
 abbrev pub AreArrays : (ℕ → Option (List ℕ)) → (ℕ → List ℕ) → Type 0
 AreArrays bytes arrays = (k : ℕ) → bytes k ≡ Some (arrays k)
+
+-- no read of the arrays had a fault
+abbrev pub HaveNoFault : List Turn → Type 0
+HaveNoFault [] = ⊤
+HaveNoFault (turn ∷ turns) = (turn.fault ≡ None) × HaveNoFault turns

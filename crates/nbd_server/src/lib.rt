@@ -4,6 +4,7 @@
 mod finding;
 mod haggling;
 mod hearing;
+mod laws;
 mod replying;
 mod served;
 mod serving;
@@ -11,6 +12,7 @@ mod session;
 mod stopped;
 mod turning;
 
+pub use laws::one_answer;
 pub use served::{Export, Fault, Served};
 pub use serving::serve;
 pub use session::{Place, Session, Stage};
