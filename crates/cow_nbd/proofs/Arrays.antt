@@ -21,7 +21,7 @@ shown_part chunk o b ps at n end inside =
     let all : at + (n + left) ≡ end = omega arith in
     let behind : shown chunk o b ps at (n + left) ≡ here ++ rest = shown_parts chunk o b ps at n left in
     let whole : shown chunk o b ps 0 end ≡ front ++ (here ++ rest) =
-      ap (shown chunk o b ps 0) (sym all) ∙ shown_parts chunk o b ps 0 at (n + left) ∙ ap (λ k. front ++ shown chunk o b ps k (n + left)) (zero-add at) ∙ ap (λ l. front ++ l) behind in
+    ap (shown chunk o b ps 0) (sym all) ∙ shown_parts chunk o b ps 0 at (n + left) ∙ ap (λ k. front ++ shown chunk o b ps k (n + left)) (zero-add at) ∙ ap (λ l. front ++ l) behind in
     sym (ap (λ l. take n (drop at l)) whole ∙ ap (take n) (drop_at front (here ++ rest) at front_len) ∙ take_here here rest n here_len)
   where
     take_here : (xs ys : List ℕ) (n : ℕ) → length xs ≡ n → take n (xs ++ ys) ≡ xs

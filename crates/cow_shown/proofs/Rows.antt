@@ -24,8 +24,8 @@ run_here ps low number count e up inside here row q lt =
     let within : low + q < length ps = (let h = row.inside in omega arith) in
     let old : (get_or ps (low + q) e).old ≡ number + q = row.old q e lt ∙ ap (λ n. n + q) here in
     place_here ps (low + q) (number + q) e
-        (λ k d h. (let far : (get_or ps k d).old < (get_or ps (low + q) d).old = rising_far old_of ps up k (low + q) d h within in let same : (get_or ps (low + q) d).old ≡ (get_or ps (low + q) e).old = ap (λ p. p.old) (get_or_default ps (low + q) d e within) in omega arith))
-        within old ∙ ap Some (row.new q e lt)
+    (λ k d h. (let far : (get_or ps k d).old < (get_or ps (low + q) d).old = rising_far old_of ps up k (low + q) d h within in let same : (get_or ps (low + q) d).old ≡ (get_or ps (low + q) e).old = ap (λ p. p.old) (get_or_default ps (low + q) d e within) in omega arith))
+    within old ∙ ap Some (row.new q e lt)
 
 -- a pair alone
 pub row_one : (ps : List Pair) (low : ℕ) → low < length ps → IsRow ps low 1

@@ -103,12 +103,7 @@ pub fn push_simple_reply(out: &mut Vec<u8>, error: u32, cookie: u64) -> Result<(
 
 /// Adds the front of a chunk of a structured reply: its type, the request's cookie, and the length of its data.
 #[tactic(auto, unfolding(crate::specs::Replies::chunk_front))]
-fn push_chunk_front(
-    out: &mut Vec<u8>,
-    kind: u16,
-    cookie: u64,
-    len: u32,
-) -> Result<(), AllocError>
+fn push_chunk_front(out: &mut Vec<u8>, kind: u16, cookie: u64, len: u32) -> Result<(), AllocError>
     ensures { OnOk result (out.new.items ≡ out.old.items ++ chunk_front kind cookie len) }
 {
     push_chunk_kind(out, kind)?;

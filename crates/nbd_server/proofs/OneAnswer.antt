@@ -17,8 +17,8 @@ one_answer_is exports arrays session heard said said' (turn ∷ turns) (turn' �
     let left : rest' ≡ rest = append_cancel_left turn.message rest' rest (ap (λ (l : List ℕ). l ++ rest') one ∙ sym heard_is' ∙ heard_is) in
     let faults : turn'.fault ≡ turn.fault = good'.0 ∙ sym good.0 in
     let same : reaction exports arrays session turn'.fault turn'.message ≡ reaction exports arrays session turn.fault turn.message =
-      ap (λ (f : Option Fault). reaction exports arrays session f turn'.message) faults ∙ ap (reaction exports arrays session turn.fault) (sym one) in
+    ap (λ (f : Option Fault). reaction exports arrays session f turn'.message) faults ∙ ap (reaction exports arrays session turn.fault) (sym one) in
     let later'' : Talk exports arrays (reaction exports arrays session turn.fault turn.message).after rest more' turns' =
-      subst (λ (r : Reaction). Talk exports arrays r.after rest more' turns') same (subst (λ (l : List ℕ). Talk exports arrays (reaction exports arrays session turn'.fault turn'.message).after l more' turns') left later') in
+    subst (λ (r : Reaction). Talk exports arrays r.after rest more' turns') same (subst (λ (l : List ℕ). Talk exports arrays (reaction exports arrays session turn'.fault turn'.message).after l more' turns') left later') in
     let next : more ≡ more' = one_answer_is exports arrays (reaction exports arrays session turn.fault turn.message).after rest more more' turns turns' later later'' good.1 good'.1 in
     said_is ∙ ap (λ (l : List ℕ). (reaction exports arrays session turn.fault turn.message).answer ++ l) next ∙ ap (λ (r : Reaction). r.answer ++ more') (sym same) ∙ sym said_is'

@@ -46,7 +46,7 @@ so_far_goes exports arrays heard reader reader' old mid new session session' ans
       leads = λ more turns talk.
           (let turn : Turn = record { message = message; fault = fault } in
           let later : Talk exports arrays session before.rest (answer ++ more) (turn ∷ turns) =
-            (rest, more, whole, is, ap (λ (l : List ℕ). l ++ more) answered, subst (λ (s : Session). Talk exports arrays s rest more turns) then talk) in
+          (rest, more, whole, is, ap (λ (l : List ℕ). l ++ more) answered, subst (λ (s : Session). Talk exports arrays s rest more turns) then talk) in
           let (all, whole_talk) = before.leads (answer ++ more) (turn ∷ turns) later in
           (all, subst (λ (l : List ℕ). Talk exports arrays beginning heard l all) (sym (append_assoc before.said answer more)) whole_talk));
     }

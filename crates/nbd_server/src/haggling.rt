@@ -4,9 +4,9 @@ ghost use Rattle.std.specs.Option.{option_map};
 ghost use Rattle.nbd_server.specs.Haggled.{named, IsReaction, haggled, haggled_unread, named_export, listed, asked_name as asked_name_of, informed, on_export, without_data, with_structure, aborted};
 ghost use Rattle.nbd_server.specs.declared.session.Place.{Place as PlaceOf};
 
+use crate::Export;
 use crate::finding::found;
 use crate::session::{Place, Session, Stage};
-use crate::Export;
 use nbd_messages::{
     push_bare_reply, push_export_info, push_export_reply, push_listed_name, u16_at, u32_at,
 };
@@ -17,11 +17,17 @@ const FLAGS: u16 = 7;
 
 /// The types of replies.
 const ACKNOWLEDGED: u32 = 1;
+
 const LISTING: u32 = 2;
+
 const INFORMING: u32 = 3;
+
 const UNSUPPORTED: u32 = 2_147_483_649;
+
 const MALFORMED: u32 = 2_147_483_651;
+
 const UNKNOWN: u32 = 2_147_483_654;
+
 const TOO_LONG: u32 = 2_147_483_657;
 
 /// The name in the data of an option on an export, which go on with numbers of facts. `None` where they are malformed.
@@ -136,11 +142,7 @@ fn list_all(
 }
 
 /// Answers an option whose data are to be none: structured replies are taken from then on.
-fn structure(
-    session: &mut Session,
-    text: &[u8],
-    answer: &mut Vec<u8>,
-) -> Result<(), AllocError>
+fn structure(session: &mut Session, text: &[u8], answer: &mut Vec<u8>) -> Result<(), AllocError>
     requires { answer.old.items ≡ [] }
     ensures { OnOk result (IsReaction answer.new.items session.new (without_data session.old 8 text.now (with_structure session.old))) }
 {

@@ -8,5 +8,4 @@ ghost use Rattle.nbd_server.specs.Talk.{Talk, Turn, HaveNoFault};
 pub fn one_answer()
     ensures { (exports : List ExportOf) (arrays : ℕ → List ℕ) (session : SessionOf) (heard said said' : List ℕ) (turns turns' : List Turn) →
         Talk exports arrays session heard said turns → Talk exports arrays session heard said' turns' → HaveNoFault turns → HaveNoFault turns' → said ≡ said' }
-{
-}
+{}

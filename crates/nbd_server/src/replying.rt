@@ -14,8 +14,11 @@ const LONGEST: u32 = 33_554_432;
 
 /// The protocol's numbers of errors.
 const NOT_PERMITTED: u32 = 1;
+
 const IO: u32 = 5;
+
 const NO_MEMORY: u32 = 12;
+
 const INVALID: u32 = 22;
 
 /// Whether a read is invalid, of an export of so many bytes.

@@ -47,7 +47,14 @@ pub fn serve<T: Served, R: Read, W: Write>(
     say(writer, answer.as_slice())?;
     for _ in 0..u64::MAX {
         answer.clear();
-        if !turn(served, exports, &mut session, reader, &mut text, &mut answer)? {
+        if !turn(
+            served,
+            exports,
+            &mut session,
+            reader,
+            &mut text,
+            &mut answer,
+        )? {
             return Ok(());
         }
         say(writer, answer.as_slice())?;

@@ -14,7 +14,9 @@ use crate::replying::reply;
 use crate::session::{Place, Session, Stage};
 use crate::stopped::Stopped;
 use crate::{Export, Served};
-use nbd_messages::{ASKED_BYTES, Asked, Command, REQUEST_BYTES, Request, asked_in, request_in, u32_at};
+use nbd_messages::{
+    ASKED_BYTES, Asked, Command, REQUEST_BYTES, Request, asked_in, request_in, u32_at,
+};
 use std::io::Read;
 
 /// The longest data of an option that are looked at.
@@ -127,7 +129,14 @@ fn serve_request<T: Served>(
     ensures replied { OnOk result (IsReplied (T.bytes served.old) place request.now session.old session.new answer.new.items) }
     ensures bytes { (k : ℕ) → T.bytes served.new k ≡ T.bytes served.old k }
 {
-    reply(served, place.export, place.size, session.structured, request, answer)?;
+    reply(
+        served,
+        place.export,
+        place.size,
+        session.structured,
+        request,
+        answer,
+    )?;
     if request.command == Command::Disconnect {
         session.stage = Stage::Over;
     }

@@ -21,5 +21,5 @@ loop-done-preserved g c =
       long = whole ∙ i.long;
       read = λ o b ois bis.
           range_more c.args.chunk o b c.loop-done.out c.show_run.new.out c.args.pairs.now c.args.at _ done len ((done + len) - done) room (chunk_and c.args.chunk from) inside long (i.read o b ois bis)
-              (c.in-Ok.ensures.shown o b (i.origin ∙ ois) (i.cow ∙ bis) ∙ ap (λ (n : ℕ). shown c.args.chunk o b c.args.pairs.now (512 * (c.args.chunk * (from / (512 * c.args.chunk))) + from % (512 * c.args.chunk)) n) (length-part c.loop-done.out done len inside));
+          (c.in-Ok.ensures.shown o b (i.origin ∙ ois) (i.cow ∙ bis) ∙ ap (λ (n : ℕ). shown c.args.chunk o b c.args.pairs.now (512 * (c.args.chunk * (from / (512 * c.args.chunk))) + from % (512 * c.args.chunk)) n) (length-part c.loop-done.out done len inside));
     }

@@ -12,13 +12,13 @@ loop-preserved g c =
     let whole : length (put_mid c.loop.at (length c.loop.out - c.loop.at) c.loop.out c.read.new.buf) ≡ length c.loop.out = length-put_mid c.loop.out c.read.new.buf c.loop.at i.1 len in
     let kept : length (put_mid c.loop.at (length c.loop.out - c.loop.at) c.loop.out c.read.new.buf) ≡ length c.args.out.now = whole ∙ i.0 in
     elim c.match-read.branch [
-      in-Ok w ↦ (
+      | in-Ok w ↦ (
         kept,
         (let few = w.in-Ok.ensures.bound in let at = w.at-is in omega arith),
         subst (λ (n : ℕ). Consumes (g.R.Read.remaining c.args.reader.now) (g.R.Read.remaining c.read.new.self) (take n (put_mid c.loop.at (length c.loop.out - c.loop.at) c.loop.out c.read.new.buf))) (sym w.at-is)
             (heard_more _ _ _ c.loop.out c.read.new.buf c.loop.at w.in-Ok.n i.1 len w.in-Ok.ensures.bound.0 i.2 w.in-Ok.ensures.bytes.0),
       )
-    | in-Err+else-ne w ↦ (
+      | in-Err+else-ne w ↦ (
         kept,
         (let at = w.at-is in omega arith),
         subst (λ (n : ℕ). Consumes (g.R.Read.remaining c.args.reader.now) (g.R.Read.remaining c.read.new.self) (take n (put_mid c.loop.at (length c.loop.out - c.loop.at) c.loop.out c.read.new.buf))) (sym w.at-is)

@@ -7,9 +7,11 @@ use Rattle.nbd_server.proofs.SoFar.{so_far_begins, so_far_goes, so_far_ends}
 use Rattle.nbd_server.proofs.serving.serve.Goals as goal
 
 pub returns-then-not-branch : goal.returns-then-not-branch
-returns-then-not-branch g c = record { answers = λ arrays heard known is.
-    (let ends : IsEnd (g.R.Read.remaining c.loop.reader) c.loop.session = rw c.if-not-branch.true at c.in_ok-turn.ensures.turn in
-    so_far_ends c.args.exports.now arrays heard _ _ _ c.loop.session (c.loop.invariant.so_far arrays heard known is) ends) }
+returns-then-not-branch g c = record {
+  answers = λ arrays heard known is.
+      (let ends : IsEnd (g.R.Read.remaining c.loop.reader) c.loop.session = rw c.if-not-branch.true at c.in_ok-turn.ensures.turn in
+      so_far_ends c.args.exports.now arrays heard _ _ _ c.loop.session (c.loop.invariant.so_far arrays heard known is) ends);
+}
 
 pub loop-preserved : goal.loop-preserved
 loop-preserved g c = record {
