@@ -1,2 +1,4 @@
 pub mod Shown
 pub mod Exports
+pub mod Rows
+pub mod Ranges

@@ -4,7 +4,10 @@
 #![tactic(auto)]
 
 mod exporting;
+mod ranging;
+mod running;
 mod showing;
 
 pub use exporting::{Stopped, export, export_fresh, export_pairs};
+pub use ranging::show_range;
 pub use showing::show_chunk;

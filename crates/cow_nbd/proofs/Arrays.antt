@@ -1,0 +1,46 @@
+-- Bytes of arrays.
+use Rattle.std.proofs.Common.{◌≡◌, ℕ, zero, suc, ◌+◌, ◌-◌, ◌*◌, ◌≤◌, List, [], ◌++◌, length, take, drop, Option, None, Some, IfSome, refl, arith, ap, ◌∙◌, sym, subst, zero-add, drop_at}
+use Rattle.std.proofs.Math.Seq.{take-append_seam}
+use Rattle.std.proofs.lemmas.List.{take-append-le}
+use Rattle.std.proofs.lemmas.List.FromFn.{length-map-range_with_len}
+use Rattle.sector.specs.declared.pair.Pair.{Pair}
+use Rattle.model.specs.Picture.{picture_at}
+use Rattle.cow_shown.specs.Shown.{shown}
+use Rattle.cow_shown.proofs.Exports.{shown_parts}
+use Rattle.cow_nbd.specs.Shows.{known_shown, known_at, arrays}
+
+-- a part of what is shown
+pub shown_part : (chunk : ℕ) (o b : List ℕ) (ps : List Pair) (at n end : ℕ) → at + n ≤ end → shown chunk o b ps at n ≡ take n (drop at (shown chunk o b ps 0 end))
+shown_part chunk o b ps at n end inside =
+    let front = shown chunk o b ps 0 at in
+    let here = shown chunk o b ps at n in
+    let left = end - (at + n) in
+    let rest = shown chunk o b ps (at + n) left in
+    let front_len : length front ≡ at = length-map-range_with_len (picture_at chunk o b ps) 0 at in
+    let here_len : length here ≡ n = length-map-range_with_len (picture_at chunk o b ps) at n in
+    let all : at + (n + left) ≡ end = omega arith in
+    let behind : shown chunk o b ps at (n + left) ≡ here ++ rest = shown_parts chunk o b ps at n left in
+    let whole : shown chunk o b ps 0 end ≡ front ++ (here ++ rest) =
+    ap (shown chunk o b ps 0) (sym all) ∙ shown_parts chunk o b ps 0 at (n + left) ∙ ap (λ k. front ++ shown chunk o b ps k (n + left)) (zero-add at) ∙ ap (λ l. front ++ l) behind in
+    sym (ap (λ l. take n (drop at l)) whole ∙ ap (take n) (drop_at front (here ++ rest) at front_len) ∙ take_here here rest n here_len)
+  where
+    take_here : (xs ys : List ℕ) (n : ℕ) → length xs ≡ n → take n (xs ++ ys) ≡ xs
+    take_here xs ys n len = ap (λ k. take k (xs ++ ys)) (sym len) ∙ take-append_seam xs ys
+
+-- what was read is a part of the array
+pub snapshot_read : (chunk : ℕ) (ps : List Pair) (size at n : ℕ) (origin store : Option (List ℕ)) (out : List ℕ) → at + n ≤ 512 * size → ((o b : List ℕ) → origin ≡ Some o → store ≡ Some b → out ≡ shown chunk o b ps at n) → IfSome (known_shown chunk ps size origin store) (λ bytes. out ≡ take n (drop at bytes))
+snapshot_read chunk ps size at n None store out inside read = tt
+snapshot_read chunk ps size at n (Some o) None out inside read = tt
+snapshot_read chunk ps size at n (Some o) (Some b) out inside read = read o b refl refl ∙ shown_part chunk o b ps at n (512 * size) inside
+
+-- the arrays stay where the images do
+pub same_arrays : (chunk : ℕ) (ps : List Pair) (size : ℕ) (o o' c c' : Option (List ℕ)) → o' ≡ o → c' ≡ c → (k : ℕ) → known_at chunk ps size o' c' k ≡ known_at chunk ps size o c k
+same_arrays chunk ps size o o' c c' same same' k = ap (λ x. known_at chunk ps size x c' k) same ∙ ap (λ x. known_at chunk ps size o x k) same'
+
+-- both arrays are known where both images are
+pub known_both : (chunk : ℕ) (ps : List Pair) (size : ℕ) (origin store : Option (List ℕ)) (o b : List ℕ) → origin ≡ Some o → store ≡ Some b → (k : ℕ) → known_at chunk ps size origin store k ≡ Some (arrays (shown chunk o b ps 0 (512 * size)) o k)
+known_both chunk ps size origin store o b is is' k = same_arrays chunk ps size (Some o) origin (Some b) store is is' k ∙ both k
+  where
+    both : (k : ℕ) → known_at chunk ps size (Some o) (Some b) k ≡ Some (arrays (shown chunk o b ps 0 (512 * size)) o k)
+    both zero = refl
+    both (suc k) = refl

@@ -1,0 +1,37 @@
+-- To be believed: the two arrays that a server of a store shows, and what it says to a client.
+use Rattle.std.specs.Prelude.{◌≡◌, ℕ, zero, suc, ◌*◌, List, [], ◌∷◌, ◌++◌, length, codes, Option, Some, None}
+use Rattle.std.specs.Io.KnownBytes.{Appends}
+use Rattle.sector.specs.declared.pair.Pair.{Pair}
+use Rattle.cow_shown.specs.Shown.{shown}
+use Rattle.nbd_messages.specs.Replies.{greeting}
+use Rattle.nbd_server.specs.declared.served.Export.{Export}
+use Rattle.nbd_server.specs.Talk.{Talk, Turn, beginning}
+
+-- the arrays, by their numbers: the snapshot's, and then the origin's
+abbrev pub arrays : List ℕ → List ℕ → ℕ → List ℕ
+arrays snapshot origin zero = snapshot
+arrays snapshot origin (suc k) = origin
+
+-- An export of this name, of so many sectors.
+abbrev pub IsExport : ℕ → List ℕ → Export → Type 0
+IsExport size name export = (export.name.now ≡ name) × (export.size ≡ 512 * size)
+
+-- the two exports
+abbrev pub AreExports : ℕ → List Export → Type 0
+AreExports size exports = (first : Export) × (second : Export) × (exports ≡ first ∷ second ∷ []) × IsExport size (codes "snapshot") first × IsExport size (codes "origin") second
+
+-- All that is written to a client of whom this was heard: the greeting, and the answers to the messages.
+abbrev pub IsServed : ℕ → List ℕ → List ℕ → List ℕ → Option (List ℕ) → Option (List ℕ) → Type 0
+IsServed size snapshot origin heard old new =
+    (exports : List Export) × AreExports size exports
+    × (said : List ℕ) × (turns : List Turn) × Talk exports (arrays snapshot origin) beginning heard said turns × Appends old new (greeting ++ said)
+
+-- an array's bytes by pairs, where both images' bytes are known
+abbrev pub known_shown : ℕ → List Pair → ℕ → Option (List ℕ) → Option (List ℕ) → Option (List ℕ)
+known_shown chunk pairs size None store = None
+known_shown chunk pairs size (Some origin) None = None
+known_shown chunk pairs size (Some origin) (Some store) = Some (shown chunk origin store pairs 0 (512 * size))
+
+abbrev pub known_at : ℕ → List Pair → ℕ → Option (List ℕ) → Option (List ℕ) → ℕ → Option (List ℕ)
+known_at chunk pairs size origin store zero = known_shown chunk pairs size origin store
+known_at chunk pairs size origin store (suc k) = origin

@@ -1,0 +1,72 @@
+// The arrays that are served.
+ghost use Rattle.std.specs.Prelude.{◌≡◌, ℕ, ◌+◌, ◌*◌, ◌^◌, ◌<◌, ◌≤◌, List, length, take, drop, Some, IfSome, OnOk};
+ghost use Rattle.cow_map.specs.Sorted.{IsRisingBy, old_of};
+ghost use Rattle.cow_nbd.specs.Shows.{known_at, known_shown};
+
+use cow_shown::show_range;
+use image::Image;
+use nbd_server::{Fault, Served};
+use sector::Pair;
+use std::io;
+
+/// What the snapshot of a store shows, and its origin: two arrays of so many sectors.
+#[derive(Drop)]
+pub struct Pictures<O: Image, C: Image> {
+    pub origin: O,
+    pub cow: C,
+    pub pairs: Vec<Pair>,
+    pub chunk: u32,
+    pub size: u64,
+    /// Whether the last read failed.
+    pub failed: bool,
+    pub ghost some: { 0 < chunk },
+    pub ghost allowed: { chunk ≤ 1024 },
+    pub ghost small: { size ≤ 68_719_476_736 },
+    pub ghost rising: { IsRisingBy old_of pairs.items },
+}
+
+impl<O: Image, C: Image> Pictures<O, C> {
+    /// Reads what the snapshot shows.
+    fn read_snapshot(&mut self, at: u64, out: &mut [u8]) -> io::Result<()>
+        requires { at + length out.old ≤ 512 * self.old.size }
+        ensures data { OnOk result (IfSome (known_shown self.old.chunk self.old.pairs.items self.old.size (O.bytes self.old.origin) (C.bytes self.old.cow)) (λ b. out.new ≡ take (length out.old) (drop at b))) }
+        ensures bytes { (k : ℕ) → known_at self.new.chunk self.new.pairs.items self.new.size (O.bytes self.new.origin) (C.bytes self.new.cow) k ≡ known_at self.old.chunk self.old.pairs.items self.old.size (O.bytes self.old.origin) (C.bytes self.old.cow) k }
+    {
+        let pairs = self.pairs.as_slice();
+        match show_range(&mut self.origin, &mut self.cow, self.chunk, pairs, at, out) {
+            Ok(()) => Ok(()),
+            Err(error) => Err(error),
+        }
+    }
+
+    /// Reads an array.
+    fn read_from(&mut self, export: usize, at: u64, out: &mut [u8]) -> io::Result<()>
+        requires { at + length out.old < 2 ^ 64 }
+        ensures data { OnOk result (IfSome (known_at self.old.chunk self.old.pairs.items self.old.size (O.bytes self.old.origin) (C.bytes self.old.cow) export) (λ b. out.new ≡ take (length out.old) (drop at b))) }
+        ensures bytes { (k : ℕ) → known_at self.new.chunk self.new.pairs.items self.new.size (O.bytes self.new.origin) (C.bytes self.new.cow) k ≡ known_at self.old.chunk self.old.pairs.items self.old.size (O.bytes self.old.origin) (C.bytes self.old.cow) k }
+    {
+        if 512 * self.size < at + out.len() as u64 {
+            return Err(io::ErrorKind::UnexpectedEof.into());
+        }
+        if export == 0 {
+            return self.read_snapshot(at, out);
+        }
+        self.origin.read_at(at, out)
+    }
+}
+
+impl<O: Image, C: Image> Served for Pictures<O, C> {
+    ghost bytes = { λ p k. known_at p.chunk p.pairs.items p.size (O.bytes p.origin) (C.bytes p.cow) k };
+
+    ghost failed = { λ p. p.failed };
+
+    fn read(&mut self, export: usize, at: u64, out: &mut [u8]) -> Result<(), Fault> {
+        match self.read_from(export, at, out) {
+            Ok(()) => Ok(()),
+            Err(_) => {
+                self.failed = true;
+                Err(Fault::Io)
+            }
+        }
+    }
+}

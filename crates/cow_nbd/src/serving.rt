@@ -1,0 +1,96 @@
+// A store and its origin are served.
+ghost use Rattle.std.specs.Prelude.{◌≡◌, ℕ, ◌*◌, ◌≤◌, List, length, OnOk, Some};
+ghost use Rattle.cow_map.specs.Maps.{IsMapOf};
+ghost use Rattle.cow_shown.specs.Shown.{shown};
+ghost use Rattle.model.specs.Picture.{picture};
+ghost use Rattle.cow_nbd.specs.Shows.{IsServed};
+
+use crate::pictures::Pictures;
+use cow_map::CowMap;
+use image::{Image, MemImage};
+use nbd_server::{Export, Stopped, serve};
+use std::alloc::Global;
+use std::io::{Read, Write};
+
+/// Serves two arrays.
+fn serve_pictures<O: Image, C: Image, R: Read, W: Write>(
+    alloc: Global,
+    pictures: &mut Pictures<O, C>,
+    reader: &mut R,
+    writer: &mut W,
+) -> Result<(), Stopped>
+    ensures { OnOk result ((o : List ℕ) → (b : List ℕ) → (heard : List ℕ) → O.bytes pictures.old.origin ≡ Some o → C.bytes pictures.old.cow ≡ Some b → R.remaining reader.old ≡ Some heard → IsServed pictures.old.size (shown pictures.old.chunk o b pictures.old.pairs.items 0 (512 * pictures.old.size)) o heard (W.contents writer.old) (W.contents writer.new)) }
+{
+    let size = 512 * pictures.size;
+    let snapshot = Export {
+        name: b"snapshot".as_slice(),
+        size,
+    };
+    let origin = Export {
+        name: b"origin".as_slice(),
+        size,
+    };
+    let exports = [snapshot, origin];
+    match serve(alloc, pictures, exports.as_slice(), reader, writer) {
+        Ok(()) => Ok(()),
+        Err(stopped) => Err(stopped),
+    }
+}
+
+/// Serves the snapshot of a written store, and its origin, which has so many sectors.
+pub fn serve_written<O: Image + Drop, C: Image + Drop, R: Read, W: Write>(
+    alloc: Global,
+    origin: O,
+    cow: C,
+    map: CowMap,
+    size: u64,
+    reader: &mut R,
+    writer: &mut W,
+) -> Result<(), Stopped>
+    requires { size ≤ 68_719_476_736 }
+    ensures { OnOk result ((o : List ℕ) → (b : List ℕ) → (heard : List ℕ) → O.bytes origin ≡ Some o → C.bytes cow ≡ Some b → R.remaining reader.old ≡ Some heard → length o ≡ 512 * size → IsMapOf size b map → IsServed size (picture map.chunk o b) o heard (W.contents writer.old) (W.contents writer.new)) }
+{
+    let mut pictures = Pictures {
+        origin,
+        cow,
+        chunk: map.chunk,
+        pairs: map.pairs,
+        size,
+        failed: false,
+    };
+    match serve_pictures(alloc, &mut pictures, reader, writer) {
+        Ok(()) => Ok(()),
+        Err(stopped) => Err(stopped),
+    }
+}
+
+/// The chunk size with which the origin of a fresh store is read.
+const FRESH_CHUNK: u32 = 128;
+
+/// Serves the snapshot of a fresh store, which is its origin, and that origin, which has so many sectors.
+pub fn serve_fresh<O: Image + Drop, R: Read, W: Write>(
+    alloc: Global,
+    origin: O,
+    size: u64,
+    reader: &mut R,
+    writer: &mut W,
+) -> Result<(), Stopped>
+    requires { size ≤ 68_719_476_736 }
+    ensures { OnOk result ((o : List ℕ) → (heard : List ℕ) → O.bytes origin ≡ Some o → R.remaining reader.old ≡ Some heard → length o ≡ 512 * size → IsServed size o o heard (W.contents writer.old) (W.contents writer.new)) }
+{
+    let cow = MemImage {
+        bytes: Vec::new(alloc),
+    };
+    let mut pictures = Pictures {
+        origin,
+        cow,
+        chunk: FRESH_CHUNK,
+        pairs: Vec::new(alloc),
+        size,
+        failed: false,
+    };
+    match serve_pictures(alloc, &mut pictures, reader, writer) {
+        Ok(()) => Ok(()),
+        Err(stopped) => Err(stopped),
+    }
+}

@@ -1,0 +1,15 @@
+use Rattle.std.proofs.Common.{◌≡◌, List, ℕ, ◌-◌, ◌≤◌, length, take, Some}
+use Rattle.cow_shown.specs.Shown.{shown}
+use Rattle.cow_shown.proofs.ranging.show_range.Given as goal
+
+abbrev pub invariant-loop-done : goal.invariant-loop-done
+invariant-loop-done g l = record {
+  origin : g.O.Image.bytes l.origin ≡ g.O.Image.bytes l.fn.origin;
+  cow : g.C.Image.bytes l.cow ≡ g.C.Image.bytes l.fn.cow;
+  inside : l.done ≤ length l.out;
+  long : length l.out ≡ length l.fn.out;
+  read : (o b : List ℕ) → g.O.Image.bytes l.fn.origin ≡ Some o → g.C.Image.bytes l.fn.cow ≡ Some b → take l.done l.out ≡ shown l.chunk o b l.pairs l.at l.done;
+}
+
+abbrev pub decreases-loop-done : goal.decreases-loop-done
+decreases-loop-done g l = length l.out - l.done

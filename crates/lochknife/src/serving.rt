@@ -1,0 +1,99 @@
+// A snapshot is served to a client, on standard input and output.
+ghost use Rattle.std.specs.Prelude.{◌≡◌, ℕ, ◌*◌, ◌≤◌, List, length, OnOk, IsTrue, Some};
+ghost use Rattle.cow_map.specs.Maps.{IsToldOf};
+ghost use Rattle.cow_nbd.specs.Shows.{IsServed};
+ghost use Rattle.lochknife.specs.Arrays.{array_of};
+ghost use Rattle.lochknife.specs.Answers.{is_good};
+
+use crate::answers::shown;
+use crate::commands::of_input;
+use crate::input::Input;
+use crate::looking::look;
+use crate::rolling::size_of;
+use crate::trouble::{Trouble, Why, held};
+use cow_map::Told;
+use cow_nbd::{serve_fresh, serve_written};
+use image::Image;
+use nbd_server::Stopped;
+use std::alloc::Global;
+use std::io;
+use std::io::{Read, Write};
+
+/// Serves a snapshot, and its origin, to the client on standard input and output, or tells on standard error why the store
+/// is refused.
+pub fn serve<'a>(rt: &'a HostRuntime, origin: &'a str, cow: &'a str) -> Result<bool, Trouble<'a>> {
+    let mut origin = Input::open(rt, origin)?;
+    let mut cow = Input::open(rt, cow)?;
+    origin.is_apart(&cow)?;
+    let size = size_of(&mut origin)?;
+    let seen = look(rt.alloc(), &mut cow, size);
+    let seen = of_input(&mut cow, seen)?;
+    cow.is_unchanged()?;
+    if let Told::Refused(_) = seen.told {
+        let text = held(cow.name, shown(rt.alloc(), &seen))?;
+        let _ = rt.stderr().write_all(text.as_slice());
+        return Ok(false);
+    }
+    origin.hush();
+    let mut reader = rt.stdin().lock();
+    let mut writer = io::writer(rt);
+    let ended = serve_told(
+        rt.alloc(),
+        origin,
+        cow,
+        seen.told,
+        size,
+        &mut reader,
+        &mut writer,
+    );
+    match ended {
+        Ok(()) => Ok(true),
+        Err(stopped) => Err(trouble_of(stopped)),
+    }
+}
+
+/// Serves the snapshot of a store of which this was told, and its origin, which has so many sectors. To a client of a store
+/// that is refused nothing is said.
+fn serve_told<O: Image + Drop, C: Image + Drop, R: Read, W: Write>(
+    alloc: Global,
+    origin: O,
+    cow: C,
+    told: Told,
+    size: u64,
+    reader: &mut R,
+    writer: &mut W,
+) -> Result<(), Stopped>
+    requires size { size ≤ 68_719_476_736 }
+    requires good { IsTrue (is_good told) }
+    ensures { OnOk result ((o : List ℕ) → (b : List ℕ) → (heard : List ℕ) → O.bytes origin ≡ Some o → C.bytes cow ≡ Some b → R.remaining reader.old ≡ Some heard → length o ≡ 512 * size → IsToldOf size b told → IsServed size (array_of told o b) o heard (W.contents writer.old) (W.contents writer.new)) }
+{
+    match told {
+        Told::Fresh => match serve_fresh(alloc, origin, size, reader, writer) {
+            Ok(()) => Ok(()),
+            Err(stopped) => Err(stopped),
+        },
+        Told::Refused(_) => unreachable!(),
+        Told::Written(map) => match serve_written(alloc, origin, cow, map, size, reader, writer) {
+            Ok(()) => Ok(()),
+            Err(stopped) => Err(stopped),
+        },
+    }
+}
+
+/// Why a client is served no more.
+fn trouble_of(stopped: Stopped) -> Trouble<'static> {
+    match stopped {
+        Stopped::Unheard(error) => Trouble {
+            name: "standard input",
+            why: Why::Unreadable(None, error),
+        },
+        Stopped::Unsaid(error) => Trouble {
+            name: "standard output",
+            why: Why::Unwritable(error),
+        },
+        Stopped::NoMemory => Trouble {
+            name: "a client's request",
+            why: Why::NoMemory,
+        },
+    }
+}

@@ -1,0 +1,4 @@
+pub mod Hears
+pub mod Wholes
+pub mod SoFar
+pub mod OneAnswer

@@ -1,0 +1,16 @@
+use Rattle.std.proofs.Common.{◌≡◌, ℕ, List, [], ◌++◌, Bool, false, Some, Err, cond, ap, ◌∙◌, sym}
+use Rattle.nbd_server.specs.declared.served.Fault.{Fault}
+use Rattle.nbd_server.specs.Replied.{error_reply, given_reply, read_reply, invalid, fault_error}
+use Rattle.nbd_server.proofs.replying.reply_read.Goals as goal
+
+-- an error after nothing
+error_alone : (old new : List ℕ) (s : Bool) (n m : ℕ) (req : Rattle.nbd_messages.specs.declared.request.Request.Request) → new ≡ old ++ error_reply s n req → old ≡ [] → n ≡ m → new ≡ error_reply s m req
+error_alone old new s n m req is none same = is ∙ ap (λ (l : List ℕ). l ++ error_reply s n req) none ∙ ap (λ (k : ℕ). error_reply s k req) same
+
+pub returns-in_ok-push_error-in-Err-clause-reply : goal.returns-in_ok-push_error-in-Err-clause-reply
+returns-in_ok-push_error-in-Err-clause-reply g c = λ b bis. (
+  Some c.in-Err.fault,
+  λ e. (let same : c.in-Err.fault ≡ Rattle.nbd_server.specs.declared.served.Fault.TheVariants.Io = (cc) in c.in-Err.ensures.failed (ap Err same)),
+  error_alone _ _ c.args.structured _ (fault_error c.in-Err.fault) c.args.request.now c.in_ok-push_error-in-Err.ensures c.clear.ensures.items c.error_of.ensures
+      ∙ ap (λ (t : Bool). cond t (error_reply c.args.structured invalid c.args.request.now) (given_reply c.args.structured (Some c.in-Err.fault) b c.args.request.now)) (sym (sym c.is_invalid.ensures ∙ c.if-is_invalid.false)),
+)

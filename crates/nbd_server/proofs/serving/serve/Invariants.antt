@@ -1,0 +1,10 @@
+use Rattle.std.proofs.Common.{◌≡◌, ℕ, List, Some}
+use Rattle.nbd_server.specs.Talk.{AreArrays}
+use Rattle.nbd_server.proofs.SoFar.{IsSoFar}
+use Rattle.nbd_server.proofs.serving.serve.Given as goal
+
+abbrev pub invariant-loop : goal.invariant-loop
+invariant-loop g l = record {
+  bytes : (k : ℕ) → g.T.Served.bytes l.served k ≡ g.T.Served.bytes l.fn.served k;
+  so_far : (arrays : ℕ → List ℕ) (heard : List ℕ) → AreArrays (g.T.Served.bytes l.fn.served) arrays → g.R.Read.remaining l.fn.reader ≡ Some heard → IsSoFar l.exports arrays heard (g.R.Read.remaining l.reader) (g.W.Write.contents l.fn.writer) (g.W.Write.contents l.writer) l.session;
+}

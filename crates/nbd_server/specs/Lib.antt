@@ -1,0 +1,5 @@
+pub mod Heard
+pub mod Replied
+pub mod Haggled
+pub mod Talk
+pub mod Turns

@@ -1,0 +1,71 @@
+-- To be believed: what a request is answered, by doc/proto.md of the NBD project: "Simple reply message", "Structured reply
+-- chunk message", "Request types", "Error values". Which requests are served is this project's choice where that page leaves
+-- it open: flags that were not offered and lengths over 32 MiB are invalid.
+use Rattle.std.specs.Prelude.{◌==◌, ℕ, ◌+◌, Bool, true, false, List, [], ◌++◌, take, drop, nat_lt, Option, Some, None, if◌then◌else◌}
+use Rattle.nbd_messages.specs.Replies.{simple_reply, bare_chunk, error_chunk, data_front}
+use Rattle.nbd_messages.specs.declared.command.Command.{Command}
+use Rattle.nbd_messages.specs.declared.command.Command.TheVariants.{Read, Write, Disconnect, Flush, Trim, WriteZeroes, BlockStatus, Other}
+use Rattle.nbd_messages.specs.declared.request.Request.{Request}
+use Rattle.nbd_server.specs.declared.served.Fault.{Fault}
+use Rattle.nbd_server.specs.declared.served.Fault.TheVariants.{Io, NoMemory}
+
+-- the protocol's numbers of errors: EPERM, EIO, ENOMEM, EINVAL
+abbrev pub not_permitted : ℕ
+not_permitted = 1
+
+abbrev pub invalid : ℕ
+invalid = 22
+
+abbrev pub fault_error : Fault → ℕ
+fault_error Io = 5
+fault_error NoMemory = 12
+
+-- the longest read, 32 MiB
+abbrev pub longest : ℕ
+longest = 33_554_432
+
+-- whether a read is invalid, of an export of so many bytes
+abbrev pub is_invalid_read : ℕ → Request → Bool
+is_invalid_read size request =
+    if nat_lt 0 request.flags then true else
+    if nat_lt longest request.length then true else
+    nat_lt size (request.offset + request.length)
+
+-- what stands before a read's bytes: the front of a simple or of a structured reply, of which there is none without bytes
+abbrev pub data_start : Bool → Request → List ℕ
+data_start false request = simple_reply 0 request.cookie
+data_start true request =
+    if request.length == 0 then bare_chunk request.cookie else
+    data_front request.cookie request.offset request.length
+
+-- a read's bytes in a reply
+abbrev pub data_reply : Bool → List ℕ → Request → List ℕ
+data_reply structured bytes request = data_start structured request ++ take request.length (drop request.offset bytes)
+
+-- an error in place of a read's bytes
+abbrev pub error_reply : Bool → ℕ → Request → List ℕ
+error_reply false error request = simple_reply error request.cookie
+error_reply true error request = error_chunk error request.cookie
+
+-- what a good read is answered: the bytes, or the fault of what is served
+abbrev pub given_reply : Bool → Option Fault → List ℕ → Request → List ℕ
+given_reply structured None bytes request = data_reply structured bytes request
+given_reply structured (Some fault) bytes request = error_reply structured (fault_error fault) request
+
+abbrev pub read_reply : Bool → Option Fault → ℕ → List ℕ → Request → List ℕ
+read_reply structured fault size bytes request =
+    if is_invalid_read size request then error_reply structured invalid request else given_reply structured fault bytes request
+
+-- What a request is answered, by an export of these bytes that is only read. Its own fault comes in place of a read's bytes.
+abbrev pub reply_by : Command → Bool → Option Fault → ℕ → List ℕ → Request → List ℕ
+reply_by Read structured fault size bytes request = read_reply structured fault size bytes request
+reply_by Write structured fault size bytes request = simple_reply not_permitted request.cookie
+reply_by Disconnect structured fault size bytes request = []
+reply_by Flush structured fault size bytes request = simple_reply (if nat_lt 0 request.flags then invalid else 0) request.cookie
+reply_by Trim structured fault size bytes request = simple_reply not_permitted request.cookie
+reply_by WriteZeroes structured fault size bytes request = simple_reply not_permitted request.cookie
+reply_by BlockStatus structured fault size bytes request = simple_reply invalid request.cookie
+reply_by Other structured fault size bytes request = simple_reply invalid request.cookie
+
+abbrev pub reply_to : Bool → Option Fault → ℕ → List ℕ → Request → List ℕ
+reply_to structured fault size bytes request = reply_by request.command structured fault size bytes request

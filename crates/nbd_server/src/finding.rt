@@ -1,0 +1,32 @@
+// An export is found by its name.
+ghost use Rattle.std.specs.Prelude.{◌≡◌};
+ghost use Rattle.nbd_server.specs.Haggled.{named, first_of};
+
+use crate::Export;
+use crate::session::Place;
+
+/// The export that a name means: the first one of this name, and where the name is empty the first one of all.
+pub fn found(exports: &[Export<'_>], name: &[u8]) -> Option<Place>
+    ensures { result ≡ named exports.now name.now }
+{
+    if name.is_empty() {
+        return first(exports);
+    }
+    for (export, it) in exports.iter().enumerate() {
+        if it.name == name {
+            let size = it.size;
+            return Some(Place { export, size });
+        }
+    }
+    None
+}
+
+fn first(exports: &[Export<'_>]) -> Option<Place>
+    ensures { result ≡ first_of exports.now }
+{
+    let first = exports.first()?;
+    Some(Place {
+        export: 0,
+        size: first.size,
+    })
+}

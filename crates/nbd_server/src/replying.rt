@@ -1,0 +1,166 @@
+// A request is answered.
+ghost use Rattle.std.specs.Prelude.{◌≡◌, ℕ, ◌+◌, ◌^◌, ◌<◌, ◌≤◌, Bool, List, [], ◌++◌, length, take, drop, IfOk, OnOk, IsTrue, IsSome, Some, Err, Option};
+ghost use Rattle.nbd_server.specs.declared.served.Fault.{Fault as FaultOf};
+ghost use Rattle.nbd_server.specs.Replied.{is_invalid_read, error_reply, data_start, data_reply, given_reply, read_reply, reply_to, fault_error};
+
+use crate::{Export, Fault, Served};
+use nbd_messages::{
+    Command, Request, push_bare_chunk, push_data_front, push_error_chunk, push_simple_reply,
+};
+use std::alloc::AllocError;
+
+/// The longest read: 32 MiB.
+const LONGEST: u32 = 33_554_432;
+
+/// The protocol's numbers of errors.
+const NOT_PERMITTED: u32 = 1;
+
+const IO: u32 = 5;
+
+const NO_MEMORY: u32 = 12;
+
+const INVALID: u32 = 22;
+
+/// Whether a read is invalid, of an export of so many bytes.
+fn is_invalid(size: u64, request: &Request) -> bool
+    ensures { result ≡ is_invalid_read size request.now }
+{
+    if 0 < request.flags {
+        return true;
+    }
+    if LONGEST < request.length {
+        return true;
+    }
+    match request.offset.checked_add(request.length as u64) {
+        Some(end) => size < end,
+        None => true,
+    }
+}
+
+/// Adds an error in place of a read's bytes.
+fn push_error(
+    answer: &mut Vec<u8>,
+    structured: bool,
+    error: u32,
+    request: &Request,
+) -> Result<(), AllocError>
+    ensures { OnOk result (answer.new.items ≡ answer.old.items ++ error_reply structured error request.now) }
+{
+    if structured {
+        push_error_chunk(answer, error, request.cookie)
+    } else {
+        push_simple_reply(answer, error, request.cookie)
+    }
+}
+
+/// The protocol's number of a fault.
+fn error_of(fault: Fault) -> u32
+    ensures { result ≡ fault_error fault }
+{
+    match fault {
+        Fault::Io => IO,
+        Fault::NoMemory => NO_MEMORY,
+    }
+}
+
+/// Adds what stands before a read's bytes.
+fn push_data_start(
+    answer: &mut Vec<u8>,
+    structured: bool,
+    request: &Request,
+) -> Result<(), AllocError>
+    requires { request.now.length < 2 ^ 31 }
+    ensures { OnOk result (answer.new.items ≡ answer.old.items ++ data_start structured request.now) }
+{
+    if !structured {
+        return push_simple_reply(answer, 0, request.cookie);
+    }
+    if request.length == 0 {
+        return push_bare_chunk(answer, request.cookie);
+    }
+    push_data_front(answer, request.cookie, request.offset, request.length)
+}
+
+/// Adds a read's bytes.
+fn push_data<T: Served>(
+    served: &mut T,
+    export: usize,
+    request: &Request,
+    answer: &mut Vec<u8>,
+) -> Result<(), Fault>
+    requires inside { request.now.offset + request.now.length < 2 ^ 64 }
+    ensures data { OnOk result ((b : List ℕ) → T.bytes served.old export ≡ Some b → answer.new.items ≡ answer.old.items ++ take request.now.length (drop request.now.offset b)) }
+    ensures failed { result ≡ Err Fault.Io → IsTrue (T.failed served.new) }
+    ensures bytes { (k : ℕ) → T.bytes served.new k ≡ T.bytes served.old k }
+{
+    let start = answer.len();
+    let Some(end) = start.checked_add(request.length as usize) else {
+        return Err(Fault::NoMemory);
+    };
+    let Ok(()) = answer.resize(end, 0) else {
+        return Err(Fault::NoMemory);
+    };
+    let out = &mut answer.as_mut_slice()[start..];
+    match served.read(export, request.offset, out) {
+        Ok(()) => Ok(()),
+        Err(fault) => Err(fault),
+    }
+}
+
+/// Answers a read.
+fn reply_read<T: Served>(
+    served: &mut T,
+    export: usize,
+    size: u64,
+    structured: bool,
+    request: &Request,
+    answer: &mut Vec<u8>,
+) -> Result<(), AllocError>
+    requires { answer.old.items ≡ [] }
+    ensures reply { OnOk result ((b : List ℕ) → T.bytes served.old export ≡ Some b → (fault : Option FaultOf) × (fault ≡ Some Fault.Io → IsTrue (T.failed served.new)) × (answer.new.items ≡ read_reply structured fault size b request.now)) }
+    ensures bytes { (k : ℕ) → T.bytes served.new k ≡ T.bytes served.old k }
+{
+    if is_invalid(size, request) {
+        return push_error(answer, structured, INVALID, request);
+    }
+    push_data_start(answer, structured, request)?;
+    if request.length == 0 {
+        return Ok(());
+    }
+    match push_data(served, export, request, answer) {
+        Ok(()) => Ok(()),
+        Err(fault) => {
+            answer.clear();
+            push_error(answer, structured, error_of(fault), request)?;
+            Ok(())
+        }
+    }
+}
+
+/// Answers a request, with arrays that are only read.
+pub fn reply<T: Served>(
+    served: &mut T,
+    export: usize,
+    size: u64,
+    structured: bool,
+    request: &Request,
+    answer: &mut Vec<u8>,
+) -> Result<(), AllocError>
+    requires { answer.old.items ≡ [] }
+    ensures reply { OnOk result ((b : List ℕ) → T.bytes served.old export ≡ Some b → (fault : Option FaultOf) × (fault ≡ Some Fault.Io → IsTrue (T.failed served.new)) × (answer.new.items ≡ reply_to structured fault size b request.now)) }
+    ensures bytes { (k : ℕ) → T.bytes served.new k ≡ T.bytes served.old k }
+{
+    match request.command {
+        Command::Read => reply_read(served, export, size, structured, request, answer),
+        Command::Disconnect => Ok(()),
+        Command::Write => push_simple_reply(answer, NOT_PERMITTED, request.cookie),
+        Command::Trim => push_simple_reply(answer, NOT_PERMITTED, request.cookie),
+        Command::WriteZeroes => push_simple_reply(answer, NOT_PERMITTED, request.cookie),
+        Command::Flush => {
+            let error = if 0 < request.flags { INVALID } else { 0 };
+            push_simple_reply(answer, error, request.cookie)
+        }
+        Command::BlockStatus => push_simple_reply(answer, INVALID, request.cookie),
+        Command::Other => push_simple_reply(answer, INVALID, request.cookie),
+    }
+}
