@@ -3,7 +3,7 @@
 use sector::Pair;
 
 /// What is wrong with the pairs of a store. Slots are counted from 0 over all areas.
-#[derive(Clone, Copy, Debug, PartialEq, Eq)]
+#[derive(Clone, Copy, PartialEq, Eq)]
 pub enum Fault {
     /// The old chunk of a slot's pair begins past the origin's end.
     PastOrigin { slot: u64, pair: Pair },

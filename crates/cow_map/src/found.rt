@@ -4,7 +4,7 @@ use crate::{CowMap, Fault};
 use sector::Refusal;
 
 /// Why a store is refused: what a load asks of it first, and does not find.
-#[derive(Clone, Copy, Debug, PartialEq, Eq)]
+#[derive(Clone, Copy, PartialEq, Eq)]
 pub enum Reason {
     /// The store has no sector.
     Empty,

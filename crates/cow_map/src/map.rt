@@ -27,7 +27,7 @@ pub struct CowMap {
 }
 
 /// The numbers of a status line, in sectors.
-#[derive(Clone, Copy, Debug, PartialEq, Eq)]
+#[derive(Clone, Copy, PartialEq, Eq)]
 pub struct Usage {
     /// The front of the store, up to the next place.
     pub allocated: u64,

@@ -14,7 +14,7 @@ use std::io;
 pub const MAX_IMAGE: u64 = 68_719_476_736;
 
 /// How the areas of a store end.
-#[derive(Clone, Copy, Debug, PartialEq, Eq)]
+#[derive(Clone, Copy, PartialEq, Eq)]
 pub enum Listed {
     /// The first empty slot stands in this area.
     Ends(u64),

@@ -14,7 +14,7 @@ use std::alloc::Global;
 use std::io;
 
 /// Why an export came to no end.
-#[derive(Debug, Drop)]
+#[derive(Drop)]
 pub enum Stopped {
     /// A read of the origin or of the store failed.
     Unreadable(io::Error),

@@ -10,7 +10,7 @@ use numbers::u32_at;
 use std::alloc::AllocError;
 
 /// The four numbers of a store's header, whatever they are.
-#[derive(Clone, Copy, Debug, PartialEq, Eq)]
+#[derive(Clone, Copy, PartialEq, Eq)]
 pub struct Numbers {
     pub magic: u32,
     pub valid: u32,

@@ -9,7 +9,7 @@ use std::io::{Seek, SeekFrom};
 use std::os::unix::fs::FileExt;
 
 /// What was asked of a file.
-#[derive(Clone, Copy, Debug, PartialEq, Eq)]
+#[derive(Clone, Copy, PartialEq, Eq)]
 pub enum Asked {
     /// How long it is.
     Len,
@@ -22,7 +22,7 @@ pub enum Asked {
 }
 
 /// What failed: the file's number, and what was asked of it.
-#[derive(Clone, Copy, Debug, PartialEq, Eq)]
+#[derive(Clone, Copy, PartialEq, Eq)]
 pub struct Failed {
     pub file: usize,
     pub asked: Asked,

@@ -55,6 +55,8 @@ fn done<'a>(rt: &'a HostRuntime, asked: Asked<'a>) -> Result<bool, Trouble<'a>> 
             let asked = Salvage { out, chunk, behind };
             salvage_array(rt, origin, cow, asked)
         }
+        Asked::Merge { origin, cow, dry } => merge(rt, Words { origin, cow, dry }),
+        Asked::Serve { origin, cow } => serve(rt, origin, cow),
     }
 }
 

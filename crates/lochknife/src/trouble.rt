@@ -7,7 +7,7 @@ use std::alloc::AllocError;
 use std::{fmt, io};
 
 /// What went wrong, and with what.
-#[derive(Debug, Drop)]
+#[derive(Drop)]
 pub struct Trouble<'a> {
     /// The name of a file, as it was given; of standard output its own.
     pub name: &'a str,
@@ -15,7 +15,7 @@ pub struct Trouble<'a> {
 }
 
 /// What went wrong with a file.
-#[derive(Debug, Drop)]
+#[derive(Drop)]
 pub enum Why {
     /// It could not be opened, made, renamed or asked.
     File(io::Error),
