@@ -1,0 +1,64 @@
+// What words ask for.
+
+use cow_asked::{Asked, Form, Wrong, words_ask};
+use std::alloc::Global;
+use std::test::Fail;
+
+// The words of a line, with a program's name before them.
+fn words(alloc: Global, line: &str) -> Result<Vec<String>, Fail> {
+    let mut words = Vec::new(alloc);
+    for word in ["lochknife"].iter().copied().chain(line.split(' ')) {
+        let mut text = String::new(alloc);
+        text.push_str(word)?;
+        words.push(text)?;
+    }
+    Ok(words)
+}
+
+#[test]
+fn words_are_asked_in_any_place(rt: HostRuntime) -> Result<(), Fail> {
+    let cow = "c";
+    let origin = "o";
+    let out = "-";
+    let form = Form::Json;
+    let chunk = Some(8);
+    let behind = true;
+    let salvage = Asked::Salvage {
+        origin,
+        cow,
+        out,
+        chunk,
+        behind,
+    };
+    let dashed = Asked::Map { cow: "--raw" };
+    for (line, wanted) in [
+        ("--help", Ok(Asked::Help)),
+        ("show -h", Ok(Asked::Help)),
+        ("-V", Ok(Asked::Version)),
+        ("help", Ok(Asked::Help)),
+        ("show c --json", Ok(Asked::Show { cow, form })),
+        ("--json show c", Ok(Asked::Show { cow, form })),
+        ("map --raw c", Ok(Asked::RawMap { cow })),
+        ("map -- --raw", Ok(dashed)),
+        ("check o c", Ok(Asked::Check { origin, cow })),
+        ("rollback o c -", Ok(Asked::Export { origin, cow, out })),
+        ("export --behind o --chunk 8 c --salvage -", Ok(salvage)),
+        ("--chunk=8 --salvage export o c - --behind", Ok(salvage)),
+        ("shew c", Err(Wrong::Command("shew"))),
+        ("show", Err(Wrong::Missing("COW"))),
+        ("show c d", Err(Wrong::Name("d"))),
+        ("show c --raw", Err(Wrong::Option("--raw"))),
+        ("check o c --chunk 8", Err(Wrong::Option("--chunk"))),
+        ("export o c - --chunk 8", Err(Wrong::Alone("--chunk"))),
+        ("export o c - --salvage --chunk 9", Err(Wrong::Chunk("9"))),
+        (
+            "export --chunk",
+            Err(Wrong::Missing("the number behind --chunk")),
+        ),
+    ] {
+        let words = words(rt.alloc(), line)?;
+        let asked = words_ask(rt.alloc(), &words);
+        assert!(rt; asked == wanted, "{line}");
+    }
+    Ok(())
+}
