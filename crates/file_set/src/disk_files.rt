@@ -62,12 +62,7 @@ impl DiskFiles {
     }
 
     // Notes what failed.
-    fn noted<T: Drop>(
-        &mut self,
-        file: usize,
-        asked: Asked,
-        done: io::Result<T>,
-    ) -> io::Result<T> {
+    fn noted<T: Drop>(&mut self, file: usize, asked: Asked, done: io::Result<T>) -> io::Result<T> {
         if done.is_err() {
             self.failed = Some(Failed { file, asked });
         }
