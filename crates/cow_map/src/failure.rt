@@ -3,7 +3,7 @@
 use std::io;
 
 /// Why nothing is known of a store: its image could not be read.
-#[derive(Drop)]
+#[derive(Debug, Drop)]
 pub enum Failure {
     /// A read failed.
     Unreadable(io::Error),

@@ -5,7 +5,7 @@ ghost use Rattle.cow_merge.specs.declared.stopped.Stopped.TheVariants.{Failed};
 use std::io;
 
 /// Why a merge stopped.
-#[derive(Drop)]
+#[derive(Debug, Drop)]
 pub enum Stopped {
     /// A read, a write or a sync failed.
     Failed(io::Error),

@@ -50,7 +50,7 @@ fn a_flipped_bit_of_each_byte_is_judged_as_by_a_load(rt: HostRuntime) -> Result<
         cow.bytes[at] ^= bit;
         let told = read_store(rt.alloc(), &mut cow, SECTORS)?;
         let wanted = loaded(rt.alloc(), cow.bytes.as_slice())?;
-        assert_eq!(rt; answer_of(&told), wanted, "byte {at} bit {bit}");
+        assert!(rt; answer_of(&told) == wanted, "byte {at} bit {bit}");
         if wanted.is_ok() {
             good = good.saturating_add(1);
         }

@@ -14,7 +14,7 @@ use std::alloc::Global;
 use std::io;
 
 /// Why an export came to no end.
-#[derive(Drop)]
+#[derive(Debug, Drop)]
 pub enum Stopped {
     /// A read of the origin or of the store failed.
     Unreadable(io::Error),

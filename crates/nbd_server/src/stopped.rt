@@ -7,7 +7,7 @@ use std::alloc::AllocError;
 use std::io;
 
 /// Why a session stopped before its end.
-#[derive(Drop)]
+#[derive(Debug, Drop)]
 pub enum Stopped {
     /// The client could not be heard.
     Unheard(io::Error),
