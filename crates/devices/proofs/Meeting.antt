@@ -16,25 +16,25 @@ use Rattle.named_volume.specs.Names.{IsNamedMore}
 use Rattle.devices.specs.Busy.{IsBusyRefused, busy_with}
 use Rattle.devices.specs.Devices.{named_at}
 
-by_those : (name : List ℕ) (chunk i v : ℕ) (table : Table) (stacked : Stacked) (old : Volume) → i < length table.stacks → stacked ≡ get_or table.stacks i stacked → v < length table.volumes → old ≡ get_or table.volumes v old → snapshot_by name chunk table (named_at v i table) ≡ snapshot_met i v (meet name chunk stacked old) table
-by_those name chunk i v table stacked old i_lt i_at v_lt v_at =
+by_those : (name : List ℕ) (chunk : ℕ) (overflow : Bool) (i v : ℕ) (table : Table) (stacked : Stacked) (old : Volume) → i < length table.stacks → stacked ≡ get_or table.stacks i stacked → v < length table.volumes → old ≡ get_or table.volumes v old → snapshot_by name chunk overflow table (named_at v i table) ≡ snapshot_met i v (meet name chunk overflow stacked old) table
+by_those name chunk overflow i v table stacked old i_lt i_at v_lt v_at =
     let below = stack_here table i stacked i_lt i_at in
     let here = volume_here table v old v_lt v_at in
     rw below (rw here refl)
 
 -- it is attached
-pub met_ok : (name : List ℕ) (chunk i v : ℕ) (table : Table) (stacked : Stacked) (old new : Volume) (stacks : List Stacked) → i < length table.stacks → stacked ≡ get_or table.stacks i stacked → v < length table.volumes → old ≡ get_or table.volumes v old → stacks ≡ remove table.stacks i → ((meet name chunk stacked old).refused ≡ None) × ((meet name chunk stacked old).volume ≡ new) → snapshot_by name chunk table (named_at v i table) ≡ record { answer = Ok tt; left = record { stacks = stacks; volumes = set table.volumes v new } }
-met_ok name chunk i v table stacked old new stacks i_lt i_at v_lt v_at out met =
-    by_those name chunk i v table stacked old i_lt i_at v_lt v_at
-    ∙ ap (λ r. snapshot_left i v r (meet name chunk stacked old).stacked (meet name chunk stacked old).volume table) met.0
+pub met_ok : (name : List ℕ) (chunk : ℕ) (overflow : Bool) (i v : ℕ) (table : Table) (stacked : Stacked) (old new : Volume) (stacks : List Stacked) → i < length table.stacks → stacked ≡ get_or table.stacks i stacked → v < length table.volumes → old ≡ get_or table.volumes v old → stacks ≡ remove table.stacks i → ((meet name chunk overflow stacked old).refused ≡ None) × ((meet name chunk overflow stacked old).volume ≡ new) → snapshot_by name chunk overflow table (named_at v i table) ≡ record { answer = Ok tt; left = record { stacks = stacks; volumes = set table.volumes v new } }
+met_ok name chunk overflow i v table stacked old new stacks i_lt i_at v_lt v_at out met =
+    by_those name chunk overflow i v table stacked old i_lt i_at v_lt v_at
+    ∙ ap (λ r. snapshot_left i v r (meet name chunk overflow stacked old).stacked (meet name chunk overflow stacked old).volume table) met.0
     ∙ ap (λ (w : Volume). record { answer = Ok tt; left = record { stacks = remove table.stacks i; volumes = set table.volumes v w } }) met.1
     ∙ ap (λ (ss : List Stacked). record { answer = Ok tt; left = record { stacks = ss; volumes = set table.volumes v new } }) (sym out)
 
 -- it goes back to its place
-refused_left : (name : List ℕ) (chunk i v : ℕ) (table : Table) (stacked back : Stacked) (old : Volume) (stacks : List Stacked) (volumes : List Volume) (e : Refusal) → i < length table.stacks → stacked ≡ get_or table.stacks i stacked → v < length table.volumes → old ≡ get_or table.volumes v old → stacks ≡ set table.stacks i back → volumes ≡ table.volumes → ((meet name chunk stacked old).refused ≡ Some e) × ((meet name chunk stacked old).stacked ≡ back) → snapshot_by name chunk table (named_at v i table) ≡ record { answer = Err e; left = record { stacks = stacks; volumes = volumes } }
-refused_left name chunk i v table stacked back old stacks volumes e i_lt i_at v_lt v_at put same met =
-    by_those name chunk i v table stacked old i_lt i_at v_lt v_at
-    ∙ ap (λ r. snapshot_left i v r (meet name chunk stacked old).stacked (meet name chunk stacked old).volume table) met.0
+refused_left : (name : List ℕ) (chunk : ℕ) (overflow : Bool) (i v : ℕ) (table : Table) (stacked back : Stacked) (old : Volume) (stacks : List Stacked) (volumes : List Volume) (e : Refusal) → i < length table.stacks → stacked ≡ get_or table.stacks i stacked → v < length table.volumes → old ≡ get_or table.volumes v old → stacks ≡ set table.stacks i back → volumes ≡ table.volumes → ((meet name chunk overflow stacked old).refused ≡ Some e) × ((meet name chunk overflow stacked old).stacked ≡ back) → snapshot_by name chunk overflow table (named_at v i table) ≡ record { answer = Err e; left = record { stacks = stacks; volumes = volumes } }
+refused_left name chunk overflow i v table stacked back old stacks volumes e i_lt i_at v_lt v_at put same met =
+    by_those name chunk overflow i v table stacked old i_lt i_at v_lt v_at
+    ∙ ap (λ r. snapshot_left i v r (meet name chunk overflow stacked old).stacked (meet name chunk overflow stacked old).volume table) met.0
     ∙ ap (λ (s : Stacked). record { answer = Err e; left = record { stacks = set table.stacks i s; volumes = table.volumes } }) met.1
     ∙ ap (λ (ss : List Stacked). record { answer = Err e; left = record { stacks = ss; volumes = table.volumes } }) (sym put)
     ∙ ap (λ (ws : List Volume). record { answer = Err e; left = record { stacks = stacks; volumes = ws } }) (sym same)
@@ -44,9 +44,9 @@ nothing_met i table stacked back stacks volumes i_at put same kept =
     ap (λ (ws : List Volume). record { stacks = stacks; volumes = ws }) same
     ∙ ap (λ (ss : List Stacked). record { stacks = ss; volumes = table.volumes }) (put ∙ put_back table.stacks i stacked back i_at kept)
 
-pub met_err : (name : List ℕ) (chunk i v : ℕ) (table : Table) (stacked back : Stacked) (old : Volume) (stacks : List Stacked) (volumes : List Volume) (e : Refusal) → i < length table.stacks → stacked ≡ get_or table.stacks i stacked → v < length table.volumes → old ≡ get_or table.volumes v old → stacks ≡ set table.stacks i back → volumes ≡ table.volumes → (is_starved e ≡ false → ((meet name chunk stacked old).refused ≡ Some e) × ((meet name chunk stacked old).stacked ≡ back)) → (is_starved e ≡ true → back ≡ stacked) → Serves (Err e) (record { stacks = stacks; volumes = volumes }) (λ t. t ≡ table) (snapshot_by name chunk table (named_at v i table))
-met_err name chunk i v table stacked back old stacks volumes e i_lt i_at v_lt v_at put same met kept = (
-  λ other. refused_left name chunk i v table stacked back old stacks volumes e i_lt i_at v_lt v_at put same (met other),
+pub met_err : (name : List ℕ) (chunk : ℕ) (overflow : Bool) (i v : ℕ) (table : Table) (stacked back : Stacked) (old : Volume) (stacks : List Stacked) (volumes : List Volume) (e : Refusal) → i < length table.stacks → stacked ≡ get_or table.stacks i stacked → v < length table.volumes → old ≡ get_or table.volumes v old → stacks ≡ set table.stacks i back → volumes ≡ table.volumes → (is_starved e ≡ false → ((meet name chunk overflow stacked old).refused ≡ Some e) × ((meet name chunk overflow stacked old).stacked ≡ back)) → (is_starved e ≡ true → back ≡ stacked) → Serves (Err e) (record { stacks = stacks; volumes = volumes }) (λ t. t ≡ table) (snapshot_by name chunk overflow table (named_at v i table))
+met_err name chunk overflow i v table stacked back old stacks volumes e i_lt i_at v_lt v_at put same met kept = (
+  λ other. refused_left name chunk overflow i v table stacked back old stacks volumes e i_lt i_at v_lt v_at put same (met other),
   λ none. nothing_met i table stacked back stacks volumes i_at put same (kept none),
 )
 
@@ -71,10 +71,10 @@ busy_err i v table stacked back old stacks volumes e i_lt i_at v_lt v_at put sam
     let got = why busy in (nothing_met i table stacked back stacks volumes i_at put same got.1, (e, refl, got.0))))
 
 -- the names, where it is attached
-pub attached_named : (table : Table) (name : List ℕ) (i v : ℕ) (stacked : Stacked) (old new : Volume) (stacks : List Stacked) → place_of name table ≡ None → nat_le 64 (device_count table) ≡ false → i < length table.stacks → stacked ≡ get_or table.stacks i stacked → v < length table.volumes → old ≡ get_or table.volumes v old → stacks ≡ remove table.stacks i → IsNamedMore name stacked old new → AreNamed table → AreNamed (record { stacks = stacks; volumes = set table.volumes v new })
-attached_named table name i v stacked old new stacks none room i_lt i_at v_lt v_at out more named =
+pub attached_named : (table : Table) (name : List ℕ) (overflow : Bool) (i v : ℕ) (stacked : Stacked) (old new : Volume) (stacks : List Stacked) → place_of name table ≡ None → nat_le 64 (device_count table) ≡ false → i < length table.stacks → stacked ≡ get_or table.stacks i stacked → v < length table.volumes → old ≡ get_or table.volumes v old → stacks ≡ remove table.stacks i → IsNamedMore name overflow stacked old new → AreNamed table → AreNamed (record { stacks = stacks; volumes = set table.volumes v new })
+attached_named table name overflow i v stacked old new stacks none room i_lt i_at v_lt v_at out more named =
     let P : List Stacked → Type 0 = λ ss. AreNamed (record { stacks = ss; volumes = set table.volumes v new }) in
-    subst P (sym out) (taken_by_named table name i v stacked old new none room i_lt i_at v_lt v_at more.origin more.under more.snaps more.merging named)
+    subst P (sym out) (taken_by_named table name overflow i v stacked old new none room i_lt i_at v_lt v_at more.origin more.under more.snaps more.merging named)
 
 -- and where it goes back to its place
 pub put_back_named : (table : Table) (i : ℕ) (stacked back : Stacked) (stacks : List Stacked) (volumes : List Volume) → i < length table.stacks → stacked ≡ get_or table.stacks i stacked → stacks ≡ set table.stacks i back → volumes ≡ table.volumes → back.names ≡ stacked.names → AreNamed table → AreNamed (record { stacks = stacks; volumes = volumes })

@@ -61,9 +61,9 @@ named_ruled table (Ok n) there sound =
     of_both (is_sound_volume n.volume) (is_sound_stack n.stacked) (volume_whole table n.v n.volume sound at.v_lt at.v_at) (stack_sound table n.i n.stacked sound at.i_lt at.i_at)
 
 pub target_ruled : (sectors : ℕ) (target : Target) (table : Table) → is_sound table ≡ true → is_sound_target sectors target table ≡ true
-target_ruled sectors (Snapshot device store chunk) table sound = named_ruled table (named_in sectors device store table) (named_there sectors device store table) sound
+target_ruled sectors (Snapshot device store chunk overflow) table sound = named_ruled table (named_in sectors device store table) (named_there sectors device store table) sound
 target_ruled sectors (Origin device) table sound = refl
-target_ruled sectors (Merge device store chunk) table sound = refl
+target_ruled sectors (Merge device store chunk overflow) table sound = refl
 target_ruled sectors (Flakey device offset up down features) table sound = refl
 target_ruled sectors (Dust device block) table sound = refl
 target_ruled sectors Error table sound = refl

@@ -19,9 +19,9 @@ IsBusyRefused result old new (Ok n) = n.volume.quiet ≡ false → (new ≡ old)
 
 -- the same of a table line
 abbrev pub IsBusyTarget : Result (Unit {0}) Refusal → Table → Table → ℕ → Target → Type 0
-IsBusyTarget result old new sectors (Snapshot device store chunk) = IsBusyRefused result old new (named_in sectors device store old)
+IsBusyTarget result old new sectors (Snapshot device store chunk overflow) = IsBusyRefused result old new (named_in sectors device store old)
 IsBusyTarget result old new sectors (Flakey device offset up down features) = Unit {0}
 IsBusyTarget result old new sectors (Origin device) = Unit {0}
-IsBusyTarget result old new sectors (Merge device store chunk) = Unit {0}
+IsBusyTarget result old new sectors (Merge device store chunk overflow) = Unit {0}
 IsBusyTarget result old new sectors (Dust device block) = Unit {0}
 IsBusyTarget result old new sectors Error = Unit {0}

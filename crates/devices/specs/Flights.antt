@@ -6,6 +6,7 @@ use Rattle.plain.specs.declared.event.Event.{Event as Step}
 use Rattle.plain.specs.declared.event.Outcome.{Outcome}
 use Rattle.plain.specs.declared.request.Op.{Op}
 use Rattle.plain.specs.declared.request.Replied.{Replied}
+use Rattle.plain.specs.declared.request.Overflowing.TheVariants.{Never}
 use Rattle.settled.specs.Snaps.{Snap}
 use Rattle.named.specs.declared.place.Role.TheVariants.{Origin, Under, Snapshot, Store, Merging, MergingStore}
 use Rattle.named.specs.declared.place.Place.{Place}
@@ -22,7 +23,7 @@ number_in k (Err refusal) = 0
 number_in k (Ok volume) = (slice_index_or volume.state.snaps k none).number
   where
     none : Snap
-    none = record { number = 0; chunk = 0; live = false; stale = false; store = record { bytes = []; layers = [] } }
+    none = record { number = 0; chunk = 0; live = false; stale = false; overflow = Never; store = record { bytes = []; layers = [] } }
 
 -- and of the device at a place, if it is a snapshot
 abbrev pub number_at : Table → Result Place Refusal → ℕ

@@ -50,9 +50,9 @@ is_sound_for (Ok n) = is_sound_volume n.volume && is_sound_stack n.stacked
 
 -- and of a target: no other asks anything of a volume
 abbrev pub is_sound_target : ℕ → Target → Table → Bool
-is_sound_target sectors (Snapshot device store chunk) table = is_sound_for (named_in sectors device store table)
+is_sound_target sectors (Snapshot device store chunk overflow) table = is_sound_for (named_in sectors device store table)
 is_sound_target sectors (Origin device) table = true
-is_sound_target sectors (Merge device store chunk) table = true
+is_sound_target sectors (Merge device store chunk overflow) table = true
 is_sound_target sectors (Flakey device offset up down features) table = true
 is_sound_target sectors (Dust device block) table = true
 is_sound_target sectors Error table = true

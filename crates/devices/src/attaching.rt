@@ -39,17 +39,18 @@ fn meet(
     held: &mut Held,
     name: Name,
     chunk: u32,
+    overflow: bool,
     v: usize,
     i: usize,
 ) -> Result<(), Refusal>
     requires stack { i < length held.old.stacks.items }
     requires volume { v < length held.old.volumes.items }
-    ensures done { is_sound_for (named_at v i (table_of held.old)) ≡ true → Serves result (table_of held.new) (λ t. t ≡ table_of held.old) (snapshot_by name chunk (table_of held.old) (named_at v i (table_of held.old))) }
+    ensures done { is_sound_for (named_at v i (table_of held.old)) ≡ true → Serves result (table_of held.new) (λ t. t ≡ table_of held.old) (snapshot_by name chunk overflow (table_of held.old) (named_at v i (table_of held.old))) }
     ensures busy { IsBusyRefused result (table_of held.old) (table_of held.new) (named_at v i (table_of held.old)) }
     ensures named { place_of name (table_of held.old) ≡ None → nat_le 64 (device_count (table_of held.old)) ≡ false → AreNamed (table_of held.old) → AreNamed (table_of held.new) }
 {
     let stack = held.stacks.remove(i);
-    match held.volumes[v].attach(alloc, name, stack, chunk) {
+    match held.volumes[v].attach(alloc, name, stack, chunk, overflow) {
         Ok(()) => Ok(()),
         Err((refusal, stack)) => {
             put_stack_back(&mut held.stacks, i, stack);
@@ -58,7 +59,8 @@ fn meet(
     }
 }
 
-/// A snapshot of the origin on the device of a name, with the stack that another is the top of as its store.
+/// A snapshot of the origin on the device of a name, with the stack that another is the top of as its store, which may
+/// overflow or not.
 #[tactic(auto, unfolding(named::specs::Snapshots::snapshot_made, named::specs::Snapshots::named_in))]
 pub fn make_snapshot(
     alloc: Global,
@@ -68,15 +70,16 @@ pub fn make_snapshot(
     device: &Name,
     store: &Name,
     chunk: u32,
+    overflow: bool,
 ) -> Result<(), Refusal>
-    ensures done { is_sound_for (named_in sectors device.now store.now (table_of held.old)) ≡ true → Serves result (table_of held.new) (λ t. t ≡ table_of held.old) (snapshot_made name sectors device.now store.now chunk (table_of held.old)) }
+    ensures done { is_sound_for (named_in sectors device.now store.now (table_of held.old)) ≡ true → Serves result (table_of held.new) (λ t. t ≡ table_of held.old) (snapshot_made name sectors device.now store.now chunk overflow (table_of held.old)) }
     ensures busy { IsBusyRefused result (table_of held.old) (table_of held.new) (named_in sectors device.now store.now (table_of held.old)) }
     ensures named { place_of name (table_of held.old) ≡ None → nat_le 64 (device_count (table_of held.old)) ≡ false → AreNamed (table_of held.old) → AreNamed (table_of held.new) }
 {
     let v = volume_over(held, device)?;
     let i = top(held, store)?;
     same_size(sectors, u64::from(held.volumes[v].sectors()))?;
-    meet(alloc, held, name, chunk, v, i)
+    meet(alloc, held, name, chunk, overflow, v, i)
 }
 
 /// A snapshot goes, and nothing uses its store any more. `NoMemory`, `JournalFull` where the journal of its volume has no room,

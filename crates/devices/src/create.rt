@@ -42,7 +42,8 @@ fn made(
             device,
             store,
             chunk,
-        } => make_snapshot(alloc, held, name, sectors, &device, &store, chunk),
+            overflow,
+        } => make_snapshot(alloc, held, name, sectors, &device, &store, chunk, overflow),
         Target::Merge { .. } => Err(Refusal::BadTable),
         Target::Flakey {
             device,

@@ -33,6 +33,7 @@ held_of s = record {
     number = s.due.books.number;
     chunk = s.due.books.chunk;
     live = s.due.books.live;
+    overflow = s.due.books.overflow;
     stale = s.stale;
     store = record { bytes = s.due.books.store; layers = s.layers };
   };

@@ -1,9 +1,12 @@
 -- A request is submitted: it is routed, and the copies that it waits for are started. This project's own.
-use Rattle.std.specs.Prelude.{◌==◌, ◌||◌, not, ℕ, ◌+◌, ◌*◌, ◌/◌, nat_lt, is_some, Bool, List, [], ◌∷◌, ◌++◌, length, map, Option, Some, None, if◌then◌else◌}
+use Rattle.std.specs.Prelude.{◌==◌, ◌&&◌, ◌||◌, not, ℕ, ◌+◌, ◌*◌, ◌/◌, nat_lt, is_some, Bool, List, [], ◌∷◌, ◌++◌, length, map, Option, Some, None, if◌then◌else◌}
 use Rattle.std.specs.List.{list_any}
+use Rattle.plain.specs.Plain.{did_overflow, may_overflow}
+use Rattle.plain.specs.declared.request.Overflowing.TheVariants.{Did}
 use Rattle.plain.specs.declared.request.Request.{Request}
 use Rattle.plain.specs.declared.request.Reply.TheVariants.{Refused as Declined}
-use Rattle.plain.specs.declared.request.Failure.TheVariants.{Invalid}
+use Rattle.plain.specs.declared.request.Failure.{Failure}
+use Rattle.plain.specs.declared.request.Failure.TheVariants.{Invalid, Overflow}
 use Rattle.model.specs.NextPlace.{stepped as stepped_place}
 use Rattle.model.specs.Picture.{place_of}
 use Rattle.pending.specs.Kinds.{kind_of}
@@ -59,8 +62,8 @@ abbrev pub accepted : ℕ → Request → Route → Moving → Moving
 accepted number request route v = record v { requests = v.requests ++ (record { number = number; request = request; route = route }) ∷ [] }
 
 -- one that is refused
-abbrev pub declined : Moving → Moving
-declined v = record v { replied = Some (Declined Invalid) }
+abbrev pub declined : Failure → Moving → Moving
+declined failure v = record v { replied = Some (Declined failure) }
 
 -- the copies of the chunk of the origin's sector `first` are started in all snapshots that lack it
 abbrev pub start_copies : ℕ → Moving → Moving
@@ -76,30 +79,44 @@ write_origin number request v =
 
 abbrev pub read_snap : ℕ → Request → Held → Moving → Moving
 read_snap number request h v =
-    if h.snap.live then accepted number request (read_route_of (place_of h.pairs (request.range.first / h.snap.chunk))) v else declined v
+    if h.snap.live then accepted number request (read_route_of (place_of h.pairs (request.range.first / h.snap.chunk))) v else declined Invalid v
 
 -- a write of a live snapshot that has not published its chunk waits for the copy
 abbrev pub write_held : ℕ → Request → (Held → Bool) → Held → Moving → Moving
 write_held number request test h v =
     let c : ℕ = request.range.first / h.snap.chunk in
     if needs_none c h then accepted number request Waits v
-    else (if is_filled h then declined (spoil test h v) else accepted number request Waits (put test (with_copy (v.started + 1) c h) (record v { started = v.started + 1 })))
+    else (if is_filled h then declined Invalid (spoil test h v) else accepted number request Waits (put test (with_copy (v.started + 1) c h) (record v { started = v.started + 1 })))
 
 -- by the place of the chunk, where that is published
 abbrev pub write_placed : ℕ → Request → (Held → Bool) → Held → Option ℕ → Moving → Moving
 write_placed number request test h (Some place) v = accepted number request (Store place) v
 write_placed number request test h None v = write_held number request test h v
 
+-- by whether the snapshot is live
+abbrev pub write_open : ℕ → Request → (Held → Bool) → Held → Moving → Moving
+write_open number request test h v =
+    if h.snap.live then write_placed number request test h (published_place h.pairs h.marks (request.range.first / h.snap.chunk)) v else declined Invalid v
+
+-- whether a live snapshot takes no write of chunk c: its store overflowed, or overflows by it
+abbrev pub shuts : ℕ → Held → Bool
+shuts c h = h.snap.live && (did_overflow h.snap.overflow || (may_overflow h.snap.overflow && (not (needs_none c h) && is_filled h)))
+
+-- its store overflowed: its copies go on
+abbrev pub overflown : Held → Held
+overflown h = record h { snap = record h.snap { overflow = Did } }
+
+-- one whose store overflowed, or that may overflow and does, takes no write from then on
 abbrev pub write_snap : ℕ → Request → (Held → Bool) → Held → Moving → Moving
 write_snap number request test h v =
-    if h.snap.live then write_placed number request test h (published_place h.pairs h.marks (request.range.first / h.snap.chunk)) v else declined v
+    if shuts (request.range.first / h.snap.chunk) h then declined Overflow (put test (overflown h) v) else write_open number request test h v
 
 abbrev pub submitted_as : Kind → ℕ → Request → Moving → Moving
 submitted_as OriginRead number request v = accepted number request (read_route_of (merged_place v.merge request.range.first)) v
 submitted_as OriginWrite number request v = write_origin number request v
-submitted_as (SnapRead n) number request v = for_some (first_that (λ h. h.snap.number == n) v.snaps) (λ h. read_snap number request h v) (declined v)
+submitted_as (SnapRead n) number request v = for_some (first_that (λ h. h.snap.number == n) v.snaps) (λ h. read_snap number request h v) (declined Invalid v)
 submitted_as (SnapWrite n) number request v =
-    for_some (first_that (λ h. h.snap.number == n) v.snaps) (λ h. write_snap number request (λ k. k.snap.number == n) h v) (declined v)
+    for_some (first_that (λ h. h.snap.number == n) v.snaps) (λ h. write_snap number request (λ k. k.snap.number == n) h v) (declined Invalid v)
 
 -- a request under a number
 abbrev pub submitted : ℕ → Request → Moving → Moving

@@ -8,7 +8,7 @@ use Rattle.atomic_table.proofs.Lists.{at_set}
 use Rattle.atomic_table.specs.Table.{Me, keeps, step, Allows, Splits, Joins}
 use Rattle.journal.specs.declared.entry.Answered.{Answered}
 use Rattle.journal.specs.declared.entry.Entry.{Entry}
-use Rattle.journal.specs.declared.entry.Entry.TheVariants.{Answered as WasAnswered, Spoiled, Attached, Detached, Begun, Finished}
+use Rattle.journal.specs.declared.entry.Entry.TheVariants.{Answered as WasAnswered, Spoiled, Overflowed, Attached, Detached, Begun, Finished}
 use Rattle.journal.specs.Entries.{entries_by}
 use Rattle.journal.specs.Seats.{Seated, seated_under, without_seated}
 use Rattle.history.specs.Keeping.{Begins, held_by, knower, nobody, after_deal, next_seat, keeper_of, looking_of, seat_of, seated_with, is_silent, Answers, HasAsked, MayNote, told_of, Owns, Waits, Fits, IsKept, Knows, IsNotedAs, IsChecked}
@@ -27,7 +27,8 @@ in_front false a xs ys = refl
 pub entries_by-append : (n : ℕ) (es fs : List Entry) → entries_by n (es ++ fs) ≡ entries_by n es ++ entries_by n fs
 entries_by-append n [] fs = refl
 entries_by-append n (Spoiled m ∷ es) fs = entries_by-append n es fs
-entries_by-append n (Attached m x ∷ es) fs = entries_by-append n es fs
+entries_by-append n (Overflowed m ∷ es) fs = entries_by-append n es fs
+entries_by-append n (Attached m x o ∷ es) fs = entries_by-append n es fs
 entries_by-append n (Detached m ∷ es) fs = entries_by-append n es fs
 entries_by-append n (Begun m ∷ es) fs = entries_by-append n es fs
 entries_by-append n (Finished ∷ es) fs = entries_by-append n es fs
@@ -61,7 +62,8 @@ not_true e = absurd (off e)
 silent_of : (n : ℕ) (e : Entry) → is_silent e ≡ true → entries_by n (e ∷ []) ≡ []
 silent_of n (WasAnswered a) silent = not_true silent
 silent_of n (Spoiled m) silent = refl
-silent_of n (Attached m x) silent = refl
+silent_of n (Overflowed m) silent = refl
+silent_of n (Attached m x o) silent = refl
 silent_of n (Detached m) silent = refl
 silent_of n (Begun m) silent = refl
 silent_of n Finished silent = refl
@@ -69,7 +71,8 @@ silent_of n Finished silent = refl
 other_of : (n s : ℕ) (e : Entry) → Answers n e → n ≢ s → entries_by s (e ∷ []) ≡ []
 other_of n s (WasAnswered a) mine apart = none_of s a (λ same. apart (sym mine ∙ same))
 other_of n s (Spoiled m) mine apart = absurd mine
-other_of n s (Attached m x) mine apart = absurd mine
+other_of n s (Overflowed m) mine apart = absurd mine
+other_of n s (Attached m x o) mine apart = absurd mine
 other_of n s (Detached m) mine apart = absurd mine
 other_of n s (Begun m) mine apart = absurd mine
 other_of n s Finished mine apart = absurd mine

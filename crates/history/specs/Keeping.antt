@@ -5,7 +5,7 @@ use lib.ListN.{get_elem?}
 use Rattle.atomic_table.specs.Table.{State, Me, Step}
 use Rattle.plain.specs.declared.request.Request.{Request}
 use Rattle.journal.specs.declared.entry.Entry.{Entry}
-use Rattle.journal.specs.declared.entry.Entry.TheVariants.{Answered as WasAnswered, Spoiled, Attached, Detached, Begun, Finished}
+use Rattle.journal.specs.declared.entry.Entry.TheVariants.{Answered as WasAnswered, Spoiled, Overflowed, Attached, Detached, Begun, Finished}
 use Rattle.journal.specs.Entries.{entries_by}
 use Rattle.journal.specs.Seats.{Seated, seated_under, without_seated}
 use Rattle.history.specs.declared.rule.View.{View}
@@ -64,7 +64,8 @@ noted_by e v = record { keeps = v.keeps; all = v.all ++ e ∷ []; flying = v.fly
 abbrev pub is_silent : Entry → Bool
 is_silent (WasAnswered a) = false
 is_silent (Spoiled number) = true
-is_silent (Attached number array) = true
+is_silent (Overflowed number) = true
+is_silent (Attached number array overflow) = true
 is_silent (Detached number) = true
 is_silent (Begun number) = true
 is_silent Finished = true
@@ -73,7 +74,8 @@ is_silent Finished = true
 abbrev pub Answers : ℕ → Entry → Type 0
 Answers seat (WasAnswered a) = a.seat ≡ seat
 Answers seat (Spoiled number) = ⊥
-Answers seat (Attached number array) = ⊥
+Answers seat (Overflowed number) = ⊥
+Answers seat (Attached number array overflow) = ⊥
 Answers seat (Detached number) = ⊥
 Answers seat (Begun number) = ⊥
 Answers seat Finished = ⊥

@@ -9,7 +9,7 @@ use Rattle.std.proofs.Math.Seq.{take-suc, take-length}
 use Rattle.device.specs.Layers.{Layer, is_loud}
 use Rattle.model.specs.Picture.{picture}
 use Rattle.model.proofs.Pictures.{length-picture}
-use Rattle.plain.specs.Plain.{Entry as Shown, Saved as State, Live, Invalid, saved_under}
+use Rattle.plain.specs.Plain.{Entry as Shown, Saved as State, Live, Invalid, may_overflow, saved_under}
 use Rattle.plain.specs.Serves.{Shows}
 use Rattle.plain.specs.declared.request.Dev.{Dev}
 use Rattle.plain.specs.declared.request.Dev.TheVariants.{Origin, Snap}
@@ -24,7 +24,7 @@ use Rattle.volume.specs.Submitting.{dev_refusal, is_merging, refusal_at}
 use Rattle.volume.specs.Volumed.{Volumed, is_loud_in_all, is_loud_with, merge_shape, plain_of, snap_shape}
 use Rattle.journal.specs.declared.entry.Saved.{Saved}
 use Rattle.journal.specs.Books.{shown_in}
-use Rattle.journal.specs.Noted.{is_live}
+use Rattle.journal.specs.Noted.{is_live, is_open}
 use Rattle.journal.proofs.Departed.{found_at}
 use Rattle.journal.proofs.Gained.{loud_under}
 use Rattle.journal.proofs.Lost.{live_shown, shown_at}
@@ -131,6 +131,16 @@ lives_more snaps k s lives within is so =
     let next : suc k ≡ k + 1 = omega arith in
     ap (λ bs. bs ++ s.live ∷ []) so ∙ sym (map-append (λ x. x.live) (take k snaps) (s ∷ [])) ∙ ap (λ x. map (λ y. y.live) (take k snaps ++ x ∷ [])) is ∙ ap (map (λ y. y.live)) (sym (take-suc snaps k s within) ∙ ap (λ n. take n snaps) next)
 
+-- and which of their stores may still overflow
+pub mays_shown : {B : Type 0} (contents : B → List ℕ) (origin : List ℕ) (snaps : List (Kept B)) → map (λ s. may_overflow s.overflow) snaps ≡ map is_open (map (shown_entry contents origin) (map snap_shape snaps))
+mays_shown contents origin [] = refl
+mays_shown contents origin (s ∷ snaps) = ap (λ bs. may_overflow s.overflow ∷ bs) (mays_shown contents origin snaps)
+
+pub mays_more : {B : Type 0} (snaps : List (Kept B)) (k : ℕ) (s : Kept B) (may : List Bool) → k < length snaps → s ≡ get_or snaps k s → may ≡ map (λ x. may_overflow x.overflow) (take k snaps) → may ++ may_overflow s.overflow ∷ [] ≡ map (λ x. may_overflow x.overflow) (take (k + 1) snaps)
+mays_more snaps k s may within is so =
+    let next : suc k ≡ k + 1 = omega arith in
+    ap (λ bs. bs ++ may_overflow s.overflow ∷ []) so ∙ sym (map-append (λ x. may_overflow x.overflow) (take k snaps) (s ∷ [])) ∙ ap (λ x. map (λ y. may_overflow y.overflow) (take k snaps ++ x ∷ [])) is ∙ ap (map (λ y. may_overflow y.overflow)) (sym (take-suc snaps k s within) ∙ ap (λ n. take n snaps) next)
+
 -- what the snapshot at a place shows is what the one with its number shows
 get_next : {X : Type 0} (x : X) (xs : List X) (n : ℕ) (d : X) → get_or (x ∷ xs) (1 + n) d ≡ get_or xs n d
 get_next x xs n d = ap (λ k. get_or (x ∷ xs) k d) (next n) where
@@ -157,8 +167,8 @@ module _ {B : Type 0} (contents : B → List ℕ) (layers : B → List Layer) (w
   shown_here : (d : Shown) → get_or (plain_of contents layers w).saved k d ≡ shown_entry contents (contents w.origin) (snap_shape s)
   shown_here d = shown_at contents (contents w.origin) w.snaps k s within d ∙ ap (λ x. shown_entry contents (contents w.origin) (snap_shape x)) (sym is)
 
-  pub spoilt_here : (number : ℕ) → s.number ≡ number → s.live ≡ false → (d : Shown) → get_or (plain_of contents layers w).saved k d ≡ shown_in (record { number = number; array = None })
-  spoilt_here number mine spoilt d = shown_here d ∙ (λ i. record { number = mine i; saved = if_spoilt s.live (picture s.state.chunk (contents w.origin) (contents s.device)) spoilt i })
+  pub spoilt_here : (number : ℕ) → s.number ≡ number → s.live ≡ false → (d : Shown) → get_or (plain_of contents layers w).saved k d ≡ shown_in (record { number = number; array = None; overflow = s.overflow })
+  spoilt_here number mine spoilt d = shown_here d ∙ (λ i. record { number = mine i; saved = if_spoilt s.live (picture s.state.chunk (contents w.origin) (contents s.device)) spoilt i; overflow = s.overflow })
 
   module _ (live : s.live ≡ true) (number : ℕ) (mine : s.number ≡ number) (first : place_of_snap s.number w.snaps ≡ Some k) where
     found : place_of_snap number w.snaps ≡ Some k
@@ -176,10 +186,10 @@ module _ {B : Type 0} (contents : B → List ℕ) (layers : B → List Layer) (w
         under_place contents (contents w.origin) number w.snaps s (omega (arith, place, within)) (is ∙ ap (λ n. get_or w.snaps n s) (sym place))
         ∙ ap Some (if_live s.live (picture s.state.chunk (contents w.origin) (contents s.device)) live)
 
-    pub live_here : (bytes : List ℕ) → ((array : List ℕ) → Shows (plain_of contents layers w) (Snap number) array → bytes ≡ array) → (d : Shown) → get_or (plain_of contents layers w).saved k d ≡ shown_in (record { number = number; array = Some bytes })
+    pub live_here : (bytes : List ℕ) → ((array : List ℕ) → Shows (plain_of contents layers w) (Snap number) array → bytes ≡ array) → (d : Shown) → get_or (plain_of contents layers w).saved k d ≡ shown_in (record { number = number; array = Some bytes; overflow = s.overflow })
     live_here bytes shown d =
         let same : bytes ≡ picture s.state.chunk (contents w.origin) (contents s.device) = shown (picture s.state.chunk (contents w.origin) (contents s.device)) array_here in
-        shown_here d ∙ (λ i. record { number = mine i; saved = (if_live s.live (picture s.state.chunk (contents w.origin) (contents s.device)) live ∙ ap Live (sym same)) i })
+        shown_here d ∙ (λ i. record { number = mine i; saved = (if_live s.live (picture s.state.chunk (contents w.origin) (contents s.device)) live ∙ ap Live (sym same)) i; overflow = s.overflow })
 
 -- one snapshot more
 pub saved_more : (saved : List Shown) (xs : List Saved) (k : ℕ) (x : Saved) → k < length saved → map shown_in xs ≡ take k saved → ((d : Shown) → get_or saved k d ≡ shown_in x) → map shown_in (xs ++ x ∷ []) ≡ take (k + 1) saved

@@ -27,7 +27,7 @@ use Rattle.volume.specs.Layering.{Measures}
 use Rattle.volume.specs.Telling.{IsNotTold, IsRelayeredAt, IsTold, layers_told}
 use Rattle.volume.specs.Causes.{counts_of, counts_with}
 use Rattle.volume.specs.Flying.{IsTakenOut}
-use Rattle.volume.specs.Submitting.{IsFoundFull, IsRefusedAs, SameButRoom, dev_refusal, first_of_two, is_piece_of, limit_refusal, range_refusal, starting, submit_refusal}
+use Rattle.volume.specs.Submitting.{IsFoundFull, IsOverflown, IsRefusedAs, SameButRoom, dev_refusal, first_of_two, is_piece_of, limit_refusal, range_refusal, shut_refusal, starting, submit_refusal}
 use Rattle.volume.specs.Volumed.{Volumed, piece_with, plain_of}
 use Rattle.journal.specs.declared.entry.Entry.{Entry}
 use Rattle.journal.specs.declared.entry.Entry.TheVariants.{Answered, Spoiled}
@@ -86,8 +86,8 @@ module _ (given given' : ℕ) (told told' : Bool) (p q : Plain) (v : Books) (b :
   pub quiet_bounds : IsBounded given' told' q v
   quiet_bounds = record { asked = asked_still; made = λ s lt. omega (arith, same, b.made s lt); inside = λ on. b.inside (still on) }
 
-  pub entry_bounds : (e : Entry) (lives' : List Bool) (room' : ℕ) → IsInside (replay v.base v.entries) e → IsBounded given' told' q (record v { entries = v.entries ++ e ∷ []; lives = lives'; room = room' })
-  entry_bounds e lives' room' lies = record {
+  pub entry_bounds : (e : Entry) (lives' may' : List Bool) (room' : ℕ) → IsInside (replay v.base v.entries) e → IsBounded given' told' q (record v { entries = v.entries ++ e ∷ []; lives = lives'; may = may'; room = room' })
+  entry_bounds e lives' may' room' lies = record {
     asked = asked_still;
     made = λ s lt. omega (arith, same, b.made s lt);
     inside = λ on. inside_then v.base v.entries (e ∷ []) (b.inside (still on)) (lies, tt);
@@ -120,10 +120,11 @@ and_both false c d e = absurd (false≢true e)
 le_true : (m n : ℕ) → nat_le m n ≡ true → m ≤ n
 le_true m n e = search (arith)
 
-second_none : (a c d : Option Refusal) → first_of_two a (first_of_two c d) ≡ None → c ≡ None
-second_none None None d e = refl
-second_none None (Some r) d e = absurd (cc)
-second_none (Some r) c d e = absurd (cc)
+third_none : (a b c d : Option Refusal) → first_of_two a (first_of_two b (first_of_two c d)) ≡ None → c ≡ None
+third_none None None None d e = refl
+third_none None None (Some r) d e = absurd (cc)
+third_none None (Some r) c d e = absurd (cc)
+third_none (Some r) b c d e = absurd (cc)
 
 admitted_range : (b : Bool) → (if b then None else Some OutOfRange) ≡ None → b ≡ true
 admitted_range true e = refl
@@ -131,7 +132,7 @@ admitted_range false e = absurd (cc)
 
 pub admitted_inside : {B : Type 0} (size : B → ℕ) (request : Request) (w : Volumed B) → submit_refusal size request w ≡ None → request.range.first + request.range.count ≤ size w.origin
 admitted_inside size request w e =
-    let range = second_none (dev_refusal request.dev w.merge w.snaps) (range_refusal (piece_with w.merge w.snaps) (size w.origin) request.range) (limit_refusal (starting (kind_of request) request.range.first w.merge w.snaps) w) e in
+    let range = third_none (dev_refusal request.dev w.merge w.snaps) (shut_refusal (kind_of request) w.snaps) (range_refusal (piece_with w.merge w.snaps) (size w.origin) request.range) (limit_refusal (starting (kind_of request) request.range.first w.merge w.snaps) w) e in
     let piece = admitted_range (is_piece_of (piece_with w.merge w.snaps) (size w.origin) request.range) range in
     le_true (request.range.first + request.range.count) (size w.origin) (and_both (nat_lt 0 request.range.count) (nat_le (request.range.first + request.range.count) (size w.origin)) (nat_le (request.range.first % piece_with w.merge w.snaps + request.range.count) (piece_with w.merge w.snaps)) piece)
 
@@ -146,7 +147,8 @@ admitted_asked contents layers size whole request w admitted bytes = record {
 pub refused_given : {B : Type 0} (contents : B → List ℕ) (layers : B → List Layer) (size : B → ℕ) (request : Request) (refusal : Refusal) (w w' : Volumed B) → IsRefusedAs contents layers size request refusal w w' → w'.requests ≡ w.requests
 refused_given contents layers size request refusal w w' (inl same) = ap (λ (y : Volumed _). y.requests) same.1
 refused_given contents layers size request refusal w w' (inr (inl same)) = let room : SameButRoom w w' = same.2 in ap (λ (y : Volumed _). y.requests) room.becomes
-refused_given contents layers size request refusal w w' (inr (inr full)) = let found : IsFoundFull contents layers full.2.0 _ w w' = full.2.2 in ap (λ (y : Volumed _). y.requests) found.becomes
+refused_given contents layers size request refusal w w' (inr (inr (inl full))) = let found : IsFoundFull contents layers full.2.0 _ w w' = full.2.2 in ap (λ (y : Volumed _). y.requests) found.becomes
+refused_given contents layers size request refusal w w' (inr (inr (inr full))) = let found : IsOverflown contents layers full.2.0 _ w w' = full.2.2 in ap (λ (y : Volumed _). y.requests) found.becomes
 
 -- a request that was answered
 shows_bare : (p : Plain) (dev : Dev) (array : List ℕ) → Shows (plain_in (saves_of p)) dev array → Shows p dev array

@@ -16,7 +16,7 @@ use Rattle.journal.specs.declared.entry.Entry.{Entry}
 use Rattle.journal.specs.declared.entry.Entry.TheVariants.{Finished}
 use Rattle.journal.specs.Replay.{Saves, saves_of, after, IsLawful}
 use Rattle.journal.specs.Entries.{entries_by}
-use Rattle.journal.specs.Noted.{is_live, live_count}
+use Rattle.journal.specs.Noted.{is_live, is_open, kept_count}
 use Rattle.journal.specs.Books.{Books, IsAudit}
 use Rattle.journal.proofs.Replaying.{replay_then, lawful_then, entries_by_silent}
 use Rattle.journal.proofs.Receipts.{saved_count}
@@ -26,12 +26,12 @@ first_on a true c e on = refl
 first_on a false c e on = absurd (false≢true (sym e ∙ on))
 
 -- One entry more, which is of no seat's request: what the counts keep, and what the replay does.
-module _ (loud loud' told told' : Bool) (p q : Plain) (v : Books) (e : Entry) (lives' : List Bool) (room' : ℕ) (h : IsAudit loud told p v)
-    (still : told' ≡ true → told ≡ true) (keeps : told' ≡ true → loud ≡ true → loud' ≡ true) (requests : q.requests ≡ p.requests) (count : length lives' ≡ length q.saved)
-    (none : (s : ℕ) (es : List Entry) → entries_by s (es ++ e ∷ []) ≡ entries_by s es) (free : v.taken + length v.entries + length v.held + live_count lives' + 1 ≤ 65_536) (room : room' ≡ v.room)
-    (does : told' ≡ true → loud ≡ true → (after (saves_of p) e ≡ saves_of q) × IsLawful (saves_of p) e × (v.lives ≡ map is_live p.saved → lives' ≡ map is_live q.saved)) where
+module _ (loud loud' told told' : Bool) (p q : Plain) (v : Books) (e : Entry) (lives' may' : List Bool) (room' : ℕ) (h : IsAudit loud told p v)
+    (still : told' ≡ true → told ≡ true) (keeps : told' ≡ true → loud ≡ true → loud' ≡ true) (requests : q.requests ≡ p.requests) (count : length lives' ≡ length q.saved) (count_may : length may' ≡ length q.saved)
+    (none : (s : ℕ) (es : List Entry) → entries_by s (es ++ e ∷ []) ≡ entries_by s es) (free : v.taken + length v.entries + length v.held + kept_count lives' may' + 1 ≤ 65_536) (room : room' ≡ v.room)
+    (does : told' ≡ true → loud ≡ true → (after (saves_of p) e ≡ saves_of q) × IsLawful (saves_of p) e × (v.lives ≡ map is_live p.saved → lives' ≡ map is_live q.saved) × (v.may ≡ map is_open p.saved → may' ≡ map is_open q.saved)) where
   abbrev more_books : Books
-  more_books = record v { entries = v.entries ++ e ∷ []; lives = lives'; room = room' }
+  more_books = record v { entries = v.entries ++ e ∷ []; lives = lives'; may = may'; room = room' }
 
   pub entry_keeps : IsAudit loud' told' q more_books
   entry_keeps = record {
@@ -42,6 +42,7 @@ module _ (loud loud' told told' : Bool) (p q : Plain) (v : Books) (e : Entry) (l
       seats = h.counted.seats;
       folds = h.counted.folds;
       lives = count;
+      may = count_may;
       entries = omega (arith, free, length-append v.entries (e ∷ []));
       room = omega (arith, h.counted.room, room);
     };
@@ -50,6 +51,7 @@ module _ (loud loud' told told' : Bool) (p q : Plain) (v : Books) (e : Entry) (l
       replay_is = replay_then v.base v.entries (e ∷ []) ∙ ap (λ (s : Saves). after s e) r.replay_is ∙ d.0;
       lawful = lawful_then v.base v.entries (e ∷ []) r.lawful (subst (λ (s : Saves). IsLawful s e) (sym r.replay_is) d.1, tt);
       lives = d.2 r.lives;
+      may = d.3 r.may;
     };
   }
 
@@ -57,19 +59,23 @@ module _ (loud loud' told told' : Bool) (p q : Plain) (v : Books) (e : Entry) (l
 none_finished : (s : ℕ) (es : List Entry) → entries_by s (es ++ Finished ∷ []) ≡ entries_by s es
 none_finished s es = entries_by_silent s es Finished refl
 
-pub finished_does : (p q : Plain) (lives : List Bool) → IsFinished p q → (after (saves_of p) Finished ≡ saves_of q) × IsLawful (saves_of p) Finished × (lives ≡ map is_live p.saved → lives ≡ map is_live q.saved)
-finished_does p q lives f = (
+pub finished_does : (p q : Plain) (lives may : List Bool) → IsFinished p q
+    → (after (saves_of p) Finished ≡ saves_of q) × IsLawful (saves_of p) Finished × (lives ≡ map is_live p.saved → lives ≡ map is_live q.saved) × (may ≡ map is_open p.saved → may ≡ map is_open q.saved)
+finished_does p q lives may f = (
   (λ i. record { origin = sym (ap (λ (x : Plain). x.origin) f.becomes) i; begun = sym (ap (λ (x : Plain). x.begun) f.becomes) i; saved = sym (ap (λ (x : Plain). x.saved) f.becomes) i }),
   (f.number, f.merged),
   λ was. was ∙ ap (map is_live) (sym (ap (λ (x : Plain). x.saved) f.becomes)),
+  λ was. was ∙ ap (map is_open) (sym (ap (λ (x : Plain). x.saved) f.becomes)),
 )
 
 pub finished_keeps : {B : Type 0} (contents : B → List ℕ) (layers : B → List Layer) (w w' : Volumed B) (store : StoreDev B) (loud loud' more told : Bool) (v : Books) (room' : ℕ)
     → IsAudit loud told (plain_of contents layers w) v → loud ≡ (loud' && more) → IsTakenOut w w' store → (loud ≡ true → IsFinished (plain_of contents layers w) (plain_of contents layers w'))
-    → v.taken + length v.entries + length v.held + live_count v.lives + 1 ≤ 65_536 → room' ≡ v.room
+    → v.taken + length v.entries + length v.held + kept_count v.lives v.may + 1 ≤ 65_536 → room' ≡ v.room
     → IsAudit loud' told (plain_of contents layers w') (record v { entries = v.entries ++ Finished ∷ []; room = room' })
 finished_keeps contents layers w w' store loud loud' more told v room' h both taken finished free room =
-    entry_keeps loud loud' told told (plain_of contents layers w) (plain_of contents layers w') v Finished v.lives room' h (λ on. on) (λ on was. first_on loud loud' more both was)
+    entry_keeps loud loud' told told (plain_of contents layers w) (plain_of contents layers w') v Finished v.lives v.may room' h (λ on. on) (λ on was. first_on loud loud' more both was)
     (ap (λ (x : Volumed _). map in_flight x.flights) taken.becomes)
-    (h.counted.lives ∙ saved_count contents layers w ∙ sym (length-map w.snaps unkept) ∙ sym (ap (λ (x : Volumed _). length x.snaps) taken.becomes) ∙ sym (saved_count contents layers w'))
-    none_finished free room (λ on was. finished_does _ _ v.lives (finished was))
+    (h.counted.lives ∙ same) (h.counted.may ∙ same) none_finished free room (λ on was. finished_does _ _ v.lives v.may (finished was))
+  where
+    same : length (plain_of contents layers w).saved ≡ length (plain_of contents layers w').saved
+    same = saved_count contents layers w ∙ sym (length-map w.snaps unkept) ∙ sym (ap (λ (x : Volumed _). length x.snaps) taken.becomes) ∙ sym (saved_count contents layers w')

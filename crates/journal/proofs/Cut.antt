@@ -2,20 +2,21 @@
 use Rattle.std.proofs.Common.{◌≡◌, ◌≢◌, ℕ, zero, suc, ◌+◌, ◌*◌, ◌<◌, ◌≤◌, Bool, true, List, [], ◌∷◌, ◌++◌, length, get_or, set, map, take, drop, reverse, Option, Some, None, refl, sym, ◌∙◌, ap, subst, arith, eq-eqb}
 use Rattle.std.specs.List.{remove}
 use Rattle.std.proofs.lemmas.Bool.{ne_eqb}
-use Rattle.std.proofs.lemmas.List.{get_or-map, length-map, map-set, reverse-append}
+use Rattle.std.proofs.lemmas.List.{get_or-map, get_or_default, length-map, map-set, reverse-append}
 use Rattle.std.proofs.lemmas.List.Edits.{map_over_more}
 use Rattle.sector.specs.Bytes.{with_sectors}
 use Rattle.sector.specs.declared.range.Range.{Range}
-use Rattle.plain.specs.Plain.{Plain, Entry as Shown, Saved as State, Live, Invalid, saved_under, spoiled_entry, with_saved, without_saved}
+use Rattle.plain.specs.Plain.{Plain, Entry as Shown, Saved as State, Live, Invalid, marked_in, saved_under, spoiled_entry, with_saved, without_saved}
 use Rattle.plain.specs.Serves.{Serves, Shows}
 use Rattle.plain.specs.declared.request.Dev.{Dev}
 use Rattle.plain.specs.declared.request.Failure.{Failure}
 use Rattle.plain.specs.declared.request.Op.{Op}
+use Rattle.plain.specs.declared.request.Overflowing.TheVariants.{Did}
 use Rattle.plain.specs.declared.request.Op.TheVariants.{Read, Write}
 use Rattle.plain.specs.declared.request.Reply.{Reply}
 use Rattle.plain.specs.declared.request.Reply.TheVariants.{Data, Written, Refused}
 use Rattle.journal.specs.declared.entry.Entry.{Entry}
-use Rattle.journal.specs.declared.entry.Entry.TheVariants.{Answered, Spoiled, Attached, Detached, Begun, Finished}
+use Rattle.journal.specs.declared.entry.Entry.TheVariants.{Answered, Spoiled, Overflowed, Attached, Detached, Begun, Finished}
 use Rattle.journal.specs.declared.entry.Saved.{Saved}
 use Rattle.journal.specs.Books.{Books, IsKept, shown_in, state_in}
 use Rattle.journal.specs.Entries.{entries_by}
@@ -39,7 +40,7 @@ under_first n [] k d f = absurd (omega (arith, f.within))
 under_first n (x ∷ xs) zero d f = rw (eq-eqb x.number n (f.number d)) refl
 under_first n (x ∷ xs) (suc k) d f = rw (ne_eqb x.number n (f.before 0 d (omega arith))) (under_first n xs k d (later n x xs k f))
 
-pub with_first : (n : ℕ) (state : State) (xs : List Saved) (k : ℕ) (y : Saved) → IsFirstSaved n xs k → shown_in y ≡ (let e : Shown = record { number = n; saved = state } in e) → map shown_in (set xs k y) ≡ with_saved n state (map shown_in xs)
+pub with_first : (n : ℕ) (state : State) (xs : List Saved) (k : ℕ) (y : Saved) → IsFirstSaved n xs k → shown_in y ≡ record (shown_in (get_or xs k y)) { saved = state } → map shown_in (set xs k y) ≡ with_saved n state (map shown_in xs)
 with_first n state [] k y f is = absurd (omega (arith, f.within))
 with_first n state (x ∷ xs) zero y f is = rw (eq-eqb x.number n (f.number x)) (ap (λ e. e ∷ map shown_in xs) is)
 with_first n state (x ∷ xs) (suc k) y f is = rw (ne_eqb x.number n (f.before 0 x (omega arith))) (ap (λ es. shown_in x ∷ es) (with_first n state xs k y (later n x xs k f) is))
@@ -66,7 +67,7 @@ array_of None array e = absurd (cc)
 array_of (Some other) array e = let same : other ≡ array = cc in ap Some same
 
 -- spoils, place after place
-pub spoilt_here : (n : ℕ) (x : Shown) → x.number ≡ n → (let e : Shown = record { number = x.number; saved = Invalid } in e) ≡ spoiled_entry (n ∷ []) x
+pub spoilt_here : (n : ℕ) (x : Shown) → x.number ≡ n → record x { saved = Invalid } ≡ spoiled_entry (n ∷ []) x
 spoilt_here n x same = rw (eq-eqb n x.number (sym same)) refl
 
 pub spoilt_other : (n : ℕ) (x : Shown) → x.number ≢ n → x ≡ spoiled_entry (n ∷ []) x
@@ -109,12 +110,22 @@ pub put_at : (n first : ℕ) (bytes array : List ℕ) (xs : List Shown) → save
 put_at n first bytes array xs found = ap (λ a. with_saved n (Live (with_sectors a first bytes)) xs) (sym (ap array_in found))
 
 pub put_first : (n first : ℕ) (bytes array : List ℕ) (xs : List Saved) (k : ℕ) (old new : Saved) → IsFirstSaved n xs k → old ≡ get_or xs k old → saved_under n (map shown_in xs) ≡ Some (Live array) → 512 * first + length bytes ≤ length array
-    → ((a : List ℕ) → old.array ≡ Some a → 512 * first + length bytes ≤ length a → new ≡ record { number = old.number; array = Some (with_sectors a first bytes) })
+    → ((a : List ℕ) → old.array ≡ Some a → 512 * first + length bytes ≤ length a → new ≡ record old { array = Some (with_sectors a first bytes) })
     → map shown_in (set xs k new) ≡ with_saved n (Live (with_sectors array first bytes)) (map shown_in xs)
 put_first n first bytes array xs k old new f is found room done =
     let here : Some (state_in old.array) ≡ Some (Live array) = ap (λ (s : Saved). Some (state_in s.array)) is ∙ sym (under_first n xs k old f) ∙ found in
-    let mine : old.number ≡ n = ap (λ (s : Saved). s.number) is ∙ f.number old in
-    with_first n (Live (with_sectors array first bytes)) xs k new f (ap shown_in (done array (array_of old.array array here) room) ∙ (λ i. record { number = mine i; saved = Live (with_sectors array first bytes) }))
+    let at : old ≡ get_or xs k new = is ∙ get_or_default xs k old new f.within in
+    with_first n (Live (with_sectors array first bytes)) xs k new f (ap shown_in (done array (array_of old.array array here) room) ∙ ap (λ (s : Saved). record (shown_in s) { saved = Live (with_sectors array first bytes) }) at)
+
+-- a store that overflowed
+pub marked_first : (n : ℕ) (xs : List Saved) (k : ℕ) (old new : Saved) → IsFirstSaved n xs k → old ≡ get_or xs k old → new ≡ record old { overflow = Did } → map shown_in (set xs k new) ≡ marked_in n (map shown_in xs)
+marked_first n [] k old new f is done = absurd (omega (arith, f.within))
+marked_first n (x ∷ xs) zero old new f is done = rw (eq-eqb x.number n (f.number x)) (ap (λ e. e ∷ map shown_in xs) (ap shown_in done ∙ ap (λ (s : Saved). record (shown_in s) { overflow = Did }) is))
+marked_first n (x ∷ xs) (suc k) old new f is done = rw (ne_eqb x.number n (f.before 0 x (omega arith))) (ap (λ es. shown_in x ∷ es) (marked_first n xs k old new (later n x xs k f) is done))
+
+pub marked_none : (n : ℕ) (xs : List Saved) → ((j : ℕ) (d : Saved) → j < length xs → (get_or xs j d).number ≢ n) → map shown_in xs ≡ marked_in n (map shown_in xs)
+marked_none n [] none = refl
+marked_none n (x ∷ xs) none = rw (ne_eqb x.number n (none 0 x (omega arith))) (ap (λ es. shown_in x ∷ es) (marked_none n xs (λ j d lt. none (suc j) d (omega (arith, lt)))))
 
 pub out_first : (n : ℕ) (xs : List Saved) (k : ℕ) (x : Saved) (array : List ℕ) → IsFirstSaved n xs k → x ≡ get_or xs k x → saved_under n (map shown_in xs) ≡ Some (Live array) → state_in x.array ≡ Live array
 out_first n xs k x array f is found =
@@ -140,7 +151,8 @@ pub count_both : (es fs : List Entry) → attached_count (es ++ fs) ≡ attached
 count_both [] fs = omega arith
 count_both (Answered a ∷ es) fs = count_both es fs
 count_both (Spoiled n ∷ es) fs = count_both es fs
-count_both (Attached n array ∷ es) fs = omega (arith, count_both es fs)
+count_both (Overflowed n ∷ es) fs = count_both es fs
+count_both (Attached n array overflow ∷ es) fs = omega (arith, count_both es fs)
 count_both (Detached n ∷ es) fs = count_both es fs
 count_both (Begun n ∷ es) fs = count_both es fs
 count_both (Finished ∷ es) fs = count_both es fs
@@ -148,7 +160,8 @@ count_both (Finished ∷ es) fs = count_both es fs
 pub count_one : (e : Entry) (es : List Entry) → attached_count (e ∷ es) ≡ attached_count (e ∷ []) + attached_count es
 count_one (Answered a) es = omega arith
 count_one (Spoiled n) es = omega arith
-count_one (Attached n array) es = omega arith
+count_one (Overflowed n) es = omega arith
+count_one (Attached n array overflow) es = omega arith
 count_one (Detached n) es = omega arith
 count_one (Begun n) es = omega arith
 count_one Finished es = omega arith
@@ -191,6 +204,7 @@ cut_keeps given loud told p v base entries folded room h made none cut same = re
       seats = h.audit.counted.seats;
       folds = ap length cut ∙ h.audit.counted.seats;
       lives = h.audit.counted.lives;
+      may = h.audit.counted.may;
       entries = omega (arith, ap length none, h.audit.counted.entries);
       room = omega (arith, same, h.audit.counted.room);
     };
@@ -199,6 +213,7 @@ cut_keeps given loud told p v base entries folded room h made none cut same = re
       replay_is = ap (replay base) none ∙ made on ∙ r.replay_is;
       lawful = subst (AllLawful base) (sym none) tt;
       lives = r.lives;
+      may = r.may;
     };
   };
   bounded = record {

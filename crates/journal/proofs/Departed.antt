@@ -6,7 +6,7 @@ use Rattle.std.proofs.lemmas.Bool.{cases_Bool, ne_eqb}
 use Rattle.std.proofs.lemmas.List.{length-map}
 use Rattle.std.proofs.lemmas.List.Edits.{length-remove}
 use Rattle.device.specs.Layers.{Layer}
-use Rattle.plain.specs.Plain.{Plain, Saved, without_saved}
+use Rattle.plain.specs.Plain.{Plain, Entry as Shown, Saved, without_saved}
 use Rattle.plain.specs.Legal.{IsBegun, IsDetached}
 use Rattle.pending.specs.Kinds.{in_flight}
 use Rattle.snapshot.specs.Kept.{Kept}
@@ -22,9 +22,10 @@ use Rattle.journal.specs.declared.entry.Entry.{Entry}
 use Rattle.journal.specs.declared.entry.Entry.TheVariants.{Begun, Detached}
 use Rattle.journal.specs.Entries.{entries_by}
 use Rattle.journal.specs.Replay.{saves_of, after, array_in, IsLawful}
-use Rattle.journal.specs.Noted.{is_live, live_count}
+use Rattle.journal.specs.Noted.{is_live, is_open, kept_count, live_count}
 use Rattle.journal.specs.Books.{Books, IsAudit}
 use Rattle.journal.proofs.Changes.{entry_keeps, first_on}
+use Rattle.journal.proofs.Mays.{may_removed}
 use Rattle.journal.proofs.Receipts.{saved_count}
 use Rattle.journal.proofs.Replaying.{entries_by_silent}
 
@@ -55,14 +56,14 @@ remove_next x xs n = ap (λ k. remove (x ∷ xs) k) (next n) where
   next : (n : ℕ) → suc n ≡ 1 + n
   next n = omega arith
 
--- a snapshot less shows what is left of the list
-left_live : {B : Type 0} (contents : B → List ℕ) (origin : List ℕ) (number : ℕ) (snaps : List (Kept B))
-    → map is_live (without_saved number (map (shown_entry contents origin) (map snap_shape snaps))) ≡ remove (map is_live (map (shown_entry contents origin) (map snap_shape snaps))) (position_or_len (λ s. s.number == number) snaps)
-left_live contents origin number [] = refl
-left_live contents origin number (s ∷ snaps) = elim (cases_Bool (s.number == number)) [
+-- a snapshot less shows what is left of a list
+left_list : (f : Shown → Bool) {B : Type 0} (contents : B → List ℕ) (origin : List ℕ) (number : ℕ) (snaps : List (Kept B))
+    → map f (without_saved number (map (shown_entry contents origin) (map snap_shape snaps))) ≡ remove (map f (map (shown_entry contents origin) (map snap_shape snaps))) (position_or_len (λ s. s.number == number) snaps)
+left_list f contents origin number [] = refl
+left_list f contents origin number (s ∷ snaps) = elim (cases_Bool (s.number == number)) [
   | inl here ↦ rw here refl
-  | inr other ↦ rw other (ap (λ (bs : List Bool). is_live (shown_entry contents origin (snap_shape s)) ∷ bs) (left_live contents origin number snaps)
-      ∙ remove_next (is_live (shown_entry contents origin (snap_shape s))) (map is_live (map (shown_entry contents origin) (map snap_shape snaps))) (position_or_len (λ x. x.number == number) snaps))
+  | inr other ↦ rw other (ap (λ (bs : List Bool). f (shown_entry contents origin (snap_shape s)) ∷ bs) (left_list f contents origin number snaps)
+      ∙ remove_next (f (shown_entry contents origin (snap_shape s))) (map f (map (shown_entry contents origin) (map snap_shape snaps))) (position_or_len (λ x. x.number == number) snaps))
 ]
 
 same_place : (k j : ℕ) → Some k ≡ Some j → j ≡ k
@@ -90,10 +91,10 @@ module _ {B : Type 0} (contents : B → List ℕ) (layers : B → List Layer) (n
   abbrev q : Plain
   q = plain_of contents layers w'
 
-  lives_left : (k : ℕ) (lives : List Bool) → place_of_snap number w.snaps ≡ Some k → q.saved ≡ without_saved number p.saved → lives ≡ map is_live p.saved → remove lives k ≡ map is_live q.saved
-  lives_left k lives found left was =
-      ap (λ (bs : List Bool). remove bs k) was ∙ ap (remove (map is_live p.saved)) (sym (found_at (λ s. s.number == number) w.snaps k found))
-      ∙ sym (left_live contents (contents w.origin) number w.snaps) ∙ ap (map is_live) (sym left)
+  are_left : (f : Shown → Bool) (k : ℕ) (bits : List Bool) → place_of_snap number w.snaps ≡ Some k → q.saved ≡ without_saved number p.saved → bits ≡ map f p.saved → remove bits k ≡ map f q.saved
+  are_left f k bits found left was =
+      ap (λ (bs : List Bool). remove bs k) was ∙ ap (remove (map f p.saved)) (sym (found_at (λ s. s.number == number) w.snaps k found))
+      ∙ sym (left_list f contents (contents w.origin) number w.snaps) ∙ ap (map f) (sym left)
 
   -- one is looked at less
   count_left : (k : ℕ) (lives : List Bool) → place_of_snap number w.snaps ≡ Some k → length lives ≡ length p.saved → length w'.snaps ≡ length (remove w.snaps k) → length (remove lives k) ≡ length q.saved
@@ -105,36 +106,45 @@ module _ {B : Type 0} (contents : B → List ℕ) (layers : B → List Layer) (n
   pub left_within : (k : ℕ) (lives : List Bool) → place_of_snap number w.snaps ≡ Some k → length lives ≡ length p.saved → k < length lives
   left_within k lives found count = omega (arith, position_within (λ s. s.number == number) w.snaps k found, count, saved_count contents layers w)
 
-  pub detached_does : (k : ℕ) (lives : List Bool) → place_of_snap number w.snaps ≡ Some k → IsDetached p number q
-      → (after (saves_of p) (Detached number) ≡ saves_of q) × IsLawful (saves_of p) (Detached number) × (lives ≡ map is_live p.saved → remove lives k ≡ map is_live q.saved)
-  detached_does k lives found d = (
+  pub detached_does : (k : ℕ) (lives may : List Bool) → place_of_snap number w.snaps ≡ Some k → IsDetached p number q
+      → (after (saves_of p) (Detached number) ≡ saves_of q) × IsLawful (saves_of p) (Detached number) × (lives ≡ map is_live p.saved → remove lives k ≡ map is_live q.saved) × (may ≡ map is_open p.saved → remove may k ≡ map is_open q.saved)
+  detached_does k lives may found d = (
     sym (ap saves_of d.becomes),
     (d.saved, d.found),
-    lives_left k lives found (ap (λ (x : Plain). x.saved) d.becomes),
+    are_left is_live k lives found (ap (λ (x : Plain). x.saved) d.becomes),
+    are_left is_open k may found (ap (λ (x : Plain). x.saved) d.becomes),
   )
 
-  pub begun_does : (k : ℕ) (lives : List Bool) → place_of_snap number w.snaps ≡ Some k → IsBegun p number q
-      → (after (saves_of p) (Begun number) ≡ saves_of q) × IsLawful (saves_of p) (Begun number) × (lives ≡ map is_live p.saved → remove lives k ≡ map is_live q.saved)
-  begun_does k lives found b = (
+  pub begun_does : (k : ℕ) (lives may : List Bool) → place_of_snap number w.snaps ≡ Some k → IsBegun p number q
+      → (after (saves_of p) (Begun number) ≡ saves_of q) × IsLawful (saves_of p) (Begun number) × (lives ≡ map is_live p.saved → remove lives k ≡ map is_live q.saved) × (may ≡ map is_open p.saved → remove may k ≡ map is_open q.saved)
+  begun_does k lives may found b = (
     ap (λ (o : Option Saved). record { origin = array_in o; begun = Some number; saved = without_saved number p.saved }) b.found ∙ sym (ap saves_of b.becomes),
     (b.alone, (b.array, b.found)),
-    lives_left k lives found (ap (λ (x : Plain). x.saved) b.becomes),
+    are_left is_live k lives found (ap (λ (x : Plain). x.saved) b.becomes),
+    are_left is_open k may found (ap (λ (x : Plain). x.saved) b.becomes),
   )
 
-  module _ (loud loud' more told : Bool) (v : Books) (room' : ℕ) (h : IsAudit loud told p v) (free : v.taken + length v.entries + length v.held + live_count v.lives + 1 ≤ 65_536) (room : room' ≡ v.room) (k : ℕ) (found : place_of_snap number w.snaps ≡ Some k) where
+  module _ (loud loud' more told : Bool) (v : Books) (room' : ℕ) (h : IsAudit loud told p v) (free : v.taken + length v.entries + length v.held + kept_count v.lives v.may + 1 ≤ 65_536) (room : room' ≡ v.room) (k : ℕ) (found : place_of_snap number w.snaps ≡ Some k) where
     abbrev left_books : Entry → Books
-    left_books e = record v { entries = v.entries ++ e ∷ []; lives = remove v.lives k; room = room' }
+    left_books e = record v { entries = v.entries ++ e ∷ []; lives = remove v.lives k; may = remove v.may k; room = room' }
+
+    fewer_left : (store : StoreDev B) → IsWithout number w w' store → length w'.snaps ≡ length (remove w.snaps k)
+    fewer_left store taken = ap (λ (x : Volumed B). length x.snaps) taken.becomes ∙ ap (λ j. length (remove w.snaps j)) (same_place k taken.place (sym found ∙ taken.found))
+
+    fewer_begun : IsMergeBegun number w w' → length w'.snaps ≡ length (remove w.snaps k)
+    fewer_begun begun =
+        ap (λ (x : Volumed B). length x.snaps) begun.becomes ∙ length-map (remove w.snaps begun.place) (kept_for number (length begun.snap.pairs)) ∙ ap (λ j. length (remove w.snaps j)) (same_place k begun.place (sym found ∙ begun.found))
 
     pub detached_keeps : loud ≡ (loud' && more) → (store : StoreDev B) → IsWithout number w w' store → (loud ≡ true → IsDetached p number q) → IsAudit loud' told q (left_books (Detached number))
     detached_keeps both store taken detached =
-        entry_keeps loud loud' told told p q v (Detached number) (remove v.lives k) room' h (λ on. on) (λ on was. first_on loud loud' more both was)
+        entry_keeps loud loud' told told p q v (Detached number) (remove v.lives k) (remove v.may k) room' h (λ on. on) (λ on was. first_on loud loud' more both was)
         (ap (λ (x : Volumed B). map in_flight x.flights) taken.becomes)
-        (count_left k v.lives found h.counted.lives (ap (λ (x : Volumed B). length x.snaps) taken.becomes ∙ ap (λ j. length (remove w.snaps j)) (same_place k taken.place (sym found ∙ taken.found))))
-        (none_detached number) (omega (arith, free, fewer v.lives k)) room (λ on was. detached_does k v.lives found (detached was))
+        (count_left k v.lives found h.counted.lives (fewer_left store taken)) (count_left k v.may found h.counted.may (fewer_left store taken))
+        (none_detached number) (omega (arith, free, fewer v.lives k, may_removed v.lives v.may k)) room (λ on was. detached_does k v.lives v.may found (detached was))
 
     pub begun_keeps : loud' ≡ loud → IsMergeBegun number w w' → (loud ≡ true → IsBegun p number q) → IsAudit loud' told q (left_books (Begun number))
     begun_keeps same begun legal =
-        entry_keeps loud loud' told told p q v (Begun number) (remove v.lives k) room' h (λ on. on) (λ on was. same ∙ was)
+        entry_keeps loud loud' told told p q v (Begun number) (remove v.lives k) (remove v.may k) room' h (λ on. on) (λ on was. same ∙ was)
         (ap (λ (x : Volumed B). map in_flight x.flights) begun.becomes)
-        (count_left k v.lives found h.counted.lives (ap (λ (x : Volumed B). length x.snaps) begun.becomes ∙ length-map (remove w.snaps begun.place) (kept_for number (length begun.snap.pairs)) ∙ ap (λ j. length (remove w.snaps j)) (same_place k begun.place (sym found ∙ begun.found))))
-        (none_begun number) (omega (arith, free, fewer v.lives k)) room (λ on was. begun_does k v.lives found (legal was))
+        (count_left k v.lives found h.counted.lives (fewer_begun begun)) (count_left k v.may found h.counted.may (fewer_begun begun))
+        (none_begun number) (omega (arith, free, fewer v.lives k, may_removed v.lives v.may k)) room (λ on was. begun_does k v.lives v.may found (legal was))

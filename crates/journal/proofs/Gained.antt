@@ -9,7 +9,8 @@ use Rattle.std.proofs.Math.Seq.{get_or-append_seam, take-length}
 use Rattle.device.specs.Layers.{Layer, is_loud}
 use Rattle.sector.specs.Bytes.{sectors_at}
 use Rattle.sector.specs.declared.refusal.Refusal.TheVariants.{Invalid}
-use Rattle.plain.specs.Plain.{Plain, Entry as Shown, Saved, Live, saved_under}
+use Rattle.plain.specs.Plain.{Plain, Entry as Shown, Saved, Live, overflow_of, saved_under}
+use Rattle.plain.specs.declared.request.Overflowing.{Overflowing}
 use Rattle.plain.specs.Legal.{IsTaken}
 use Rattle.plain.specs.declared.request.Dev.TheVariants.{Snap}
 use Rattle.pending.specs.Kinds.{in_flight}
@@ -26,9 +27,11 @@ use Rattle.journal.specs.declared.entry.Entry.{Entry}
 use Rattle.journal.specs.declared.entry.Entry.TheVariants.{Attached}
 use Rattle.journal.specs.Entries.{entries_by}
 use Rattle.journal.specs.Replay.{saves_of, after, IsLawful}
-use Rattle.journal.specs.Noted.{is_live, live_count}
+use Rattle.journal.specs.Noted.{is_live, is_open, kept_count, live_count}
+use Rattle.journal.specs.Journaled.{places_for}
 use Rattle.journal.specs.Books.{Books, IsAudit}
 use Rattle.journal.proofs.Changes.{entry_keeps}
+use Rattle.journal.proofs.Mays.{may_more, wanted_may}
 use Rattle.journal.proofs.Receipts.{saved_count}
 use Rattle.journal.proofs.Replaying.{entries_by_silent}
 
@@ -57,8 +60,8 @@ live_last snaps s live =
     ∙ get_or-append_seam (map (λ x. x.live) snaps) s.live [] false ∙ live
 
 -- a snapshot that was just taken may be asked
-pub taken_there : {B : Type 0} (layers : B → List Layer) (size : B → ℕ) (number : ℕ) (store : StoreDev B) (w w' : Volumed B) → IsGained layers size number store w w' → w.merge ≡ None → dev_refusal (Snap number) w'.merge w'.snaps ≡ None
-taken_there layers size number store w w' g alone =
+pub taken_there : {B : Type 0} (layers : B → List Layer) (size : B → ℕ) (number : ℕ) (wanted : Bool) (store : StoreDev B) (w w' : Volumed B) → IsGained layers size number wanted store w w' → w.merge ≡ None → dev_refusal (Snap number) w'.merge w'.snaps ≡ None
+taken_there layers size number wanted store w w' g alone =
     ap (λ (x : Volumed _). dev_refusal (Snap number) x.merge x.snaps) g.becomes ∙ ap (λ m. dev_refusal (Snap number) m (w.snaps ++ g.snap ∷ [])) alone
     ∙ ap (refusal_at (w.snaps ++ g.snap ∷ [])) (place_last number w.snaps g.snap g.fresh g.number_is)
     ∙ ap (λ b. if b then None else Some Invalid) (live_last w.snaps g.snap g.live)
@@ -90,9 +93,9 @@ loud_under layers number w all =
     loud_place layers w.snaps (place_of_snap number w.snaps) (and_right (is_loud (layers w.origin)) (list_all (λ s. is_loud (layers s.device)) w.snaps) (loud_others layers w.merge (is_loud (layers w.origin) && list_all (λ s. is_loud (layers s.device)) w.snaps) all))
 
 -- the last of a list, where no other has its number
-pub saved_last : (number : ℕ) (saved : Saved) (xs : List Shown) → All (λ e. e.number ≢ number) xs → saved_under number (xs ++ record { number = number; saved = saved } ∷ []) ≡ Some saved
-saved_last number saved [] fresh = rw (eq-eqb number number refl) refl
-saved_last number saved (x ∷ xs) fresh = rw (ne_eqb x.number number (fresh 0 x (omega arith))) (saved_last number saved xs (λ j d lt. fresh (suc j) d (omega (arith, lt))))
+pub saved_last : (number : ℕ) (saved : Saved) (overflow : Overflowing) (xs : List Shown) → All (λ e. e.number ≢ number) xs → saved_under number (xs ++ record { number = number; saved = saved; overflow = overflow } ∷ []) ≡ Some saved
+saved_last number saved overflow [] fresh = rw (eq-eqb number number refl) refl
+saved_last number saved overflow (x ∷ xs) fresh = rw (ne_eqb x.number number (fresh 0 x (omega arith))) (saved_last number saved overflow xs (λ j d lt. fresh (suc j) d (omega (arith, lt))))
 
 fresh_both : (xs : List Shown) (x : Shown) (number : ℕ) → x.number ≢ number → All (λ e. e.number ≢ number) xs → All (λ e. e.number ≢ number) (x ∷ xs)
 fresh_both xs x number here rest zero d lt = here
@@ -108,10 +111,15 @@ one_more [] = omega arith
 one_more (true ∷ bs) = omega (arith, one_more bs)
 one_more (false ∷ bs) = one_more bs
 
-none_attached : (number : ℕ) (array : List ℕ) (s : ℕ) (es : List Entry) → entries_by s (es ++ Attached number array ∷ []) ≡ entries_by s es
-none_attached number array s es = entries_by_silent s es (Attached number array) refl
+-- and may overflow, or not
+kept_more : (wanted : Bool) (bs ms : List Bool) → length ms ≡ length bs → kept_count (bs ++ true ∷ []) (ms ++ wanted ∷ []) + 1 ≤ kept_count bs ms + places_for wanted
+kept_more true bs ms same = omega (arith, one_more bs, may_more bs ms true true same)
+kept_more false bs ms same = omega (arith, one_more bs, may_more bs ms true false same)
 
-module _ {B : Type 0} (contents : B → List ℕ) (layers : B → List Layer) (size : B → ℕ) (number : ℕ) (store : StoreDev B) (w w' : Volumed B) (g : IsGained layers size number store w w') where
+none_attached : (number : ℕ) (array : List ℕ) (overflow : Overflowing) (s : ℕ) (es : List Entry) → entries_by s (es ++ Attached number array overflow ∷ []) ≡ entries_by s es
+none_attached number array overflow s es = entries_by_silent s es (Attached number array overflow) refl
+
+module _ {B : Type 0} (contents : B → List ℕ) (layers : B → List Layer) (size : B → ℕ) (number : ℕ) (wanted : Bool) (store : StoreDev B) (w w' : Volumed B) (g : IsGained layers size number wanted store w w') where
   abbrev p : Plain
   p = plain_of contents layers w
 
@@ -121,24 +129,32 @@ module _ {B : Type 0} (contents : B → List ℕ) (layers : B → List Layer) (s
   fresh_saved : All (λ e. e.number ≢ number) p.saved
   fresh_saved = fresh_shown contents (contents w.origin) number w.snaps g.fresh
 
-  pub shows_last : (array : List ℕ) → IsTaken p number array q → saved_under number q.saved ≡ Some (Live array)
-  shows_last array t = ap (λ (x : Plain). saved_under number x.saved) t.becomes ∙ saved_last number (Live array) p.saved fresh_saved
+  pub shows_last : (array : List ℕ) → IsTaken p number array (overflow_of wanted) q → saved_under number q.saved ≡ Some (Live array)
+  shows_last array t = ap (λ (x : Plain). saved_under number x.saved) t.becomes ∙ saved_last number (Live array) (overflow_of wanted) p.saved fresh_saved
 
-  pub attached_does : (array : List ℕ) (lives : List Bool) → IsTaken p number array q
-      → (after (saves_of p) (Attached number array) ≡ saves_of q) × IsLawful (saves_of p) (Attached number array) × (lives ≡ map is_live p.saved → lives ++ true ∷ [] ≡ map is_live q.saved)
-  attached_does array lives t = (
+  abbrev entry_more : List ℕ → Shown
+  entry_more array = record { number = number; saved = Live array; overflow = overflow_of wanted }
+
+  pub attached_does : (array : List ℕ) (lives may : List Bool) → IsTaken p number array (overflow_of wanted) q
+      → (after (saves_of p) (Attached number array (overflow_of wanted)) ≡ saves_of q) × IsLawful (saves_of p) (Attached number array (overflow_of wanted))
+      × (lives ≡ map is_live p.saved → lives ++ true ∷ [] ≡ map is_live q.saved) × (may ≡ map is_open p.saved → may ++ wanted ∷ [] ≡ map is_open q.saved)
+  attached_does array lives may t = (
     sym (ap saves_of t.becomes),
-    fresh_saved,
-    λ was. ap (λ (bs : List Bool). bs ++ true ∷ []) was ∙ sym (map-append is_live p.saved (record { number = number; saved = Live array } ∷ [])) ∙ ap (λ (x : Plain). map is_live x.saved) (sym t.becomes),
+    (fresh_saved, t.strict),
+    λ was. ap (λ (bs : List Bool). bs ++ true ∷ []) was ∙ sym (map-append is_live p.saved (entry_more array ∷ [])) ∙ ap (λ (x : Plain). map is_live x.saved) (sym t.becomes),
+    λ was. (λ i. was i ++ sym (wanted_may wanted) i ∷ []) ∙ sym (map-append is_open p.saved (entry_more array ∷ [])) ∙ ap (λ (x : Plain). map is_open x.saved) (sym t.becomes),
   )
 
+  one_gained : length q.saved ≡ length p.saved + 1
+  one_gained = omega (arith, saved_count contents layers w, saved_count contents layers w', ap (λ (x : Volumed B). length x.snaps) g.becomes, length-append w.snaps (g.snap ∷ []))
+
   pub attached_keeps : (loud loud' more told told' : Bool) (v : Books) (room' : ℕ) → IsAudit loud told p v → loud' ≡ (loud && more) → told' ≡ (told && more)
-      → v.taken + length v.entries + length v.held + live_count v.lives + 2 ≤ 65_536 → room' ≡ v.room → (array : List ℕ) → (shown : List ℕ) → (loud ≡ true → more ≡ true → (array ≡ shown) × IsTaken p number shown q)
-      → IsAudit loud' told' q (record v { entries = v.entries ++ Attached number array ∷ []; lives = v.lives ++ true ∷ []; room = room' })
+      → v.taken + length v.entries + length v.held + kept_count v.lives v.may + places_for wanted ≤ 65_536 → room' ≡ v.room → (array : List ℕ) → (shown : List ℕ) → (loud ≡ true → more ≡ true → (array ≡ shown) × IsTaken p number shown (overflow_of wanted) q)
+      → IsAudit loud' told' q (record v { entries = v.entries ++ Attached number array (overflow_of wanted) ∷ []; lives = v.lives ++ true ∷ []; may = v.may ++ wanted ∷ []; room = room' })
   attached_keeps loud loud' more told told' v room' h both tells free room array shown taken =
-      entry_keeps loud loud' told told' p q v (Attached number array) (v.lives ++ true ∷ []) room' h (λ on. and_left told more (sym tells ∙ on))
+      entry_keeps loud loud' told told' p q v (Attached number array (overflow_of wanted)) (v.lives ++ true ∷ []) (v.may ++ wanted ∷ []) room' h (λ on. and_left told more (sym tells ∙ on))
       (λ on was. both ∙ ap (λ b. b && more) was ∙ and_right told more (sym tells ∙ on))
       (ap (λ (x : Volumed B). map in_flight x.flights) g.becomes)
-      (omega (arith, length-append v.lives (true ∷ []), h.counted.lives, saved_count contents layers w, saved_count contents layers w', ap (λ (x : Volumed B). length x.snaps) g.becomes, length-append w.snaps (g.snap ∷ [])))
-      (none_attached number array) (omega (arith, free, one_more v.lives)) room
-      (λ on was. let t = taken was (and_right told more (sym tells ∙ on)) in attached_does array v.lives (subst (λ (a : List ℕ). IsTaken p number a q) (sym t.0) t.1))
+      (omega (arith, length-append v.lives (true ∷ []), h.counted.lives, one_gained)) (omega (arith, length-append v.may (wanted ∷ []), h.counted.may, one_gained))
+      (none_attached number array (overflow_of wanted)) (omega (arith, free, kept_more wanted v.lives v.may (h.counted.may ∙ sym h.counted.lives))) room
+      (λ on was. let t = taken was (and_right told more (sym tells ∙ on)) in attached_does array v.lives v.may (subst (λ (a : List ℕ). IsTaken p number a (overflow_of wanted) q) (sym t.0) t.1))

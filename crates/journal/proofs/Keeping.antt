@@ -21,6 +21,7 @@ use Rattle.plain.specs.Legal.{Spoils, IsAnswered, IsLegalStep, IsSubmitted, IsDe
 use Rattle.plain.specs.Serves.{Serves}
 use Rattle.sector.specs.declared.range.Range.{Range}
 use Rattle.sector.specs.declared.refusal.Refusal.{Refusal}
+use Rattle.sector.specs.declared.refusal.Refusal.TheVariants.{Overflow}
 use Rattle.pending.specs.Kinds.{room_of, room_at}
 use Rattle.volume.specs.Flying.{Fits, IsFlown, IsTakenOut}
 use Rattle.journal.specs.declared.entry.Answered.{Answered as AnsweredEntry}
@@ -29,9 +30,10 @@ use Rattle.journal.specs.declared.entry.Entry.TheVariants.{Answered, Spoiled}
 use Rattle.journal.specs.declared.entry.Held.{Held}
 use Rattle.journal.specs.Replay.{Saves, saves_of, plain_in, served, replay, IsLawful, AllLawful}
 use Rattle.journal.specs.Entries.{entries_by}
-use Rattle.journal.specs.Noted.{Noted, is_live, live_count}
+use Rattle.journal.specs.Noted.{Noted, is_live, is_open, kept_count}
 use Rattle.journal.specs.Books.{Books, Counted, Replays, IsAudit, HeldFits, in_flight}
 use Rattle.journal.proofs.Lost.{all_noted, lives_now}
+use Rattle.journal.proofs.Mays.{any_shown, noted_may, open_spoiled, opens_served}
 use Rattle.journal.proofs.Replaying.{replay_then, lawful_then, replay_spoils, lawful_spoils, entries_by_spoils, entries_by_mine, entries_by_other, served_is, lawful_is, lives_served, IsFirst, asked_first, without_first}
 
 -- an event that is no Issue spoils, or is silent
@@ -108,7 +110,8 @@ noted_counted p q v lives' es' room' h s requests same room = record {
   seats = h.seats;
   folds = h.folds;
   lives = s.same_length ∙ h.lives ∙ sym same;
-  entries = omega (arith, ap length s.entries_are, length-append v.entries (map Spoiled s.which), length-map s.which Spoiled, s.room, h.entries);
+  may = h.may ∙ sym same;
+  entries = omega (arith, ap length s.entries_are, length-append v.entries (map Spoiled s.which), length-map s.which Spoiled, s.room, noted_may (length q.saved) q.saved v.lives lives' v.may v.entries es' any_shown s, h.entries);
   room = omega (arith, h.room, room);
 }
 
@@ -122,6 +125,7 @@ noted_replays p q v which lives' es' room' h origin begun saved s =
           ∙ ap (λ (x : Saves). record x { saved = map (spoiled_entry s.which) x.saved }) h.replay_is ∙ last;
       lawful = subst (AllLawful v.base) (sym s.entries_are) (lawful_then v.base v.entries (map Spoiled s.which) h.lawful (lawful_spoils (replay v.base v.entries) s.which));
       lives = lives_now which p.saved q.saved v.lives lives' v.entries es' h.lives saved s;
+      may = h.may ∙ sym (open_spoiled which p.saved) ∙ ap (map is_open) (sym saved);
     }
 
 -- a call that spoils, or is silent
@@ -226,6 +230,7 @@ module _ (loud loud' told : Bool) (p q : Plain) (v : Books) (room' : ℕ) (h : I
       seats = length-set v.counts seat (get_or v.counts seat 0 + 1) ∙ h.counted.seats;
       folds = h.counted.folds;
       lives = h.counted.lives ∙ sym count;
+      may = h.counted.may ∙ sym count;
       entries = omega (arith, length-append v.entries (Answered (answer_of x seat reply) ∷ []), less, h.counted.entries);
       room = omega (arith, h.counted.room, room);
     }
@@ -239,6 +244,7 @@ module _ (loud loud' told : Bool) (p q : Plain) (v : Books) (room' : ℕ) (h : I
           replay_is = replay_then v.base v.entries (Answered (answer_of x seat reply) ∷ []) ∙ ap (λ s. served x.for_entry.dev x.for_entry.op x.for_entry.range.first reply s) r.replay_is ∙ sym made;
           lawful = lawful_then v.base v.entries (Answered (answer_of x seat reply) ∷ []) r.lawful (subst (λ (s : Saves). IsLawful s (Answered (answer_of x seat reply))) (sym r.replay_is) lawful, tt);
           lives = r.lives ∙ sym (lives_served p q x.for_entry.dev x.for_entry.op x.for_entry.range reply serves);
+          may = r.may ∙ sym (opens_served p q x.for_entry.dev x.for_entry.op x.for_entry.range reply serves);
         }
 
     pub issued_keeps : (m : ℕ) → IsFlown (Issue n) (Replied m reply) p.requests q.requests → (loud ≡ true → IsLegalStep p (Issue n) (Replied m reply) q) → IsAudit loud' told q issued_books
@@ -257,7 +263,7 @@ pub submitted_keeps : (loud loud' told : Bool) (p q : Plain) (v : Books) (x : He
     → loud' ≡ loud → length q.saved ≡ length p.saved → q.requests ≡ p.requests ++ record { number = number; request = request } ∷ []
     → (loud ≡ true → (which : List ℕ) × IsSubmitted which p number request q)
     → Noted (length q.saved) q.saved v.lives lives' v.entries es' → room' ≡ v.room
-    → HeldFits x → x.number ≡ number → x.for_entry ≡ request → v.taken + length v.entries + length v.held + live_count v.lives + 1 ≤ 65_536
+    → HeldFits x → x.number ≡ number → x.for_entry ≡ request → v.taken + length v.entries + length v.held + kept_count v.lives v.may + 1 ≤ 65_536
     → IsAudit loud' told q (record v { entries = es'; lives = lives'; held = v.held ++ x ∷ []; room = room' })
 submitted_keeps loud loud' told p q v x number request lives' es' room' h same count flown submitted noted room fits numbered asked free =
     let one : in_flight x ≡ (let y : InFlight = record { number = number; request = request } in y) = (λ i. record { number = numbered i; request = asked i }) in record {
@@ -268,7 +274,8 @@ submitted_keeps loud loud' told p q v x number request lives' es' room' h same c
         seats = h.counted.seats;
         folds = h.counted.folds;
         lives = noted.same_length ∙ h.counted.lives ∙ sym count;
-        entries = omega (arith, free, length-append v.held (x ∷ []), ap length noted.entries_are, length-append v.entries (map Spoiled noted.which), length-map noted.which Spoiled, noted.room);
+        may = h.counted.may ∙ sym count;
+        entries = omega (arith, free, length-append v.held (x ∷ []), ap length noted.entries_are, length-append v.entries (map Spoiled noted.which), length-map noted.which Spoiled, noted.room, noted_may (length q.saved) q.saved v.lives lives' v.may v.entries es' any_shown noted);
         room = omega (arith, h.counted.room, room);
       };
       loud_is = λ on. same ∙ h.loud_is on;
@@ -277,6 +284,7 @@ submitted_keeps loud loud' told p q v x number request lives' es' room' h same c
             replay_is = r.replay_is;
             lawful = r.lawful;
             lives = r.lives;
+            may = r.may;
           };
     }
 
@@ -288,13 +296,14 @@ spoiled_nothing p q same = same ∙ (λ i. record { origin = p.origin; begun = p
     no_spoil [] = refl
     no_spoil (y ∷ ys) = ap (λ zs. y ∷ zs) (no_spoil ys)
 
-pub declined_spoils : (request : Request) (refusal : Refusal) (p q : Plain) → IsDeclined request refusal p q → (which : List ℕ) × Spoils which p q
-declined_spoils request refusal p q (inl same) = ([], spoiled_nothing p q same)
-declined_spoils request refusal p q (inr full) = (full.0 ∷ [], full.5)
+pub declined_spoils : (request : Request) (refusal : Refusal) (p q : Plain) → refusal ≢ Overflow → IsDeclined request refusal p q → (which : List ℕ) × Spoils which p q
+declined_spoils request refusal p q other (inl same) = ([], spoiled_nothing p q same)
+declined_spoils request refusal p q other (inr (number, bytes, dev, op, inl full)) = (number ∷ [], full.2)
+declined_spoils request refusal p q other (inr (number, bytes, dev, op, inr marked)) = absurd (other marked.0)
 
 -- a new audit
-abbrev pub new_books : Saves → ℕ → List Bool → List ℕ → List ℕ → ℕ → Books
-new_books base taken lives counts folded room = record { base = base; taken = taken; entries = []; held = []; lives = lives; counts = counts; folded = folded; room = room }
+abbrev pub new_books : Saves → ℕ → List Bool → List Bool → List ℕ → List ℕ → ℕ → Books
+new_books base taken lives may counts folded room = record { base = base; taken = taken; entries = []; held = []; lives = lives; may = may; counts = counts; folded = folded; room = room }
 
 zeros : (n s z : ℕ) → z ≡ 0 → get_or (replicate n z) s z ≡ z
 zeros zero s z e = refl
@@ -304,9 +313,9 @@ zeros (suc n) (suc s) z e = zeros n s z e
 pub none_yet : (counts : List ℕ) (s : ℕ) → counts ≡ replicate 9 0 → get_or counts s 0 ≡ 0
 none_yet counts s nought = ap (λ (l : List ℕ). get_or l s 0) nought ∙ zeros 9 s 0 refl
 
-pub new_keeps : (loud told : Bool) (p : Plain) (base : Saves) (taken : ℕ) (lives : List Bool) (counts folded : List ℕ) (room : ℕ) → p.requests ≡ [] → (told ≡ true → loud ≡ true) → (told ≡ true → base ≡ saves_of p) → lives ≡ map is_live p.saved → taken + live_count lives ≤ 65_536 → 65_536 ≤ room → counts ≡ replicate 9 0 → folded ≡ replicate 9 0
-    → IsAudit loud told p (new_books base taken lives counts folded room)
-new_keeps loud told p base taken lives counts folded room quiet on begins are few enough nought none = record {
+pub new_keeps : (loud told : Bool) (p : Plain) (base : Saves) (taken : ℕ) (lives may : List Bool) (counts folded : List ℕ) (room : ℕ) → p.requests ≡ [] → (told ≡ true → loud ≡ true) → (told ≡ true → base ≡ saves_of p) → lives ≡ map is_live p.saved → may ≡ map is_open p.saved → taken + kept_count lives may ≤ 65_536 → 65_536 ≤ room → counts ≡ replicate 9 0 → folded ≡ replicate 9 0
+    → IsAudit loud told p (new_books base taken lives may counts folded room)
+new_keeps loud told p base taken lives may counts folded room quiet on begins are opens few enough nought none = record {
   counted = record {
     fits = All-nil HeldFits;
     held = sym quiet;
@@ -314,11 +323,12 @@ new_keeps loud told p base taken lives counts folded room quiet on begins are fe
     seats = ap length nought;
     folds = ap length none;
     lives = ap length are ∙ length-map p.saved is_live;
+    may = ap length opens ∙ length-map p.saved is_open;
     entries = omega (arith, few);
     room = enough;
   };
   loud_is = on;
-  replays = λ yes'. record { replay_is = begins yes'; lawful = tt; lives = are };
+  replays = λ yes'. record { replay_is = begins yes'; lawful = tt; lives = are; may = opens };
 }
 
 -- a call that nobody sees

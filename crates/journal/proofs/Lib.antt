@@ -1,4 +1,7 @@
 pub mod Lost
+pub mod Mays
+pub mod Marks
+pub mod Placed
 pub mod Replaying
 pub mod Keeping
 pub mod Departed

@@ -19,7 +19,7 @@ use Rattle.volume.specs.Volumed.{Volumed, plain_of, snap_shape}
 use Rattle.pending.specs.Kinds.{in_flight}
 use Rattle.sector.specs.declared.refusal.Refusal.{Refusal}
 use Rattle.volume_laws.proofs.Refusing.{refused_in_flight}
-use Rattle.volume.specs.Submitting.{IsRefusedAs, SameButRoom, IsFoundFull}
+use Rattle.volume.specs.Submitting.{IsRefusedAs, SameButRoom, IsFoundFull, IsOverflown}
 use Rattle.volume.specs.Flying.{IsFlown}
 use Rattle.journal.specs.declared.entry.Entry.{Entry}
 use Rattle.journal.specs.declared.entry.Entry.TheVariants.{Answered, Spoiled}
@@ -109,8 +109,9 @@ pub refused_requests : {B : Type 0} (contents : B → List ℕ) (layers : B → 
     → map in_flight w'.flights ≡ map in_flight w.flights
 refused_requests contents layers size request refusal w w' (inl same) = ap (λ (y : Volumed _). map in_flight y.flights) same.1
 refused_requests contents layers size request refusal w w' (inr (inl same)) = let room : SameButRoom w w' = same.2 in ap (λ (y : Volumed _). map in_flight y.flights) room.becomes
-refused_requests contents layers size request refusal w w' (inr (inr full)) =
+refused_requests contents layers size request refusal w w' (inr (inr (inl full))) =
     let found : IsFoundFull contents layers full.2.0 _ w w' = full.2.2 in ap (λ (y : Volumed _). map in_flight y.flights) found.becomes ∙ refused_in_flight (full.2.0 ∷ []) w.flights
+refused_requests contents layers size request refusal w w' (inr (inr (inr full))) = let found : IsOverflown contents layers full.2.0 _ w w' = full.2.2 in ap (λ (y : Volumed _). map in_flight y.flights) found.becomes
 
 -- the requests that seats submitted, whoever they are
 pub flights_in : (hs : List Held) → map flight_in (map seated hs) ≡ map held_in_flight hs

@@ -10,13 +10,13 @@ use Rattle.plain.specs.declared.request.Op.{Op}
 use Rattle.plain.specs.declared.request.Op.TheVariants.{Read, Write}
 use Rattle.plain.specs.declared.request.Reply.{Reply}
 use Rattle.plain.specs.declared.request.Reply.TheVariants.{Data, Written, Refused}
-use Rattle.plain.specs.declared.request.Failure.TheVariants.{Invalid as IsInvalid, Io}
+use Rattle.plain.specs.declared.request.Failure.TheVariants.{Invalid as IsInvalid, Io, Overflow}
 use Rattle.plain.specs.Plain.{Plain, Entry as Shown, Live, Invalid, is_in, spoiled_entry, saved_under, with_saved, asked_under, without}
 use Rattle.plain.specs.Serves.{Serves, SameArrays, Shows, Assigns, IsSpoilt}
 use Rattle.sector.specs.Bytes.{with_sectors}
 use Rattle.journal.specs.declared.entry.Answered.{Answered as AnsweredEntry}
 use Rattle.journal.specs.declared.entry.Entry.{Entry}
-use Rattle.journal.specs.declared.entry.Entry.TheVariants.{Answered, Spoiled, Attached, Detached, Begun, Finished}
+use Rattle.journal.specs.declared.entry.Entry.TheVariants.{Answered, Spoiled, Overflowed, Attached, Detached, Begun, Finished}
 use Rattle.journal.specs.declared.entry.Held.{Held}
 use Rattle.journal.specs.Replay.{Saves, saves_of, plain_in, served, array_in, after, replay, AllLawful}
 use Rattle.journal.specs.Entries.{entries_by}
@@ -40,15 +40,12 @@ spoiled_none (x ∷ xs) = ap (λ ys. x ∷ ys) (spoiled_none xs)
 both_spoiled : (n : ℕ) (ns : List ℕ) (x : Shown) → spoiled_entry ns (spoiled_entry (n ∷ []) x) ≡ spoiled_entry (n ∷ ns) x
 both_spoiled n ns x = by (n == x.number) refl
   where
-    inv : ℕ → Shown
-    inv m = record { number = m; saved = Invalid }
-
-    same : (b : Bool) (m : ℕ) → (if b then (record { number = m; saved = Invalid }) else (record { number = m; saved = Invalid })) ≡ (let y : Shown = record { number = m; saved = Invalid } in y)
-    same true m = refl
-    same false m = refl
+    same : (b : Bool) (y : Shown) → (if b then (record y { saved = Invalid }) else (record y { saved = Invalid })) ≡ record y { saved = Invalid }
+    same true y = refl
+    same false y = refl
 
     by : (b : Bool) → (n == x.number) ≡ b → spoiled_entry ns (spoiled_entry (n ∷ []) x) ≡ spoiled_entry (n ∷ ns) x
-    by true e = rw e (same (is_in ns x.number) x.number)
+    by true e = rw e (same (is_in ns x.number) x)
     by false e = rw e refl
 
 spoiled_both : (n : ℕ) (ns : List ℕ) (xs : List Shown) → map (spoiled_entry ns) (map (spoiled_entry (n ∷ [])) xs) ≡ map (spoiled_entry (n ∷ ns)) xs
@@ -70,7 +67,8 @@ entries_by_spoils seat [] [] = refl
 entries_by_spoils seat [] (n ∷ ns) = entries_by_spoils seat [] ns
 entries_by_spoils seat (Answered a ∷ es) ns = ap (λ x. if a.seat == seat then a ∷ x else x) (entries_by_spoils seat es ns)
 entries_by_spoils seat (Spoiled n ∷ es) ns = entries_by_spoils seat es ns
-entries_by_spoils seat (Attached n array ∷ es) ns = entries_by_spoils seat es ns
+entries_by_spoils seat (Overflowed n ∷ es) ns = entries_by_spoils seat es ns
+entries_by_spoils seat (Attached n array overflow ∷ es) ns = entries_by_spoils seat es ns
 entries_by_spoils seat (Detached n ∷ es) ns = entries_by_spoils seat es ns
 entries_by_spoils seat (Begun n ∷ es) ns = entries_by_spoils seat es ns
 entries_by_spoils seat (Finished ∷ es) ns = entries_by_spoils seat es ns
@@ -83,7 +81,8 @@ pub entries_by_mine : (seat : ℕ) (es : List Entry) (a : AnsweredEntry) → a.s
 entries_by_mine seat [] a same = ap (λ b. if b then (a ∷ []) else []) (eq-eqb a.seat seat same)
 entries_by_mine seat (Answered x ∷ es) a same = ap (λ y. if x.seat == seat then (x ∷ y) else y) (entries_by_mine seat es a same) ∙ behind (x.seat == seat) x a (entries_by seat es)
 entries_by_mine seat (Spoiled n ∷ es) a same = entries_by_mine seat es a same
-entries_by_mine seat (Attached n array ∷ es) a same = entries_by_mine seat es a same
+entries_by_mine seat (Overflowed n ∷ es) a same = entries_by_mine seat es a same
+entries_by_mine seat (Attached n array overflow ∷ es) a same = entries_by_mine seat es a same
 entries_by_mine seat (Detached n ∷ es) a same = entries_by_mine seat es a same
 entries_by_mine seat (Begun n ∷ es) a same = entries_by_mine seat es a same
 entries_by_mine seat (Finished ∷ es) a same = entries_by_mine seat es a same
@@ -92,7 +91,8 @@ pub entries_by_other : (seat : ℕ) (es : List Entry) (a : AnsweredEntry) → a.
 entries_by_other seat [] a apart = ap (λ b. if b then (a ∷ []) else []) (ne_eqb a.seat seat apart)
 entries_by_other seat (Answered x ∷ es) a apart = ap (λ y. if x.seat == seat then (x ∷ y) else y) (entries_by_other seat es a apart)
 entries_by_other seat (Spoiled n ∷ es) a apart = entries_by_other seat es a apart
-entries_by_other seat (Attached n array ∷ es) a apart = entries_by_other seat es a apart
+entries_by_other seat (Overflowed n ∷ es) a apart = entries_by_other seat es a apart
+entries_by_other seat (Attached n array overflow ∷ es) a apart = entries_by_other seat es a apart
 entries_by_other seat (Detached n ∷ es) a apart = entries_by_other seat es a apart
 entries_by_other seat (Begun n ∷ es) a apart = entries_by_other seat es a apart
 entries_by_other seat (Finished ∷ es) a apart = entries_by_other seat es a apart
@@ -106,7 +106,8 @@ pub entries_by_few : (seat : ℕ) (es : List Entry) → length (entries_by seat 
 entries_by_few seat [] = omega arith
 entries_by_few seat (Answered x ∷ es) = at_most_more (x.seat == seat) x (entries_by seat es) (length es) (entries_by_few seat es)
 entries_by_few seat (Spoiled n ∷ es) = omega (arith, entries_by_few seat es)
-entries_by_few seat (Attached n array ∷ es) = omega (arith, entries_by_few seat es)
+entries_by_few seat (Overflowed n ∷ es) = omega (arith, entries_by_few seat es)
+entries_by_few seat (Attached n array overflow ∷ es) = omega (arith, entries_by_few seat es)
 entries_by_few seat (Detached n ∷ es) = omega (arith, entries_by_few seat es)
 entries_by_few seat (Begun n ∷ es) = omega (arith, entries_by_few seat es)
 entries_by_few seat (Finished ∷ es) = omega (arith, entries_by_few seat es)
@@ -131,6 +132,8 @@ served_is p q dev Read range (Refused Io) s = same_saves p q s.0
 served_is p q dev (Write bytes) range (Refused Io) s = same_saves p q s.0
 served_is p q dev Read range (Refused IsInvalid) s = same_saves p q s.0
 served_is p q dev (Write bytes) range (Refused IsInvalid) s = same_saves p q s.0
+served_is p q dev Read range (Refused Overflow) s = absurd s
+served_is p q dev (Write bytes) range (Refused Overflow) s = absurd s
 
 bare_arrays : (p q : Plain) → SameArrays p q → SameArrays (plain_in (saves_of p)) (plain_in (saves_of q))
 bare_arrays p q s = record { origin = s.origin; begun = s.begun; saved = s.saved }
@@ -150,7 +153,7 @@ bare_assigns p q (Snap number) array w = record { origin = w.origin; begun = w.b
 -- and keeps which snapshots are live
 live_with : (b : Bool) (n : ℕ) (x : Shown) (xs : List Shown) (array other : List ℕ) → (x.number == n) ≡ b → (if b then Some x.saved else saved_under n xs) ≡ Some (Live other)
     → (saved_under n xs ≡ Some (Live other) → map is_live (with_saved n (Live array) xs) ≡ map is_live xs)
-    → map is_live (if b then (record { number = n; saved = Live array }) ∷ xs else x ∷ with_saved n (Live array) xs) ≡ is_live x ∷ map is_live xs
+    → map is_live (if b then (record x { saved = Live array }) ∷ xs else x ∷ with_saved n (Live array) xs) ≡ is_live x ∷ map is_live xs
 live_with true n x xs array other e found rest = let is : x.saved ≡ Live other = cc in ap (λ y. y ∷ map is_live xs) (sym (ap is_live_state is))
 live_with false n x xs array other e found rest = ap (λ ys. is_live x ∷ ys) (rest found)
 
@@ -168,6 +171,8 @@ lives_served p q dev Read range (Refused Io) s = ap (map is_live) s.0.saved
 lives_served p q dev (Write bytes) range (Refused Io) s = ap (map is_live) s.0.saved
 lives_served p q dev Read range (Refused IsInvalid) s = ap (map is_live) s.0.saved
 lives_served p q dev (Write bytes) range (Refused IsInvalid) s = ap (map is_live) s.0.saved
+lives_served p q dev Read range (Refused Overflow) s = absurd s
+lives_served p q dev (Write bytes) range (Refused Overflow) s = absurd s
 
 -- the arrays and states alone say whether a reply is lawful
 pub lawful_is : (p q : Plain) (dev : Dev) (op : Op) (range : Range) (reply : Reply) → Serves p dev op range reply q → Serves (plain_in (saves_of p)) dev op range reply (plain_in (saves_of q))
@@ -179,6 +184,8 @@ lawful_is p q dev Read range (Refused Io) s = (bare_arrays p q s.0, (s.1.0, bare
 lawful_is p q dev (Write bytes) range (Refused Io) s = (bare_arrays p q s.0, (s.1.0, bare_shows p dev s.1.0 s.1.1))
 lawful_is p q dev Read range (Refused IsInvalid) s = (bare_arrays p q s.0, bare_spoilt p dev s.1)
 lawful_is p q dev (Write bytes) range (Refused IsInvalid) s = (bare_arrays p q s.0, bare_spoilt p dev s.1)
+lawful_is p q dev Read range (Refused Overflow) s = absurd s
+lawful_is p q dev (Write bytes) range (Refused Overflow) s = absurd s
 
 -- the first request in flight with a number
 pub record IsFirst (n : ℕ) (hs : List Held) (k : ℕ) (x : Held) : Type 0 where
@@ -227,7 +234,8 @@ pub entries_by_silent : (seat : ℕ) (es : List Entry) (e : Entry) → entries_b
 entries_by_silent seat [] e silent = silent
 entries_by_silent seat (Answered a ∷ es) e silent = ap (λ x. if a.seat == seat then a ∷ x else x) (entries_by_silent seat es e silent)
 entries_by_silent seat (Spoiled n ∷ es) e silent = entries_by_silent seat es e silent
-entries_by_silent seat (Attached n array ∷ es) e silent = entries_by_silent seat es e silent
+entries_by_silent seat (Overflowed n ∷ es) e silent = entries_by_silent seat es e silent
+entries_by_silent seat (Attached n array overflow ∷ es) e silent = entries_by_silent seat es e silent
 entries_by_silent seat (Detached n ∷ es) e silent = entries_by_silent seat es e silent
 entries_by_silent seat (Begun n ∷ es) e silent = entries_by_silent seat es e silent
 entries_by_silent seat (Finished ∷ es) e silent = entries_by_silent seat es e silent

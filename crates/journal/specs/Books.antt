@@ -11,7 +11,7 @@ use Rattle.journal.specs.declared.entry.Entry.{Entry}
 use Rattle.journal.specs.Replay.{Saves, saves_of, replay, AllLawful}
 use Rattle.journal.specs.Entries.{entries_by}
 use Rattle.journal.specs.Inside.{IsAsked, AllInside}
-use Rattle.journal.specs.Noted.{is_live, live_count}
+use Rattle.journal.specs.Noted.{is_live, is_open, kept_count}
 use Rattle.journal.specs.Seats.{Seated}
 
 abbrev pub state_in : Option (List ℕ) → State
@@ -19,13 +19,14 @@ state_in (Some array) = Live array
 state_in None = Invalid
 
 abbrev pub shown_in : Saved → Shown
-shown_in s = record { number = s.number; saved = state_in s.array }
+shown_in s = record { number = s.number; saved = state_in s.array; overflow = s.overflow }
 
 abbrev pub saves_in : Base → Saves
 saves_in b = record { origin = b.origin; begun = b.begun; saved = map shown_in b.saved.items }
 
 -- What callers see of an audit. taken: how many places of the journal were taken before it began, since the last checkpoint.
--- lives: which snapshots were live when it looked last, in order of attaching. loud: whether no device that its volume had
+-- lives: which snapshots were live when it looked last, in order of attaching, and may: which of their stores could still
+-- overflow. loud: whether no device that its volume had
 -- dropped writes. folded: of each seat, from 0 to 8, how many of its request entries checkpoints folded into the base.
 pub record AuditShape (B : Type 0) : Type 0 where
   pub volume : Volumed B
@@ -34,6 +35,7 @@ pub record AuditShape (B : Type 0) : Type 0 where
   pub entries : List Entry
   pub held : List Seated
   pub lives : List Bool
+  pub may : List Bool
   pub loud : Bool
   pub folded : List ℕ
 
@@ -47,6 +49,7 @@ pub record Books : Type 0 where
   pub entries : List Entry
   pub held : List Held
   pub lives : List Bool
+  pub may : List Bool
   pub counts : List ℕ
   pub folded : List ℕ
   pub room : ℕ
@@ -69,7 +72,8 @@ pub record Counted (p : Plain) (v : Books) : Type 0 where
   pub seats : length v.counts ≡ 9
   pub folds : length v.folded ≡ 9
   pub lives : length v.lives ≡ length p.saved
-  pub entries : v.taken + length v.entries + length v.held + live_count v.lives ≤ 65_536
+  pub may : length v.may ≡ length p.saved
+  pub entries : v.taken + length v.entries + length v.held + kept_count v.lives v.may ≤ 65_536
   pub room : 65_536 ≤ v.room
 
 -- the entries, replayed, give the plain machine's arrays and states
@@ -77,6 +81,7 @@ pub record Replays (p : Plain) (v : Books) : Type 0 where
   pub replay_is : replay v.base v.entries ≡ saves_of p
   pub lawful : AllLawful v.base v.entries
   pub lives : v.lives ≡ map is_live p.saved
+  pub may : v.may ≡ map is_open p.saved
 
 -- loud: whether no device drops writes now; told: whether none did
 pub record IsAudit (loud told : Bool) (p : Plain) (v : Books) : Type 0 where

@@ -2,7 +2,7 @@
 use Rattle.std.specs.Prelude.{◌≡◌, ◌==◌, ℕ, ◌-◌, ◌<◌, ◌≤◌, List, [], ◌∷◌, Some, if◌then◌else◌, slice_get}
 use Rattle.journal.specs.declared.entry.Answered.{Answered as AnsweredEntry}
 use Rattle.journal.specs.declared.entry.Entry.{Entry}
-use Rattle.journal.specs.declared.entry.Entry.TheVariants.{Answered, Spoiled, Attached, Detached, Begun, Finished}
+use Rattle.journal.specs.declared.entry.Entry.TheVariants.{Answered, Spoiled, Overflowed, Attached, Detached, Begun, Finished}
 use Rattle.journal.specs.declared.entry.Receipt.{Receipt}
 use Rattle.journal.specs.declared.entry.Verdict.{Verdict}
 use Rattle.journal.specs.declared.entry.Verdict.TheVariants.{Folded, Agrees, Differs}
@@ -12,7 +12,8 @@ abbrev pub entries_by : ℕ → List Entry → List AnsweredEntry
 entries_by seat [] = []
 entries_by seat (Answered a ∷ es) = if a.seat == seat then a ∷ entries_by seat es else entries_by seat es
 entries_by seat (Spoiled number ∷ es) = entries_by seat es
-entries_by seat (Attached number array ∷ es) = entries_by seat es
+entries_by seat (Overflowed number ∷ es) = entries_by seat es
+entries_by seat (Attached number array overflow ∷ es) = entries_by seat es
 entries_by seat (Detached number ∷ es) = entries_by seat es
 entries_by seat (Begun number ∷ es) = entries_by seat es
 entries_by seat (Finished ∷ es) = entries_by seat es

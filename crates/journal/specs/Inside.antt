@@ -8,7 +8,7 @@ use Rattle.plain.specs.declared.request.Reply.TheVariants.{Data, Written, Refuse
 use Rattle.plain.specs.declared.request.Request.{Request}
 use Rattle.plain.specs.Serves.{Shows}
 use Rattle.journal.specs.declared.entry.Entry.{Entry}
-use Rattle.journal.specs.declared.entry.Entry.TheVariants.{Answered, Spoiled, Attached, Detached, Begun, Finished}
+use Rattle.journal.specs.declared.entry.Entry.TheVariants.{Answered, Spoiled, Overflowed, Attached, Detached, Begun, Finished}
 use Rattle.journal.specs.Replay.{Saves, plain_in, after}
 
 -- a write that was done lies inside the array that its device shows
@@ -21,7 +21,8 @@ LiesInside s dev (Write bytes) first (Refused failure) = Unit {0}
 abbrev pub IsInside : Saves → Entry → Type 0
 IsInside s (Answered a) = LiesInside s a.request.dev a.request.op a.request.range.first a.reply
 IsInside s (Spoiled number) = Unit {0}
-IsInside s (Attached number array) = Unit {0}
+IsInside s (Overflowed number) = Unit {0}
+IsInside s (Attached number array overflow) = Unit {0}
 IsInside s (Detached number) = Unit {0}
 IsInside s (Begun number) = Unit {0}
 IsInside s Finished = Unit {0}
@@ -41,7 +42,8 @@ abbrev pub attached_count : List Entry → ℕ
 attached_count [] = 0
 attached_count (Answered a ∷ es) = attached_count es
 attached_count (Spoiled number ∷ es) = attached_count es
-attached_count (Attached number array ∷ es) = suc (attached_count es)
+attached_count (Overflowed number ∷ es) = attached_count es
+attached_count (Attached number array overflow ∷ es) = suc (attached_count es)
 attached_count (Detached number ∷ es) = attached_count es
 attached_count (Begun number ∷ es) = attached_count es
 attached_count (Finished ∷ es) = attached_count es

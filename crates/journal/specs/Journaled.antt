@@ -1,27 +1,29 @@
 -- What a call notes in the journal. This project's own.
-use Rattle.std.specs.Prelude.{◌≡◌, ◌⊎◌, nat_lt, ℕ, ◌+◌, ◌<◌, Bool, true, false, List, [], ◌∷◌, ◌++◌, length, map, Option, Some, None, slice_index_or}
+use Rattle.std.specs.Prelude.{◌≡◌, ◌≢◌, ◌⊎◌, nat_lt, ℕ, ◌+◌, ◌<◌, Bool, true, false, List, [], ◌∷◌, ◌++◌, length, map, Option, Some, None, slice_index_or}
 use Rattle.plain.specs.declared.event.Outcome.{Outcome}
 use Rattle.plain.specs.declared.event.Outcome.TheVariants.{Reply as Replied}
+use Rattle.plain.specs.Plain.{overflow_of}
+use Rattle.plain.specs.declared.request.Dev.TheVariants.{Snap}
 use Rattle.plain.specs.declared.request.Reply.{Reply}
 use Rattle.plain.specs.declared.request.Request.{Request}
 use Rattle.std.specs.List.{remove}
 use Rattle.sector.specs.declared.refusal.Refusal.{Refusal}
-use Rattle.sector.specs.declared.refusal.Refusal.TheVariants.{JournalFull, NoMemory}
+use Rattle.sector.specs.declared.refusal.Refusal.TheVariants.{JournalFull, NoMemory, Overflow}
 use Rattle.snapshots.specs.Finding.{place_of_snap}
 use Rattle.volume.specs.Beginning.{IsNotBegun}
 use Rattle.journal.specs.declared.entry.Entry.{Entry}
-use Rattle.journal.specs.declared.entry.Entry.TheVariants.{Answered, Attached, Spoiled}
+use Rattle.journal.specs.declared.entry.Entry.TheVariants.{Answered, Attached, Overflowed, Spoiled}
 use Rattle.journal.specs.declared.entry.Receipt.{Receipt}
 use Rattle.journal.specs.Books.{AuditShape, count_of}
 use Rattle.journal.specs.Entries.{answered_of}
-use Rattle.journal.specs.Noted.{live_count}
+use Rattle.journal.specs.Noted.{kept_count}
 use Rattle.journal.specs.Replay.{replay}
 use Rattle.journal.specs.Seats.{seated_under, without_seated}
 
--- how many places are taken: before the audit began, by its entries, by each request in flight, which may come to one, and by
--- each live snapshot, which may too
+-- how many places are taken: before the audit began, by its entries, by each request in flight, which may come to one, by each
+-- live snapshot, which may too, and by each of these whose store may still overflow, which may come to one more
 abbrev pub places_of : {B : Type 0} → AuditShape B → ℕ
-places_of a = a.taken + length a.entries + length a.held + live_count a.lives
+places_of a = a.taken + length a.entries + length a.held + kept_count a.lives a.may
 
 -- whether so many more may be too many
 abbrev pub is_full_by : {B : Type 0} → ℕ → AuditShape B → Bool
@@ -38,6 +40,19 @@ pub record KeepsBase {B : Type 0} (old new : AuditShape B) : Type 0 where
 pub record OnlySpoils {B : Type 0} (old new : AuditShape B) : Type 0 where
   pub which : List ℕ
   pub entries : new.entries ≡ old.entries ++ map Spoiled which
+
+-- the entry of a store that overflowed, by a write of this request, is new
+pub record HasOverflowed {B : Type 0} (request : Request) (old new : AuditShape B) : Type 0 where
+  pub number : ℕ
+  pub dev : request.dev ≡ Snap number
+  pub entries : new.entries ≡ old.entries ++ Overflowed number ∷ []
+
+-- What is noted of a request that was refused: spoils alone, or, of the first write that found the full store of a snapshot that
+-- may overflow, its mark alone.
+pub record IsRefusalNoted {B : Type 0} (request : Request) (refusal : Refusal) (old new : AuditShape B) : Type 0 where
+  pub held : new.held ≡ old.held
+  pub noted : OnlySpoils old new ⊎ HasOverflowed request old new
+  pub others : refusal ≢ Overflow → OnlySpoils old new
 
 -- A reply to a seat's request under a number has one entry more, for which there is this receipt, and the request is in
 -- flight no more. Its count is the seat's, with this entry.
@@ -83,7 +98,7 @@ IsUnchanged full others refusal = ((full ≡ true) × (refusal ≡ JournalFull))
 pub record HasLeft {B : Type 0} (number : ℕ) (entry : Entry) (old new : AuditShape B) : Type 0 where
   pub place : ℕ
   pub found : place_of_snap number old.volume.snaps ≡ Some place
-  pub becomes : new ≡ record old { volume = new.volume; entries = old.entries ++ entry ∷ []; lives = remove old.lives place }
+  pub becomes : new ≡ record old { volume = new.volume; entries = old.entries ++ entry ∷ []; lives = remove old.lives place; may = remove old.may place }
 
 -- A merge does not begin: the journal is full, which comes first, and nothing changed; or as the volume says.
 abbrev pub IsNotMerged : {B : Type 0} → ℕ → Refusal → AuditShape B → AuditShape B → Type 0
@@ -91,10 +106,15 @@ IsNotMerged number refusal old new =
     ((is_full_by 1 old ≡ true) × (refusal ≡ JournalFull) × (new ≡ old))
     ⊎ ((is_full_by 1 old ≡ false) × IsNotBegun number refusal old.volume new.volume × KeepsJournal old new)
 
--- One snapshot more is looked at, and what it shows is noted.
-pub record HasTaken {B : Type 0} (number : ℕ) (old new : AuditShape B) : Type 0 where
+-- how many places a snapshot takes: for its entry, and those that are kept free while it is live, and may overflow
+abbrev pub places_for : Bool → ℕ
+places_for true = 3
+places_for false = 2
+
+-- One snapshot more is looked at, which may overflow or never does, and what it shows is noted.
+pub record HasTaken {B : Type 0} (number : ℕ) (wanted : Bool) (old new : AuditShape B) : Type 0 where
   pub array : List ℕ
-  pub becomes : new ≡ record old { volume = new.volume; entries = old.entries ++ Attached number array ∷ []; lives = old.lives ++ true ∷ []; loud = new.loud }
+  pub becomes : new ≡ record old { volume = new.volume; entries = old.entries ++ Attached number array (overflow_of wanted) ∷ []; lives = old.lives ++ true ∷ []; may = old.may ++ wanted ∷ []; loud = new.loud }
 
 -- No snapshot is taken: the journal is full, which comes first, or there is no memory for the entry, and the store is as it was;
 -- or as the volume says.

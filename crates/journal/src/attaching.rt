@@ -1,7 +1,8 @@
 // A snapshot is taken, and what it shows then stands in the journal.
-ghost use Rattle.std.specs.Prelude.{◌≡◌, ◌≢◌, ◌⊎◌, ◌&&◌, ◌+◌, ◌*◌, MatchResult, Err, IfErr, IfOk, List, None, Ok, OnErr, OnOk, Some, false, length, true, ℕ};
+ghost use Rattle.std.specs.Prelude.{◌≡◌, ◌≢◌, ◌⊎◌, ◌&&◌, ◌+◌, ◌*◌, ◌<◌, MatchResult, Err, IfErr, IfOk, List, None, Ok, OnErr, OnOk, Some, false, length, true, ℕ};
 ghost use Rattle.device.specs.Layers.{is_loud};
 ghost use Rattle.plain.specs.Legal.{IsTaken};
+ghost use Rattle.plain.specs.Plain.{overflow_of};
 ghost use Rattle.sector.specs.declared.refusal.Refusal.TheVariants.{JournalFull, NoMemory};
 ghost use Rattle.settled.specs.Attaching.{attached as attached_by, refused_attach};
 ghost use Rattle.snapshot.specs.Opening.{shown_array};
@@ -10,7 +11,7 @@ ghost use Rattle.volume.specs.Attached.{IsAttachedAs, IsGained, store_of, volume
 ghost use Rattle.volume.specs.Leaving.{is_quiet_of};
 ghost use Rattle.volume.specs.Taking.{IsNotTaken, attach_refusal};
 ghost use Rattle.volume.specs.Volumed.{is_loud_in_all, plain_of};
-ghost use Rattle.journal.specs.Journaled.{HasTaken, IsNotAttached, is_full_by};
+ghost use Rattle.journal.specs.Journaled.{HasTaken, IsNotAttached, is_full_by, places_for};
 
 use crate::Audit;
 use crate::array::Array;
@@ -18,29 +19,50 @@ use crate::bases::fill;
 use crate::entry::Entry;
 use crate::holding::is_full;
 use layers::Layered;
-use plain::{Dev, SnapId};
+use plain::{Dev, Overflowing, SnapId};
 use sector::{Refusal, SECTOR_BYTES};
 use snapshot::StoreDev;
 
+/// How many places of the journal a snapshot takes: one for its entry, one that is kept free while it is live, and one while it may
+/// overflow.
+pub fn places_needed(overflow: bool) -> usize
+    ensures is { result ≡ places_for overflow }
+    ensures few { result < 4 }
+{
+    if overflow { 3 } else { 2 }
+}
+
+/// Whether a new snapshot may overflow.
+fn overflow_for(overflow: bool) -> Overflowing
+    ensures { result ≡ overflow_of overflow }
+{
+    if overflow {
+        Overflowing::May
+    } else {
+        Overflowing::Never
+    }
+}
+
 impl<B: Layered> Audit<B> {
-    /// Takes a snapshot over a store, by a table line with this chunk size, and tells its number. `JournalFull` comes first,
-    /// then want of memory for its entry; then the volume's own refusals. The store is given back with a refusal.
+    /// Takes a snapshot over a store, by a table line with this chunk size, and tells its number. The store may overflow where
+    /// `overflow` says so: a write that finds it full is then refused and spoils nothing. `JournalFull` comes first, then want of memory for its entry; then the volume's own refusals. The store is given back with a refusal.
     pub fn attach(
         &mut self,
         store: StoreDev<B>,
         chunk: u32,
+        overflow: bool,
     ) -> Result<SnapId, (Refusal, StoreDev<B>)>
-        ensures noted { IfOk result (λ number. HasTaken number self.old self.new) }
+        ensures noted { IfOk result (λ number. HasTaken number overflow self.old self.new) }
         ensures told { OnOk result (self.new.loud ≡ (self.old.loud && is_loud (B.layers store.device))) }
-        ensures room { OnOk result (is_full_by 2 self.old ≡ false) }
+        ensures room { OnOk result (is_full_by (places_for overflow) self.old ≡ false) }
         ensures number { IfOk result (λ number. number ≡ self.old.volume.attached + 1) }
         ensures admitted { OnOk result (attach_refusal store.stale chunk self.old.volume ≡ None) }
-        ensures taken { IfOk result (λ number. is_loud_in_all B.layers self.old.volume ≡ true → is_loud (B.layers store.device) ≡ true → IsTaken (plain_of B.contents B.layers self.old.volume) number (shown_array (B.contents self.old.volume.origin) (B.contents store.device)) (plain_of B.contents B.layers self.new.volume)) }
-        ensures gained { IfOk result (λ number. IsGained B.layers B.size number store self.old.volume self.new.volume) }
-        ensures exact { IfOk result (λ number. is_loud_in_all B.layers self.old.volume ≡ true → is_loud (B.layers store.device) ≡ true → IsAttachedAs B.contents B.layers number chunk store self.old.volume self.new.volume) }
-        ensures refused { IfErr result (λ e. IsNotAttached (is_full_by 2 self.old) e.0 (e.1 ≡ store) (IsNotTaken store.stale chunk (B.size self.old.volume.origin) (B.size store.device) (B.contents store.device) self.old.volume e.0)) }
+        ensures taken { IfOk result (λ number. is_loud_in_all B.layers self.old.volume ≡ true → is_loud (B.layers store.device) ≡ true → IsTaken (plain_of B.contents B.layers self.old.volume) number (shown_array (B.contents self.old.volume.origin) (B.contents store.device)) (overflow_of overflow) (plain_of B.contents B.layers self.new.volume)) }
+        ensures gained { IfOk result (λ number. IsGained B.layers B.size number overflow store self.old.volume self.new.volume) }
+        ensures exact { IfOk result (λ number. is_loud_in_all B.layers self.old.volume ≡ true → is_loud (B.layers store.device) ≡ true → IsAttachedAs B.contents B.layers number chunk overflow store self.old.volume self.new.volume) }
+        ensures refused { IfErr result (λ e. IsNotAttached (is_full_by (places_for overflow) self.old) e.0 (e.1 ≡ store) (IsNotTaken store.stale chunk (B.size self.old.volume.origin) (B.size store.device) (B.contents store.device) self.old.volume e.0)) }
         ensures unread { IfErr result (λ e. attach_refusal store.stale chunk self.old.volume ≡ Some e.0 → e.1 ≡ store) }
-        ensures back { IfErr result (λ e. e.0 ≢ JournalFull → e.0 ≢ NoMemory → self.old.volume.merge ≡ None → is_quiet_of self.old.volume ≡ true → is_loud_in_all B.layers self.old.volume ≡ true → is_loud (B.layers store.device) ≡ true → attached_by (self.old.volume.attached + 1) chunk (store_of B.contents B.layers store) (volume_in B.contents B.layers self.old.volume) ≡ refused_attach e.0 (store_of B.contents B.layers e.1) (volume_in B.contents B.layers self.old.volume)) }
+        ensures back { IfErr result (λ e. e.0 ≢ JournalFull → e.0 ≢ NoMemory → self.old.volume.merge ≡ None → is_quiet_of self.old.volume ≡ true → is_loud_in_all B.layers self.old.volume ≡ true → is_loud (B.layers store.device) ≡ true → attached_by (self.old.volume.attached + 1) chunk (overflow_of overflow) (store_of B.contents B.layers store) (volume_in B.contents B.layers self.old.volume) ≡ refused_attach e.0 (store_of B.contents B.layers e.1) (volume_in B.contents B.layers self.old.volume)) }
         ensures starved { IfErr result (λ e. e.0 ≡ NoMemory → (B.contents e.1.device ≡ B.contents store.device) × AreRead (B.layers store.device) (B.layers e.1.device)) }
         ensures size { IfErr result (λ e. B.size e.1.device ≡ B.size store.device) }
         ensures loud { MatchResult result (λ _. is_loud_in_all B.layers self.new.volume ≡ (is_loud_in_all B.layers self.old.volume && is_loud (B.layers store.device))) (λ e. is_loud (B.layers e.1.device) ≡ is_loud (B.layers store.device)) }
@@ -52,7 +74,8 @@ impl<B: Layered> Audit<B> {
             self.entries.len(),
             self.held.len(),
             self.lives.as_slice(),
-            2,
+            self.may.as_slice(),
+            places_needed(overflow),
         ) {
             return Err((Refusal::JournalFull, store));
         }
@@ -63,14 +86,19 @@ impl<B: Layered> Audit<B> {
         let Ok(()) = self.lives.reserve(1) else {
             return Err((Refusal::NoMemory, store));
         };
+        let Ok(()) = self.may.reserve(1) else {
+            return Err((Refusal::NoMemory, store));
+        };
         let loud = store.device.is_loud();
-        match self.volume.attach(self.alloc, store, chunk) {
+        match self.volume.attach(self.alloc, store, chunk, overflow) {
             Ok(number) => {
                 fill(&self.volume, Dev::Snap(number), array.as_mut_slice());
                 self.loud = self.loud && loud;
                 self.lives.push_reserved(true);
+                self.may.push_reserved(overflow);
                 let array = Array::from_vec(array);
-                self.entries.push_reserved(Entry::Attached(number, array));
+                self.entries
+                    .push_reserved(Entry::Attached(number, array, overflow_for(overflow)));
                 Ok(number)
             }
             Err(refused) => Err(refused),

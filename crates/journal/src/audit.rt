@@ -6,13 +6,13 @@ ghost use Rattle.volume.specs.Volumed.{is_loud_in_all, plain_of};
 ghost use Rattle.volume.specs.Causes.{lives_of};
 ghost use Rattle.journal.specs.Books.{count_of};
 ghost use Rattle.journal.specs.Entries.{HasVerdict};
-ghost use Rattle.journal.specs.Noted.{live_count};
+ghost use Rattle.journal.specs.Noted.{kept_count, mays_of};
 ghost use Rattle.journal.specs.Replay.{AllLawful, replay, saves_of};
 ghost use Rattle.journal.specs.Seats.{flight_in};
 
 use crate::bases::base_of;
 use crate::entry::{Base, Entry, Held, Receipt, Verdict};
-use crate::looking::{is_loud_now, lives_in};
+use crate::looking::{is_loud_now, lives_in, mays_in};
 use crate::verdict::verdict_of;
 use layers::Layered;
 use sector::Refusal;
@@ -37,6 +37,8 @@ pub struct Audit<B: Layered> {
     pub(crate) held: Vec<Held>,
     /// Which snapshots were live when it looked last, in order of attaching.
     pub(crate) lives: Vec<bool>,
+    /// Which of their stores may still overflow.
+    pub(crate) may: Vec<bool>,
     /// How many request entries each seat has, those that were folded among them.
     pub(crate) counts: Vec<u64>,
     /// How many of each seat's were folded into the base.
@@ -56,9 +58,9 @@ impl<B: Layered> Model for Audit<B> {
     ghost use Rattle.journal.specs.Books.{IsKept, saves_in};
     ghost use Rattle.journal.specs.Seats.{seated};
 
-    ghost view = { λ a. record { volume = a.volume; base = saves_in a.base; taken = a.taken; entries = a.entries.items; held = map seated a.held.items; lives = a.lives.items; loud = a.loud; folded = a.folded.items } };
+    ghost view = { λ a. record { volume = a.volume; base = saves_in a.base; taken = a.taken; entries = a.entries.items; held = map seated a.held.items; lives = a.lives.items; may = a.may.items; loud = a.loud; folded = a.folded.items } };
 
-    ghost invariant = { λ a. IsKept a.volume.requests (is_loud_in_all B.layers a.volume) a.loud (plain_of B.contents B.layers a.volume) (record { base = saves_in a.base; taken = a.taken; entries = a.entries.items; held = a.held.items; lives = a.lives.items; counts = a.counts.items; folded = a.folded.items; room = vec_capacity a.entries }) };
+    ghost invariant = { λ a. IsKept a.volume.requests (is_loud_in_all B.layers a.volume) a.loud (plain_of B.contents B.layers a.volume) (record { base = saves_in a.base; taken = a.taken; entries = a.entries.items; held = a.held.items; lives = a.lives.items; may = a.may.items; counts = a.counts.items; folded = a.folded.items; room = vec_capacity a.entries }) };
 }
 
 impl<B: Layered> Audit<B> {
@@ -67,7 +69,7 @@ impl<B: Layered> Audit<B> {
     /// being merged. Where memory is refused, the volume is given back.
     pub fn new(alloc: Global, volume: Volume<B>) -> Result<Audit<B>, (Refusal, Volume<B>)>
         requires quiet { volume.flights ≡ [] }
-        ensures ok { IfOk result (λ a. (a.volume ≡ volume) × (a.entries ≡ []) × (a.held ≡ []) × (a.lives ≡ lives_of volume) × (a.loud ≡ is_loud_in_all B.layers volume)) }
+        ensures ok { IfOk result (λ a. (a.volume ≡ volume) × (a.entries ≡ []) × (a.held ≡ []) × (a.lives ≡ lives_of volume) × (a.may ≡ mays_of volume) × (a.loud ≡ is_loud_in_all B.layers volume)) }
         ensures base { IfOk result (λ a. a.loud ≡ true → a.base ≡ saves_of (plain_of B.contents B.layers volume)) }
         ensures taken { IfOk result (λ a. a.taken ≡ 0) }
         ensures folded { IfOk result (λ a. a.folded ≡ replicate 9 0) }
@@ -78,15 +80,16 @@ impl<B: Layered> Audit<B> {
         Audit::going_on(alloc, volume, 0)
     }
 
-    /// As `new`, where so many places of the journal are taken already. With the live snapshots they are 65,536 at most.
+    /// As `new`, where so many places of the journal are taken already. With the live snapshots, and those of them that may still
+    /// overflow, they are 65,536 at most.
     pub fn going_on(
         alloc: Global,
         volume: Volume<B>,
         taken: usize,
     ) -> Result<Audit<B>, (Refusal, Volume<B>)>
         requires quiet { volume.flights ≡ [] }
-        requires room { taken + live_count (lives_of volume) ≤ 65_536 }
-        ensures ok { IfOk result (λ a. (a.volume ≡ volume) × (a.entries ≡ []) × (a.held ≡ []) × (a.lives ≡ lives_of volume) × (a.loud ≡ is_loud_in_all B.layers volume)) }
+        requires room { taken + kept_count (lives_of volume) (mays_of volume) ≤ 65_536 }
+        ensures ok { IfOk result (λ a. (a.volume ≡ volume) × (a.entries ≡ []) × (a.held ≡ []) × (a.lives ≡ lives_of volume) × (a.may ≡ mays_of volume) × (a.loud ≡ is_loud_in_all B.layers volume)) }
         ensures base { IfOk result (λ a. a.loud ≡ true → a.base ≡ saves_of (plain_of B.contents B.layers volume)) }
         ensures taken { IfOk result (λ a. a.taken ≡ taken) }
         ensures folded { IfOk result (λ a. a.folded ≡ replicate 9 0) }
@@ -99,6 +102,9 @@ impl<B: Layered> Audit<B> {
             return Err((Refusal::NoMemory, volume));
         };
         let Ok(lives) = lives_in(alloc, &volume) else {
+            return Err((Refusal::NoMemory, volume));
+        };
+        let Ok(may) = mays_in(alloc, &volume) else {
             return Err((Refusal::NoMemory, volume));
         };
         let Ok(counts) = vec![in alloc; 0u64; SEATS] else {
@@ -115,6 +121,7 @@ impl<B: Layered> Audit<B> {
             entries,
             held: Vec::new(alloc),
             lives,
+            may,
             counts,
             folded,
             loud,

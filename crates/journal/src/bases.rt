@@ -54,16 +54,19 @@ fn saved_at<B: Layered>(alloc: Global, volume: &Volume<B>, k: usize) -> Result<S
 {
     let snap = volume.snap(k);
     let number = snap.number();
+    let overflow = snap.overflow();
     if !snap.is_live() {
         return Ok(Saved {
             number,
             array: None,
+            overflow,
         });
     }
     let array = whole(alloc, volume, Dev::Snap(number))?;
     Ok(Saved {
         number,
         array: Some(array),
+        overflow,
     })
 }
 

@@ -80,6 +80,7 @@ impl<B: Layered> Audit<B> {
             self.entries.len(),
             self.held.len(),
             self.lives.as_slice(),
+            self.may.as_slice(),
             1,
         ) {
             return Err(Refusal::JournalFull);

@@ -25,6 +25,7 @@ impl<B: Layered> Audit<B> {
             entries: _,
             held: _,
             lives: _,
+            may: _,
             counts: _,
             folded: _,
             loud: _,
@@ -40,7 +41,8 @@ impl<B: Layered> Audit<B> {
         ensures few { result.1 ≤ 65_536 }
     {
         let lives = self.lives.as_slice();
-        let places = count_places(self.taken, self.entries.len(), self.held.len(), lives);
+        let may = self.may.as_slice();
+        let places = count_places(self.taken, self.entries.len(), self.held.len(), lives, may);
         let alloc = self.alloc;
         (self.into_volume(), places, alloc)
     }
@@ -69,6 +71,7 @@ impl<B: Layered + Drop> Audit<B> {
             entries,
             held,
             lives,
+            may,
             counts,
             folded,
             loud,
@@ -85,6 +88,7 @@ impl<B: Layered + Drop> Audit<B> {
                     entries,
                     held,
                     lives,
+                    may,
                     counts,
                     folded,
                     loud,

@@ -1,6 +1,6 @@
 // What a journal holds, what it is asked about, and what stands beside it for each request in flight.
 use crate::array::Array;
-use plain::{Reply, ReqId, Request, SnapId};
+use plain::{Overflowing, Reply, ReqId, Request, SnapId};
 use sector::Buf;
 
 /// A request that was answered, with the seat that submitted it.
@@ -17,8 +17,10 @@ pub enum Entry {
     Answered(Answered),
     /// A snapshot was spoiled. It is no seat's request: such entries belong to seat 0, and no seat's count counts them.
     Spoiled(SnapId),
-    /// A snapshot was taken, with this array.
-    Attached(SnapId, Array),
+    /// The store of a snapshot overflowed: from here on the snapshot takes no write. It is no seat's request either.
+    Overflowed(SnapId),
+    /// A snapshot was taken, with this array. Its store may overflow, or never does.
+    Attached(SnapId, Array, Overflowing),
     /// A snapshot was taken away.
     Detached(SnapId),
     /// A snapshot began to be merged: the origin is its array from here on.
@@ -46,11 +48,12 @@ pub enum Verdict {
     Differs,
 }
 
-/// A snapshot of the base: its array, or none where it was spoiled.
+/// A snapshot of the base: its array, or none where it was spoiled, and whether its store may overflow, or did.
 #[derive(Drop)]
 pub struct Saved {
     pub number: SnapId,
     pub array: Option<Array>,
+    pub overflow: Overflowing,
 }
 
 /// The arrays and states that the entries are replayed on.

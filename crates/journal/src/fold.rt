@@ -1,7 +1,8 @@
 // What entries do to the base arrays and states, in place.
 ghost use Rattle.std.specs.Prelude.{◌≡◌, ◌≢◌, ◌∷◌, [], ◌+◌, ◌*◌, ◌<◌, ◌≤◌, ℕ, IfNone, IfSome, List, Some, length, map, slice_index_or, vec_capacity, vec_len};
-ghost use Rattle.plain.specs.Plain.{Live, saved_under, spoiled_entry, with_saved, without_saved};
+ghost use Rattle.plain.specs.Plain.{Live, marked_in, saved_under, spoiled_entry, with_saved, without_saved};
 ghost use Rattle.plain.specs.Serves.{Shows};
+ghost use Rattle.plain.specs.declared.request.Overflowing.TheVariants.{Did};
 ghost use Rattle.journal.specs.declared.entry.Entry.TheVariants.{Answered as IsAnswered, Begun};
 ghost use Rattle.journal.specs.declared.entry.Saved.{Saved};
 ghost use Rattle.sector.specs.Bytes.{with_sectors};
@@ -11,7 +12,7 @@ ghost use Rattle.journal.specs.Replay.{AllLawful, IsLawful, after, plain_in, put
 
 use crate::array::Array;
 use crate::entry::{Answered, Base, Entry, Saved};
-use plain::{Dev, Op, Reply, SnapId};
+use plain::{Dev, Op, Overflowing, Reply, SnapId};
 use sector::Sector;
 
 /// How many snapshots are taken.
@@ -20,7 +21,7 @@ pub(crate) fn count_attached(entries: &[Entry]) -> usize
 {
     let mut count = 0;
     for entry in entries {
-        if let Entry::Attached(_, _) = entry {
+        if let Entry::Attached(_, _, _) = entry {
             count += 1;
         }
     }
@@ -37,7 +38,7 @@ fn find(saved: &[Saved], number: SnapId) -> Option<usize>
 
 /// Puts sectors into a snapshot's array, if it has one.
 fn put_in(saved: &mut Saved, first: Sector, bytes: &[u8])
-    ensures { (array : List ℕ) → saved.old.array ≡ Some array → 512 * first + length bytes.now ≤ length array → saved.new ≡ record { number = saved.old.number; array = Some (with_sectors array first bytes.now) } }
+    ensures { (array : List ℕ) → saved.old.array ≡ Some array → 512 * first + length bytes.now ≤ length array → saved.new ≡ record saved.old { array = Some (with_sectors array first bytes.now) } }
 {
     match &mut saved.array {
         Some(array) => array.put(first, bytes),
@@ -75,6 +76,25 @@ fn spoil(saved: &mut Vec<Saved>, number: SnapId)
     for k in 0..saved.len() {
         spoil_one(&mut saved[k], number);
     }
+}
+
+/// Its store overflowed.
+fn mark_one(saved: &mut Saved)
+    ensures { saved.new ≡ record saved.old { overflow = Did } }
+{
+    saved.overflow = Overflowing::Did;
+}
+
+/// Marks the first snapshot with this number, if there is one: its store overflowed.
+fn mark(saved: &mut Vec<Saved>, number: SnapId)
+    ensures marked { map shown_in saved.new.items ≡ marked_in number (map shown_in saved.old.items) }
+    ensures len { vec_len saved.new ≡ vec_len saved.old }
+    ensures capacity { vec_capacity saved.new ≡ vec_capacity saved.old }
+{
+    let Some(k) = find(saved.as_slice(), number) else {
+        return;
+    };
+    mark_one(&mut saved[k]);
 }
 
 /// Takes the first snapshot with this number away, if there is one.
@@ -147,9 +167,11 @@ fn fold(base: &mut Base, entry: Entry)
     match entry {
         Entry::Answered(answered) => serve(base, &answered),
         Entry::Spoiled(number) => spoil(&mut base.saved, number),
-        Entry::Attached(number, array) => base.saved.push_reserved(Saved {
+        Entry::Overflowed(number) => mark(&mut base.saved, number),
+        Entry::Attached(number, array, overflow) => base.saved.push_reserved(Saved {
             number,
             array: Some(array),
+            overflow,
         }),
         Entry::Detached(number) => {
             take_out(&mut base.saved, number);

@@ -1,7 +1,7 @@
 // What stands beside each request in flight, and whether the journal has room.
 ghost use Rattle.std.specs.Prelude.{◌≡◌, ◌≢◌, ◌+◌, ◌<◌, ◌≤◌, nat_lt, IfNone, IfOk, IfSome, ℕ, length, slice_index_or, slice_set};
 ghost use Rattle.pending.specs.Kinds.{room_of};
-ghost use Rattle.journal.specs.Noted.{live_count};
+ghost use Rattle.journal.specs.Noted.{kept_count, live_count, may_count};
 ghost use Rattle.journal.specs.declared.entry.Held.{Held};
 
 use crate::audit::MAX_ENTRIES;
@@ -24,12 +24,34 @@ fn count_live(lives: &[bool]) -> usize
     count
 }
 
-/// How many places are taken: before the journal began, by its entries, by requests in flight, and by live snapshots.
-pub(crate) fn count_places(taken: usize, entries: usize, held: usize, lives: &[bool]) -> usize
-    requires room { taken + entries + held + live_count lives.now ≤ 65_536 }
-    ensures { result ≡ taken + entries + held + live_count lives.now }
+/// How many of those that are live may still overflow.
+fn count_may(lives: &[bool], may: &[bool]) -> usize
+    requires { length may.now ≡ length lives.now }
+    ensures { result ≡ may_count lives.now may.now }
 {
-    taken + entries + held + count_live(lives)
+    let mut count = 0;
+    for k in 0..lives.len() {
+        if lives[k] && may[k] {
+            count += 1;
+        }
+    }
+    count
+}
+
+/// How many places are taken: before the journal began, by its entries, by requests in flight, by live snapshots, and by those of
+/// them that may still overflow.
+pub(crate) fn count_places(
+    taken: usize,
+    entries: usize,
+    held: usize,
+    lives: &[bool],
+    may: &[bool],
+) -> usize
+    requires same { length may.now ≡ length lives.now }
+    requires room { taken + entries + held + kept_count lives.now may.now ≤ 65_536 }
+    ensures { result ≡ taken + entries + held + kept_count lives.now may.now }
+{
+    taken + entries + held + count_live(lives) + count_may(lives, may)
 }
 
 /// Whether so many places more would be too many.
@@ -38,13 +60,15 @@ pub(crate) fn is_full(
     entries: usize,
     held: usize,
     lives: &[bool],
+    may: &[bool],
     more: usize,
 ) -> bool
-    requires room { taken + entries + held + live_count lives.now ≤ 65_536 }
-    requires more { more < 3 }
-    ensures { result ≡ nat_lt 65_536 (taken + entries + held + live_count lives.now + more) }
+    requires same { length may.now ≡ length lives.now }
+    requires room { taken + entries + held + kept_count lives.now may.now ≤ 65_536 }
+    requires more { more < 4 }
+    ensures { result ≡ nat_lt 65_536 (taken + entries + held + kept_count lives.now may.now + more) }
 {
-    count_places(taken, entries, held, lives) + more > MAX_ENTRIES
+    count_places(taken, entries, held, lives, may) + more > MAX_ENTRIES
 }
 
 /// What stands beside a request, under no number yet.

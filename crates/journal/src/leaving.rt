@@ -15,6 +15,7 @@ ghost use Rattle.journal.specs.Journaled.{HasLeft, IsNotMerged, IsUnchanged, is_
 use crate::Audit;
 use crate::entry::Entry;
 use crate::holding::is_full;
+use device::Block;
 use layers::Layered;
 use plain::SnapId;
 use sector::Refusal;
@@ -22,7 +23,7 @@ use snapshot::StoreDev;
 use volume::Volume;
 
 /// The place of the snapshot with a number.
-fn place_in<B: Layered>(volume: &Volume<B>, number: SnapId) -> Option<usize>
+pub(crate) fn place_in<B: Block>(volume: &Volume<B>, number: SnapId) -> Option<usize>
     ensures { result ≡ place_of_snap number volume.now.snaps }
 {
     for k in 0..volume.len() {
@@ -50,6 +51,7 @@ impl<B: Layered> Audit<B> {
             self.entries.len(),
             self.held.len(),
             self.lives.as_slice(),
+            self.may.as_slice(),
             1,
         ) {
             return Err(Refusal::JournalFull);
@@ -59,6 +61,7 @@ impl<B: Layered> Audit<B> {
             Ok(store) => {
                 let Some(place) = place else { unreachable!() };
                 self.lives.remove(place);
+                self.may.remove(place);
                 self.entries.push_reserved(Entry::Detached(number));
                 Ok(store)
             }
@@ -84,6 +87,7 @@ impl<B: Layered> Audit<B> {
             self.entries.len(),
             self.held.len(),
             self.lives.as_slice(),
+            self.may.as_slice(),
             1,
         ) {
             return Err(Refusal::JournalFull);
@@ -93,6 +97,7 @@ impl<B: Layered> Audit<B> {
             Ok(()) => {
                 let Some(place) = place else { unreachable!() };
                 self.lives.remove(place);
+                self.may.remove(place);
                 self.entries.push_reserved(Entry::Begun(number));
                 Ok(())
             }

@@ -25,5 +25,7 @@ mod submitting;
 mod verdict;
 
 pub use array::Array;
+pub use attaching::places_needed;
 pub use audit::{Audit, MAX_ENTRIES, SEATS};
 pub use entry::{Answered, Base, Entry, Receipt, Saved, Verdict};
+pub use looking::is_may;

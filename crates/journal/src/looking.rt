@@ -1,10 +1,13 @@
 // What a new journal looks up of its volume.
 ghost use Rattle.std.specs.Prelude.{◌≡◌, ◌≤◌, IfOk, length};
+ghost use Rattle.plain.specs.Plain.{did_overflow, may_overflow};
 ghost use Rattle.volume.specs.Causes.{lives_of};
 ghost use Rattle.volume.specs.Peeking.{is_loud_merging};
 ghost use Rattle.volume.specs.Volumed.{is_loud_in_all};
+ghost use Rattle.journal.specs.Noted.{mays_of};
 
 use layers::Layered;
+use plain::Overflowing;
 use std::alloc::{AllocError, Global};
 use volume::Volume;
 
@@ -21,6 +24,42 @@ pub(crate) fn lives_in<B: Layered>(
         lives.push(volume.snap(k).is_live())?;
     }
     Ok(lives)
+}
+
+/// Whether a store may still overflow.
+pub fn is_may(overflow: Overflowing) -> bool
+    ensures { result ≡ may_overflow overflow }
+{
+    match overflow {
+        Overflowing::May => true,
+        Overflowing::Never => false,
+        Overflowing::Did => false,
+    }
+}
+
+/// Whether a store overflowed.
+pub(crate) fn is_marked(overflow: Overflowing) -> bool
+    ensures { result ≡ did_overflow overflow }
+{
+    match overflow {
+        Overflowing::Did => true,
+        Overflowing::Never => false,
+        Overflowing::May => false,
+    }
+}
+
+/// Which of the snapshots' stores may still overflow, in order of attaching.
+pub(crate) fn mays_in<B: Layered>(
+    alloc: Global,
+    volume: &Volume<B>,
+) -> Result<Vec<bool>, AllocError>
+    ensures { IfOk result (λ may. may.items ≡ mays_of volume.now) }
+{
+    let mut may = Vec::new(alloc);
+    for k in 0..volume.len() {
+        may.push(is_may(volume.snap(k).overflow()))?;
+    }
+    Ok(may)
 }
 
 /// Whether no layer drops writes of the merging store, if there is one.

@@ -1,12 +1,15 @@
-// Snapshots that a call spoiled are noted, each as one entry.
+// Snapshots that a call spoiled are noted, each as one entry, and so is one whose store overflowed.
 ghost use Rattle.std.specs.Prelude.{◌≡◌, ◌+◌, ◌≤◌, length, ◌<◌, ◌&&◌, not, false, slice_index_or, vec_capacity, vec_len};
 ghost use Rattle.plain.specs.Plain.{Entry as Shown};
 ghost use Rattle.volume.specs.Volumed.{plain_of};
-ghost use Rattle.journal.specs.Noted.{Noted, is_live, live_count};
+ghost use Rattle.journal.specs.Marked.{IsMarkNoted};
+ghost use Rattle.journal.specs.Noted.{Noted, is_live, live_count, may_count};
 
 use crate::entry::Entry;
+use crate::leaving::place_in;
+use crate::looking::is_marked;
 use device::Block;
-use plain::SnapId;
+use plain::{Dev, SnapId};
 use volume::Volume;
 
 /// Whether the snapshot at a place was live and is spoiled now.
@@ -43,5 +46,31 @@ pub(crate) fn note_spoils<B: Block>(
             lives[k] = false;
             entries.push_reserved(Entry::Spoiled(number_at(volume, k)));
         }
+    }
+}
+
+/// Notes that the store of a snapshot overflowed, where it did, and that was not noted before.
+pub(crate) fn note_mark<B: Block>(
+    volume: &Volume<B>,
+    dev: Dev,
+    lives: &[bool],
+    may: &mut Vec<bool>,
+    entries: &mut Vec<Entry>,
+)
+    requires lives { length lives.now ≡ length volume.now.snaps }
+    requires may { length may.old.items ≡ length lives.now }
+    requires room { vec_len entries.old + may_count lives.now may.old.items ≤ vec_capacity entries.old }
+    ensures noted { IsMarkNoted dev (plain_of B.contents B.layers volume.now).saved lives.now may.old.items may.new.items entries.old.items entries.new.items }
+    ensures capacity { vec_capacity entries.new ≡ vec_capacity entries.old }
+{
+    let Dev::Snap(number) = dev else {
+        return;
+    };
+    let Some(place) = place_in(volume, number) else {
+        return;
+    };
+    if lives[place] && may[place] && is_marked(volume.snap(place).overflow()) {
+        may[place] = false;
+        entries.push_reserved(Entry::Overflowed(number));
     }
 }

@@ -1,28 +1,38 @@
 // Requests of seats.
-ghost use Rattle.std.specs.Prelude.{◌≡◌, ◌≢◌, ◌⊎◌, ◌*◌, ◌<◌, ℕ, IfErr, IfOk, List, None, OnErr, Option, Some, false, length};
-ghost use Rattle.plain.specs.declared.request.Failure.TheVariants.{Invalid as IsInvalid};
+ghost use Rattle.std.specs.Prelude.{◌≡◌, ◌≢◌, ◌⊎◌, ◌*◌, ◌<◌, ℕ, IfErr, IfOk, List, MatchBool, None, Option, Some, false, length};
+ghost use Rattle.plain.specs.Failures.{refusal_of};
+ghost use Rattle.plain.specs.declared.request.Failure.{Failure};
+ghost use Rattle.plain.specs.declared.request.Failure.TheVariants.{Io};
 ghost use Rattle.plain.specs.declared.request.Op.TheVariants.{Write};
 ghost use Rattle.plain.specs.declared.request.Reply.{Reply};
 ghost use Rattle.plain.specs.declared.request.Reply.TheVariants.{Refused};
-ghost use Rattle.sector.specs.declared.refusal.Refusal.TheVariants.{Invalid};
+ghost use Rattle.sector.specs.declared.refusal.Refusal.TheVariants.{Invalid, Overflow};
 ghost use Rattle.event_machine.specs.Submitting.{submitted};
 ghost use Rattle.volume.specs.Moved.{moving_of};
 ghost use Rattle.volume.specs.Stepping.{KeepsAll, KeepsDevices};
 ghost use Rattle.volume.specs.Submitting.{IsAcceptedAs, IsRefusedAs, submit_refusal};
 ghost use Rattle.volume.specs.Volumed.{is_loud_in_all};
-ghost use Rattle.journal.specs.Journaled.{IsBarred, IsHeld, KeepsBase, OnlySpoils, is_full_by};
+ghost use Rattle.journal.specs.Journaled.{IsBarred, IsHeld, IsRefusalNoted, KeepsBase, is_full_by};
 
 use crate::Audit;
 use crate::holding::{hold, is_full};
-use crate::noting::note_spoils;
+use crate::noting::{note_mark, note_spoils};
 use layers::Layered;
 use plain::{ReqId, Request};
 use sector::Refusal;
 
+/// Whether a write was refused since its snapshot's store overflowed.
+fn is_overflow(refusal: Refusal) -> bool
+    ensures { MatchBool result (refusal ≡ Overflow) (refusal ≢ Overflow) }
+{
+    refusal == Refusal::Overflow
+}
+
 impl<B: Layered> Audit<B> {
     /// Submits a request for a seat, from 0 to 8, with all memory that its entry and its receipt need. `JournalFull` comes
-    /// first, where the entries, the requests in flight and the live snapshots are 65,536; then `NoMemory`; then the volume's
-    /// own refusals.
+    /// first, where the entries, the requests in flight, the live snapshots and those of them that may still overflow are 65,536;
+    /// then `NoMemory`; then the volume's own refusals. Of the first write that is refused with `Overflow`, the snapshot's mark
+    /// is noted.
     pub fn submit(&mut self, seat: u8, request: Request) -> Result<ReqId, Refusal>
         requires seat { seat < 9 }
         requires bytes { (bytes : List ℕ) → request.op ≡ Write bytes → length bytes ≡ 512 * request.range.count }
@@ -35,16 +45,17 @@ impl<B: Layered> Audit<B> {
         ensures admitted { IfOk result (λ _. submit_refusal B.size request self.old.volume ≡ None) }
         ensures exact { IfOk result (λ number. (replied : Option Reply) → submitted number request (moving_of B.contents B.layers replied self.old.volume) ≡ moving_of B.contents B.layers replied self.new.volume) }
         ensures refused { IfErr result (λ refusal. IsBarred 1 refusal self.old self.new ⊎ ((is_full_by 1 self.old ≡ false) × IsRefusedAs B.contents B.layers B.size request refusal self.old.volume self.new.volume)) }
-        ensures declined { IfErr result (λ refusal. refusal ≡ Invalid → (number : ℕ) (replied : Option Reply) → submitted number request (moving_of B.contents B.layers replied self.old.volume) ≡ moving_of B.contents B.layers (Some (Refused IsInvalid)) self.new.volume) }
-        ensures starved { IfErr result (λ refusal. refusal ≢ Invalid → (replied : Option Reply) → moving_of B.contents B.layers replied self.new.volume ≡ moving_of B.contents B.layers replied self.old.volume) }
+        ensures declined { IfErr result (λ refusal. (failure : Failure) → refusal ≡ refusal_of failure → failure ≢ Io → (number : ℕ) (replied : Option Reply) → submitted number request (moving_of B.contents B.layers replied self.old.volume) ≡ moving_of B.contents B.layers (Some (Refused failure)) self.new.volume) }
+        ensures starved { IfErr result (λ refusal. refusal ≢ Invalid → refusal ≢ Overflow → (replied : Option Reply) → moving_of B.contents B.layers replied self.new.volume ≡ moving_of B.contents B.layers replied self.old.volume) }
         ensures loud { is_loud_in_all B.layers self.new.volume ≡ is_loud_in_all B.layers self.old.volume }
-        ensures spoils { OnErr result (OnlySpoils self.old self.new × (self.new.held ≡ self.old.held)) }
+        ensures noted { IfErr result (λ refusal. IsRefusalNoted request refusal self.old self.new) }
     {
         if is_full(
             self.taken,
             self.entries.len(),
             self.held.len(),
             self.lives.as_slice(),
+            self.may.as_slice(),
             1,
         ) {
             return Err(Refusal::JournalFull);
@@ -63,6 +74,12 @@ impl<B: Layered> Audit<B> {
                 Ok(number)
             }
             Err(refusal) => {
+                if is_overflow(refusal) {
+                    let lives = self.lives.as_slice();
+                    let dev = held.for_entry.dev;
+                    note_mark(&self.volume, dev, lives, &mut self.may, &mut self.entries);
+                    return Err(refusal);
+                }
                 note_spoils(&self.volume, &mut self.lives, &mut self.entries);
                 Err(refusal)
             }

@@ -31,22 +31,31 @@ pub fn audit_of(alloc: Global) -> Result<Audit<MemDisk>, Refusal> {
     }
 }
 
-/// Takes a snapshot over a store.
-fn attach_store<B: Layered + Drop>(audit: &mut Audit<B>, device: B) -> Result<SnapId, Refusal> {
+/// Takes a snapshot over a store, which may overflow or not.
+fn attach_store<B: Layered + Drop>(
+    audit: &mut Audit<B>,
+    device: B,
+    overflow: bool,
+) -> Result<SnapId, Refusal> {
     let stale = false;
-    match audit.attach(StoreDev { device, stale }, 1) {
+    match audit.attach(StoreDev { device, stale }, 1, overflow) {
         Ok(number) => Ok(number),
         Err((refusal, _)) => Err(refusal),
     }
 }
 
-/// Takes a snapshot over a store of so many zero sectors. `OutOfRange` for a store of none.
-pub fn attach(alloc: Global, audit: &mut Audit<MemDisk>, sectors: u8) -> Result<SnapId, Refusal> {
+/// Takes a snapshot over a store of so many zero sectors, which may overflow or not. `OutOfRange` for a store of none.
+pub fn attach(
+    alloc: Global,
+    audit: &mut Audit<MemDisk>,
+    sectors: u8,
+    overflow: bool,
+) -> Result<SnapId, Refusal> {
     if sectors == 0 {
         return Err(Refusal::OutOfRange);
     }
     let device = MemDisk::new(alloc, u64::from(sectors))?;
-    attach_store(audit, device)
+    attach_store(audit, device, overflow)
 }
 
 /// Takes a snapshot away.

@@ -1,5 +1,5 @@
 // A journal that is full refuses, and after each checkpoint takes as many entries again, in the same memory.
-use crate::calling::{answer, attach, audit_of, detach, submit_read};
+use crate::calling::{answer, attach, audit_of, detach, submit_read, submit_write};
 use device::MemDisk;
 use journal::{Audit, MAX_ENTRIES};
 use layers::Layered;
@@ -51,11 +51,37 @@ fn refuse<B: Layered + Drop>(rt: &impl Abort, audit: &mut Audit<B>) {
     assert!(rt; audit.in_flight() == 0 && audit.volume().len() == 1);
 }
 
-/// Fills a journal up.
+/// Fills a journal up. Of its last two places a snapshot takes one for its entry and one for what may come to it; one whose
+/// store may overflow would take three.
 fn fill_up(rt: &impl Abort, alloc: Global, audit: &mut Audit<MemDisk>) -> Result<(), Refusal> {
-    assert_eq!(rt; attach(alloc, audit, 64)?, 1);
     assert_eq!(rt; read_often(audit, ROOM)?, ROOM);
+    assert_eq!(rt;
+        attach(alloc, audit, 64, true).err(),
+        Some(Refusal::JournalFull)
+    );
+    assert_eq!(rt; attach(alloc, audit, 64, false)?, 1);
     refuse(rt, audit);
+    Ok(())
+}
+
+/// Reads a sector of the origin until the journal is full, and tells how many reads were answered.
+fn read_until_full<B: Layered>(audit: &mut Audit<B>) -> Result<u64, Refusal> {
+    let mut answered = 0u64;
+    for _ in 0..MAX_ENTRIES {
+        match submit_read(audit, 1, Dev::Origin, 2) {
+            Ok(_) if answer(audit, 1).is_some() => answered = answered.saturating_add(1),
+            Ok(_) => {}
+            Err(Refusal::JournalFull) => return Ok(answered),
+            Err(refusal) => return Err(refusal),
+        }
+    }
+    Ok(answered)
+}
+
+/// Writes a sector of the first snapshot, and does what is due.
+fn write_snap<B: Layered>(alloc: Global, audit: &mut Audit<B>, sector: u8) -> Result<(), Refusal> {
+    submit_write(alloc, audit, 1, Dev::Snap(1), (sector, 1), 0x41)?;
+    let _ = answer(audit, 1);
     Ok(())
 }
 
@@ -72,6 +98,22 @@ fn go_on<R: Abort + Files + AllocGlobal, B: Layered>(
         assert_eq!(rt; audit.count(1), ROOM + READS * k);
         assert!(rt; pages(rt)? <= most, "round {k}");
     }
+    Ok(())
+}
+
+#[test]
+fn a_store_that_may_overflow_takes_a_place_more(rt: HostRuntime) -> Result<(), Fail> {
+    let mut audit = audit_of(rt.alloc())?;
+    attach(rt.alloc(), &mut audit, 3, true)?;
+    write_snap(rt.alloc(), &mut audit, 5)?;
+    // Two entries, and two that may come: the store overflows, and the snapshot is spoiled.
+    assert_eq!(rt; read_until_full(&mut audit)?, 65_532);
+    audit.checkpoint()?;
+    let refused = write_snap(rt.alloc(), &mut audit, 6).err();
+    assert_eq!(rt; refused, Some(Refusal::Overflow));
+    audit.checkpoint()?;
+    // It did, and the snapshot may still be spoiled.
+    assert_eq!(rt; read_until_full(&mut audit)?, 65_535);
     Ok(())
 }
 

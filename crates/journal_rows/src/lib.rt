@@ -1,7 +1,7 @@
 //! Audits of a small volume, by calls.
 //!
-//! It stands on `journal` and has tests only: the entries of a run beside a slow fold of them, receipts across a checkpoint, and
-//! a full journal that goes on after one, in the same memory.
+//! It stands on `journal` and has tests only: the entries of a run beside a slow fold of them, receipts across a checkpoint and
+//! a store that overflowed, and a full journal that goes on after a checkpoint, in the same memory.
 #![tactic(auto)]
 
 #[cfg(test)]

@@ -1,7 +1,8 @@
 // What a journal says of receipts, across a checkpoint, and how many entries a seat has.
 ghost use Rattle.std.specs.Prelude.{◌≡◌, ◌<◌};
 
-use crate::calling::{answer, audit_of, submit_write};
+use crate::calling::{answer, attach, audit_of, submit_write};
+use device::MemDisk;
 use journal::{Audit, Receipt, Verdict};
 use layers::Layered;
 use plain::{Dev, Op, Reply, Request};
@@ -81,9 +82,22 @@ fn write<B: Layered>(
     }
 }
 
-/// Writes of two seats, a checkpoint, and one write more.
-fn run<B: Layered>(rt: &impl Abort, alloc: Global, audit: &mut Audit<B>) -> Result<(), Refusal> {
+/// A snapshot is taken over a store that has room for no copy, and a write of it by seat 1 is refused: the entry of that is no
+/// seat's.
+fn overflow(rt: &impl Abort, alloc: Global, audit: &mut Audit<MemDisk>) -> Result<(), Refusal> {
+    let number = attach(alloc, audit, 2, true)?;
+    let before = audit.entries().len();
+    let refused = submit_write(alloc, audit, 1, Dev::Snap(number), (9, 1), 0x31).err();
+    assert_eq!(rt; refused, Some(Refusal::Overflow));
+    assert_eq!(rt; audit.entries().len(), before + 1);
+    assert!(rt; audit.count(0) == 0 && audit.count(1) == 1);
+    Ok(())
+}
+
+/// Writes of two seats, between which a store overflows, a checkpoint, and one write more.
+fn run(rt: &impl Abort, alloc: Global, audit: &mut Audit<MemDisk>) -> Result<(), Refusal> {
     write(rt, alloc, audit, 1, 4, 1)?;
+    overflow(rt, alloc, audit)?;
     write(rt, alloc, audit, 2, 5, 1)?;
     write(rt, alloc, audit, 1, 6, 2)?;
     ask(rt, alloc, audit, false)?;

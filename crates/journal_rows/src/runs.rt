@@ -23,8 +23,10 @@ enum Step {
     Both(u8, u8, u8),
     /// Seat 2 reads a sector, which is filled with a byte.
     Read(Dev, u64, u8),
-    /// A store of so many sectors.
-    Attach(u8),
+    /// A store of so many sectors, which may overflow or not.
+    Attach(u8, bool),
+    /// Seat 1 writes a sector of a snapshot whose store is full, or overflowed before: it is refused.
+    Overflow(SnapId, u8),
     Detach(SnapId),
     Begin(SnapId),
     /// The merge is at its end, and is taken out.
@@ -32,24 +34,32 @@ enum Step {
     Checkpoint,
 }
 
-/// The steps over an origin of zeros, up to where another journal begins, beside a merge. The second store has room for two
-/// copies, and a third spoils its snapshot.
-const BEFORE: [Step; 17] = [
+/// The steps over an origin of zeros, up to where another journal begins, beside a merge. The second store and the third have
+/// room for two copies: another one spoils the second snapshot, and a write that needs one is refused by the third.
+const BEFORE: [Step; 25] = [
     Step::Write(Dev::Origin, (0, 16), 0x11),
-    Step::Attach(64),
+    Step::Attach(64, false),
     Step::Write(Dev::Origin, (3, 1), 0x21),
     Step::Read(Dev::Snap(1), 3, 0x11),
     Step::Write(Dev::Snap(1), (5, 1), 0x22),
     Step::Checkpoint,
     Step::Read(Dev::Snap(1), 5, 0x22),
-    Step::Attach(4),
+    Step::Attach(4, false),
     Step::Write(Dev::Origin, (6, 1), 0x23),
     Step::Write(Dev::Snap(2), (7, 1), 0x24),
     Step::Read(Dev::Snap(2), 6, 0x11),
     Step::Both(8, 0x25, 0x26),
     Step::Read(Dev::Origin, 8, 0x26),
     Step::Checkpoint,
-    Step::Attach(64),
+    Step::Attach(4, true),
+    Step::Write(Dev::Snap(3), (1, 1), 0x28),
+    Step::Write(Dev::Snap(3), (2, 1), 0x29),
+    Step::Overflow(3, 4),
+    Step::Read(Dev::Snap(3), 2, 0x29),
+    Step::Checkpoint,
+    Step::Overflow(3, 1),
+    Step::Read(Dev::Snap(3), 1, 0x28),
+    Step::Attach(64, false),
     Step::Begin(1),
     Step::Read(Dev::Origin, 3, 0x11),
 ];
@@ -61,7 +71,7 @@ const AFTER: [Step; 8] = [
     Step::Read(Dev::Origin, 8, 0x11),
     Step::Checkpoint,
     Step::Finish,
-    Step::Read(Dev::Snap(3), 3, 0x21),
+    Step::Read(Dev::Snap(4), 3, 0x21),
     Step::Detach(2),
     Step::Checkpoint,
 ];
@@ -100,6 +110,20 @@ fn writes<B: Layered>(
     Ok(answer(audit, 1).is_some())
 }
 
+/// Writes a sector of a snapshot, and tells whether it was refused since its store overflowed.
+fn overflows<B: Layered>(
+    alloc: Global,
+    audit: &mut Audit<B>,
+    number: SnapId,
+    sector: u8,
+) -> Result<bool, Refusal> {
+    match submit_write(alloc, audit, 1, Dev::Snap(number), (sector, 1), 0x41) {
+        Ok(_) => Ok(false),
+        Err(Refusal::Overflow) => Ok(true),
+        Err(refusal) => Err(refusal),
+    }
+}
+
 /// Has two writes of a sector of the origin in flight at once, and tells whether both were answered.
 fn writes_both<B: Layered>(
     alloc: Global,
@@ -124,8 +148,9 @@ fn take(alloc: Global, audit: &mut Audit<MemDisk>, step: Step) -> Result<bool, R
         Step::Write(dev, sectors, byte) => return writes(alloc, audit, dev, sectors, byte),
         Step::Both(sector, one, other) => return writes_both(alloc, audit, sector, (one, other)),
         Step::Read(dev, sector, byte) => return reads(audit, dev, sector, byte),
-        Step::Attach(sectors) => {
-            let _ = attach(alloc, audit, sectors)?;
+        Step::Overflow(number, sector) => return overflows(alloc, audit, number, sector),
+        Step::Attach(sectors, overflow) => {
+            let _ = attach(alloc, audit, sectors, overflow)?;
         }
         Step::Detach(number) => detach(audit, number)?,
         Step::Begin(number) => audit.begin_merge(number)?,

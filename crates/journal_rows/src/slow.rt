@@ -2,18 +2,19 @@
 use crate::calling::SECTORS;
 use journal::{Audit, Entry};
 use layers::Layered;
-use plain::{Dev, Op, Reply, Request, SnapId};
+use plain::{Dev, Op, Overflowing, Reply, Request, SnapId};
 use sector::{Range, SECTOR_BYTES};
 use std::alloc::{AllocError, Global};
 
 /// The bytes of an array.
 const BYTES: usize = SECTORS as usize * SECTOR_BYTES;
 
-/// A snapshot, with its array, which is empty where it is spoiled.
+/// A snapshot, with its array, which is empty where it is spoiled, and whether its store may overflow, or did.
 #[derive(Drop)]
 struct Snap {
     number: SnapId,
     array: Vec<u8>,
+    overflow: Overflowing,
 }
 
 /// What a volume shows.
@@ -78,9 +79,19 @@ impl Shown {
     }
 
     /// A snapshot that was taken.
-    fn attach(&mut self, alloc: Global, number: SnapId, array: &[u8]) -> Result<(), AllocError> {
+    fn attach(
+        &mut self,
+        alloc: Global,
+        number: SnapId,
+        array: &[u8],
+        overflow: Overflowing,
+    ) -> Result<(), AllocError> {
         let array = Vec::from_slice(alloc, array)?;
-        self.snaps.push(Snap { number, array })?;
+        self.snaps.push(Snap {
+            number,
+            array,
+            overflow,
+        })?;
         Ok(())
     }
 
@@ -89,6 +100,15 @@ impl Shown {
         for snap in self.snaps.iter_mut() {
             if snap.number == number {
                 snap.array.clear();
+            }
+        }
+    }
+
+    /// A snapshot whose store overflowed.
+    fn mark(&mut self, number: SnapId) {
+        for snap in self.snaps.iter_mut() {
+            if snap.number == number {
+                snap.overflow = Overflowing::Did;
             }
         }
     }
@@ -104,7 +124,10 @@ impl Shown {
         match entry {
             Entry::Answered(answered) => self.serve(&answered.request, &answered.reply),
             Entry::Spoiled(number) => self.spoil(*number),
-            Entry::Attached(number, array) => self.attach(alloc, *number, array.as_slice())?,
+            Entry::Overflowed(number) => self.mark(*number),
+            Entry::Attached(number, array, overflow) => {
+                self.attach(alloc, *number, array.as_slice(), *overflow)?
+            }
             Entry::Detached(number) => {
                 self.take_out(*number);
             }
@@ -118,6 +141,21 @@ impl Shown {
         Ok(())
     }
 
+    /// Whether a volume has these snapshots, in this order, and the same of their stores overflowed.
+    fn has_marks_of<B: Layered>(&self, audit: &Audit<B>) -> bool {
+        let volume = audit.volume();
+        if volume.len() != self.snaps.len() {
+            return false;
+        }
+        for (k, snap) in self.snaps.iter().enumerate() {
+            let other = volume.snap(k);
+            if other.number() != snap.number || other.overflow() != snap.overflow {
+                return false;
+            }
+        }
+        true
+    }
+
     /// Whether a volume shows this.
     pub fn is_of<B: Layered>(&self, audit: &Audit<B>) -> bool {
         for snap in &self.snaps {
@@ -125,7 +163,6 @@ impl Shown {
                 return false;
             }
         }
-        audit.volume().len() == self.snaps.len()
-            && is_shown(audit, Dev::Origin, self.origin.as_slice())
+        self.has_marks_of(audit) && is_shown(audit, Dev::Origin, self.origin.as_slice())
     }
 }

@@ -1,6 +1,6 @@
 -- A volume has no journal that could be full.
 use Rattle.std.proofs.Common.{◌∙◌, ap, sym, subst, inl, inr}
-use Rattle.std.specs.Prelude.{◌≡◌, ◌==◌, ◌||◌, ◌⊎◌, ℕ, List, Bool, true, false, Option, None, Some, not, nat_le, length, is_some, if◌then◌else◌}
+use Rattle.std.specs.Prelude.{◌≡◌, ◌==◌, ◌||◌, ℕ, List, Bool, true, false, None, Some, not, nat_le, length, is_some, if◌then◌else◌}
 use Rattle.sector.specs.declared.refusal.Refusal.{Refusal}
 use Rattle.sector.specs.declared.refusal.Refusal.TheVariants.{JournalFull, NoMemory, ChunkMismatch, Stale, MergeInProgress, NotQuiet, TooMany, BadChunk}
 use Rattle.chunk.specs.Sizes.{is_chunk}

@@ -1,11 +1,14 @@
 -- How a journal of a volume would go on: which entries a call comes to. This project's own.
-use Rattle.std.specs.Prelude.{◌≡◌, ℕ, List, [], ◌∷◌, ◌++◌, Some, map}
+use Rattle.std.specs.Prelude.{◌≡◌, ◌⊎◌, Err, ℕ, Ok, Result, List, [], ◌∷◌, ◌++◌, Some, map}
 use Rattle.plain.specs.declared.event.Outcome.{Outcome}
 use Rattle.plain.specs.declared.event.Outcome.TheVariants.{Done, Fault, Reply as Replied}
 use Rattle.plain.specs.declared.request.Request.{Request}
+use Rattle.plain.specs.declared.request.Dev.TheVariants.{Snap}
 use Rattle.plain.specs.Plain.{Plain, asked_under}
+use Rattle.sector.specs.declared.refusal.Refusal.{Refusal}
+use Rattle.sector.specs.declared.refusal.Refusal.TheVariants.{Overflow}
 use Rattle.journal.specs.declared.entry.Entry.{Entry}
-use Rattle.journal.specs.declared.entry.Entry.TheVariants.{Answered, Spoiled}
+use Rattle.journal.specs.declared.entry.Entry.TheVariants.{Answered, Overflowed, Spoiled}
 use Rattle.journal.specs.Replay.{Saves, AllLawful, replay, saves_of}
 
 -- Whatever lawful entries gave what callers saw of a volume before, from whatever arrays and states: these behind them are
@@ -23,3 +26,9 @@ abbrev pub ComesTo : Plain → Outcome → List Entry → Type 0
 ComesTo old (Replied number reply) entries = (request : Request) × (asked_under number old.requests ≡ Some request) × (entries ≡ Answered (record { seat = 1; request = request; reply = reply }) ∷ [])
 ComesTo old Done entries = AreSpoils entries
 ComesTo old Fault entries = AreSpoils entries
+
+-- What a request comes to that is submitted: spoils alone, or, where it is refused with Overflow, the mark of its snapshot, if the
+-- store overflowed by it.
+abbrev pub IsSubmitNoted : Request → Result ℕ Refusal → List Entry → Type 0
+IsSubmitNoted request (Ok number) entries = AreSpoils entries
+IsSubmitNoted request (Err refusal) entries = AreSpoils entries ⊎ ((refusal ≡ Overflow) × ((number : ℕ) × (request.dev ≡ Snap number) × (entries ≡ Overflowed number ∷ [])))

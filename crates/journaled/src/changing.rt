@@ -3,6 +3,7 @@ ghost use Rattle.std.specs.Prelude.{◌≡◌, ◌≢◌, ◌⊎◌, ◌&&◌, �
 ghost use Rattle.sector.specs.declared.refusal.Refusal.TheVariants.{JournalFull, NotMerging};
 ghost use Rattle.device.specs.Layers.{is_loud};
 ghost use Rattle.layers.specs.Ticks.{layers_ticked};
+ghost use Rattle.plain.specs.Plain.{overflow_of};
 ghost use Rattle.plain.specs.declared.request.Reply.{Reply};
 ghost use Rattle.store.specs.Reading.{AreRead};
 ghost use Rattle.settled.specs.Attaching.{attached as attached_by, refused_attach};
@@ -22,40 +23,42 @@ ghost use Rattle.journal.specs.declared.entry.Entry.TheVariants.{Attached, Begun
 ghost use Rattle.journaled.specs.GoingOn.{GoesOn};
 
 use crate::Journaled;
-use crate::journaled::count_live;
-use journal::MAX_ENTRIES;
+use crate::journaled::{count_live, count_may};
+use journal::{MAX_ENTRIES, places_needed};
 use layers::{Answer, Layered, Message};
 use plain::{Dev, SnapId};
 use sector::Refusal;
 use snapshot::StoreDev;
 
 impl<B: Layered> Journaled<B> {
-    /// Takes a snapshot over a store, by a table line with this chunk size, and tells its number. It takes two places of the
-    /// journal: one for its entry, and one that is kept free while it is live. Refused first of all where the journal is full
-    /// (`JournalFull`), and the store is given back as it was; then as the volume refuses it.
+    /// Takes a snapshot over a store, by a table line with this chunk size, and tells its number. Where `overflow` says so, a
+    /// write that finds the store full is refused, and spoils nothing. It takes two places of the journal: one for its entry, and
+    /// one that is kept free while it is live; and one more while it may overflow. Refused first of all where the journal is
+    /// full (`JournalFull`), and the store is given back as it was; then as the volume refuses it.
     pub fn attach(
         &mut self,
         store: StoreDev<B>,
         chunk: u32,
+        overflow: bool,
     ) -> Result<SnapId, (Refusal, StoreDev<B>)>
         ensures number { IfOk result (λ number. number ≡ self.old.attached + 1) }
         ensures admitted { OnOk result (attach_refusal store.stale chunk self.old ≡ None) }
-        ensures gained { IfOk result (λ number. IsGained B.layers B.size number store self.old self.new) }
-        ensures exact { IfOk result (λ number. is_loud_in_all B.layers self.old ≡ true → is_loud (B.layers store.device) ≡ true → IsAttachedAs B.contents B.layers number chunk store self.old self.new) }
+        ensures gained { IfOk result (λ number. IsGained B.layers B.size number overflow store self.old self.new) }
+        ensures exact { IfOk result (λ number. is_loud_in_all B.layers self.old ≡ true → is_loud (B.layers store.device) ≡ true → IsAttachedAs B.contents B.layers number chunk overflow store self.old self.new) }
         ensures refused { IfErr result (λ e. ((is_starved e.0 ≡ true) × (e.1 ≡ store)) ⊎ IsNotTaken store.stale chunk (B.size self.old.origin) (B.size store.device) (B.contents store.device) self.old e.0) }
         ensures unread { IfErr result (λ e. attach_refusal store.stale chunk self.old ≡ Some e.0 → e.1 ≡ store) }
-        ensures back { IfErr result (λ e. is_starved e.0 ≡ false → self.old.merge ≡ None → is_quiet_of self.old ≡ true → is_loud_in_all B.layers self.old ≡ true → is_loud (B.layers store.device) ≡ true → attached_by (self.old.attached + 1) chunk (store_of B.contents B.layers store) (volume_in B.contents B.layers self.old) ≡ refused_attach e.0 (store_of B.contents B.layers e.1) (volume_in B.contents B.layers self.old)) }
+        ensures back { IfErr result (λ e. is_starved e.0 ≡ false → self.old.merge ≡ None → is_quiet_of self.old ≡ true → is_loud_in_all B.layers self.old ≡ true → is_loud (B.layers store.device) ≡ true → attached_by (self.old.attached + 1) chunk (overflow_of overflow) (store_of B.contents B.layers store) (volume_in B.contents B.layers self.old) ≡ refused_attach e.0 (store_of B.contents B.layers e.1) (volume_in B.contents B.layers self.old)) }
         ensures starved { IfErr result (λ e. is_starved e.0 ≡ true → (B.contents e.1.device ≡ B.contents store.device) × AreRead (B.layers store.device) (B.layers e.1.device)) }
         ensures size { IfErr result (λ e. B.size e.1.device ≡ B.size store.device) }
         ensures loud { MatchResult result (λ _. is_loud_in_all B.layers self.new ≡ (is_loud_in_all B.layers self.old && is_loud (B.layers store.device))) (λ e. is_loud (B.layers e.1.device) ≡ is_loud (B.layers store.device)) }
-        ensures goes_on { IfOk result (λ number. is_loud_in_all B.layers self.old ≡ true → is_loud (B.layers store.device) ≡ true → GoesOn (plain_of B.contents B.layers self.old) (Attached number (shown_array (B.contents self.old.origin) (B.contents store.device)) ∷ []) (plain_of B.contents B.layers self.new)) }
+        ensures goes_on { IfOk result (λ number. is_loud_in_all B.layers self.old ≡ true → is_loud (B.layers store.device) ≡ true → GoesOn (plain_of B.contents B.layers self.old) (Attached number (shown_array (B.contents self.old.origin) (B.contents store.device)) (overflow_of overflow) ∷ []) (plain_of B.contents B.layers self.new)) }
         ensures same { OnErr result (self.new ≡ self.old) }
         ensures stale { IfErr result (λ e. e.1.stale ≡ store.stale) }
     {
-        if self.places + 2 > MAX_ENTRIES {
+        if self.places + count_may(&self.volume) + places_needed(overflow) > MAX_ENTRIES {
             return Err((Refusal::JournalFull, store));
         }
-        match self.volume.attach(self.alloc, store, chunk) {
+        match self.volume.attach(self.alloc, store, chunk, overflow) {
             Ok(number) => {
                 self.places += 2;
                 Ok(number)
@@ -73,7 +76,7 @@ impl<B: Layered> Journaled<B> {
         ensures goes_on { OnOk result (is_loud_in_all B.layers self.old ≡ true → GoesOn (plain_of B.contents B.layers self.old) (Detached number ∷ []) (plain_of B.contents B.layers self.new)) }
         ensures err { IfErr result (λ refusal. ((detach_refusal number self.old ≡ Some refusal) ⊎ (refusal ≡ JournalFull)) × (self.new ≡ self.old)) }
     {
-        if self.places + 1 > MAX_ENTRIES {
+        if self.places + count_may(&self.volume) + 1 > MAX_ENTRIES {
             return Err(Refusal::JournalFull);
         }
         let live = count_live(&self.volume);
@@ -98,7 +101,7 @@ impl<B: Layered> Journaled<B> {
         ensures refused { IfErr result (λ refusal. ((refusal ≡ JournalFull) × (self.new ≡ self.old)) ⊎ IsNotBegun number refusal self.old self.new) }
         ensures starved { OnErr result ((replied : Option Reply) → moving_of B.contents B.layers replied self.new ≡ moving_of B.contents B.layers replied self.old) }
     {
-        if self.places + 1 > MAX_ENTRIES {
+        if self.places + count_may(&self.volume) + 1 > MAX_ENTRIES {
             return Err(Refusal::JournalFull);
         }
         // Its entry has the place that was kept free, for it was live.
@@ -125,7 +128,7 @@ impl<B: Layered> Journaled<B> {
         ensures goes_on { OnOk result (is_loud_in_all B.layers self.old ≡ true → GoesOn (plain_of B.contents B.layers self.old) (Finished ∷ []) (plain_of B.contents B.layers self.new)) }
         ensures err { IfErr result (λ refusal. ((finish_refusal self.old ≡ Some refusal) ⊎ (refusal ≡ JournalFull)) × (self.new ≡ self.old)) }
     {
-        if self.places + 1 > MAX_ENTRIES {
+        if self.places + count_may(&self.volume) + 1 > MAX_ENTRIES {
             return Err(Refusal::JournalFull);
         }
         match self.volume.finish_merge() {

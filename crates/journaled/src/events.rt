@@ -1,7 +1,9 @@
 // Requests and events.
 ghost use Rattle.std.specs.Prelude.{◌≡◌, ◌≢◌, ◌⊎◌, ◌*◌, ◌+◌, ◌<◌, ◌≤◌, IfErr, IfOk, IsOk, List, None, OnErr, OnOk, Option, Some, is_ok, length, map, true, ℕ};
-ghost use Rattle.sector.specs.declared.refusal.Refusal.TheVariants.{Invalid};
-ghost use Rattle.plain.specs.declared.request.Failure.TheVariants.{Invalid as IsInvalid};
+ghost use Rattle.sector.specs.declared.refusal.Refusal.TheVariants.{Invalid, Overflow};
+ghost use Rattle.plain.specs.Failures.{refusal_of};
+ghost use Rattle.plain.specs.declared.request.Failure.{Failure};
+ghost use Rattle.plain.specs.declared.request.Failure.TheVariants.{Io};
 ghost use Rattle.plain.specs.declared.request.Op.TheVariants.{Write};
 ghost use Rattle.plain.specs.declared.request.Reply.{Reply};
 ghost use Rattle.plain.specs.declared.request.Reply.TheVariants.{Refused};
@@ -19,10 +21,10 @@ ghost use Rattle.volume.specs.Stored.{RemovesPairs, is_finished_on};
 ghost use Rattle.volume.specs.Submitting.{IsAcceptedAs, IsRefusedAs, submit_refusal};
 ghost use Rattle.volume.specs.Volumed.{is_due_of, is_loud_in_all, left_in_all, next_of, plain_of};
 ghost use Rattle.journal.specs.declared.entry.Entry.{Entry};
-ghost use Rattle.journal.specs.declared.entry.Entry.TheVariants.{Spoiled};
-ghost use Rattle.journaled.specs.GoingOn.{ComesTo, GoesOn};
+ghost use Rattle.journaled.specs.GoingOn.{ComesTo, GoesOn, IsSubmitNoted};
 
 use crate::Journaled;
+use crate::journaled::count_may;
 use journal::MAX_ENTRIES;
 use layers::Layered;
 use plain::{Event, NotDue, Outcome, ReqId, Request};
@@ -30,7 +32,8 @@ use sector::Refusal;
 
 impl<B: Layered> Journaled<B> {
     /// Accepts a request, and tells its number: it takes a place of the journal, which its reply's entry has then. Refused first of
-    /// all where the journal is full (`JournalFull`), and nothing changed; then as the volume refuses it.
+    /// all where the journal is full (`JournalFull`), and nothing changed; then as the volume refuses it. A mark takes no place:
+    /// its entry has the one that was kept free for it.
     pub fn submit(&mut self, request: Request) -> Result<ReqId, Refusal>
         requires bytes { (bytes : List ℕ) → request.op ≡ Write bytes → length bytes ≡ 512 * request.range.count }
         ensures ok { IfOk result (λ number. IsAcceptedAs B.contents B.layers request number self.old self.new) }
@@ -39,12 +42,13 @@ impl<B: Layered> Journaled<B> {
         ensures admitted { IfOk result (λ _. submit_refusal B.size request self.old ≡ None) }
         ensures exact { IfOk result (λ number. (replied : Option Reply) → submitted number request (moving_of B.contents B.layers replied self.old) ≡ moving_of B.contents B.layers replied self.new) }
         ensures refused { IfErr result (λ refusal. IsStarved refusal self.old self.new ⊎ IsRefusedAs B.contents B.layers B.size request refusal self.old self.new) }
-        ensures declined { IfErr result (λ refusal. refusal ≡ Invalid → (number : ℕ) (replied : Option Reply) → submitted number request (moving_of B.contents B.layers replied self.old) ≡ moving_of B.contents B.layers (Some (Refused IsInvalid)) self.new) }
-        ensures starved { IfErr result (λ refusal. refusal ≢ Invalid → (replied : Option Reply) → moving_of B.contents B.layers replied self.new ≡ moving_of B.contents B.layers replied self.old) }
+        ensures declined { IfErr result (λ refusal. (failure : Failure) → refusal ≡ refusal_of failure → failure ≢ Io → (number : ℕ) (replied : Option Reply) → submitted number request (moving_of B.contents B.layers replied self.old) ≡ moving_of B.contents B.layers (Some (Refused failure)) self.new) }
+        ensures starved { IfErr result (λ refusal. refusal ≢ Invalid → refusal ≢ Overflow → (replied : Option Reply) → moving_of B.contents B.layers replied self.new ≡ moving_of B.contents B.layers replied self.old) }
         ensures loud { is_loud_in_all B.layers self.new ≡ is_loud_in_all B.layers self.old }
-        ensures goes_on { is_loud_in_all B.layers self.old ≡ true → (which : List ℕ) × GoesOn (plain_of B.contents B.layers self.old) (map Spoiled which) (plain_of B.contents B.layers self.new) }
+        ensures goes_on { is_loud_in_all B.layers self.old ≡ true → (entries : List Entry) × IsSubmitNoted request result entries × GoesOn (plain_of B.contents B.layers self.old) entries (plain_of B.contents B.layers self.new) }
     {
-        if self.places + 1 > MAX_ENTRIES {
+        let may = count_may(&self.volume);
+        if self.places + may + 1 > MAX_ENTRIES {
             return Err(Refusal::JournalFull);
         }
         match self.volume.submit(self.alloc, request) {
@@ -52,7 +56,11 @@ impl<B: Layered> Journaled<B> {
                 self.places += 1;
                 Ok(number)
             }
-            Err(refusal) => Err(refusal),
+            Err(refusal) => {
+                // The entry of a mark has the place that was kept free for it.
+                self.places += may - count_may(&self.volume);
+                Err(refusal)
+            }
         }
     }
 

@@ -1,23 +1,27 @@
 // A volume, and how many places of its journal are taken.
-ghost use Rattle.std.specs.Prelude.{◌≡◌, ◌≤◌, [], IfErr, IfOk, None};
+ghost use Rattle.std.specs.Prelude.{◌≡◌, ◌&&◌, ◌≤◌, [], IfErr, IfOk, None};
+ghost use Rattle.plain.specs.Plain.{may_overflow};
 ghost use Rattle.sector.specs.declared.refusal.Refusal.TheVariants.{NoMemory};
 ghost use Rattle.volume.specs.Causes.{lives_of};
 ghost use Rattle.volume.specs.Volumed.{is_loud_in_all};
-ghost use Rattle.journal.specs.Noted.{live_count};
+ghost use Rattle.journal.specs.Noted.{live_count, may_count, mays_of};
 
-use journal::Audit;
+use journal::{Audit, is_may};
 use layers::Layered;
 use sector::Refusal;
+use snapshot::Snapshot;
 use std::alloc::Global;
 use std::marker::Model;
 use volume::Volume;
 
 /// A volume, and how many places of its journal are taken since the last checkpoint: one by each entry that would stand in it,
-/// by each request in flight, and by each live snapshot. An event turns places into entries, and takes none. Contracts see the
-/// volume.
+/// by each request in flight, and by each live snapshot. One more is taken by each live snapshot whose store may still overflow,
+/// which is counted where it is asked for: it turns into the entry of that mark, and is given back where the snapshot is lost, is
+/// taken away, or begins to be merged. An event turns places into entries, and takes none. Contracts see the volume.
 #[derive(Drop)]
 pub struct Journaled<B: Layered> {
     pub(crate) volume: Volume<B>,
+    /// Those that are taken, but for those of marks to come.
     pub(crate) places: usize,
     pub(crate) alloc: Global,
 }
@@ -42,6 +46,27 @@ pub(crate) fn count_live<B: Layered>(volume: &Volume<B>) -> usize
     let mut count = 0;
     for k in 0..volume.len() {
         if volume.snap(k).is_live() {
+            count += 1;
+        }
+    }
+    count
+}
+
+/// Whether a snapshot is live, and its store may still overflow.
+fn may_be_marked<B: Layered>(snap: &Snapshot<B>) -> bool
+    ensures { result ≡ (snap.now.live && may_overflow snap.now.overflow) }
+{
+    snap.is_live() && is_may(snap.overflow())
+}
+
+/// How many live snapshots of a volume may still overflow.
+pub(crate) fn count_may<B: Layered>(volume: &Volume<B>) -> usize
+    ensures count { result ≡ may_count (lives_of volume.now) (mays_of volume.now) }
+    ensures few { result ≤ 8 }
+{
+    let mut count = 0;
+    for k in 0..volume.len() {
+        if may_be_marked(volume.snap(k)) {
             count += 1;
         }
     }
@@ -73,11 +98,12 @@ impl<B: Layered> Journaled<B> {
         // A look: then none is in flight in the volume.
         audit.look_at_requests();
         let (volume, places, alloc) = audit.into_counted();
-        // Each live snapshot has its place, whatever the audit saw of it last.
+        // Each live snapshot has its places, whatever the audit saw of it last.
         let live = count_live(&volume);
+        let may = count_may(&volume);
         Journaled {
             volume,
-            places: places.max(live),
+            places: places.max(live + may) - may,
             alloc,
         }
     }

@@ -15,6 +15,8 @@ use Rattle.settled.specs.Loads.{trimmed, is_loadable, is_too_small}
 use Rattle.cow_header.specs.HeaderText.{header_bytes, found_in}
 use Rattle.cow_header.specs.declared.found.Found.{Found}
 use Rattle.cow_header.specs.declared.found.Found.TheVariants.{Fresh, Header}
+use Rattle.plain.specs.declared.request.Overflowing.{Overflowing}
+use Rattle.plain.specs.Plain.{overflow_of}
 use Rattle.settled.specs.Devices.{Device, sectors_of, answers, met, written_by}
 use Rattle.settled.specs.Snaps.{Snap, Volume as Settled}
 use Rattle.named.specs.State.{Stacked, Volume}
@@ -124,29 +126,29 @@ either_back false loud x y hx hy = hy
 refused_loud : (refusal : Refusal) (store : Store) (v : Settled) → IsGivenLoud (is_loud store.device.layers) (refused_attach refusal store v)
 refused_loud refusal store v = record { back = refl }
 
-taken_loud : (loud : Bool) (number : ℕ) (device : Device) (outcome : Result ℕ Refusal) (v : Settled) → is_loud device.layers ≡ loud → IsGivenLoud loud (taken_by number device outcome v)
-taken_loud loud number device (Err refusal) v h = record { back = h }
-taken_loud loud number device (Ok chunk) v h = record { back = tt }
+taken_loud : (loud : Bool) (number : ℕ) (overflow : Overflowing) (device : Device) (outcome : Result ℕ Refusal) (v : Settled) → is_loud device.layers ≡ loud → IsGivenLoud loud (taken_by number overflow device outcome v)
+taken_loud loud number overflow device (Err refusal) v h = record { back = h }
+taken_loud loud number overflow device (Ok chunk) v h = record { back = tt }
 
-given_loud : (number chunk : ℕ) (store : Store) (v : Settled) → IsGivenLoud (is_loud store.device.layers) (attached number chunk store v)
+given_loud : (number chunk : ℕ) (overflow : Overflowing) (store : Store) (v : Settled) → IsGivenLoud (is_loud store.device.layers) (attached number chunk overflow store v)
 unfolding attached
-given_loud number chunk store v =
+given_loud number chunk overflow store v =
     let loud = is_loud store.device.layers in
     let tried = open_store v.snaps (sectors_of v.origin) chunk store.device in
     either_back store.stale loud _ _ (refused_loud Stale store v)
     (either_back (nat_lt (length v.snaps) 8 && nat_lt number 4_294_967_296) loud _ _
     (either_back (is_chunk chunk) loud _ _
-    (taken_loud loud number tried.device tried.outcome v (open_loud loud v.snaps (sectors_of v.origin) chunk store.device refl).same)
+    (taken_loud loud number overflow tried.device tried.outcome v (open_loud loud v.snaps (sectors_of v.origin) chunk store.device refl).same)
     (refused_loud BadChunk store v))
     (refused_loud TooMany store v))
 
 -- an attach
-pub loud_back : (number chunk : ℕ) (store : Store) (v : Settled) → IsBackLoud (is_loud store.device.layers) (attached number chunk store v).back
-loud_back number chunk store v = (given_loud number chunk store v).back
+pub loud_back : (number chunk : ℕ) (overflow : Overflowing) (store : Store) (v : Settled) → IsBackLoud (is_loud store.device.layers) (attached number chunk overflow store v).back
+loud_back number chunk overflow store v = (given_loud number chunk overflow store v).back
 
 -- an attach to a volume that may have a merge begun
-pub loud_to : (chunk : ℕ) (stacked : Stacked) (volume : Volume) → IsBackLoud (is_loud stacked.device.layers) (attached_to chunk stacked volume).back
+pub loud_to : (chunk : ℕ) (overflow : Bool) (stacked : Stacked) (volume : Volume) → IsBackLoud (is_loud stacked.device.layers) (attached_to chunk overflow stacked volume).back
 unfolding attached_to
-loud_to chunk stacked volume =
+loud_to chunk overflow stacked volume =
     (either_back (is_some volume.merging) (is_loud stacked.device.layers) _ _ (refused_loud (kept_out stacked) (store_of stacked) volume.state)
-    (given_loud (volume.given + 1) chunk (store_of stacked) volume.state)).back
+    (given_loud (volume.given + 1) chunk (overflow_of overflow) (store_of stacked) volume.state)).back

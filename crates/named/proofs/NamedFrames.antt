@@ -210,15 +210,15 @@ left_over_named table v old stacked lt at names named =
     omega (arith, sum, same)) named
 
 -- a snapshot is there, with a stack as its store
-pub taken_by_named : (table : Table) (name : List ℕ) (i v : ℕ) (stacked : Stacked) (old new : Volume) → place_of name table ≡ None → nat_le 64 (device_count table) ≡ false → i < length table.stacks → stacked ≡ get_or table.stacks i stacked → v < length table.volumes → old ≡ get_or table.volumes v old → new.origin ≡ old.origin → new.under ≡ old.under → new.snaps ≡ old.snaps ++ (record { snapshot = name; store = stacked.names }) ∷ [] → names_in new.merging ≡ names_in old.merging → AreNamed table → AreNamed (taken_by i v new table)
-taken_by_named table name i v stacked old new none room i_lt i_at v_lt v_at origin under snaps merging named =
+pub taken_by_named : (table : Table) (name : List ℕ) (overflow : Bool) (i v : ℕ) (stacked : Stacked) (old new : Volume) → place_of name table ≡ None → nat_le 64 (device_count table) ≡ false → i < length table.stacks → stacked ≡ get_or table.stacks i stacked → v < length table.volumes → old ≡ get_or table.volumes v old → new.origin ≡ old.origin → new.under ≡ old.under → new.snaps ≡ old.snaps ++ (record { snapshot = name; store = stacked.names; overflow = overflow }) ∷ [] → names_in new.merging ≡ names_in old.merging → AreNamed table → AreNamed (taken_by i v new table)
+taken_by_named table name overflow i v stacked old new none room i_lt i_at v_lt v_at origin under snaps merging named =
     one_more_named name table (taken_by i v new table) none room (λ f.
     let sum = sum_taken_by f table i v stacked old new i_lt i_at v_lt v_at in
     let a = ap f origin in
     let b = ap (sum_by f) under in
     let c = ap (sum_by (names_sum f)) snaps in
     let d = ap (merging_sum f) merging in
-    let more = sum_by_push (names_sum f) old.snaps (record { snapshot = name; store = stacked.names }) in
+    let more = sum_by_push (names_sum f) old.snaps (record { snapshot = name; store = stacked.names; overflow = overflow }) in
     omega (arith, sum, a, b, c, d, more)) named
 
 -- a snapshot goes, and its store is left

@@ -102,29 +102,29 @@ named_there sectors device store table n h =
     let v = volume_there a.0 table d.0 d.1 in
     subst (AreThere table) is (record { i_lt = i.0; i_at = i.1; v_lt = v.0; v_at = v.1 })
 
-met_named : (name : List ℕ) (i v : ℕ) (refused : Option Refusal) (old left : Stacked) (was new : Volume) (table : Table) → place_of name table ≡ None → nat_le 64 (device_count table) ≡ false → i < length table.stacks → old ≡ get_or table.stacks i old → v < length table.volumes → was ≡ get_or table.volumes v was → left.names ≡ old.names → new.origin ≡ was.origin → new.under ≡ was.under → new.snaps ≡ was.snaps ++ (record { snapshot = name; store = old.names }) ∷ [] → names_in new.merging ≡ names_in was.merging → AreNamed table → AreNamed (snapshot_left i v refused left new table).left
-met_named name i v None old left was new table none room i_lt i_at v_lt v_at names origin under snaps merging named =
-    taken_by_named table name i v old was new none room i_lt i_at v_lt v_at origin under snaps merging named
-met_named name i v (Some refusal) old left was new table none room i_lt i_at v_lt v_at names origin under snaps merging named =
+met_named : (name : List ℕ) (overflow : Bool) (i v : ℕ) (refused : Option Refusal) (old left : Stacked) (was new : Volume) (table : Table) → place_of name table ≡ None → nat_le 64 (device_count table) ≡ false → i < length table.stacks → old ≡ get_or table.stacks i old → v < length table.volumes → was ≡ get_or table.volumes v was → left.names ≡ old.names → new.origin ≡ was.origin → new.under ≡ was.under → new.snaps ≡ was.snaps ++ (record { snapshot = name; store = old.names; overflow = overflow }) ∷ [] → names_in new.merging ≡ names_in was.merging → AreNamed table → AreNamed (snapshot_left i v refused left new table).left
+met_named name overflow i v None old left was new table none room i_lt i_at v_lt v_at names origin under snaps merging named =
+    taken_by_named table name overflow i v old was new none room i_lt i_at v_lt v_at origin under snaps merging named
+met_named name overflow i v (Some refusal) old left was new table none room i_lt i_at v_lt v_at names origin under snaps merging named =
     put_named table i old left i_lt i_at names named
 
-back_names : (name : List ℕ) (chunk : ℕ) (stacked : Stacked) (volume : Volume) → (meet name chunk stacked volume).stacked.names ≡ stacked.names
+back_names : (name : List ℕ) (chunk : ℕ) (overflow : Bool) (stacked : Stacked) (volume : Volume) → (meet name chunk overflow stacked volume).stacked.names ≡ stacked.names
 unfolding meet
-back_names name chunk stacked volume = by (_)
+back_names name chunk overflow stacked volume = by (_)
   where
     by : (back : Option Store) → (stack_back stacked back).names ≡ stacked.names
     by None = refl
     by (Some store) = refl
 
 -- a snapshot
-pub snapshot_made_named : (name : List ℕ) (sectors : ℕ) (device store : List ℕ) (chunk : ℕ) (table : Table) → place_of name table ≡ None → nat_le 64 (device_count table) ≡ false → AreNamed table → AreNamed (snapshot_made name sectors device store chunk table).left
+pub snapshot_made_named : (name : List ℕ) (sectors : ℕ) (device store : List ℕ) (chunk : ℕ) (overflow : Bool) (table : Table) → place_of name table ≡ None → nat_le 64 (device_count table) ≡ false → AreNamed table → AreNamed (snapshot_made name sectors device store chunk overflow table).left
 unfolding snapshot_made meet
-snapshot_made_named name sectors device store chunk table none room named = by (named_in sectors device store table) (named_there sectors device store table)
+snapshot_made_named name sectors device store chunk overflow table none room named = by (named_in sectors device store table) (named_there sectors device store table)
   where
-    on : (n : Named) → AreThere table n → AreNamed (snapshot_met n.i n.v (meet name chunk n.stacked n.volume) table).left
-    on n there = met_named name n.i n.v _ n.stacked _ n.volume _ table none room there.i_lt there.i_at there.v_lt there.v_at (back_names name chunk n.stacked n.volume) refl refl refl refl named
+    on : (n : Named) → AreThere table n → AreNamed (snapshot_met n.i n.v (meet name chunk overflow n.stacked n.volume) table).left
+    on n there = met_named name overflow n.i n.v _ n.stacked _ n.volume _ table none room there.i_lt there.i_at there.v_lt there.v_at (back_names name chunk overflow n.stacked n.volume) refl refl refl refl named
 
-    by : (r : Result Named Refusal) → ((n : Named) → r ≡ Ok n → AreThere table n) → AreNamed (snapshot_by name chunk table r).left
+    by : (r : Result Named Refusal) → ((n : Named) → r ≡ Ok n → AreThere table n) → AreNamed (snapshot_by name chunk overflow table r).left
     by (Err e) there = named
     by (Ok n) there = on n (there n refl)
 
@@ -132,8 +132,8 @@ snapshot_made_named name sectors device store chunk table none room named = by (
 pub made_named : (name : List ℕ) (sectors : ℕ) (target : Target) (table : Table) → place_of name table ≡ None → nat_le 64 (device_count table) ≡ false → AreNamed table → AreNamed (made name sectors target table).left
 unfolding made
 made_named name sectors (targets.Origin device) table none room named = origin_made_named name sectors device table none room named
-made_named name sectors (targets.Snapshot device store chunk) table none room named = snapshot_made_named name sectors device store chunk table none room named
-made_named name sectors (targets.Merge device store chunk) table none room named = named
+made_named name sectors (targets.Snapshot device store chunk overflow) table none room named = snapshot_made_named name sectors device store chunk overflow table none room named
+made_named name sectors (targets.Merge device store chunk overflow) table none room named = named
 made_named name sectors (targets.Flakey device offset up down features) table none room named = laid_named name (Flaky 0 up down (features_of features) offset) offset sectors device table none room named
 made_named name sectors (targets.Dust device block) table none room named = laid_named name (Dusty sectors block false []) 0 sectors device table none room named
 made_named name sectors targets.Error table none room named = broken_named name sectors table none room named

@@ -86,19 +86,19 @@ origin_made_sound name sectors device table sound =
     moved_under_sound table i (origin_on name old) (of_both _ true (stack_sound table i old sound there.0 there.1) refl) sound)))
 
 -- what a refused attach gives back
-pub back_loud : (name : List ℕ) (chunk : ℕ) (stacked : Stacked) (volume : Volume) → is_loud (meet name chunk stacked volume).stacked.device.layers ≡ is_loud stacked.device.layers
+pub back_loud : (name : List ℕ) (chunk : ℕ) (overflow : Bool) (stacked : Stacked) (volume : Volume) → is_loud (meet name chunk overflow stacked volume).stacked.device.layers ≡ is_loud stacked.device.layers
 unfolding meet
-back_loud name chunk stacked volume =
-    by (attached_to chunk stacked volume).back (loud_to chunk stacked volume)
+back_loud name chunk overflow stacked volume =
+    by (attached_to chunk overflow stacked volume).back (loud_to chunk overflow stacked volume)
   where
     by : (back : Option Store) → IsBackLoud (is_loud stacked.device.layers) back → is_loud (stack_back stacked back).device.layers ≡ is_loud stacked.device.layers
     by None h = refl
     by (Some store) h = h
 
 -- a volume that took it
-pub met_whole : (name : List ℕ) (chunk : ℕ) (stacked : Stacked) (volume : Volume) → is_sound_volume volume ≡ true → is_loud stacked.device.layers ≡ true → is_sound_volume (meet name chunk stacked volume).volume ≡ true
+pub met_whole : (name : List ℕ) (chunk : ℕ) (overflow : Bool) (stacked : Stacked) (volume : Volume) → is_sound_volume volume ≡ true → is_loud stacked.device.layers ≡ true → is_sound_volume (meet name chunk overflow stacked volume).volume ≡ true
 unfolding meet
-met_whole name chunk stacked volume whole loud =
+met_whole name chunk overflow stacked volume whole loud =
     let h = both volume.sound volume.quiet whole in
     of_both (volume.sound && is_loud stacked.device.layers) volume.quiet (of_both volume.sound _ h.0 loud) h.1
 
@@ -107,17 +107,17 @@ snapshot_left_sound i v None left new table loud whole sound = taken_by_sound ta
 snapshot_left_sound i v (Some refusal) left new table loud whole sound = put_sound table i left loud sound
 
 -- a snapshot
-pub snapshot_made_sound : (name : List ℕ) (sectors : ℕ) (device store : List ℕ) (chunk : ℕ) (table : Table) → IsSound table → IsSound (snapshot_made name sectors device store chunk table).left
+pub snapshot_made_sound : (name : List ℕ) (sectors : ℕ) (device store : List ℕ) (chunk : ℕ) (overflow : Bool) (table : Table) → IsSound table → IsSound (snapshot_made name sectors device store chunk overflow table).left
 unfolding snapshot_made
-snapshot_made_sound name sectors device store chunk table sound = by (named_in sectors device store table) (named_there sectors device store table)
+snapshot_made_sound name sectors device store chunk overflow table sound = by (named_in sectors device store table) (named_there sectors device store table)
   where
-    on : (n : Named) → AreThere table n → IsSound (snapshot_met n.i n.v (meet name chunk n.stacked n.volume) table).left
+    on : (n : Named) → AreThere table n → IsSound (snapshot_met n.i n.v (meet name chunk overflow n.stacked n.volume) table).left
     on n there =
         let loud = stack_sound table n.i n.stacked sound there.i_lt there.i_at in
         let whole = volume_whole table n.v n.volume sound there.v_lt there.v_at in
-        snapshot_left_sound n.i n.v _ _ _ table (back_loud name chunk n.stacked n.volume ∙ loud) (met_whole name chunk n.stacked n.volume whole loud) sound
+        snapshot_left_sound n.i n.v _ _ _ table (back_loud name chunk overflow n.stacked n.volume ∙ loud) (met_whole name chunk overflow n.stacked n.volume whole loud) sound
 
-    by : (r : Result Named Refusal) → ((n : Named) → r ≡ Ok n → AreThere table n) → IsSound (snapshot_by name chunk table r).left
+    by : (r : Result Named Refusal) → ((n : Named) → r ≡ Ok n → AreThere table n) → IsSound (snapshot_by name chunk overflow table r).left
     by (Err e) there = sound
     by (Ok n) there = on n (there n refl)
 
@@ -125,8 +125,8 @@ snapshot_made_sound name sectors device store chunk table sound = by (named_in s
 pub made_sound : (name : List ℕ) (sectors : ℕ) (target : Target) (table : Table) → drops_writes target ≡ false → IsSound table → IsSound (made name sectors target table).left
 unfolding made
 made_sound name sectors (targets.Origin device) table none sound = origin_made_sound name sectors device table sound
-made_sound name sectors (targets.Snapshot device store chunk) table none sound = snapshot_made_sound name sectors device store chunk table sound
-made_sound name sectors (targets.Merge device store chunk) table none sound = sound
+made_sound name sectors (targets.Snapshot device store chunk overflow) table none sound = snapshot_made_sound name sectors device store chunk overflow table sound
+made_sound name sectors (targets.Merge device store chunk overflow) table none sound = sound
 made_sound name sectors (targets.Flakey device offset up down features) table none sound =
     laid_sound name (Flaky 0 up down (features_of features) offset) offset sectors device table (ap not none) sound
 made_sound name sectors (targets.Dust device block) table none sound = laid_sound name (Dusty sectors block false []) 0 sectors device table refl sound

@@ -16,16 +16,16 @@ use Rattle.named.specs.Snapshots.{snapshot_made}
 -- the device of a line; no line makes a merge, which begins by another command
 unfoldable pub made : List ℕ → ℕ → Target → Table → Did (Unit {0}) Table
 made name sectors (Origin device) table = changed table (origin_made name sectors device table)
-made name sectors (Snapshot device store chunk) table = snapshot_made name sectors device store chunk table
-made name sectors (Merge device store chunk) table = refused table BadTable
+made name sectors (Snapshot device store chunk overflow) table = snapshot_made name sectors device store chunk overflow table
+made name sectors (Merge device store chunk overflow) table = refused table BadTable
 made name sectors (Flakey device offset up down features) table = changed table (flakey_over name sectors device offset up down features table)
 made name sectors (Dust device block) table = changed table (dust_over name sectors device block table)
 made name sectors Error table = changed table (broken name sectors table)
 
 abbrev pub is_merge : Target → Bool
-is_merge (Merge device store chunk) = true
+is_merge (Merge device store chunk overflow) = true
 is_merge (Origin device) = false
-is_merge (Snapshot device store chunk) = false
+is_merge (Snapshot device store chunk overflow) = false
 is_merge (Flakey device offset up down features) = false
 is_merge (Dust device block) = false
 is_merge Error = false

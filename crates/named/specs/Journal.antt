@@ -11,9 +11,9 @@ use Rattle.named.specs.Events.{origin_by}
 
 -- whether the device of a target takes a place in a journal: a snapshot does, in that of its origin's volume
 abbrev pub enters_journal : Target → Bool
-enters_journal (Snapshot device store chunk) = true
+enters_journal (Snapshot device store chunk overflow) = true
 enters_journal (Origin device) = false
-enters_journal (Merge device store chunk) = false
+enters_journal (Merge device store chunk overflow) = false
 enters_journal (Flakey device offset up down features) = false
 enters_journal (Dust device block) = false
 enters_journal Error = false

@@ -78,7 +78,7 @@ origin_target None volume = over (slice_get volume.under 0) targets.Origin
 origin_target (Some g) volume = do
   device ← named (slice_get volume.under 0)
   store ← named (slice_get g.names.store 0)
-  Ok (targets.Merge device store g.merge.chunk)
+  Ok (targets.Merge device store g.merge.chunk g.names.overflow)
 
 -- the line of an origin
 unfoldable pub origin_line : Volume → Result Line Refusal
@@ -93,7 +93,7 @@ snapshot_line k volume = do
   snap ← snap_at k volume.state
   device ← named (slice_get volume.under 0)
   store ← named (slice_get names.store 0)
-  Ok (record { sectors = sectors_of volume.state.origin; target = targets.Snapshot device store snap.chunk })
+  Ok (record { sectors = sectors_of volume.state.origin; target = targets.Snapshot device store snap.chunk names.overflow })
 
 -- the line of the snapshot that is being merged: that of any other
 unfoldable pub merging_line : Volume → Result Line Refusal
@@ -101,7 +101,7 @@ merging_line volume = do
   g ← merging_at volume
   device ← named (slice_get volume.under 0)
   store ← named (slice_get g.names.store 0)
-  Ok (record { sectors = sectors_of volume.state.origin; target = targets.Snapshot device store g.merge.chunk })
+  Ok (record { sectors = sectors_of volume.state.origin; target = targets.Snapshot device store g.merge.chunk g.names.overflow })
 
 abbrev pub line_of_role : Role → Volume → Result Line Refusal
 line_of_role Origin volume = origin_line volume

@@ -2,11 +2,12 @@
 -- Snapshots: taken over an origin, with a stack that nothing uses as their store, and taken away again. The line is the
 -- kernel's `snapshot`; the order of the refusals is this project's own. What an attach reads, writes and answers is the
 -- settled machine's.
-use Rattle.std.specs.Prelude.{ℕ, zero, suc, ◌+◌, ◌&&◌, List, [], ◌∷◌, ◌++◌, slice_set, is_some, if◌then◌else◌, Option, Some, None, Result, Ok, Err}
+use Rattle.std.specs.Prelude.{ℕ, zero, suc, ◌+◌, Bool, ◌&&◌, List, [], ◌∷◌, ◌++◌, slice_set, is_some, if◌then◌else◌, Option, Some, None, Result, Ok, Err}
 use Rattle.std.specs.List.{remove}
 use Rattle.sector.specs.declared.refusal.Refusal.{Refusal}
 use Rattle.sector.specs.declared.refusal.Refusal.TheVariants.{NoSuchDevice, Stale, MergeInProgress}
 use Rattle.device.specs.Layers.{is_loud}
+use Rattle.plain.specs.Plain.{overflow_of}
 use Rattle.words.specs.Given.{◌>>=◌}
 use Rattle.settled.specs.Devices.{sectors_of}
 use Rattle.settled.specs.Snaps.{Volume as Settled}
@@ -38,10 +39,10 @@ over (Some (In v (MergingStore depth))) = Err NoSuchDevice
 abbrev pub store_of : Stacked → Store
 store_of stacked = record { device = stacked.device; stale = stacked.stale }
 
--- one snapshot more, in this state
-abbrev pub with_snapshot : List ℕ → Stacked → Settled → Volume → Volume
-with_snapshot name stacked state volume = record volume {
-  snaps = volume.snaps ++ (record { snapshot = name; store = stacked.names }) ∷ [];
+-- one snapshot more, whose store may overflow or not, in this state
+abbrev pub with_snapshot : List ℕ → Bool → Stacked → Settled → Volume → Volume
+with_snapshot name overflow stacked state volume = record volume {
+  snaps = volume.snaps ++ (record { snapshot = name; store = stacked.names; overflow = overflow }) ∷ [];
   state = state;
   given = volume.given + 1;
   sound = volume.sound && is_loud stacked.device.layers;
@@ -58,23 +59,24 @@ pub record Met : Type 0 where
   pub stacked : Stacked
   pub volume : Volume
 
-abbrev pub met_by : List ℕ → Stacked → Volume → Attached → Met
-met_by name stacked volume a =
-    record { refused = a.refused; stacked = stack_back stacked a.back; volume = with_snapshot name stacked a.volume volume }
+abbrev pub met_by : List ℕ → Bool → Stacked → Volume → Attached → Met
+met_by name overflow stacked volume a =
+    record { refused = a.refused; stacked = stack_back stacked a.back; volume = with_snapshot name overflow stacked a.volume volume }
 
 -- why no stack is attached while a merge is begun: one with a mark is refused for the mark
 abbrev pub kept_out : Stacked → Refusal
 kept_out stacked = if stacked.stale then Stale else MergeInProgress
 
--- the attach of a stack, by a table line with this chunk size; while a merge is begun the stack is left as it is
-unfoldable pub attached_to : ℕ → Stacked → Volume → Attached
-attached_to chunk stacked volume =
+-- The attach of a stack, by a table line with this chunk size that says whether it may overflow. While a merge is begun the
+-- stack is left as it is.
+unfoldable pub attached_to : ℕ → Bool → Stacked → Volume → Attached
+attached_to chunk overflow stacked volume =
     if is_some volume.merging then refused_attach (kept_out stacked) (store_of stacked) volume.state
-    else attached (volume.given + 1) chunk (store_of stacked) volume.state
+    else attached (volume.given + 1) chunk (overflow_of overflow) (store_of stacked) volume.state
 
--- a stack is attached to a volume, by a table line with this chunk size
-unfoldable pub meet : List ℕ → ℕ → Stacked → Volume → Met
-meet name chunk stacked volume = met_by name stacked volume (attached_to chunk stacked volume)
+-- a stack is attached to a volume, by a table line with this chunk size that says whether it may overflow
+unfoldable pub meet : List ℕ → ℕ → Bool → Stacked → Volume → Met
+meet name chunk overflow stacked volume = met_by name overflow stacked volume (attached_to chunk overflow stacked volume)
 
 -- stack i is a store of volume v now, or is left where it was
 abbrev pub snapshot_left : ℕ → ℕ → Option Refusal → Stacked → Volume → Table → Did (Unit {0}) Table
@@ -101,13 +103,13 @@ named_in sectors device store table = do
   _ ← same_size sectors (sectors_of volume.state.origin)
   Ok (record { v = v; i = i; stacked = stacked; volume = volume })
 
-abbrev pub snapshot_by : List ℕ → ℕ → Table → Result Named Refusal → Did (Unit {0}) Table
-snapshot_by name chunk table (Err refusal) = refused table refusal
-snapshot_by name chunk table (Ok n) = snapshot_met n.i n.v (meet name chunk n.stacked n.volume) table
+abbrev pub snapshot_by : List ℕ → ℕ → Bool → Table → Result Named Refusal → Did (Unit {0}) Table
+snapshot_by name chunk overflow table (Err refusal) = refused table refusal
+snapshot_by name chunk overflow table (Ok n) = snapshot_met n.i n.v (meet name chunk overflow n.stacked n.volume) table
 
--- a snapshot of so many sectors of the origin on a device, over a store
-unfoldable pub snapshot_made : List ℕ → ℕ → List ℕ → List ℕ → ℕ → Table → Did (Unit {0}) Table
-snapshot_made name sectors device store chunk table = snapshot_by name chunk table (named_in sectors device store table)
+-- a snapshot of so many sectors of the origin on a device, over a store that may overflow or not
+unfoldable pub snapshot_made : List ℕ → ℕ → List ℕ → List ℕ → ℕ → Bool → Table → Did (Unit {0}) Table
+snapshot_made name sectors device store chunk overflow table = snapshot_by name chunk overflow table (named_in sectors device store table)
 
 -- the store that a detach gives back, under its names
 abbrev pub stack_of : Names → Option Store → Result Stacked Refusal

@@ -23,7 +23,7 @@ is_sound table = list_all is_sound_stack table.stacks && list_all is_sound_volum
 abbrev pub drops_writes : Target → Bool
 drops_writes (Flakey device offset up down features) = features.drop_writes
 drops_writes (Origin device) = false
-drops_writes (Snapshot device store chunk) = false
-drops_writes (Merge device store chunk) = false
+drops_writes (Snapshot device store chunk overflow) = false
+drops_writes (Merge device store chunk overflow) = false
 drops_writes (Dust device block) = false
 drops_writes Error = false

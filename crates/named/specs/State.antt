@@ -14,10 +14,11 @@ pub record Stacked : Type 0 where
   pub device : Device
   pub stale : Bool
 
--- the name of a snapshot, and those of its store's stack from the top
+-- the name of a snapshot, those of its store's stack from the top, and whether its line says that the store may overflow
 pub record Names : Type 0 where
   pub snapshot : List ℕ
   pub store : List (List ℕ)
+  pub overflow : Bool
 
 -- A snapshot that is being merged into its origin: its name and those of its store's stack, and the merge, which has the bytes
 -- and layers of that store.

@@ -6,8 +6,9 @@ use Rattle.sector.specs.declared.refusal.Refusal.{Refusal}
 use Rattle.sector.specs.declared.refusal.Refusal.TheVariants.{BadTable}
 use Rattle.words.specs.Given.{◌>>=◌}
 use Rattle.model.specs.Pairs.{pairs_of}
+use Rattle.plain.specs.Plain.{did_overflow}
 use Rattle.status.specs.declared.State.{State}
-use Rattle.status.specs.declared.State.TheVariants.{Invalid, Failed, Used}
+use Rattle.status.specs.declared.State.TheVariants.{Invalid, Failed, Overflow, Used}
 use Rattle.status.specs.Lines.{origin_text, snapshot_text, merge_text}
 use Rattle.settled.specs.Saves.{next_of}
 use Rattle.settled.specs.Devices.{Device, sectors_of}
@@ -26,9 +27,13 @@ abbrev pub used_of : ℕ → Device → State
 used_of chunk store =
     Used (chunk * next_of chunk (pairs_of chunk store.bytes)) (sectors_of store) (chunk * (length (pairs_of chunk store.bytes) / (32 * chunk) + 2))
 
--- what a status line says of a snapshot
+-- what a status line says of a live snapshot
+abbrev pub live_state : Snap → State
+live_state snap = if did_overflow snap.overflow then Overflow else used_of snap.chunk snap.store
+
+-- What a status line says of a snapshot. One that is spoiled is Invalid, also where its store overflowed before.
 abbrev pub state_of : Snap → State
-state_of snap = if snap.live then used_of snap.chunk snap.store else Invalid
+state_of snap = if snap.live then live_state snap else Invalid
 
 -- the state of snapshot k
 unfoldable pub state_at : ℕ → Volume → Result State Refusal

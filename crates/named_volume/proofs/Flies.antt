@@ -5,6 +5,8 @@ use Rattle.std.specs.List.{list_all}
 use Rattle.std.proofs.lemmas.List.{length-map}
 use Rattle.sector.specs.declared.refusal.Refusal.{Refusal}
 use Rattle.device.specs.Layers.{Layer}
+use Rattle.plain.specs.declared.request.Failure.{Failure}
+use Rattle.plain.specs.declared.request.Failure.TheVariants.{Invalid, Overflow}
 use Rattle.plain.specs.declared.request.Request.{Request}
 use Rattle.pending.specs.Kinds.{kind_of}
 use Rattle.pending.specs.declared.flights.Kind.{Kind}
@@ -12,8 +14,8 @@ use Rattle.pending.specs.declared.flights.Kind.TheVariants.{OriginRead, OriginWr
 use Rattle.pending.specs.declared.flights.Route.{Route}
 use Rattle.event_machine.specs.Held.{Held, Moving}
 use Rattle.event_machine.specs.Seen.{going_of}
-use Rattle.event_machine.specs.Stepping.{for_some, first_that, spoil}
-use Rattle.event_machine.specs.Submitting.{is_filled, needs_none, accepted, declined, read_snap, write_held, write_placed, write_snap, submitted_as}
+use Rattle.event_machine.specs.Stepping.{for_some, first_that, put, spoil}
+use Rattle.event_machine.specs.Submitting.{is_filled, needs_none, accepted, declined, read_snap, write_held, write_placed, write_open, shuts, overflown, write_snap, submitted_as}
 use Rattle.volume.specs.Volumed.{Volumed}
 use Rattle.volume.specs.Moved.{moving_of}
 use Rattle.volume.specs.Leaving.{has_group_in, is_quiet_of, is_done_of}
@@ -30,8 +32,8 @@ one_more (y ∷ xs) x = search (arith)
 flown : (number : ℕ) (request : Request) (route : Route) (v : Moving) → IsFlown (accepted number request route v)
 flown number request route v = record { some = λ none. one_more v.requests _ }
 
-unflown : (v : Moving) → IsFlown (declined v)
-unflown v = record { some = λ none. absurd (cc) }
+unflown : (failure : Failure) (v : Moving) → IsFlown (declined failure v)
+unflown failure v = record { some = λ none. absurd (cc) }
 
 either : (b : Bool) (x y : Moving) → IsFlown x → IsFlown y → IsFlown (if b then x else y)
 either true x y hx hy = hx
@@ -43,25 +45,28 @@ some_or (Some x) f y hf hy = hf x
 
 module _ (number : ℕ) (request : Request) where
   read_flown : (h : Held) (v : Moving) → IsFlown (read_snap number request h v)
-  read_flown h v = either h.snap.live _ _ (flown number request _ v) (unflown v)
+  read_flown h v = either h.snap.live _ _ (flown number request _ v) (unflown Invalid v)
 
   held_flown : (test : Held → Bool) (h : Held) (v : Moving) → IsFlown (write_held number request test h v)
   held_flown test h v =
       let c : ℕ = request.range.first / h.snap.chunk in
-      either (needs_none c h) _ _ (flown number request _ v) (either (is_filled h) _ _ (unflown (spoil test h v)) (flown number request _ _))
+      either (needs_none c h) _ _ (flown number request _ v) (either (is_filled h) _ _ (unflown Invalid (spoil test h v)) (flown number request _ _))
 
   placed_flown : (test : Held → Bool) (h : Held) (place : Option ℕ) (v : Moving) → IsFlown (write_placed number request test h place v)
   placed_flown test h (Some place) v = flown number request _ v
   placed_flown test h None v = held_flown test h v
 
+  open_flown : (test : Held → Bool) (h : Held) (v : Moving) → IsFlown (write_open number request test h v)
+  open_flown test h v = either h.snap.live _ _ (placed_flown test h _ v) (unflown Invalid v)
+
   write_flown : (test : Held → Bool) (h : Held) (v : Moving) → IsFlown (write_snap number request test h v)
-  write_flown test h v = either h.snap.live _ _ (placed_flown test h _ v) (unflown v)
+  write_flown test h v = either (shuts (request.range.first / h.snap.chunk) h) _ _ (unflown Overflow (put test (overflown h) v)) (open_flown test h v)
 
   as_flown : (kind : Kind) (v : Moving) → IsFlown (submitted_as kind number request v)
   as_flown OriginRead v = flown number request _ v
   as_flown OriginWrite v = flown number request _ _
-  as_flown (SnapRead n) v = some_or (first_that (λ h. h.snap.number == n) v.snaps) _ (declined v) (λ h. read_flown h v) (unflown v)
-  as_flown (SnapWrite n) v = some_or (first_that (λ h. h.snap.number == n) v.snaps) _ (declined v) (λ h. write_flown (λ k. k.snap.number == n) h v) (unflown v)
+  as_flown (SnapRead n) v = some_or (first_that (λ h. h.snap.number == n) v.snaps) _ (declined Invalid v) (λ h. read_flown h v) (unflown Invalid v)
+  as_flown (SnapWrite n) v = some_or (first_that (λ h. h.snap.number == n) v.snaps) _ (declined Invalid v) (λ h. write_flown (λ k. k.snap.number == n) h v) (unflown Invalid v)
 
 -- so the volume is not quiet
 pub accepted_flies : {B : Type 0} (contents : B → List ℕ) (layers : B → List Layer) (request : Request) (number : ℕ) (old new : Volumed B) → IsAcceptedAs contents layers request number old new → is_quiet_of new ≡ false

@@ -11,6 +11,7 @@ use Rattle.layers.specs.Beneath.{stack_reads}
 use Rattle.snapshot.specs.declared.opening.StoreDev.{StoreDev}
 use Rattle.store.specs.Reading.{layers_read, AreRead}
 use Rattle.settled.specs.Snaps.{Volume as Settled}
+use Rattle.plain.specs.Plain.{overflow_of}
 use Rattle.served.specs.Refusals.{is_starved}
 use Rattle.settled.specs.Attaching.{Store, attached, refused_attach}
 use Rattle.volume.specs.Volumed.{Volumed}
@@ -24,21 +25,21 @@ use Rattle.store.specs.Opening.{IsRefused}
 use Rattle.named.specs.Snapshots.{meet, attached_to, kept_out, store_of}
 
 -- it was taken
-pub met : (name : List ℕ) (chunk : ℕ) (stacked : Stacked) (volume : Volume) (snaps : List Names) (state : Settled) (given number : ℕ) (sound : Bool) → is_some volume.merging ≡ false → number ≡ volume.given + 1 → attached number chunk (store_of stacked) volume.state ≡ record { volume = state; refused = None; back = None } → snaps ≡ volume.snaps ++ (record { snapshot = name; store = stacked.names }) ∷ [] → given ≡ number → sound ≡ (volume.sound && is_loud stacked.device.layers) → ((meet name chunk stacked volume).refused ≡ None) × ((meet name chunk stacked volume).volume ≡ record volume { snaps = snaps; state = state; given = given; sound = sound })
+pub met : (name : List ℕ) (chunk : ℕ) (overflow : Bool) (stacked : Stacked) (volume : Volume) (snaps : List Names) (state : Settled) (given number : ℕ) (sound : Bool) → is_some volume.merging ≡ false → number ≡ volume.given + 1 → attached number chunk (overflow_of overflow) (store_of stacked) volume.state ≡ record { volume = state; refused = None; back = None } → snaps ≡ volume.snaps ++ (record { snapshot = name; store = stacked.names; overflow = overflow }) ∷ [] → given ≡ number → sound ≡ (volume.sound && is_loud stacked.device.layers) → ((meet name chunk overflow stacked volume).refused ≡ None) × ((meet name chunk overflow stacked volume).volume ≡ record volume { snaps = snaps; state = state; given = given; sound = sound })
 unfolding meet attached_to
-met name chunk stacked volume snaps state given number sound alone is exact more gave loud =
-    let here = ap (λ n. attached n chunk (store_of stacked) volume.state) (sym is) ∙ exact in
+met name chunk overflow stacked volume snaps state given number sound alone is exact more gave loud =
+    let here = ap (λ n. attached n chunk (overflow_of overflow) (store_of stacked) volume.state) (sym is) ∙ exact in
     rw alone (rw here (rw more (rw gave (rw is (rw loud (refl, refl))))))
 
 -- or refused, and given back
-unmet_alone : (name : List ℕ) (chunk : ℕ) (stacked back : Stacked) (volume : Volume) (refusal : Refusal) (store : Store) → is_some volume.merging ≡ false → attached (volume.given + 1) chunk (store_of stacked) volume.state ≡ refused_attach refusal store volume.state → back ≡ with_device store.device stacked → ((meet name chunk stacked volume).refused ≡ Some refusal) × ((meet name chunk stacked volume).stacked ≡ back)
+unmet_alone : (name : List ℕ) (chunk : ℕ) (overflow : Bool) (stacked back : Stacked) (volume : Volume) (refusal : Refusal) (store : Store) → is_some volume.merging ≡ false → attached (volume.given + 1) chunk (overflow_of overflow) (store_of stacked) volume.state ≡ refused_attach refusal store volume.state → back ≡ with_device store.device stacked → ((meet name chunk overflow stacked volume).refused ≡ Some refusal) × ((meet name chunk overflow stacked volume).stacked ≡ back)
 unfolding meet attached_to
-unmet_alone name chunk stacked back volume refusal store alone exact is = rw alone (rw exact (rw is (refl, refl)))
+unmet_alone name chunk overflow stacked back volume refusal store alone exact is = rw alone (rw exact (rw is (refl, refl)))
 
 -- beside a merge it comes back as it was
-unmet_beside : (name : List ℕ) (chunk : ℕ) (stacked back : Stacked) (volume : Volume) (refusal : Refusal) → is_some volume.merging ≡ true → refusal ≡ kept_out stacked → back ≡ stacked → ((meet name chunk stacked volume).refused ≡ Some refusal) × ((meet name chunk stacked volume).stacked ≡ back)
+unmet_beside : (name : List ℕ) (chunk : ℕ) (overflow : Bool) (stacked back : Stacked) (volume : Volume) (refusal : Refusal) → is_some volume.merging ≡ true → refusal ≡ kept_out stacked → back ≡ stacked → ((meet name chunk overflow stacked volume).refused ≡ Some refusal) × ((meet name chunk overflow stacked volume).stacked ≡ back)
 unfolding meet attached_to
-unmet_beside name chunk stacked back volume refusal begun why is = rw begun (rw why (rw is (refl, refl)))
+unmet_beside name chunk overflow stacked back volume refusal begun why is = rw begun (rw why (rw is (refl, refl)))
 
 -- why a volume takes none: beside a merge, and while it is not quiet
 beside_is : (stale quiet : Bool) (count given chunk : ℕ) (e : Refusal) → taking_refusal stale true quiet count given chunk ≡ Some e → e ≡ (if stale then Stale else MergeInProgress)
@@ -102,12 +103,12 @@ module _ (chunk origin size : ℕ) (bytes : List ℕ) (names : List (List ℕ)) 
       ]
 
   -- the refusal is that of the settled machine, whether a merge is begun or not
-  pub unmet : (name : List ℕ) (volume : Volume) → is_some volume.merging ≡ is_some v.merge → store.stale ≡ stale
-      → (e ≢ MergeInProgress → attached (volume.given + 1) chunk (record { device = device_of device; stale = stale }) volume.state ≡ refused_attach e (record { device = device_of store.device; stale = store.stale }) volume.state)
-      → ((meet name chunk stacked volume).refused ≡ Some e) × ((meet name chunk stacked volume).stacked ≡ back)
-  unmet name volume merged mark exact = elim (cases_Bool (is_some v.merge)) [
-    | inl begun ↦ (let b = beside_back begun in unmet_beside name chunk stacked back volume e (merged ∙ begun) b.0 b.1)
-    | inr alone ↦ unmet_alone name chunk stacked back volume e (record { device = device_of store.device; stale = store.stale }) (merged ∙ alone)
+  pub unmet : (name : List ℕ) (overflow : Bool) (volume : Volume) → is_some volume.merging ≡ is_some v.merge → store.stale ≡ stale
+      → (e ≢ MergeInProgress → attached (volume.given + 1) chunk (overflow_of overflow) (record { device = device_of device; stale = stale }) volume.state ≡ refused_attach e (record { device = device_of store.device; stale = store.stale }) volume.state)
+      → ((meet name chunk overflow stacked volume).refused ≡ Some e) × ((meet name chunk overflow stacked volume).stacked ≡ back)
+  unmet name overflow volume merged mark exact = elim (cases_Bool (is_some v.merge)) [
+    | inl begun ↦ (let b = beside_back begun in unmet_beside name chunk overflow stacked back volume e (merged ∙ begun) b.0 b.1)
+    | inr alone ↦ unmet_alone name chunk overflow stacked back volume e (record { device = device_of store.device; stale = store.stale }) (merged ∙ alone)
         (rw is (exact (alone_refused stale chunk origin size bytes v e alone why)))
         (rw back_is (rw is (rw mark refl)))
   ]

@@ -10,7 +10,7 @@ use Rattle.plain.specs.declared.request.Dev.{Dev}
 use Rattle.plain.specs.declared.request.Reply.{Reply}
 use Rattle.plain.specs.declared.request.Reply.TheVariants.{Data, Written, Refused}
 use Rattle.plain.specs.declared.request.Failure.{Failure}
-use Rattle.plain.specs.declared.request.Failure.TheVariants.{Invalid, Io}
+use Rattle.plain.specs.declared.request.Failure.TheVariants.{Invalid, Io, Overflow}
 use Rattle.settled.specs.Merges.{Merged}
 use Rattle.served.specs.Beside.{Served, read_beside, written_beside, written_first_beside, count_beside}
 use Rattle.served.specs.Refusals.{is_starved}
@@ -32,6 +32,7 @@ did a b x y ab xy = rw ab (rw xy refl)
 served : (failure : Failure) → is_starved (refusal_of failure) ≡ false
 served Invalid = refl
 served Io = refl
+served Overflow = refl
 
 not_both : (b : Bool) → b ≡ true → b ≡ false → ⊥
 not_both b is isnt = absurd (cc)

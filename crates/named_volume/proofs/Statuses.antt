@@ -9,8 +9,9 @@ use Rattle.std.specs.declared.alloc.AllocError.{AllocError}
 use Rattle.layers.specs.declared.stack.Stack.{Stack}
 use Rattle.layers.specs.Stack.{stack_contents, stack_layers, stack_size}
 use Rattle.chunk_alloc.specs.declared.usage.Usage.{Usage}
+use Rattle.plain.specs.Plain.{did_overflow}
 use Rattle.status.specs.declared.State.{State}
-use Rattle.status.specs.declared.State.TheVariants.{Invalid, Used}
+use Rattle.status.specs.declared.State.TheVariants.{Invalid, Overflow, Used}
 use Rattle.status.specs.Lines.{snapshot_text}
 use Rattle.settled.specs.Devices.{sectors_of as size_of}
 use Rattle.settled.specs.Snaps.{Snap}
@@ -44,12 +45,15 @@ pub merging_flies : (volume : Volume) (moving : Moving) (text : List ℕ) → st
 unfolding status_flying
 merging_flies volume moving text is = is
 
--- one that is spoiled, and one that is live
+-- one that is spoiled, one whose store overflowed, and one that is live
 pub invalid_kept : (s : Kept Stack) → false ≡ s.live → Invalid ≡ state_kept s
 invalid_kept s dead = rw (sym dead) refl
 
-pub used_kept : (s : Kept Stack) (usage : Usage) → true ≡ s.live → IsInUse stack_size s usage → Used usage.allocated usage.total usage.metadata ≡ state_kept s
-used_kept s usage live used = rw (sym live) (rw used.allocated (rw used.metadata (rw (used.total ∙ sym (size_of_stack s.device)) refl)))
+pub overflow_kept : (s : Kept Stack) → true ≡ s.live → did_overflow s.overflow ≡ true → Overflow ≡ state_kept s
+overflow_kept s live did = rw (sym live) (rw did refl)
+
+pub used_kept : (s : Kept Stack) (usage : Usage) → true ≡ s.live → did_overflow s.overflow ≡ false → IsInUse stack_size s usage → Used usage.allocated usage.total usage.metadata ≡ state_kept s
+used_kept s usage live room used = rw (sym live) (rw room (rw used.allocated (rw used.metadata (rw (used.total ∙ sym (size_of_stack s.device)) refl))))
 
 module _ (volume : Rested Stack) (whole : IsWhole volume) (k : ℕ) (within : k < length volume.snaps) where
   snaps_are : volume.snaps ≡ map attached_of volume.events.snaps

@@ -6,8 +6,9 @@ use Rattle.std.specs.declared.alloc.AllocError.{AllocError}
 use Rattle.layers.specs.declared.stack.Stack.{Stack}
 use Rattle.layers.specs.Stack.{stack_contents, stack_size}
 use Rattle.chunk_alloc.specs.declared.usage.Usage.{Usage}
+use Rattle.plain.specs.Plain.{did_overflow}
 use Rattle.status.specs.declared.State.{State}
-use Rattle.status.specs.declared.State.TheVariants.{Invalid, Failed, Used}
+use Rattle.status.specs.declared.State.TheVariants.{Invalid, Failed, Overflow, Used}
 use Rattle.status.specs.Lines.{merge_text, origin_text, snapshot_text}
 use Rattle.settled.specs.Devices.{sectors_of as size_of}
 use Rattle.settled.specs.Snaps.{Snap}
@@ -31,9 +32,13 @@ use Rattle.named_volume.proofs.Places.{at_place, stack_snap}
 pub invalid_is : (s : Attached Stack) → false ≡ s.live → Invalid ≡ state_of (stack_snap s)
 invalid_is s dead = rw (sym dead) refl
 
+-- one whose store overflowed
+pub overflow_is : (s : Attached Stack) → true ≡ s.live → did_overflow s.overflow ≡ true → Overflow ≡ state_of (stack_snap s)
+overflow_is s live did = rw (sym live) (rw did refl)
+
 -- one that is live
-pub used_is : (s : Attached Stack) (usage : Usage) → true ≡ s.live → IsUsed stack_contents stack_size s usage → Used usage.allocated usage.total usage.metadata ≡ state_of (stack_snap s)
-used_is s usage live used = rw (sym live) (rw used.allocated (rw used.metadata (rw (used.total ∙ sym (size_of_stack s.store)) refl)))
+pub used_is : (s : Attached Stack) (usage : Usage) → true ≡ s.live → did_overflow s.overflow ≡ false → IsUsed stack_contents stack_size s usage → Used usage.allocated usage.total usage.metadata ≡ state_of (stack_snap s)
+used_is s usage live room used = rw (sym live) (rw room (rw used.allocated (rw used.metadata (rw (used.total ∙ sym (size_of_stack s.store)) refl))))
 
 -- one that failed while it was merged
 pub failed_is : (v : Rested Stack) (m : Merging Stack) → v.events.merge ≡ Some m → has_failed v.events.merge ≡ true → (g : Merge) × ((merged_inside v).merge ≡ Some g) × (Failed ≡ merge_state g)

@@ -1,5 +1,5 @@
 -- What calls leave of the names of a volume's devices.
-use Rattle.std.specs.Prelude.{◌≡◌, ◌+◌, List, ℕ, [], ◌∷◌, ◌++◌}
+use Rattle.std.specs.Prelude.{◌≡◌, ◌+◌, Bool, List, ℕ, [], ◌∷◌, ◌++◌}
 use Rattle.std.specs.Prelude.{Some, None, Ok}
 use Rattle.std.specs.List.{remove}
 use Rattle.named.specs.State.{Stacked, Names, Volume, names_in}
@@ -15,12 +15,12 @@ pub record KeepsNames (old new : Volume) : Type 0 where
   pub given : new.given ≡ old.given
   pub sound : new.sound ≡ old.sound
 
--- a snapshot of this name over a store is there, after the others
-pub record IsNamedMore (name : List ℕ) (store : Stacked) (old new : Volume) : Type 0 where
+-- a snapshot of this name over a store, which may overflow or not, is there after the others
+pub record IsNamedMore (name : List ℕ) (overflow : Bool) (store : Stacked) (old new : Volume) : Type 0 where
   pub origin : new.origin ≡ old.origin
   pub under : new.under ≡ old.under
   pub stale : new.stale ≡ old.stale
-  pub snaps : new.snaps ≡ old.snaps ++ (record { snapshot = name; store = store.names }) ∷ []
+  pub snaps : new.snaps ≡ old.snaps ++ (record { snapshot = name; store = store.names; overflow = overflow }) ∷ []
   pub merging : names_in new.merging ≡ names_in old.merging
   pub given : new.given ≡ old.given + 1
 

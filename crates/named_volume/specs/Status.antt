@@ -7,8 +7,9 @@ use Rattle.sector.specs.declared.refusal.Refusal.{Refusal}
 use Rattle.sector.specs.declared.refusal.Refusal.TheVariants.{NoSuchDevice}
 use Rattle.words.specs.Given.{◌>>=◌}
 use Rattle.status.specs.declared.State.{State}
-use Rattle.status.specs.declared.State.TheVariants.{Invalid, Used}
+use Rattle.status.specs.declared.State.TheVariants.{Invalid, Overflow, Used}
 use Rattle.status.specs.Lines.{snapshot_text}
+use Rattle.plain.specs.Plain.{did_overflow}
 use Rattle.settled.specs.Devices.{Device, sectors_of}
 use Rattle.event_machine.specs.Held.{Held, Moving}
 use Rattle.snapshot.specs.Kept.{Kept}
@@ -26,9 +27,12 @@ use Rattle.named.specs.Status.{status_in}
 abbrev pub used_flying : Held → Device → State
 used_flying h store = Used (h.snap.chunk * h.next) (sectors_of store) (h.snap.chunk * (length h.pairs / (32 * h.snap.chunk) + 2))
 
--- what is said of a snapshot over its store
+-- what is said of a live snapshot over its store, and of any
+abbrev pub live_flying : Held → Device → State
+live_flying h store = if did_overflow h.snap.overflow then Overflow else used_flying h store
+
 abbrev pub state_flying : Held → Device → State
-state_flying h store = if h.snap.live then used_flying h store else Invalid
+state_flying h store = if h.snap.live then live_flying h store else Invalid
 
 -- the same of one that a volume of events keeps
 abbrev pub kept_held : Kept Stack → Held

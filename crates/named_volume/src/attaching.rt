@@ -16,21 +16,23 @@ use std::alloc::Global;
 use words::Name;
 
 impl NamedVolume {
-    /// Takes a snapshot of the origin, with a stack as its store, by a table line with this chunk size. Where a request is in
-    /// flight or anything is left to do, `Stale` for a stack with a mark, `MergeInProgress` beside a merge, and else `NotQuiet`,
-    /// but for `NoMemory` and `JournalFull`; then the stack is given back as it was.
+    /// Takes a snapshot of the origin, with a stack as its store, by a table line with this chunk size that says
+    /// whether the store may overflow. Where a request is in flight or anything is left to do, `Stale` for a stack with a
+    /// mark, `MergeInProgress` beside a merge, and else `NotQuiet`, but for `NoMemory` and `JournalFull`; then the stack is
+    /// given back as it was.
     pub fn attach(
         &mut self,
         alloc: Global,
         name: Name,
         stack: NamedStack,
         chunk: u32,
+        overflow: bool,
     ) -> Result<(), (Refusal, NamedStack)>
-        ensures ok { OnOk result (self.old.sound ≡ true → self.old.quiet ≡ true → is_loud stack.device.layers ≡ true → ((meet name chunk stack self.old).refused ≡ None) × ((meet name chunk stack self.old).volume ≡ self.new)) }
-        ensures err { IfErr result (λ e. is_starved e.0 ≡ false → self.old.sound ≡ true → self.old.quiet ≡ true → is_loud stack.device.layers ≡ true → ((meet name chunk stack self.old).refused ≡ Some e.0) × ((meet name chunk stack self.old).stacked ≡ e.1)) }
+        ensures ok { OnOk result (self.old.sound ≡ true → self.old.quiet ≡ true → is_loud stack.device.layers ≡ true → ((meet name chunk overflow stack self.old).refused ≡ None) × ((meet name chunk overflow stack self.old).volume ≡ self.new)) }
+        ensures err { IfErr result (λ e. is_starved e.0 ≡ false → self.old.sound ≡ true → self.old.quiet ≡ true → is_loud stack.device.layers ≡ true → ((meet name chunk overflow stack self.old).refused ≡ Some e.0) × ((meet name chunk overflow stack self.old).stacked ≡ e.1)) }
         ensures busy { IfErr result (λ e. self.old.quiet ≡ false → ((is_starved e.0 ≡ true) ⊎ (e.0 ≡ (if stack.stale then Stale else (if is_some self.old.merging then MergeInProgress else NotQuiet)))) × (e.1 ≡ stack)) }
         ensures starved { IfErr result (λ e. is_starved e.0 ≡ true → e.1 ≡ stack) }
-        ensures named { OnOk result (IsNamedMore name stack self.old self.new) }
+        ensures named { OnOk result (IsNamedMore name overflow stack self.old self.new) }
         ensures names { IfErr result (λ e. e.1.names ≡ stack.names) }
         ensures same { OnErr result (self.new ≡ self.old) }
         ensures sound { OnOk result (self.new.sound ≡ self.old.sound && is_loud stack.device.layers) }
@@ -45,11 +47,15 @@ impl NamedVolume {
         look(&self.volume);
         let loud = stack.is_loud();
         let (names, device, stale) = stack.into_parts();
-        match self.volume.attach(alloc, StoreDev { device, stale }, chunk) {
+        match self
+            .volume
+            .attach(alloc, StoreDev { device, stale }, chunk, overflow)
+        {
             Ok(_) => {
                 self.snaps.push_reserved(SnapNames {
                     snapshot: name,
                     store: names,
+                    overflow,
                 });
                 self.sound = self.sound && loud;
                 Ok(())
@@ -77,7 +83,7 @@ impl NamedVolume {
             Ok(given) => given,
             Err(refusal) => return Err(refusal),
         };
-        let SnapNames { snapshot: _, store } = self.snaps.remove(k);
+        let SnapNames { store, .. } = self.snaps.remove(k);
         Ok(NamedStack::of_parts(store, given.device, given.stale))
     }
 }

@@ -1,6 +1,6 @@
 // Requests that one call starts and later ones end.
 ghost use Rattle.std.specs.Prelude.{◌≡◌, ◌≢◌, ◌+◌, ◌*◌, ◌<◌, ◌≤◌, ℕ, List, length, get_or, is_ok, true, false, not, ◌&&◌, None, Ok, Err, IfErr, IfOk, OnOk, OnErr};
-ghost use Rattle.sector.specs.declared.refusal.Refusal.TheVariants.{NoMemory, Invalid};
+ghost use Rattle.sector.specs.declared.refusal.Refusal.TheVariants.{NoMemory, Invalid, Overflow};
 ghost use Rattle.plain.specs.declared.request.Op.TheVariants.{Write};
 ghost use Rattle.settled.specs.Snaps.{Snap};
 ghost use Rattle.volume.specs.EventKinds.{is_of_merge};
@@ -38,8 +38,9 @@ impl NamedVolume {
 
     /// Starts a read or a write of so many sectors from `first` on, and tells its number; it is in flight from then on. Refused
     /// in this order: `BadTable` for disks and layers, `OutOfRange` for sectors past the end, `MergingSnapshot` for the snapshot
-    /// that is being merged, `TooMany` where 2^60 sectors were asked for in all; then, as the volume submits, `JournalFull`, `Invalid` for a spoiled snapshot, `OutOfRange` for sectors of
-    /// two chunks, `TooMany`, `NoMemory`, and `Invalid` for a snapshot whose store is full, which is spoiled by it.
+    /// that is being merged, `TooMany` where 2^60 sectors were asked for in all; then, as the volume submits, `JournalFull`, `Invalid` for a spoiled snapshot, `Overflow` for a write of one
+    /// whose store overflowed, `OutOfRange` for sectors of two chunks, `TooMany`, `NoMemory`, and for a snapshot whose store is
+    /// full `Invalid`, which spoils it, or `Overflow`, if it may overflow.
     pub fn start(
         &mut self,
         alloc: Global,
@@ -58,7 +59,8 @@ impl NamedVolume {
         ensures started { IfOk result (λ number. IfOk (asked_of role first count self.old) (IsStarted op number self.old self.new)) }
         ensures refused { IfErr result (λ e. IfOk (asked_of role first count self.old) (IsNotStarted op e self.old self.new)) }
         ensures counts { IfOk (asked_of role first count self.old) (λ _. self.new.asked ≡ self.old.asked + count) }
-        ensures same { IfErr result (λ e. e ≢ Invalid → (self.new.state ≡ self.old.state) × (self.new.quiet ≡ self.old.quiet)) }
+        ensures same { IfErr result (λ e. e ≢ Invalid → e ≢ Overflow → self.new.state ≡ self.old.state) }
+        ensures still { IfErr result (λ e. e ≢ Invalid → self.new.quiet ≡ self.old.quiet) }
         ensures kept { KeepsNames self.old self.new }
     {
         let (dev, range) = match ask(&self.volume, &mut self.asked, role, first, count) {

@@ -67,7 +67,7 @@ impl NamedVolume {
             Err(refusal) => return Err(refusal),
         };
         match self.merging.take() {
-            Some(SnapNames { snapshot: _, store }) => {
+            Some(SnapNames { store, .. }) => {
                 Ok(NamedStack::of_parts(store, given.device, given.stale))
             }
             None => unreachable!(),

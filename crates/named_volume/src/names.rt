@@ -16,11 +16,12 @@ use std::marker::Model;
 use table::Line;
 use words::Name;
 
-/// A snapshot's name, and those of its store's stack from the top.
+/// A snapshot's name, those of its store's stack from the top, and whether its line says that the store may overflow.
 #[derive(Drop)]
 pub struct SnapNames {
     pub(crate) snapshot: Name,
     pub(crate) store: Vec<Name>,
+    pub(crate) overflow: bool,
 }
 
 impl Model for SnapNames {
@@ -28,7 +29,7 @@ impl Model for SnapNames {
 
     ghost Value = { Names };
 
-    ghost view = { λ n. record { snapshot = n.snapshot; store = n.store.items } };
+    ghost view = { λ n. record { snapshot = n.snapshot; store = n.store.items; overflow = n.overflow } };
 }
 
 impl SnapNames {

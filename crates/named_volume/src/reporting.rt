@@ -92,6 +92,7 @@ impl NamedVolume {
                 device: device.copy(),
                 store: store.copy(),
                 chunk,
+                overflow: names.overflow,
             },
         })
     }
@@ -131,6 +132,7 @@ impl NamedVolume {
                 device: device.copy(),
                 store: store.copy(),
                 chunk,
+                overflow: names.overflow,
             },
         })
     }
@@ -152,13 +154,15 @@ impl NamedVolume {
         ensures { result ≡ snapshot_line_of k self.now }
     {
         let device = self.under.get(0).ok_or(Refusal::BadTable)?;
-        let store = self.snaps[k].top().ok_or(Refusal::BadTable)?;
+        let names = &self.snaps[k];
+        let store = names.top().ok_or(Refusal::BadTable)?;
         Ok(Line {
             sectors: sectors_of(self.volume.origin()),
             target: Target::Snapshot {
                 device: device.copy(),
                 store: store.copy(),
                 chunk: chunk_at(&self.volume, k),
+                overflow: names.overflow,
             },
         })
     }

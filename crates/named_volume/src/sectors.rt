@@ -139,7 +139,8 @@ impl NamedVolume {
         self.volume.read_among(alloc, dev, range, ended)
     }
 
-    /// Writes sectors of the origin or of a snapshot, from `first` on. Refused as a read is.
+    /// Writes sectors of the origin or of a snapshot, from `first` on. Refused as a read is, and with `Overflow` where the
+    /// snapshot's store overflows, or did before.
     pub fn write(
         &mut self,
         alloc: Global,

@@ -25,7 +25,7 @@ fn take_store(
         return None;
     }
     *before = before.saturating_sub(1);
-    let SnapNames { snapshot: _, store } = snaps.remove(0);
+    let SnapNames { store, .. } = snaps.remove(0);
     Some(store)
 }
 

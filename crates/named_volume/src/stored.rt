@@ -3,6 +3,7 @@ ghost use Rattle.std.specs.Prelude.{◌≡◌, ◌<◌, true, length, get_or, If
 ghost use Rattle.layers.specs.Stack.{stack_layers};
 ghost use Rattle.settled.specs.Merges.{Merge};
 ghost use Rattle.settled.specs.Snaps.{Snap};
+ghost use Rattle.status.specs.declared.State.TheVariants.{Used};
 ghost use Rattle.volume.specs.Leaving.{is_quiet_of};
 ghost use Rattle.resting.specs.Flying.{IsWhole};
 ghost use Rattle.resting.specs.Rested.{is_loud_in};
@@ -11,9 +12,10 @@ ghost use Rattle.named.specs.Status.{merge_state, state_of};
 ghost use Rattle.named_volume.specs.Held.{merged_inside, settled_in, IsSettledIn};
 ghost use Rattle.named_volume.specs.Status.{IsStateAt};
 
+use chunk_alloc::Usage;
 use layers::Stack;
 use named_stack::sectors_of;
-use plain::SnapId;
+use plain::{Overflowing, SnapId};
 use resting::Resting;
 use status::State;
 
@@ -48,6 +50,17 @@ pub(crate) fn number_at(volume: &Resting<Stack>, k: usize) -> SnapId
     volume.number(k)
 }
 
+/// What a status line says of a store in use.
+fn used(usage: Usage) -> State
+    ensures { result ≡ Used usage.allocated usage.total usage.metadata }
+{
+    State::Used {
+        allocated: usage.allocated,
+        total: usage.total,
+        metadata: usage.metadata,
+    }
+}
+
 /// What its status line says of it, whatever is in flight.
 pub(crate) fn state_at(volume: &Resting<Stack>, k: usize) -> State
     requires { k < length volume.now.snaps }
@@ -55,13 +68,14 @@ pub(crate) fn state_at(volume: &Resting<Stack>, k: usize) -> State
     ensures held { IsStateAt result k volume.now }
     ensures whole { IsWhole volume.now }
 {
-    match volume.usage(k) {
-        None => State::Invalid,
-        Some(usage) => State::Used {
-            allocated: usage.allocated,
-            total: usage.total,
-            metadata: usage.metadata,
-        },
+    let usage = match volume.usage(k) {
+        None => return State::Invalid,
+        Some(usage) => usage,
+    };
+    match volume.overflow(k) {
+        Overflowing::Did => State::Overflow,
+        Overflowing::Never => used(usage),
+        Overflowing::May => used(usage),
     }
 }
 

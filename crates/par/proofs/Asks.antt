@@ -4,6 +4,7 @@ use Rattle.std.proofs.lemmas.List.{get_or_past}
 use Rattle.std.proofs.lemmas.Option.{slice_get_cases}
 use Rattle.settled.specs.Snaps.{Snap, Volume}
 use Rattle.plain.specs.declared.request.Dev.TheVariants.{Snap as to_snap}
+use Rattle.plain.specs.declared.request.Overflowing.TheVariants.{Never}
 use Rattle.named.specs.State.{Volume as Named}
 use Rattle.named.specs.Messages.{snap_at}
 use Rattle.named.specs.Sectors.{dev_of}
@@ -12,7 +13,7 @@ use Rattle.named.specs.declared.place.Role.TheVariants.{Snapshot}
 use Rattle.par.specs.Asking.{merges_of}
 
 abbrev numbered : ℕ → Snap
-numbered n = record { number = n; chunk = 0; live = true; stale = false; store = record { bytes = []; layers = [] } }
+numbered n = record { number = n; chunk = 0; live = true; stale = false; overflow = Never; store = record { bytes = []; layers = [] } }
 
 pub snap_there : (k : ℕ) (state : Volume) (n : ℕ) → ((d : Snap) → n ≡ (get_or state.snaps k d).number) → (s : Snap) × (snap_at k state ≡ Ok s) × (n ≡ s.number)
 snap_there k state n is = elim (slice_get_cases state.snaps k).1 [

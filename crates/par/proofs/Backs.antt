@@ -94,7 +94,7 @@ begins : (p : Parts) (requests : ℕ) (old new : Rested Stack) → HasAll p old 
 begins p requests old new was now attached =
     let k = place_begun new in
     let low : k < length p.snaps = omega (arith, place_within new, now.many) in
-    let d : Names = record { snapshot = []; store = [] } in
+    let d : Names = record { snapshot = []; store = []; overflow = false } in
     let is : slice_get p.snaps k ≡ Some (get_or p.snaps k d) = slice_get-get_or p.snaps k d low in
     let some : is_some (slice_get p.snaps k) ≡ is_some new.events.merge = ap is_some is ∙ sym now.begun in record {
       origin = refl;
@@ -140,7 +140,7 @@ begun_named : (p : Parts) (new : Rested Stack) → HasBegun p new → is_some (s
 begun_named p new begun =
     let k = place_begun new in
     let low : k < length p.snaps = omega (arith, place_within new, begun.many) in
-    let d : Names = record { snapshot = []; store = [] } in
+    let d : Names = record { snapshot = []; store = []; overflow = false } in
     ap is_some (slice_get-get_or p.snaps k d low) ∙ sym begun.begun
 
 pub stands_now : (before : AuditShape Stack) (p : Parts) (audit : AuditShape Stack) (old : Volume) (v : Volumed Stack) (result : Volume) → IsBack before p audit old → KeepsDevices stack_layers stack_size (rested_of audit.volume) (rested_of v)

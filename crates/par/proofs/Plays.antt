@@ -5,10 +5,10 @@ use Rattle.std.proofs.lemmas.List.{append_assoc, append_cancel_left}
 use Rattle.layers.specs.declared.stack.Stack.{Stack}
 use Rattle.journal.specs.declared.entry.Answered.{Answered}
 use Rattle.journal.specs.declared.entry.Entry.{Entry}
-use Rattle.journal.specs.declared.entry.Entry.TheVariants.{Answered as IsAnswered, Spoiled, Attached, Detached, Begun, Finished}
+use Rattle.journal.specs.declared.entry.Entry.TheVariants.{Answered as IsAnswered, Spoiled, Overflowed, Attached, Detached, Begun, Finished}
 use Rattle.journal.specs.Books.{AuditShape}
 use Rattle.journal.specs.Entries.{entries_by}
-use Rattle.plain.specs.Plain.{saved_under}
+use Rattle.plain.specs.Plain.{saved_under, overflow_under}
 use Rattle.journal.specs.Replay.{AllLawful, Saves, after, replay}
 use Rattle.journal.proofs.Replaying.{entries_by_spoils, replay_then}
 use Rattle.named.specs.State.{Volume}
@@ -18,11 +18,12 @@ use Rattle.history.specs.Keeping.{Begins}
 use Rattle.layers.specs.Stack.{stack_layers, stack_size}
 use Rattle.plain.specs.declared.request.Dev.{Dev}
 use Rattle.plain.specs.declared.request.Dev.TheVariants.{Origin, Snap}
+use Rattle.plain.specs.declared.request.Request.{Request}
 use Rattle.sector.specs.declared.refusal.Refusal.{Refusal}
 use Rattle.snapshots.specs.Numbers.{number_of_snap}
 use Rattle.volume.specs.Stepping.{merged_of}
 use Rattle.volume.specs.Volumed.{is_loud_in_all}
-use Rattle.post.specs.Denying.{IsClosed, IsDenied, IsLost, WasDenied, Wish, Serve, Begin}
+use Rattle.post.specs.Denying.{IsClosed, IsDenied, IsLost, IsShut, WasDenied, Wish, Serve, Begin}
 use Rattle.post.specs.Fixed.{Fixed, fixed_of}
 use Rattle.par.specs.Played.{IsPlayedIn, Story, shown_by}
 use Rattle.par.specs.Running.{IsRun}
@@ -41,7 +42,8 @@ in_front false a xs ys = refl
 entries_by-append : (n : ℕ) (es fs : List Entry) → entries_by n (es ++ fs) ≡ entries_by n es ++ entries_by n fs
 entries_by-append n [] fs = refl
 entries_by-append n (Spoiled m ∷ es) fs = entries_by-append n es fs
-entries_by-append n (Attached m x ∷ es) fs = entries_by-append n es fs
+entries_by-append n (Overflowed m ∷ es) fs = entries_by-append n es fs
+entries_by-append n (Attached m x o ∷ es) fs = entries_by-append n es fs
 entries_by-append n (Detached m ∷ es) fs = entries_by-append n es fs
 entries_by-append n (Begun m ∷ es) fs = entries_by-append n es fs
 entries_by-append n (Finished ∷ es) fs = entries_by-append n es fs
@@ -76,9 +78,13 @@ module _ (g : Fixed) (base s t : Saves) (same : g.loud ≡ true → t ≡ s) whe
   still_closed (Snap number) refusal (inr (inl missing)) = inr (inl missing)
   still_closed (Snap number) refusal (inr (inr lost)) = inr (inr (lost.0, still_lost number lost.1))
 
+  still_shut : (request : Request) → IsShut g s request → IsShut (record g { base = base }) t request
+  still_shut request h = (h.0, h.1, h.2, h.3, h.4, h.5, λ loud. ap (λ (x : Saves). overflow_under h.0 x.saved) (same loud) ∙ h.6 loud)
+
   still_denied : (wish : Wish) (refusal : Refusal) → IsDenied g s wish refusal → IsDenied (record g { base = base }) t wish refusal
   still_denied (Serve request) refusal (inl closed) = inl (still_closed request.dev refusal closed)
-  still_denied (Serve request) refusal (inr other) = inr other
+  still_denied (Serve request) refusal (inr (inl shut)) = inr (inl (shut.0, still_shut request shut.1))
+  still_denied (Serve request) refusal (inr (inr other)) = inr (inr other)
   still_denied (Begin number) refusal (inl begun) = inl begun
   still_denied (Begin number) refusal (inr (inl missing)) = inr (inl missing)
   still_denied (Begin number) refusal (inr (inr (inl lost))) = inr (inr (inl (lost.0, still_lost number lost.1)))

@@ -1,26 +1,24 @@
 -- A snapshot that nobody writes shows its array after every call, or is lost.
-use Rattle.std.proofs.Common.{◌≡◌, ◌⊎◌, inl, inr, ℕ, Bool, true, false, List, [], ◌∷◌, ◌++◌, Some, map, refl, sym, ◌∙◌, ap, ne_eqb, eq-eqb}
-use Rattle.std.specs.List.{list_any}
+use Rattle.std.proofs.Common.{◌≡◌, ◌⊎◌, inl, inr, ℕ, false, List, [], ◌∷◌, Some, map, refl, sym, ◌∙◌, ap}
 use Rattle.std.specs.Prelude.{◌==◌, ◌||◌}
 use Rattle.std.proofs.lemmas.Bool.{cases_Bool, eqb-true, or_from, or_parts}
 use Rattle.std.proofs.lemmas.List.Folds.{list_any-append}
 use Rattle.sector.specs.declared.range.Range.{Range}
-use Rattle.sector.specs.declared.refusal.Refusal.{Refusal}
 use Rattle.plain.specs.declared.request.Dev.{Dev}
 use Rattle.plain.specs.declared.request.Dev.TheVariants.{Origin, Snap}
 use Rattle.plain.specs.declared.request.Op.{Op}
 use Rattle.plain.specs.declared.request.Op.TheVariants.{Read, Write}
 use Rattle.plain.specs.declared.request.Reply.{Reply}
 use Rattle.plain.specs.declared.request.Reply.TheVariants.{Data, Written, Refused}
-use Rattle.plain.specs.declared.request.Failure.TheVariants.{Invalid as IsInvalid, Io}
+use Rattle.plain.specs.declared.request.Failure.TheVariants.{Invalid as IsInvalid, Io, Overflow}
 use Rattle.plain.specs.declared.request.Request.{Request}
 use Rattle.plain.specs.declared.event.Event.{Event}
 use Rattle.plain.specs.declared.event.Event.TheVariants.{Issue, CopyRead, CopyWrite, ZeroNext, WriteArea, Publish, WriteInvalid, MergeGroup, MergeAreaRead, MergeRead, MergeWrite, MergeFlush, MergeCommit, MergeRelease}
 use Rattle.plain.specs.declared.event.Outcome.{Outcome}
 use Rattle.plain.specs.declared.event.Outcome.TheVariants.{Done, Fault, Reply as Replied}
-use Rattle.plain.specs.Plain.{Plain, Entry, InFlight, Saved, Live, Invalid, saved_under, with_saved, asked_under, without, is_in, spoiled_entry, spoiled}
+use Rattle.plain.specs.Plain.{Plain, Entry, InFlight, Saved, Live, Invalid, saved_under, with_saved, asked_under, without, is_in, spoiled_entry, marked_in}
 use Rattle.plain.specs.Serves.{Serves}
-use Rattle.plain.specs.Legal.{Spoils, IsAnswered, IsLegalStep, IsSubmitted, IsDeclined}
+use Rattle.plain.specs.Legal.{Spoils, IsAnswered, IsLegalStep}
 use Rattle.plain.specs.Runs.{MayStep, MaySubmit}
 use Rattle.plain.specs.Unwritten.{writes, is_written, StillShows}
 
@@ -45,11 +43,22 @@ still_spoiled which number array p q is shows = elim (saved_spoiled which number
   | inr lost ↦ inr (ap (saved_under number) is ∙ lost)
 ]
 
+-- a mark changes nothing of what is shown
+pub saved_marked : (number n : ℕ) (entries : List Entry) → saved_under number (marked_in n entries) ≡ saved_under number entries
+saved_marked number n [] = refl
+saved_marked number n (e ∷ es) = elim (cases_Bool (e.number == n)) [
+  | inl here ↦ rw here refl
+  | inr there ↦ elim (cases_Bool (e.number == number)) [
+    | inl mine ↦ rw there (rw mine refl)
+    | inr other ↦ rw there (rw other (saved_marked number n es))
+  ]
+]
+
 -- another snapshot's array changes nothing of this one
 saved_other : (number n : ℕ) (saved : Saved) (entries : List Entry) → (n == number) ≡ false → saved_under number (with_saved n saved entries) ≡ saved_under number entries
 saved_other number n saved [] ne = refl
 saved_other number n saved (e ∷ es) ne = elim (cases_Bool (e.number == n)) [
-  | inl here ↦ (let at : (e.number == number) ≡ false = ap (λ k. k == number) (eqb-true e.number n here) ∙ ne in rw here (rw ne (rw at refl)))
+  | inl here ↦ (let at : (e.number == number) ≡ false = ap (λ k. k == number) (eqb-true e.number n here) ∙ ne in rw here (rw at refl))
   | inr there ↦ elim (cases_Bool (e.number == number)) [
     | inl mine ↦ rw there (rw mine refl)
     | inr other ↦ rw there (rw other (saved_other number n saved es ne))
@@ -62,11 +71,13 @@ unwritten_serves number old new dev Read range (Data bytes) free h = ap (saved_u
 unwritten_serves number old new dev Read range Written free h = absurd h
 unwritten_serves number old new dev Read range (Refused Io) free h = ap (saved_under number) h.0.saved
 unwritten_serves number old new dev Read range (Refused IsInvalid) free h = ap (saved_under number) h.0.saved
+unwritten_serves number old new dev Read range (Refused Overflow) free h = absurd h
 unwritten_serves number old new Origin (Write bytes) range Written free h = ap (saved_under number) h.2.saved
 unwritten_serves number old new (Snap n) (Write bytes) range Written free h = ap (saved_under number) h.2.saved ∙ saved_other number n (Live _) old.saved free
 unwritten_serves number old new dev (Write bytes) range (Data read) free h = absurd h
 unwritten_serves number old new dev (Write bytes) range (Refused Io) free h = ap (saved_under number) h.0.saved
 unwritten_serves number old new dev (Write bytes) range (Refused IsInvalid) free h = ap (saved_under number) h.0.saved
+unwritten_serves number old new dev (Write bytes) range (Refused Overflow) free h = absurd h
 
 -- one of the requests is no write of it where none is, and without one none of the others is
 asked_unwritten : (number k : ℕ) (requests : List InFlight) (request : Request) → is_written number requests ≡ false → asked_under k requests ≡ Some request → writes number request.dev request.op ≡ false
@@ -143,5 +154,7 @@ module _ (number : ℕ) (array : List ℕ) (old new : Plain) (free : is_written 
         ∙ or_from (is_written number old.requests) (writes number request.dev request.op || false) free (or_from (writes number request.dev request.op) false none refl),
   )
   submit_keeps request none (inr (refusal, inl same)) = (still_same (ap (λ (p : Plain). saved_under number p.saved) same), ap (λ (p : Plain). is_written number p.requests) same ∙ free)
-  submit_keeps request none (inr (refusal, inr (n, bytes, dev, op, why, spoils))) =
+  submit_keeps request none (inr (refusal, inr (n, bytes, dev, op, inl (why, never, spoils)))) =
       (still_spoiled (n ∷ []) number array old new (ap (λ (p : Plain). p.saved) spoils) shows, ap (λ (p : Plain). is_written number p.requests) spoils ∙ free)
+  submit_keeps request none (inr (refusal, inr (n, bytes, dev, op, inr (why, marks)))) =
+      (still_same (ap (λ (p : Plain). saved_under number p.saved) marks.becomes ∙ saved_marked number n old.saved), ap (λ (p : Plain). is_written number p.requests) marks.becomes ∙ free)

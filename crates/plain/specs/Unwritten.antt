@@ -1,7 +1,7 @@
 -- To be believed: `run`'s output, a volume's steps or its attach are said in these words.
 -- What a snapshot shows while nobody writes to it: its array stays, or it is lost (its store fills up, or a device fails).
 -- It is what the admin-guide page on snapshots means by a snapshot of which the origin may change; the words are this project's own.
-use Rattle.std.specs.Prelude.{◌==◌, ◌≡◌, ◌⊎◌, ℕ, Bool, true, false, List, Some}
+use Rattle.std.specs.Prelude.{◌==◌, ◌≡◌, ◌⊎◌, ℕ, Bool, false, List, Some}
 use Rattle.std.specs.List.{list_any}
 use Rattle.plain.specs.declared.request.Dev.{Dev}
 use Rattle.plain.specs.declared.request.Dev.TheVariants.{Origin, Snap}

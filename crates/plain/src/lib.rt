@@ -8,4 +8,6 @@ mod event;
 mod request;
 
 pub use event::{CopyId, Event, NotDue, Outcome};
-pub use request::{Dev, Failure, Op, Replied, Reply, ReqId, Request, SnapId, refusal_for};
+pub use request::{
+    Dev, Failure, Op, Overflowing, Replied, Reply, ReqId, Request, SnapId, refusal_for,
+};

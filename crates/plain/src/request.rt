@@ -12,6 +12,17 @@ pub type SnapId = u32;
 /// The number of a request in its volume, counted from 1.
 pub type ReqId = u64;
 
+/// What a write of a snapshot does that finds its store full, and whether one did.
+#[derive(Clone, Copy, PartialEq, Eq)]
+pub enum Overflowing {
+    /// It spoils the snapshot.
+    Never,
+    /// It is refused, and so is every write of the snapshot from then on. What it shows stays.
+    May,
+    /// One was refused.
+    Did,
+}
+
 /// What a request goes to.
 #[derive(Clone, Copy, PartialEq, Eq)]
 pub enum Dev {
@@ -34,13 +45,15 @@ pub struct Request {
     pub range: Range,
 }
 
-/// Why a request that was accepted is not done.
+/// Why a request is not done.
 #[derive(Clone, Copy, PartialEq, Eq)]
 pub enum Failure {
     /// Its snapshot is spoiled.
     Invalid,
     /// A device failed at it.
     Io,
+    /// Its snapshot's store overflowed. A request that was accepted is never answered so: it says why a write was refused.
+    Overflow,
 }
 
 /// The answer to a request that was accepted.
@@ -67,6 +80,7 @@ pub fn refusal_for(failure: Failure) -> Refusal
     match failure {
         Failure::Invalid => Refusal::Invalid,
         Failure::Io => Refusal::Io,
+        Failure::Overflow => Refusal::Overflow,
     }
 }
 

@@ -7,15 +7,18 @@ use Rattle.std.proofs.lemmas.List.{length-map}
 use Rattle.device.specs.Layers.{Layer}
 use Rattle.model.specs.Picture.{picture}
 use Rattle.sector.specs.declared.refusal.Refusal.{Refusal}
-use Rattle.sector.specs.declared.refusal.Refusal.TheVariants.{Invalid as IsInvalid, MergingSnapshot, NoSuchDevice, NotQuiet, OutOfRange, TooMany, MergeInProgress}
-use Rattle.plain.specs.Plain.{Live, Invalid, is_in, saved_under}
+use Rattle.sector.specs.declared.refusal.Refusal.TheVariants.{Invalid as IsInvalid, MergingSnapshot, NoSuchDevice, NotQuiet, OutOfRange, Overflow as OverflowRefusal, TooMany, MergeInProgress}
+use Rattle.plain.specs.Plain.{Live, Invalid, did_overflow, is_in, overflow_under, saved_under}
 use Rattle.plain.specs.declared.request.Dev.{Dev}
 use Rattle.plain.specs.declared.request.Dev.TheVariants.{Origin, Snap}
 use Rattle.plain.specs.declared.request.Op.{Op}
 use Rattle.plain.specs.declared.request.Op.TheVariants.{Read, Write}
+use Rattle.plain.specs.declared.request.Overflowing.{Overflowing}
+use Rattle.plain.specs.declared.request.Overflowing.TheVariants.{Never, May, Did}
 use Rattle.plain.specs.declared.request.Request.{Request}
 use Rattle.pending.specs.Kinds.{kind_at, kind_of}
-use Rattle.pending.specs.declared.flights.Kind.TheVariants.{SnapWrite}
+use Rattle.pending.specs.declared.flights.Kind.{Kind}
+use Rattle.pending.specs.declared.flights.Kind.TheVariants.{OriginRead, OriginWrite, SnapRead, SnapWrite}
 use Rattle.merge.specs.Merging.{Merging}
 use Rattle.snapshot.specs.Kept.{Kept}
 use Rattle.snapshots.specs.Finding.{place_of_snap}
@@ -25,13 +28,13 @@ use Rattle.snapshots.proofs.Finds.{any_of, position_any, position_none, position
 use Rattle.volume_laws.specs.Shape.{shown_begun, shown_entry}
 use Rattle.volume.specs.Beginning.{begin_refusal, begin_with, beside_refusal, place_refusal}
 use Rattle.volume.specs.Stepping.{KeepsAll, merged_of}
-use Rattle.volume.specs.Submitting.{IsFoundFull, IsRefusedAs, are_too_many, dev_refusal, first_of_two, is_merging, is_piece_of, limit_refusal, range_refusal, refusal_at, starting, submit_refusal}
+use Rattle.volume.specs.Submitting.{IsFoundFull, IsOverflown, IsRefusedAs, are_too_many, dev_refusal, first_of_two, is_merging, is_piece_of, limit_refusal, range_refusal, refusal_at, shut_at, shut_refusal, starting, submit_refusal}
 use Rattle.volume.specs.Volumed.{Volumed, piece_with, merge_shape, plain_of, snap_shape}
 use Rattle.journal.specs.declared.entry.Entry.{Entry}
 use Rattle.journal.specs.Books.{AuditShape}
 use Rattle.journal.specs.Journaled.{IsBarred, IsNotMerged, is_full_by}
 use Rattle.journal.specs.Replay.{Saves, replay, saves_of}
-use Rattle.post.specs.Denying.{Agrees, merged_number, IsClosed, IsDenied, IsLost, Begin, Serve, WasDenied, is_merged, piece_in}
+use Rattle.post.specs.Denying.{Agrees, merged_number, IsClosed, IsDenied, IsLost, IsShut, Begin, Serve, WasDenied, is_merged, piece_in}
 use Rattle.post.specs.Fixed.{Fixed, StaysFrom, fixed_of}
 
 no_some : {A C : Type 0} (x : A) → None ≡ Some x → C
@@ -58,6 +61,11 @@ get_next x xs n d = ap (λ k. get_or (x ∷ xs) k d) (next n)
   where
     next : (n : ℕ) → 1 + n ≡ suc n
     next n = omega arith
+
+did_is : (o : Overflowing) → did_overflow o ≡ true → o ≡ Did
+did_is Never e = absurd (let h : false ≡ true = e in cc)
+did_is May e = absurd (let h : false ≡ true = e in cc)
+did_is Did e = refl
 
 module _ {B : Type 0} where
   -- which snapshot is merged, and which are there
@@ -105,6 +113,26 @@ module _ {B : Type 0} where
     | inr other ↦ rw other (dead_at contents origin number snaps (let lt = rw other at within in omega (arith, lt))
         (sym (get_next s.live (map (λ (x : Kept B). x.live) snaps) (position_or_len (λ (x : Kept B). x.number == number) snaps) false) ∙ (rw other at dead)))
   ]
+
+  -- one whose store overflowed
+  marked_at : (contents : B → List ℕ) (origin : List ℕ) (number : ℕ) (snaps : List (Kept B)) → position_or_len (λ (s : Kept B). s.number == number) snaps < length snaps
+      → did_overflow (get_or (map (λ (s : Kept B). s.overflow) snaps) (position_or_len (λ (s : Kept B). s.number == number) snaps) Never) ≡ true
+      → overflow_under number (map (shown_entry contents origin) (map snap_shape snaps)) ≡ Did
+  marked_at contents origin number [] within did = absurd (omega (arith, within))
+  marked_at contents origin number (s ∷ snaps) within did = elim (cases_Bool (s.number == number)) [
+    | inl here ↦ (let marked : did_overflow s.overflow ≡ true = rw here at did in rw here (did_is s.overflow marked))
+    | inr other ↦ rw other (marked_at contents origin number snaps (let lt = rw other at within in omega (arith, lt))
+        (ap did_overflow (sym (get_next s.overflow (map (λ (x : Kept B). x.overflow) snaps) (position_or_len (λ (x : Kept B). x.number == number) snaps) Never)) ∙ (rw other at did)))
+  ]
+
+  overflows_unroomed : (snaps : List (Kept B)) → map (λ (s : Kept B). s.overflow) (map unroomed snaps) ≡ map (λ (s : Kept B). s.overflow) snaps
+  overflows_unroomed [] = refl
+  overflows_unroomed (s ∷ snaps) = ap (λ (l : List Overflowing). s.overflow ∷ l) (overflows_unroomed snaps)
+
+  marked_set : (snaps : List (Kept B)) (k : ℕ) (s : Kept B) → k < length snaps → did_overflow s.overflow ≡ true → did_overflow (get_or (map (λ (x : Kept B). x.overflow) (set snaps k s)) k Never) ≡ true
+  marked_set [] k s low did = absurd (omega (arith, low))
+  marked_set (x ∷ snaps) zero s low did = did
+  marked_set (x ∷ snaps) (suc k) s low did = marked_set snaps k s (omega (arith, low)) did
 
   lives_unroomed : (snaps : List (Kept B)) → map (λ (s : Kept B). s.live) (map unroomed snaps) ≡ map (λ (s : Kept B). s.live) snaps
   lives_unroomed [] = refl
@@ -165,6 +193,43 @@ module _ {B : Type 0} (contents : B → List ℕ) (size : B → ℕ) (layers : B
       by_merge true mine e = inl (sym (some_is MergingSnapshot refusal e), merged_is number v.merge ∙ mine)
       by_merge false other e = by_place (place_of_snap number v.snaps) other refl e
 
+  -- a write of one whose store overflowed
+  snap_of : (dev : Dev) (op : Op) (number : ℕ) → kind_at dev op ≡ SnapWrite number → dev ≡ Snap number
+  snap_of Origin Read number e = absurd (let h : kind_at Origin Read ≡ SnapWrite number = e in cc)
+  snap_of Origin (Write bytes) number e = absurd (let h : kind_at Origin (Write bytes) ≡ SnapWrite number = e in cc)
+  snap_of (Snap n) Read number e = absurd (let h : kind_at (Snap n) Read ≡ SnapWrite number = e in cc)
+  snap_of (Snap n) (Write bytes) number e = let h : SnapWrite n ≡ SnapWrite number = e in cc
+
+  write_of : (dev : Dev) (op : Op) (number : ℕ) → kind_at dev op ≡ SnapWrite number → (bytes : List ℕ) × (op ≡ Write bytes)
+  write_of Origin Read number e = absurd (let h : kind_at Origin Read ≡ SnapWrite number = e in cc)
+  write_of Origin (Write bytes) number e = absurd (let h : kind_at Origin (Write bytes) ≡ SnapWrite number = e in cc)
+  write_of (Snap n) Read number e = absurd (let h : kind_at (Snap n) Read ≡ SnapWrite number = e in cc)
+  write_of (Snap n) (Write bytes) number e = (bytes, refl)
+
+  not_merging : (number : ℕ) (v : Volumed B) (others : Option Refusal) → first_of_two (dev_refusal (Snap number) v.merge v.snaps) others ≡ None → is_merging number v.merge ≡ false
+  not_merging number v others e = go (is_merging number v.merge) refl e
+    where
+      go : (b : Bool) → is_merging number v.merge ≡ b → first_of_two (if b then Some MergingSnapshot else refusal_at v.snaps (place_of_snap number v.snaps)) others ≡ None → is_merging number v.merge ≡ false
+      go true at e = some_none MergingSnapshot e
+      go false at e = at
+
+  shut : (seen : List Entry) (a : AuditShape B) (request : Request) (number k : ℕ) → IsSeen seen a → kind_of request ≡ SnapWrite number → is_merging number a.volume.merge ≡ false → place_of_snap number a.volume.snaps ≡ Some k
+      → did_overflow (get_or (map (λ (s : Kept B). s.overflow) a.volume.snaps) k Never) ≡ true → IsShut (fixed_of size layers a) (shown_in a seen) request
+  shut seen a request number k is kind other found did =
+      let test : Kept B → Bool = λ s. s.number == number in
+      let at = place_is number k a.volume.snaps found in
+      let (bytes, op) = write_of request.dev request.op number kind in (
+        number,
+        bytes,
+        snap_of request.dev request.op number kind,
+        op,
+        merged_is number a.volume.merge ∙ other,
+        there number k a.volume.snaps found,
+        λ loud. ap (λ (s : Saves). overflow_under number s.saved) (ap (replay a.base) (sym is.entries) ∙ is.truth loud)
+            ∙ marked_at contents (contents a.volume.origin) number a.volume.snaps (subst (λ n. n < length a.volume.snaps) (sym at) (position_within test a.volume.snaps k found))
+            (ap (λ n. did_overflow (get_or (map (λ (s : Kept B). s.overflow) a.volume.snaps) n Never)) at ∙ did),
+      )
+
   -- the first reason of a volume
   refused : (seen : List Entry) (a : AuditShape B) (request : Request) (refusal : Refusal) → IsSeen seen a → submit_refusal size request a.volume ≡ Some refusal → IsDenied (fixed_of size layers a) (shown_in a seen) (Serve request) refusal
   refused seen a request refusal is e = by_dev (dev_refusal request.dev v.merge v.snaps) refl e
@@ -176,41 +241,48 @@ module _ {B : Type 0} (contents : B → List ℕ) (size : B → ℕ) (layers : B
       many = are_too_many (starting (kind_of request) request.range.first v.merge v.snaps) v
 
       by_limit : (b : Bool) → (if b then Some TooMany else None) ≡ Some refusal → IsDenied (fixed_of size layers a) (shown_in a seen) (Serve request) refusal
-      by_limit true e = inr (inr (inl (sym (some_is TooMany refusal e))))
+      by_limit true e = inr (inr (inr (inl (sym (some_is TooMany refusal e)))))
       by_limit false e = no_some refusal e
 
       by_range : (b : Bool) → is_piece_of (piece_with v.merge v.snaps) (size v.origin) request.range ≡ b → first_of_two (if b then None else Some OutOfRange) (if many then Some TooMany else None) ≡ Some refusal
           → IsDenied (fixed_of size layers a) (shown_in a seen) (Serve request) refusal
       by_range true fits e = by_limit many e
-      by_range false out e = inr (inl (sym (some_is OutOfRange refusal e), ap (λ n. is_piece_of n (size v.origin) request.range) (piece_is v.merge v.snaps) ∙ out))
+      by_range false out e = inr (inr (inl (sym (some_is OutOfRange refusal e), ap (λ n. is_piece_of n (size v.origin) request.range) (piece_is v.merge v.snaps) ∙ out)))
+
+      rest : Option Refusal
+      rest = first_of_two (range_refusal (piece_with v.merge v.snaps) (size v.origin) request.range) (limit_refusal (starting (kind_of request) request.range.first v.merge v.snaps) v)
+
+      by_did : (number k : ℕ) (b : Bool) → kind_of request ≡ SnapWrite number → is_merging number v.merge ≡ false → place_of_snap number v.snaps ≡ Some k → did_overflow (get_or (map (λ (s : Kept B). s.overflow) v.snaps) k Never) ≡ b
+          → first_of_two (if b then Some OverflowRefusal else None) rest ≡ Some refusal → IsDenied (fixed_of size layers a) (shown_in a seen) (Serve request) refusal
+      by_did number k true kind other found did e = inr (inl (sym (some_is OverflowRefusal refusal e), shut seen a request number k is kind other found did))
+      by_did number k false kind other found did e = by_range (is_piece_of (piece_with v.merge v.snaps) (size v.origin) request.range) refl e
+
+      by_place : (number : ℕ) (p : Option ℕ) → kind_of request ≡ SnapWrite number → is_merging number v.merge ≡ false → place_of_snap number v.snaps ≡ p → first_of_two (shut_at v.snaps p) rest ≡ Some refusal → IsDenied (fixed_of size layers a) (shown_in a seen) (Serve request) refusal
+      by_place number None kind other found e = by_range (is_piece_of (piece_with v.merge v.snaps) (size v.origin) request.range) refl e
+      by_place number (Some k) kind other found e = by_did number k (did_overflow (get_or (map (λ (s : Kept B). s.overflow) v.snaps) k Never)) kind other found refl e
+
+      by_kind : (kind : Kind) → kind_of request ≡ kind → dev_refusal request.dev v.merge v.snaps ≡ None → first_of_two (shut_refusal kind v.snaps) rest ≡ Some refusal → IsDenied (fixed_of size layers a) (shown_in a seen) (Serve request) refusal
+      by_kind OriginRead kind free e = by_range (is_piece_of (piece_with v.merge v.snaps) (size v.origin) request.range) refl e
+      by_kind OriginWrite kind free e = by_range (is_piece_of (piece_with v.merge v.snaps) (size v.origin) request.range) refl e
+      by_kind (SnapRead n) kind free e = by_range (is_piece_of (piece_with v.merge v.snaps) (size v.origin) request.range) refl e
+      by_kind (SnapWrite n) kind free e =
+          let alone = not_merging n v None (ap (λ d. first_of_two (dev_refusal d v.merge v.snaps) None) (sym (snap_of request.dev request.op n kind)) ∙ ap (λ r. first_of_two r None) free) in
+          by_place n (place_of_snap n v.snaps) kind alone refl e
 
       by_dev : (d : Option Refusal) → dev_refusal request.dev v.merge v.snaps ≡ d
-          → first_of_two d (first_of_two (range_refusal (piece_with v.merge v.snaps) (size v.origin) request.range) (limit_refusal (starting (kind_of request) request.range.first v.merge v.snaps) v)) ≡ Some refusal
+          → first_of_two d (first_of_two (shut_refusal (kind_of request) v.snaps) rest) ≡ Some refusal
           → IsDenied (fixed_of size layers a) (shown_in a seen) (Serve request) refusal
       by_dev (Some r) at e = inl (closed seen a refusal request.dev is (at ∙ e))
-      by_dev None at e = by_range (is_piece_of (piece_with v.merge v.snaps) (size v.origin) request.range) refl e
+      by_dev None at e = by_kind (kind_of request) refl at e
 
   -- a write of a snapshot that found its store full
-  snap_of : (dev : Dev) (op : Op) (number : ℕ) → kind_at dev op ≡ SnapWrite number → dev ≡ Snap number
-  snap_of Origin Read number e = absurd (let h : kind_at Origin Read ≡ SnapWrite number = e in cc)
-  snap_of Origin (Write bytes) number e = absurd (let h : kind_at Origin (Write bytes) ≡ SnapWrite number = e in cc)
-  snap_of (Snap n) Read number e = absurd (let h : kind_at (Snap n) Read ≡ SnapWrite number = e in cc)
-  snap_of (Snap n) (Write bytes) number e = let h : SnapWrite n ≡ SnapWrite number = e in cc
-
-  not_merging : (number : ℕ) (v : Volumed B) (others : Option Refusal) → first_of_two (dev_refusal (Snap number) v.merge v.snaps) others ≡ None → is_merging number v.merge ≡ false
-  not_merging number v others e = go (is_merging number v.merge) refl e
-    where
-      go : (b : Bool) → is_merging number v.merge ≡ b → first_of_two (if b then Some MergingSnapshot else refusal_at v.snaps (place_of_snap number v.snaps)) others ≡ None → is_merging number v.merge ≡ false
-      go true at e = some_none MergingSnapshot e
-      go false at e = at
-
   full : (seen : List Entry) (a b : AuditShape B) (request : Request) (number : ℕ) → IsSeen seen b → KeepsAll size a.volume b.volume → submit_refusal size request a.volume ≡ None → request.dev ≡ Snap number
       → IsFoundFull contents layers number request.range.first a.volume b.volume → IsClosed (fixed_of size layers b) (shown_in b seen) (Snap number) IsInvalid
   full seen a b request number is kept free dev found =
       let v = a.volume in
       let w = b.volume in
       let test : Kept B → Bool = λ s. s.number == number in
-      let others = first_of_two (range_refusal (piece_with v.merge v.snaps) (size v.origin) request.range) (limit_refusal (starting (kind_of request) request.range.first v.merge v.snaps) v) in
+      let others = first_of_two (shut_refusal (kind_of request) v.snaps) (first_of_two (range_refusal (piece_with v.merge v.snaps) (size v.origin) request.range) (limit_refusal (starting (kind_of request) request.range.first v.merge v.snaps) v)) in
       let alone : is_merging number v.merge ≡ false = not_merging number v others (ap (λ d. first_of_two (dev_refusal d v.merge v.snaps) others) (sym dev) ∙ free) in
       let at : position_or_len test w.snaps ≡ found.place =
       numbered number w.snaps ∙ ap (λ (l : List ℕ). position_or_len (λ n. n == number) l) kept.numbers ∙ sym (numbered number v.snaps) ∙ place_is number found.place v.snaps found.found in
@@ -230,13 +302,35 @@ module _ {B : Type 0} (contents : B → List ℕ) (size : B → ℕ) (layers : B
         ),
       ))
 
+  overflown : (seen : List Entry) (a b : AuditShape B) (request : Request) (number : ℕ) → IsSeen seen b → KeepsAll size a.volume b.volume → submit_refusal size request a.volume ≡ None → kind_of request ≡ SnapWrite number
+      → IsOverflown contents layers number request.range.first a.volume b.volume → IsShut (fixed_of size layers b) (shown_in b seen) request
+  overflown seen a b request number is kept free kind found =
+      let v = a.volume in
+      let w = b.volume in
+      let test : Kept B → Bool = λ s. s.number == number in
+      let snap : Kept B = record found.snap { overflow = Did } in
+      let others = first_of_two (shut_refusal (kind_of request) v.snaps) (first_of_two (range_refusal (piece_with v.merge v.snaps) (size v.origin) request.range) (limit_refusal (starting (kind_of request) request.range.first v.merge v.snaps) v)) in
+      let alone : is_merging number v.merge ≡ false = not_merging number v others (ap (λ d. first_of_two (dev_refusal d v.merge v.snaps) others) (sym (snap_of request.dev request.op number kind)) ∙ free) in
+      let same : w.merge ≡ v.merge = ap (λ (x : Volumed B). x.merge) found.becomes in
+      let marked : map (λ (s : Kept B). s.overflow) w.snaps ≡ map (λ (s : Kept B). s.overflow) (set v.snaps found.place snap) =
+      sym (overflows_unroomed w.snaps) ∙ ap (map (λ (s : Kept B). s.overflow)) found.marked ∙ overflows_unroomed (set v.snaps found.place snap) in
+      let low = position_within test v.snaps found.place found.found in
+      let long : length w.snaps ≡ length v.snaps = sym (length-map w.snaps number_of_snap) ∙ ap length kept.numbers ∙ length-map v.snaps number_of_snap in
+      let at : position_or_len test w.snaps ≡ found.place =
+      numbered number w.snaps ∙ ap (λ (l : List ℕ). position_or_len (λ n. n == number) l) kept.numbers ∙ sym (numbered number v.snaps) ∙ place_is number found.place v.snaps found.found in
+      let here : place_of_snap number w.snaps ≡ Some found.place =
+      ap (λ b. cond b (Some (position_or_len test w.snaps)) None) (lt-true (position_or_len test w.snaps) (length w.snaps) (omega (arith, at, low, long))) ∙ ap Some at in
+      shut seen b request number found.place is kind (ap (is_merging number) same ∙ alone) here (ap (λ (l : List Overflowing). did_overflow (get_or l found.place Never)) marked ∙ marked_set v.snaps found.place snap low refl)
+
   pub denied : (seen : List Entry) (a b : AuditShape B) (request : Request) (refusal : Refusal) → IsSeen seen b → KeepsAll size a.volume b.volume
       → IsBarred 1 refusal a b ⊎ ((is_full_by 1 a ≡ false) × IsRefusedAs contents layers size request refusal a.volume b.volume) → WasDenied start fixed seen (Serve request) refusal
-  denied seen a b request refusal is kept (inl (inl full, same)) = inr (fixed_of size layers b, is.stays, agrees seen b is, inr (inr (inr full.1)))
+  denied seen a b request refusal is kept (inl (inl full, same)) = inr (fixed_of size layers b, is.stays, agrees seen b is, inr (inr (inr (inr full.1))))
   denied seen a b request refusal is kept (inl (inr starved, same)) = inl starved.1
   denied seen a b request refusal is kept (inr (free, inl told)) = inr (fixed_of size layers b, is.stays, agrees seen b is, refused seen b request refusal is (ap (submit_refusal size request) told.1 ∙ told.0))
   denied seen a b request refusal is kept (inr (free, inr (inl starved))) = inl starved.1
-  denied seen a b request refusal is kept (inr (free, inr (inr lost))) =
+  denied seen a b request refusal is kept (inr (free, inr (inr (inr marked)))) =
+      inr (fixed_of size layers b, is.stays, agrees seen b is, inr (inl (marked.1, overflown seen a b request marked.2.0 is kept marked.0 marked.2.1 marked.2.2)))
+  denied seen a b request refusal is kept (inr (free, inr (inr (inl lost)))) =
       let number = lost.2.0 in
       let dev = snap_of request.dev request.op number lost.2.1 in
       inr (

@@ -1,5 +1,6 @@
 -- What the places of a volume show.
 use Rattle.std.proofs.Common.{◌≡◌, ◌<◌, ◌≤◌, ◌+◌, ◌-◌, ◌*◌, nat_lt, ℕ, Bool, true, false, List, length, map, take, get_or, Option, Some, None, if◌then◌else◌, refl, sym, ap, ◌∙◌, subst, arith}
+use Rattle.std.specs.Prelude.{◌&&◌}
 use Rattle.std.specs.List.{count_by}
 use Rattle.std.proofs.lemmas.Bool.{ltb-true, lt-ltb}
 use Rattle.std.proofs.lemmas.List.{get_or-map, length-map}
@@ -9,17 +10,23 @@ use Rattle.board.specs.Words.{no_usage}
 use Rattle.chunk_alloc.specs.declared.usage.Usage.{Usage as Sectors}
 use Rattle.merge.specs.Merging.{Merging}
 use Rattle.snapshot.specs.Kept.{Kept}
+use Rattle.plain.specs.Plain.{did_overflow}
 use Rattle.volume.specs.Asking.{merging_number}
-use Rattle.post.specs.Usages.{is_before, shown_merge, shown_of, spoiled, used, used_or_spoiled, usages_with}
+use Rattle.volume.specs.Leaving.{usage_of}
+use Rattle.post.specs.Usages.{is_before, overflown, shown_merge, shown_of, spoiled, used, used_or_spoiled, usages_with}
 
-pub live_shown : {B : Type 0} (s : Kept B) (u : Sectors) → true ≡ s.live → u.allocated ≡ s.next * s.state.chunk → u.total ≡ s.state.size → u.metadata ≡ (s.state.current + 2) * s.state.chunk
+pub live_shown : {B : Type 0} (s : Kept B) (u : Sectors) → true ≡ s.live → false ≡ did_overflow s.overflow → u.allocated ≡ s.next * s.state.chunk → u.total ≡ s.state.size → u.metadata ≡ (s.state.current + 2) * s.state.chunk
     → used u ≡ shown_of s
-live_shown s u live allocated total metadata =
+live_shown s u live fine allocated total metadata =
     (λ i. used (record { allocated = allocated i; total = total i; metadata = metadata i }))
     ∙ ap (λ (b : Bool). used_or_spoiled (if b then Some (record { allocated = s.next * s.state.chunk; total = s.state.size; metadata = (s.state.current + 2) * s.state.chunk }) else None)) live
+    ∙ (λ i. if live i && fine i then overflown else used_or_spoiled (usage_of s))
+
+pub marked_shown : {B : Type 0} (s : Kept B) → true ≡ s.live → true ≡ did_overflow s.overflow → overflown ≡ shown_of s
+marked_shown s live did = (λ i. if live i && did i then overflown else used_or_spoiled (usage_of s))
 
 pub spoiled_shown : {B : Type 0} (s : Kept B) → false ≡ s.live → spoiled ≡ shown_of s
-spoiled_shown s dead = ap (λ (b : Bool). used_or_spoiled (if b then Some (record { allocated = s.next * s.state.chunk; total = s.state.size; metadata = (s.state.current + 2) * s.state.chunk }) else None)) dead
+spoiled_shown s dead = ap (λ (b : Bool). if b && did_overflow s.overflow then overflown else used_or_spoiled (if b then Some (record { allocated = s.next * s.state.chunk; total = s.state.size; metadata = (s.state.current + 2) * s.state.chunk }) else None)) dead
 
 pub shown_at : {B : Type 0} (snaps : List (Kept B)) (k : ℕ) (s : Kept B) → k < length snaps → s ≡ get_or snaps k s → shown_of s ≡ get_or (map shown_of snaps) k no_usage
 shown_at snaps k s low is = ap shown_of is ∙ sym (get_or-map shown_of snaps k s no_usage low)

@@ -1,12 +1,14 @@
 -- Why a volume with a journal takes no request, and why it begins no merge, by what its entries say that it shows and by what stays
--- of it. The limits and the order of the refusals are this project's own; that a lost snapshot is Invalid is the kernel's rule, of
--- its admin-guide page on snapshots.
+-- of it. The limits and the order of the refusals are this project's own; that a lost snapshot is Invalid, and that one whose store
+-- overflowed takes no write, is the kernel's rule, of its admin-guide page on snapshots.
 use Rattle.std.specs.Prelude.{◌≡◌, ◌≢◌, ◌⊎◌, ◌==◌, ℕ, Bool, true, false, List, [], ◌∷◌, ◌++◌, Option, Some, None}
 use Rattle.sector.specs.declared.refusal.Refusal.{Refusal}
-use Rattle.sector.specs.declared.refusal.Refusal.TheVariants.{Invalid as IsInvalid, JournalFull, MergeInProgress, MergingSnapshot, NoMemory, NoSuchDevice, OutOfRange, TooMany}
-use Rattle.plain.specs.Plain.{Invalid, is_in, saved_under}
+use Rattle.sector.specs.declared.refusal.Refusal.TheVariants.{Invalid as IsInvalid, JournalFull, MergeInProgress, MergingSnapshot, NoMemory, NoSuchDevice, OutOfRange, Overflow, TooMany}
+use Rattle.plain.specs.Plain.{Invalid, is_in, overflow_under, saved_under}
 use Rattle.plain.specs.declared.request.Dev.{Dev}
 use Rattle.plain.specs.declared.request.Dev.TheVariants.{Origin, Snap}
+use Rattle.plain.specs.declared.request.Op.TheVariants.{Write}
+use Rattle.plain.specs.declared.request.Overflowing.TheVariants.{Did}
 use Rattle.plain.specs.declared.request.Request.{Request}
 use Rattle.journal.specs.declared.entry.Entry.{Entry}
 use Rattle.journal.specs.declared.entry.Entry.TheVariants.{Begun}
@@ -54,10 +56,17 @@ IsClosed g shown Origin refusal = ⊥
 IsClosed g shown (Snap number) refusal =
     ((refusal ≡ MergingSnapshot) × (is_merged number g.merged ≡ true)) ⊎ ((refusal ≡ NoSuchDevice) × IsMissing g number) ⊎ ((refusal ≡ IsInvalid) × IsLost g shown number)
 
+-- It is a write of a snapshot whose store overflowed: the journal says so, where no device ever dropped writes.
+abbrev pub IsShut : Fixed → Saves → Request → Type 0
+IsShut g shown request =
+    (number : ℕ) × (bytes : List ℕ) × (request.dev ≡ Snap number) × (request.op ≡ Write bytes)
+    × (is_merged number g.merged ≡ false) × (is_in g.numbers number ≡ true) × (g.loud ≡ true → overflow_under number shown.saved ≡ Did)
+
 -- What is asked of a volume is denied, as it stands. (TooMany: 64 requests are in flight, or 256 copies would be pending.)
 abbrev pub IsDenied : Fixed → Saves → Wish → Refusal → Type 0
 IsDenied g shown (Serve request) refusal =
     IsClosed g shown request.dev refusal
+    ⊎ ((refusal ≡ Overflow) × IsShut g shown request)
     ⊎ ((refusal ≡ OutOfRange) × (is_piece_of (piece_in g.merged g.chunks) g.sectors request.range ≡ false))
     ⊎ ((refusal ≡ TooMany) ⊎ (refusal ≡ JournalFull))
 IsDenied g shown (Begin number) refusal =

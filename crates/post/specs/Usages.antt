@@ -1,12 +1,13 @@
 -- To be believed: the usage of each place of a volume, which its boards say.
 -- The numbers are those of the kernel's status lines; that a place counts snapshots in order of attaching is this project's own.
-use Rattle.std.specs.Prelude.{nat_lt, ℕ, ◌-◌, ◌^◌, Bool, List, Option, Some, None, map, min, count_by, slice_index_or, if◌then◌else◌}
+use Rattle.std.specs.Prelude.{◌&&◌, nat_lt, ℕ, ◌-◌, ◌^◌, Bool, List, Option, Some, None, map, min, count_by, slice_index_or, if◌then◌else◌}
 use Rattle.std.specs.List.{insert}
 use Rattle.board.specs.Words.{no_usage}
-use Rattle.board.specs.declared.usage.State.TheVariants.{Good, Invalid, MergeFailed}
+use Rattle.board.specs.declared.usage.State.TheVariants.{Good, Invalid, MergeFailed, Overflow}
 use Rattle.board.specs.declared.usage.Usage.{Usage}
 use Rattle.chunk_alloc.specs.declared.usage.Usage.{Usage as Sectors}
 use Rattle.merge.specs.Merging.{Merging}
+use Rattle.plain.specs.Plain.{did_overflow}
 use Rattle.snapshot.specs.Kept.{Kept}
 use Rattle.volume.specs.Asking.{merging_usage}
 use Rattle.volume.specs.Leaving.{usage_of}
@@ -32,8 +33,12 @@ abbrev pub used_or_spoiled : Option Sectors → Usage
 used_or_spoiled None = spoiled
 used_or_spoiled (Some s) = used s
 
+-- one whose store overflowed
+abbrev pub overflown : Usage
+overflown = record { state = Overflow; allocated = 0; metadata = 0 }
+
 abbrev pub shown_of : {B : Type 0} → Kept B → Usage
-shown_of s = used_or_spoiled (usage_of s)
+shown_of s = if s.live && did_overflow s.overflow then overflown else used_or_spoiled (usage_of s)
 
 -- of the one that is being merged
 abbrev pub shown_merge : {B : Type 0} → Merging B → Usage

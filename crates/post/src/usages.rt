@@ -1,14 +1,16 @@
 // What the boards are to say of a volume's places.
-ghost use Rattle.std.specs.Prelude.{◌≡◌, ◌<◌, ◌^◌, Some, count_by, map, slice_index_or};
+ghost use Rattle.std.specs.Prelude.{◌≡◌, ◌<◌, ◌^◌, Some, count_by, map, slice_index_or, true};
 ghost use Rattle.board.specs.Words.{IsNarrow, no_usage};
 ghost use Rattle.volume.specs.Asking.{merging_number};
 ghost use Rattle.merge.specs.Merging.{Merging};
+ghost use Rattle.plain.specs.Plain.{did_overflow};
 ghost use Rattle.post.specs.Usages.{fitted, is_before, shown_merge, shown_of, used, usage_at as usage_of_place};
 
 use board::{State, Usage};
 use chunk_alloc::Usage as Sectors;
 use device::Block;
-use plain::SnapId;
+use plain::{Overflowing, SnapId};
+use snapshot::Snapshot;
 use volume::Volume;
 
 /// The largest number that a board's word has room for.
@@ -46,6 +48,30 @@ fn out_of_use(state: State) -> Usage
     }
 }
 
+/// Whether a store overflowed.
+fn is_marked(overflow: Overflowing) -> bool
+    ensures { result ≡ did_overflow overflow }
+{
+    match overflow {
+        Overflowing::Did => true,
+        Overflowing::Never => false,
+        Overflowing::May => false,
+    }
+}
+
+/// The usage of a live snapshot, whose store may have overflowed.
+fn live_usage<B: Block>(snap: &Snapshot<B>) -> Usage
+    requires { snap.now.live ≡ true }
+    ensures is { result ≡ shown_of snap.now }
+    ensures narrow { IsNarrow result }
+{
+    if is_marked(snap.overflow()) {
+        out_of_use(State::Overflow)
+    } else {
+        in_use(snap.usage())
+    }
+}
+
 /// The usage of a snapshot by its place among those that are not being merged.
 fn snap_usage<B: Block>(volume: &Volume<B>, k: usize) -> Usage
     ensures is { result ≡ slice_index_or (map shown_of volume.now.snaps) k no_usage }
@@ -56,7 +82,7 @@ fn snap_usage<B: Block>(volume: &Volume<B>, k: usize) -> Usage
     }
     let snap = volume.snap(k);
     if snap.is_live() {
-        in_use(snap.usage())
+        live_usage(snap)
     } else {
         out_of_use(State::Invalid)
     }

@@ -17,7 +17,7 @@ use Rattle.served.proofs.Starved.{starved_by}
 use Rattle.plain.specs.declared.request.Reply.{Reply}
 use Rattle.plain.specs.declared.request.Reply.TheVariants.{Data, Written, Refused}
 use Rattle.plain.specs.declared.request.Failure.{Failure}
-use Rattle.plain.specs.declared.request.Failure.TheVariants.{Invalid as Declined, Io}
+use Rattle.plain.specs.declared.request.Failure.TheVariants.{Invalid as Declined, Io, Overflow}
 use Rattle.settled.specs.Snaps.{Volume}
 use Rattle.settled.specs.Shown.{ShowTheSame}
 use Rattle.settled.specs.Pieces.{Answered}
@@ -47,7 +47,7 @@ use Rattle.resting.proofs.Writing.{write_whole, write_first}
 use Rattle.resting.proofs.PlainWrites.{IsPieceShown, AreWritten, kept_saved, write_more, pieces_written}
 
 -- some first pieces stand, where there was no room for all
-written_starved : (dev : Dev) (span : Span) (pieces : List Span) (bytes : List ℕ) (refusal : Refusal) (old new : Arrays) → is_starved refusal ≡ true → IsWrittenInPart dev span pieces bytes old new → IsPlainWriteRefused dev span pieces bytes refusal old new
+written_starved : (dev : Dev) (span : Span) (pieces : List Span) (bytes : List ℕ) (refusal : Refusal) (old new : Arrays) → is_starved refusal ≡ true → IsWrittenInPart dev span.first pieces bytes old new → IsPlainWriteRefused dev span pieces bytes refusal old new
 written_starved dev span pieces bytes refusal old new starved part = elim (starved_by refusal starved) [
   | inl memory ↦ subst (λ (r : Refusal). IsPlainWriteRefused dev span pieces bytes r old new) (sym memory) part
   | inr full ↦ subst (λ (r : Refusal). IsPlainWriteRefused dev span pieces bytes r old new) (sym full) part
@@ -74,7 +74,7 @@ module _ (sectors chunk : ℕ) (pos : 0 < chunk) where
         let r : Replied = write_part Origin piece part m in
         let kept : AreKept (arrays_with (in_one m)).saved (arrays_with (in_one r.state)).saved = kept_at (place_in piece.first m.merge) w.snaps in
         elim (cases_Bool w.wrote) [
-          | inl ok ↦ subst (IsPieceShown Origin piece.first part (arrays_with (in_one m)) (arrays_with (in_one r.state))) (sym (w.reply ∙ cond-true _ _ _ ok)) ((shown_through m, refl), (w.origin ∙ cond-true _ _ _ ok, kept))
+          | inl ok ↦ subst (IsPieceShown Origin piece.first part (arrays_with (in_one m)) (arrays_with (in_one r.state))) (sym (w.reply ∙ cond-true _ _ _ ok)) ((shown_through m, refl), tt, (w.origin ∙ cond-true _ _ _ ok, kept))
           | inr failed ↦ subst (IsPieceShown Origin piece.first part (arrays_with (in_one m)) (arrays_with (in_one r.state))) (sym (w.reply ∙ cond-false _ _ _ failed))
               ((shown_through m, refl), (w.origin ∙ cond-false _ _ _ failed ∙ sym (with_sectors_none (shown_through m) piece.first), kept))
         ]
@@ -83,9 +83,10 @@ module _ (sectors chunk : ℕ) (pos : 0 < chunk) where
       → IsPieceShown Origin piece.first (take (512 * piece.count) bytes) old (arrays_with (in_one here.state)) r → AreWritten Origin (piece.first + piece.count) pieces (drop (512 * piece.count) bytes) (arrays_with (in_one here.state)) (arrays_with (in_one more.state)) more.reply
       → AreWritten Origin piece.first (piece ∷ pieces) bytes old (arrays_with (in_one (beside_on r here more).state)) (beside_on r here more).reply
   goes_through piece pieces bytes old (Data all) here more room low is shows rest = absurd shows
-  goes_through piece pieces bytes old Written here more room low is shows rest = write_more Origin piece pieces bytes old (arrays_with (in_one here.state)) (arrays_with (in_one more.state)) room low more.reply shows.0 shows.1 rest
+  goes_through piece pieces bytes old Written here more room low is shows rest = write_more Origin piece pieces bytes old (arrays_with (in_one here.state)) room low (arrays_with (in_one more.state)) more.reply shows.0 shows.1 shows.2 rest
   goes_through piece pieces bytes old (Refused Declined) here more room low is shows rest = absurd shows
   goes_through piece pieces bytes old (Refused Io) here more room low is shows rest = subst (AreWritten Origin piece.first (piece ∷ pieces) bytes old (arrays_with (in_one here.state))) (sym is) (shows.0, (0, omega arith, shows.1))
+  goes_through piece pieces bytes old (Refused Overflow) here more room low is shows rest = absurd shows.1
 
   -- pieces of the origin beside a merge
   through_written : (first b : ℕ) (pieces : List Span) (bytes : List ℕ) (m : Merging) → IsMerging sectors m → m.merge.chunk ≡ chunk → Each (IsInside sectors chunk) pieces → Join first b pieces → 512 * sectors_in pieces ≤ length bytes
@@ -128,6 +129,13 @@ snap_written number first pieces bytes g old new (Data all) law = law
 snap_written number first pieces bytes g old new Written law = (law.0, (ap (λ x. array_of x (Some g)) law.1.0, law.1.1))
 snap_written number first pieces bytes g old new (Refused Declined) law = (ap (λ x. array_of x (Some g)) law.0, law.1)
 snap_written number first pieces bytes g old new (Refused Io) law = (law.0, (law.1.0, law.1.1, (ap (λ x. array_of x (Some g)) law.1.2.0, law.1.2.1)))
+snap_written number first pieces bytes g old new (Refused Overflow) law = (
+  law.0,
+  elim law.1 [
+    | inl did ↦ inl (did.0, ap (with_merge (Some g)) did.1)
+    | inr may ↦ inr (may.0, with_merge (Some g) may.1, (may.2.0, may.2.1, (ap (λ x. array_of x (Some g)) may.2.2.0, may.2.2.1)), ap (with_merge (Some g)) may.3)
+  ],
+)
 
 -- pieces that are written, whether a merge is begun or not
 module _ (sectors chunk : ℕ) (pos : 0 < chunk) (first b : ℕ) (pieces : List Span) (bytes : List ℕ) (fits : Each (IsInside sectors chunk) pieces) (join : Join first b pieces) (room : 512 * sectors_in pieces ≤ length bytes) where
@@ -213,11 +221,12 @@ module _ {B : Type 0} (contents : B → List ℕ) (layers : B → List Layer) (s
   write_by done settled =
       let law = whole_written Written done settled in
       let count = count_all in
-      (law.0 many, subst (λ (b : List ℕ). IsWritten dev range.first b old new) (take_all (512 * sectors_in pieces) bytes (omega (arith, count, len))) law.1)
+      ((law.0 many).0, (law.0 many).1, subst (λ (b : List ℕ). IsWritten dev range.first b old new) (take_all (512 * sectors_in pieces) bytes (omega (arith, count, len))) law.1)
 
   failed_write : (failure : Failure) → AreWritten dev range.first pieces bytes old new (Refused failure) → IsPlainWriteRefused dev (span_of range) pieces bytes (refusal_of failure) old new
   failed_write Declined law = law
   failed_write Io law = law
+  failed_write Overflow law = law
 
   -- one that is refused
   plain_write_refused : (refusal : Refusal) → IsWriteRefused contents layers dev (span_of range) bytes refusal (rested_of v) (rested_of w) → IsSettled layers (rested_of v) → IsPlainWriteRefused dev (span_of range) pieces bytes refusal old new

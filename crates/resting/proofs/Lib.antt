@@ -28,6 +28,7 @@ pub mod Rests
 pub mod ShownReads
 pub mod BesideReads
 pub mod PlainReads
+pub mod Overflows
 pub mod Parts
 pub mod SnapWrites
 pub mod PlainWrites

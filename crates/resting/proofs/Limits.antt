@@ -1,16 +1,18 @@
--- A request that can be served is refused for its snapshot's sake alone.
+-- A request that can be served is refused for its snapshot's sake alone: it is spoiled, or its store overflowed.
 use Rattle.std.proofs.Common.{◌≡◌, inl, inr, ℕ, ◌+◌, ◌*◌, ◌/◌, ◌%◌, ◌<◌, ◌≤◌, Bool, true, false, List, [], ◌∷◌, length, Option, Some, None, refl, sym, ◌∙◌, ap, arith, nat_eq}
-use Rattle.std.specs.Prelude.{◌==◌, ◌&&◌, ◌||◌, not, nat_lt, nat_le, sum_by, count_by, slice_index_or, ◌++◌, if◌then◌else◌}
+use Rattle.std.specs.Prelude.{◌⊎◌, ◌==◌, ◌&&◌, ◌||◌, not, nat_lt, nat_le, sum_by, count_by, slice_index_or, ◌++◌, if◌then◌else◌}
 use Rattle.std.specs.List.{list_all}
 use Rattle.std.proofs.lemmas.Bool.{cases_Bool, cond-false, eqb-true, true≢false}
 use Rattle.std.proofs.lemmas.List.{nil_from_length}
 use Rattle.std.proofs.lemmas.List.Sums.{count_by-le-length}
 use Rattle.std.proofs.lemmas.Nat.{div-add-mod'}
 use Rattle.sector.specs.declared.refusal.Refusal.{Refusal}
-use Rattle.sector.specs.declared.refusal.Refusal.TheVariants.{Invalid}
+use Rattle.sector.specs.declared.refusal.Refusal.TheVariants.{Invalid, Overflow}
+use Rattle.plain.specs.Plain.{did_overflow}
 use Rattle.plain.specs.declared.request.Request.{Request}
 use Rattle.plain.specs.declared.request.Dev.{Dev}
 use Rattle.plain.specs.declared.request.Dev.TheVariants.{Origin, Snap as ToSnap}
+use Rattle.plain.specs.declared.request.Overflowing.TheVariants.{Never}
 use Rattle.pending.specs.Kinds.{kind_of}
 use Rattle.pending.specs.declared.flights.Kind.{Kind}
 use Rattle.pending.specs.declared.flights.Kind.TheVariants.{OriginRead, OriginWrite, SnapRead, SnapWrite}
@@ -23,7 +25,7 @@ use Rattle.snapshots.specs.Numbers.{count_in, numbers_in}
 use Rattle.snapshots.specs.Finding.{place_of_snap}
 use Rattle.volume.specs.Leaving.{is_done_of, is_quiet_of}
 use Rattle.snapshots.specs.Starting.{starts}
-use Rattle.volume.specs.Submitting.{first_of_two, refusal_at, dev_refusal, range_refusal, limit_refusal, is_merging, is_piece_of, are_too_many, starting, submit_refusal}
+use Rattle.volume.specs.Submitting.{first_of_two, refusal_at, dev_refusal, shut_at, shut_refusal, range_refusal, limit_refusal, is_merging, is_piece_of, are_too_many, starting, submit_refusal}
 use Rattle.volume.proofs.Quieted.{quiet_done, quiet_flights}
 use Rattle.volume.proofs.Sums.{sum_cons}
 use Rattle.resting.specs.Rested.{rested_of, has_dev}
@@ -101,9 +103,24 @@ dev_refused (ToSnap n) v refusal apart there e =
     let found : place_of_snap n v.snaps ≡ None → ⊥ = λ none. true≢false (sym there ∙ dev_missing n v none) in
     refused_at (ToSnap n) v (place_of_snap n v.snaps) refusal found (sym (cond-false _ _ _ (not_merging n v.merge v.snaps apart found)) ∙ e)
 
-first_only : (a b : Option Refusal) (refusal : Refusal) → b ≡ None → first_of_two a b ≡ Some refusal → a ≡ Some refusal
-first_only None b refusal none e = absurd (let both : None ≡ Some refusal = sym none ∙ e in cc)
-first_only (Some other) b refusal none e = e
+-- a snapshot whose store overflowed
+shut_only : {B : Type 0} (snaps : List (Kept B)) (o : Option ℕ) (refusal : Refusal) → shut_at snaps o ≡ Some refusal → refusal ≡ Overflow
+shut_only snaps None refusal e = absurd (cc)
+shut_only snaps (Some k) refusal e = elim (cases_Bool (did_overflow (slice_index_or (Rattle.std.specs.Prelude.map (λ s. s.overflow) snaps) k Never))) [
+  | inl did ↦ (let some : Some Overflow ≡ Some refusal = rw did at e in cc)
+  | inr free ↦ absurd (let none : None ≡ Some refusal = rw free at e in cc)
+]
+
+shut_refused : {B : Type 0} (kind : Kind) (snaps : List (Kept B)) (refusal : Refusal) → shut_refusal kind snaps ≡ Some refusal → refusal ≡ Overflow
+shut_refused OriginRead snaps refusal e = absurd (cc)
+shut_refused OriginWrite snaps refusal e = absurd (cc)
+shut_refused (SnapRead number) snaps refusal e = absurd (cc)
+shut_refused (SnapWrite number) snaps refusal e = shut_only snaps (place_of_snap number snaps) refusal e
+
+first_either : (a b c : Option Refusal) (refusal : Refusal) → c ≡ None → first_of_two a (first_of_two b c) ≡ Some refusal → (a ≡ Some refusal) ⊎ (b ≡ Some refusal)
+first_either None None c refusal none e = absurd (let both : None ≡ Some refusal = sym none ∙ e in cc)
+first_either None (Some other) c refusal none e = inr e
+first_either (Some other) b c refusal none e = inl e
 
 module _ {B : Type 0} (size : B → ℕ) (request : Request) (v : Volumed B) (can : CanServe size request.dev request.op request.range v) (apart : (number : ℕ) → merging_number v.merge ≡ Some number → place_of_snap number v.snaps ≡ None) (quiet : is_quiet_of v ≡ true) (few : length v.snaps ≤ 8) where
   range_none : range_refusal (piece_with v.merge v.snaps) (size v.origin) request.range ≡ None
@@ -129,8 +146,11 @@ module _ {B : Type 0} (size : B → ℕ) (request : Request) (v : Volumed B) (ca
       let many : are_too_many new v ≡ false = rw (a, b, c) refl in
       rw many refl
 
-  -- its snapshot is spoiled
-  pub only_invalid : (refusal : Refusal) → submit_refusal size request v ≡ Some refusal → refusal ≡ Invalid
-  only_invalid refusal e =
+  -- its snapshot is spoiled, or shut
+  pub only_its_snap : (refusal : Refusal) → submit_refusal size request v ≡ Some refusal → (refusal ≡ Invalid) ⊎ (refusal ≡ Overflow)
+  only_its_snap refusal e =
       let later : first_of_two (range_refusal (piece_with v.merge v.snaps) (size v.origin) request.range) (limit_refusal (starting (kind_of request) request.range.first v.merge v.snaps) v) ≡ None = rw range_none limit_none in
-      dev_refused request.dev v refusal apart can.there (first_only (dev_refusal request.dev v.merge v.snaps) _ refusal later e)
+      elim (first_either (dev_refusal request.dev v.merge v.snaps) (shut_refusal (kind_of request) v.snaps) _ refusal later e) [
+        | inl dev ↦ inl (dev_refused request.dev v refusal apart can.there dev)
+        | inr shut ↦ inr (shut_refused (kind_of request) v.snaps refusal shut)
+      ]

@@ -14,6 +14,7 @@ use Rattle.volume.specs.Volumed.{Volumed}
 use Rattle.volume.proofs.Relayered.{map_twice}
 use Rattle.resting.specs.Rested.{Rested, merged_of, numbers_of, rested_of, settled_of, snap_of}
 use Rattle.resting.specs.Showing.{Arrays, arrays_in, entry_of, AreKept, IsGoneOn}
+use Rattle.resting.proofs.Overflows.{overflows_of, merge_keeps}
 use Rattle.resting.proofs.Parts.{kept_none}
 use Rattle.resting.proofs.PlainReads.{IsUnder, under_by}
 use Rattle.resting.proofs.Shown.{arrays_with, seen}
@@ -26,16 +27,19 @@ abbrev snap_numbers : List Snap → List ℕ
 snap_numbers snaps = map (λ s. s.number) snaps
 
 -- snapshots of the same numbers that show the same where they are live
-kept_shown : (before after : List ℕ) (ss ts : List Snap) → snap_numbers ts ≡ snap_numbers ss → ShowTheSame before after ss ts → AreKept (map (entry_of before) ss) (map (entry_of after) ts)
-kept_shown before after [] [] numbers same = tt
-kept_shown before after [] (t ∷ ts) numbers same = absurd same
-kept_shown before after (s ∷ ss) [] numbers same = absurd same
-kept_shown before after (s ∷ ss) (t ∷ ts) numbers same =
+kept_shown : (before after : List ℕ) (ss ts : List Snap) → snap_numbers ts ≡ snap_numbers ss → overflows_of ts ≡ overflows_of ss → ShowTheSame before after ss ts → AreKept (map (entry_of before) ss) (map (entry_of after) ts)
+kept_shown before after [] [] numbers full same = tt
+kept_shown before after [] (t ∷ ts) numbers full same = absurd same
+kept_shown before after (s ∷ ss) [] numbers full same = absurd same
+kept_shown before after (s ∷ ss) (t ∷ ts) numbers full same =
     let head : t.number ≡ s.number = cc in
-    let tail : snap_numbers ts ≡ snap_numbers ss = cc in (
+    let tail : snap_numbers ts ≡ snap_numbers ss = cc in
+    let fills : t.overflow ≡ s.overflow = cc in
+    let rest : overflows_of ts ≡ overflows_of ss = cc in (
       head,
+      fills,
       elim (cases_Bool t.live) [ inl live ↦ inl (same.0 live) | inr out ↦ inr (cond-false _ _ _ out) ],
-      kept_shown before after ss ts tail same.1,
+      kept_shown before after ss ts tail rest same.1,
     )
 
 -- the whole merge of the settled machine
@@ -45,7 +49,7 @@ gone_by sectors None v under numbers = (let m : Merged = record { volume = v; me
 gone_by sectors (Some g) v under numbers =
     let m : Merging = record { volume = v; merge = g } in
     let unseen : IsUnseen sectors m (merge_all m) = merge_unseen sectors m (under g refl) in
-    record { origin = unseen.origin; saved = kept_shown v.origin.bytes (merge_all m).volume.origin.bytes v.snaps (merge_all m).volume.snaps numbers unseen.snaps }
+    record { origin = unseen.origin; saved = kept_shown v.origin.bytes (merge_all m).volume.origin.bytes v.snaps (merge_all m).volume.snaps numbers (merge_keeps m) unseen.snaps }
 
 module _ {B : Type 0} (contents : B → List ℕ) (layers : B → List Layer) (size : B → ℕ) (v w : Volumed B)
     (under : (h : MergeHeld) → (moving_of contents layers None v).merge ≡ Some h → IsMerging (size v.origin) (in_big_steps h (moving_of contents layers None v))) where

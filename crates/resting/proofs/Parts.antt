@@ -5,9 +5,11 @@ use Rattle.std.proofs.Math.Seq.{take-append-add, drop-append-add, take-append_se
 use Rattle.std.proofs.lemmas.List.{drop-drop, append_assoc, take-append-drop}
 use Rattle.std.proofs.lemmas.Bool.{cases_Bool, cond-true, cond-false}
 use Rattle.sector.specs.Bytes.{with_sectors}
-use Rattle.plain.specs.Plain.{Saved, Live, Invalid, Entry}
+use Rattle.plain.specs.Plain.{Saved, Live, Invalid, Entry, marked_in, overflow_under}
 use Rattle.plain.specs.declared.request.Dev.{Dev}
 use Rattle.plain.specs.declared.request.Dev.TheVariants.{Origin, Snap as ToSnap}
+use Rattle.plain.specs.declared.request.Overflowing.{Overflowing}
+use Rattle.plain.specs.declared.request.Overflowing.TheVariants.{Did}
 use Rattle.resting.specs.Showing.{Arrays, saved_at, saved_of, with_bytes, changed_at, AreKept, IsWritten, IsLost}
 
 -- runs of sectors that are written one after the other are one
@@ -32,7 +34,7 @@ with_sectors_none a first = ap (λ n. take (512 * first) a ++ drop n a) (omega a
 pub changed_twice : (number : ℕ) (f g h : Saved → Saved) (entries : List Entry) → ((saved : Saved) → saved_at number entries ≡ saved → g (f saved) ≡ h saved) → changed_at number g (changed_at number f entries) ≡ changed_at number h entries
 changed_twice number f g h [] same = refl
 changed_twice number f g h (e ∷ es) same = elim (cases_Bool (e.number == number)) [
-  | inl this ↦ (let mk : Saved → List Entry = λ (s : Saved). (record { number = e.number; saved = s }) ∷ es in
+  | inl this ↦ (let mk : Saved → List Entry = λ (s : Saved). (record e { saved = s }) ∷ es in
       ap (changed_at number g) (cond-true _ _ _ this) ∙ cond-true _ _ _ this ∙ ap mk (same e.saved (cond-true _ _ _ this)) ∙ sym (cond-true _ _ _ this))
   | inr other ↦ ap (changed_at number g) (cond-false _ _ _ other) ∙ cond-false _ _ _ other
       ∙ ap (λ (xs : List Entry). e ∷ xs) (changed_twice number f g h es (λ saved at. same saved (cond-false _ _ _ other ∙ at))) ∙ sym (cond-false _ _ _ other)
@@ -41,14 +43,30 @@ changed_twice number f g h (e ∷ es) same = elim (cases_Bool (e.number == numbe
 pub changed_none : (number : ℕ) (f : Saved → Saved) (entries : List Entry) → ((saved : Saved) → saved_at number entries ≡ saved → f saved ≡ saved) → changed_at number f entries ≡ entries
 changed_none number f [] same = refl
 changed_none number f (e ∷ es) same = elim (cases_Bool (e.number == number)) [
-  | inl this ↦ (let mk : Saved → List Entry = λ (s : Saved). (record { number = e.number; saved = s }) ∷ es in cond-true _ _ _ this ∙ ap mk (same e.saved (cond-true _ _ _ this)))
+  | inl this ↦ (let mk : Saved → List Entry = λ (s : Saved). (record e { saved = s }) ∷ es in cond-true _ _ _ this ∙ ap mk (same e.saved (cond-true _ _ _ this)))
   | inr other ↦ cond-false _ _ _ other ∙ ap (λ (xs : List Entry). e ∷ xs) (changed_none number f es (λ saved at. same saved (cond-false _ _ _ other ∙ at)))
+]
+
+-- what is shown has no part in what a full store does
+pub overflow_changed : (number : ℕ) (f : Saved → Saved) (entries : List Entry) → overflow_under number (changed_at number f entries) ≡ overflow_under number entries
+overflow_changed number f [] = refl
+overflow_changed number f (e ∷ es) = elim (cases_Bool (e.number == number)) [
+  | inl this ↦ ap (overflow_under number) (cond-true _ _ _ this) ∙ cond-true _ _ _ this ∙ sym (cond-true _ _ _ this)
+  | inr other ↦ ap (overflow_under number) (cond-false _ _ _ other) ∙ cond-false _ _ _ other ∙ overflow_changed number f es ∙ sym (cond-false _ _ _ other)
+]
+
+-- one that is marked already stays as it is
+pub marked_again : (number : ℕ) (entries : List Entry) → overflow_under number entries ≡ Did → marked_in number entries ≡ entries
+marked_again number [] did = refl
+marked_again number (e ∷ es) did = elim (cases_Bool (e.number == number)) [
+  | inl this ↦ (let mk : Overflowing → List Entry = λ (o : Overflowing). (record e { overflow = o }) ∷ es in cond-true _ _ _ this ∙ ap mk (sym did ∙ cond-true _ _ _ this))
+  | inr other ↦ cond-false _ _ _ other ∙ ap (λ (xs : List Entry). e ∷ xs) (marked_again number es (sym (cond-false _ _ _ other) ∙ did))
 ]
 
 -- snapshots that are kept, and kept again
 pub kept_none : (es : List Entry) → AreKept es es
 kept_none [] = tt
-kept_none (e ∷ es) = (refl, inl refl, kept_none es)
+kept_none (e ∷ es) = (refl, refl, inl refl, kept_none es)
 
 pub kept_more : (es fs hs : List Entry) → AreKept es fs → AreKept fs hs → AreKept es hs
 kept_more [] [] [] h k = tt
@@ -56,7 +74,7 @@ kept_more [] [] (c ∷ hs) h k = k
 kept_more [] (b ∷ fs) hs h k = absurd h
 kept_more (a ∷ es) [] hs h k = absurd h
 kept_more (a ∷ es) (b ∷ fs) [] h k = k
-kept_more (a ∷ es) (b ∷ fs) (c ∷ hs) h k = (k.0 ∙ h.0, elim k.1 [ inl same ↦ elim h.1 [ inl was ↦ inl (same ∙ was) | inr lost ↦ inr (same ∙ lost) ] | inr lost ↦ inr lost ], kept_more es fs hs h.2 k.2)
+kept_more (a ∷ es) (b ∷ fs) (c ∷ hs) h k = (k.0 ∙ h.0, k.1 ∙ h.1, elim k.2 [ inl same ↦ elim h.2 [ inl was ↦ inl (same ∙ was) | inr lost ↦ inr (same ∙ lost) ] | inr lost ↦ inr lost ], kept_more es fs hs h.3 k.3)
 
 -- nothing was written
 pub written_none : (dev : Dev) (first : ℕ) (v : Arrays) → IsWritten dev first [] v v

@@ -17,7 +17,7 @@ use Rattle.served.specs.Refusals.{is_starved}
 use Rattle.served.proofs.Starved.{starved_by}
 use Rattle.plain.specs.declared.request.Reply.{Reply}
 use Rattle.plain.specs.declared.request.Reply.TheVariants.{Data, Written, Refused}
-use Rattle.plain.specs.declared.request.Failure.TheVariants.{Invalid as Declined, Io}
+use Rattle.plain.specs.declared.request.Failure.TheVariants.{Invalid as Declined, Io, Overflow}
 use Rattle.settled.specs.Snaps.{Volume}
 use Rattle.settled.specs.Commands.{read_pieces}
 use Rattle.settled.specs.Merges.{Merge, Merged, Merging, Replied, merged_of as in_one, read_parts}
@@ -76,6 +76,7 @@ plain_reply dev span old array (Data bytes) live read = (array, live, read)
 plain_reply dev span old array Written live read = read
 plain_reply dev span old array (Refused Declined) live read = absurd read
 plain_reply dev span old array (Refused Io) live read = (array, live)
+plain_reply dev span old array (Refused Overflow) live read = absurd read
 
 module _ {B : Type 0} (contents : B → List ℕ) (layers : B → List Layer) where
   -- a device that is not there shows nothing
@@ -166,6 +167,7 @@ module _ (sectors chunk : ℕ) (range : Range) (pos : 0 < chunk) (some : 0 < ran
       snap_plain number g v Written law = law
       snap_plain number g v (Refused Declined) law = law
       snap_plain number g v (Refused Io) law = law
+      snap_plain number g v (Refused Overflow) law = law
 
 -- the merge that is begun
 module _ {B : Type 0} (contents : B → List ℕ) (layers : B → List Layer) (size : B → ℕ) (v : Volumed B)

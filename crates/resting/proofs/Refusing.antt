@@ -1,12 +1,13 @@
 -- A request that was not accepted.
-use Rattle.std.proofs.Common.{◌≡◌, ◌≢◌, inl, inr, ℕ, Bool, ◌+◌, ◌≤◌, true, false, List, [], ◌∷◌, length, map, Option, Some, None, refl, sym, ◌∙◌, ap, subst, arith}
+use Rattle.std.proofs.Common.{◌≡◌, ◌≢◌, inl, inr, ℕ, zero, suc, get_or, set, Bool, ◌+◌, ◌≤◌, true, false, List, [], ◌∷◌, length, map, Option, Some, None, refl, sym, ◌∙◌, ap, subst, arith}
 use Rattle.std.specs.Prelude.{◌&&◌, ◌⊎◌, not, IfSome}
 use Rattle.std.specs.List.{list_all}
 use Rattle.sector.specs.declared.refusal.Refusal.{Refusal}
-use Rattle.sector.specs.declared.refusal.Refusal.TheVariants.{Invalid}
+use Rattle.sector.specs.declared.refusal.Refusal.TheVariants.{Invalid, Overflow}
 use Rattle.served.specs.Refusals.{IsStarved, is_starved}
 use Rattle.served.proofs.Starved.{memory_starved}
 use Rattle.device.specs.Layers.{Layer, is_loud}
+use Rattle.plain.specs.declared.request.Overflowing.TheVariants.{Did}
 use Rattle.plain.specs.declared.request.Request.{Request}
 use Rattle.snapshot.specs.Kept.{Kept}
 use Rattle.volume.specs.Volumed.{Volumed, is_loud_in_all, is_loud_with}
@@ -14,9 +15,9 @@ use Rattle.volume.specs.Leaving.{has_group_in, is_done_of, is_quiet_of}
 use Rattle.snapshots.specs.Finding.{place_of_snap}
 use Rattle.snapshots.specs.Starting.{unroomed}
 use Rattle.volume.specs.Asking.{merging_number}
-use Rattle.volume.specs.Submitting.{SameButRoom, IsRefusedAs}
+use Rattle.volume.specs.Submitting.{SameButRoom, IsOverflown, IsRefusedAs}
 use Rattle.resting.specs.Serving.{CanServe}
-use Rattle.resting.proofs.Limits.{only_invalid}
+use Rattle.resting.proofs.Limits.{only_its_snap}
 
 same_room : {B : Type 0} (v : Volumed B) → SameButRoom v v
 same_room v = record { roomed = refl; becomes = refl }
@@ -32,6 +33,19 @@ all_roomed test xs ys e same = sym (all_unroomed test xs same) ∙ ap (list_all 
 pub room_quiet : {B : Type 0} (old new : Volumed B) → SameButRoom old new → is_quiet_of new ≡ is_quiet_of old
 room_quiet {B} old new same =
     ap (λ (v : Volumed B). is_quiet_of v) same.becomes ∙ ap (λ b. Rattle.std.specs.Prelude.◌==◌ (length old.flights) 0 && (not (has_group_in old.merge) && b)) (all_roomed is_done_of new.snaps old.snaps same.roomed (λ s. refl))
+
+-- where a snapshot is marked for its full store, the volume is as quiet
+all_marked : {B : Type 0} (test : Kept B → Bool) (xs : List (Kept B)) (k : ℕ) (x y : Kept B) → x ≡ get_or xs k x → test y ≡ test x → list_all test (set xs k y) ≡ list_all test xs
+all_marked test [] k x y is same = refl
+all_marked test (z ∷ zs) zero x y is same = ap (λ b. b && list_all test zs) (same ∙ ap test is)
+all_marked test (z ∷ zs) (suc k) x y is same = ap (λ b. test z && b) (all_marked test zs k x y is same)
+
+marked_quiet : {B : Type 0} (contents : B → List ℕ) (layers : B → List Layer) (number first : ℕ) (old new : Volumed B) → IsOverflown contents layers number first old new → is_quiet_of new ≡ is_quiet_of old
+marked_quiet {B} contents layers number first old new o =
+    let did : Kept B = record o.snap { overflow = Did } in
+    let done : list_all is_done_of new.snaps ≡ list_all is_done_of old.snaps =
+    all_roomed is_done_of new.snaps (set old.snaps o.place did) o.marked (λ s. refl) ∙ all_marked is_done_of old.snaps o.place o.snap did o.is refl in
+    ap (λ (v : Volumed B). is_quiet_of v) o.becomes ∙ ap (λ b. Rattle.std.specs.Prelude.◌==◌ (length old.flights) 0 && (not (has_group_in old.merge) && b)) done
 
 -- what a look at the snapshot that is being merged says
 pub apart_by : {B : Type 0} (v : Volumed B) (seen : Option ℕ) → seen ≡ merging_number v.merge → IfSome seen (λ number. place_of_snap number v.snaps ≡ None) → (number : ℕ) → merging_number v.merge ≡ Some number → place_of_snap number v.snaps ≡ None
@@ -51,14 +65,14 @@ module _ {B : Type 0} (contents : B → List ℕ) (layers : B → List Layer) (s
   ]
 
   -- refused for another reason than its snapshot: there is no room
-  pub starved_only : CanServe size request.dev request.op request.range old → ((number : ℕ) → merging_number old.merge ≡ Some number → place_of_snap number old.snaps ≡ None) → is_quiet_of old ≡ true → length old.snaps ≤ 8 → refusal ≢ Invalid → (is_starved refusal ≡ true) × SameButRoom old new
-  starved_only can apart quiet few other = elim refused [
+  pub starved_only : CanServe size request.dev request.op request.range old → ((number : ℕ) → merging_number old.merge ≡ Some number → place_of_snap number old.snaps ≡ None) → is_quiet_of old ≡ true → length old.snaps ≤ 8 → refusal ≢ Invalid → refusal ≢ Overflow → (is_starved refusal ≡ true) × SameButRoom old new
+  starved_only can apart quiet few alive free = elim refused [
     | inl starved ↦ (starved.0, subst (SameButRoom old) (sym starved.1) (same_room old))
     | inr plain ↦ elim plain [
-      | inl first ↦ absurd (other (only_invalid size request old can apart quiet few refusal first.0))
+      | inl first ↦ absurd (elim (only_its_snap size request old can apart quiet few refusal first.0) [ inl lost ↦ alive lost | inr shut ↦ free shut ])
       | inr later ↦ elim later [
         | inl lacks ↦ (memory_starved refusal lacks.1, lacks.2)
-        | inr full ↦ absurd (other full.1)
+        | inr full ↦ absurd (elim full [ inl lost ↦ alive lost.1 | inr shut ↦ free shut.1 ])
       ]
     ]
   ]
@@ -70,12 +84,15 @@ module _ {B : Type 0} (contents : B → List ℕ) (layers : B → List Layer) (s
       | inl first ↦ (let same : new.requests ≡ old.requests = ap (λ (v : Volumed B). v.requests) first.1 in omega (arith, same))
       | inr later ↦ elim later [
         | inl lacks ↦ (let same : new.requests ≡ old.requests = ap (λ (v : Volumed B). v.requests) lacks.2.becomes in omega (arith, same))
-        | inr full ↦ (let same : new.requests ≡ old.requests = ap (λ (v : Volumed B). v.requests) full.2.2.becomes in omega (arith, same))
+        | inr full ↦ elim full [
+          | inl lost ↦ (let same : new.requests ≡ old.requests = ap (λ (v : Volumed B). v.requests) lost.2.2.becomes in omega (arith, same))
+          | inr shut ↦ (let same : new.requests ≡ old.requests = ap (λ (v : Volumed B). v.requests) shut.2.2.becomes in omega (arith, same))
+        ]
       ]
     ]
   ]
 
-  -- it is as quiet as before, where its snapshot is not why
+  -- it is as quiet as before, where its snapshot is not spoiled
   pub refused_quiet : refusal ≢ Invalid → is_quiet_of new ≡ is_quiet_of old
   refused_quiet other = elim refused [
     | inl starved ↦ ap (λ (v : Volumed B). is_quiet_of v) starved.1
@@ -83,7 +100,7 @@ module _ {B : Type 0} (contents : B → List ℕ) (layers : B → List Layer) (s
       | inl first ↦ ap (λ (v : Volumed B). is_quiet_of v) first.1
       | inr later ↦ elim later [
         | inl lacks ↦ room_quiet old new lacks.2
-        | inr full ↦ absurd (other full.1)
+        | inr full ↦ elim full [ inl lost ↦ absurd (other lost.1) | inr shut ↦ marked_quiet contents layers shut.2.0 request.range.first old new shut.2.2 ]
       ]
     ]
   ]

@@ -15,7 +15,7 @@ use Rattle.plain.specs.declared.request.Dev.TheVariants.{Origin, Snap as ToSnap}
 use Rattle.plain.specs.declared.request.Op.TheVariants.{Read}
 use Rattle.plain.specs.declared.request.Reply.{Reply}
 use Rattle.plain.specs.declared.request.Reply.TheVariants.{Data, Written, Refused}
-use Rattle.plain.specs.declared.request.Failure.TheVariants.{Invalid as Declined, Io}
+use Rattle.plain.specs.declared.request.Failure.TheVariants.{Invalid as Declined, Io, Overflow}
 use Rattle.settled.proofs.Laws.{option_cases}
 use Rattle.settled.proofs.PictureSectors.{shown_plain, shown_copied, place_inside, one_of}
 use Rattle.settled.specs.Devices.{Device, answers, read_reply}
@@ -33,6 +33,7 @@ IsReadOf array piece (Data bytes) = bytes ≡ sectors_at array piece.first piece
 IsReadOf array piece Written = ⊥
 IsReadOf array piece (Refused Declined) = ⊥
 IsReadOf array piece (Refused Io) = Unit {0}
+IsReadOf array piece (Refused Overflow) = ⊥
 
 -- of a device whose sectors are those of the array
 reads_of : (device : Device) (first : ℕ) (array : List ℕ) (piece : Span) → sectors_at device.bytes first piece.count ≡ sectors_at array piece.first piece.count → IsReadOf array piece (read_reply device first piece.count)
@@ -150,6 +151,7 @@ IsReadTo array first count before (Data bytes) = bytes ≡ before ++ sectors_at 
 IsReadTo array first count before Written = ⊥
 IsReadTo array first count before (Refused Declined) = ⊥
 IsReadTo array first count before (Refused Io) = Unit {0}
+IsReadTo array first count before (Refused Overflow) = ⊥
 
 read_more : (array : List ℕ) (first m n : ℕ) (before bytes : List ℕ) (reply : Reply) → bytes ≡ sectors_at array first m → IsReadTo array (first + m) n (before ++ bytes) reply → IsReadTo array first (m + n) before reply
 read_more array first m n before bytes (Data all) part more =
@@ -157,11 +159,13 @@ read_more array first m n before bytes (Data all) part more =
 read_more array first m n before bytes Written part more = more
 read_more array first m n before bytes (Refused Declined) part more = more
 read_more array first m n before bytes (Refused Io) part more = tt
+read_more array first m n before bytes (Refused Overflow) part more = more
 
 goes_read : (array : List ℕ) (piece : Span) (n : ℕ) (before : List ℕ) (r : Reply) (here more : Answered) → here.reply ≡ r → IsReadOf array piece r → IsReadTo array (piece.first + piece.count) n (before ++ bytes_in r) more.reply → IsReadTo array piece.first (piece.count + n) before (go_on r here more).reply
 goes_read array piece n before (Data bytes) here more is read rest = read_more array piece.first piece.count n before bytes more.reply read rest
 goes_read array piece n before Written here more is read rest = absurd read
 goes_read array piece n before (Refused Declined) here more is read rest = absurd read
+goes_read array piece n before (Refused Overflow) here more is read rest = absurd read
 goes_read array piece n before (Refused Io) here more is read rest = subst (IsReadTo array piece.first (piece.count + n) before) (sym is) tt
 
 goes_shown : (r : Reply) (shows : Arrays) (here more : Answered) → arrays_of here.volume ≡ shows → arrays_of more.volume ≡ shows → arrays_of (go_on r here more).volume ≡ shows

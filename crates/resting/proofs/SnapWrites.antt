@@ -1,6 +1,6 @@
 -- A write of one piece of a snapshot changes what that snapshot shows at that place, and nothing else.
 use Rattle.std.proofs.Common.{◌≡◌, ◌≢◌, inl, inr, ℕ, ◌+◌, ◌*◌, ◌/◌, ◌%◌, ◌<◌, ◌≤◌, Bool, true, false, List, [], ◌∷◌, length, map, Option, Some, None, arith, refl, ap, ◌∙◌, sym, subst}
-use Rattle.std.specs.Prelude.{◌==◌, ◌||◌, not}
+use Rattle.std.specs.Prelude.{◌==◌, ◌&&◌, ◌||◌, not}
 use Rattle.std.proofs.lemmas.Bool.{cases_Bool, cond-true, cond-false, true≢false}
 use Rattle.sector.specs.Bytes.{with_sectors}
 use Rattle.sector.specs.declared.pair.Pair.{Pair}
@@ -8,10 +8,12 @@ use Rattle.device.specs.declared.operation.Operation.TheVariants.{Writes}
 use Rattle.chunk.specs.Pieces.{Span}
 use Rattle.model.specs.Pairs.{pairs_of}
 use Rattle.model.specs.Picture.{place_of, picture}
-use Rattle.plain.specs.Plain.{Saved, Live, Invalid, Entry}
+use Rattle.plain.specs.Plain.{Saved, Live, Invalid, Entry, marked_in, overflow_under}
+use Rattle.plain.specs.declared.request.Overflowing.{Overflowing}
+use Rattle.plain.specs.declared.request.Overflowing.TheVariants.{Never, Did}
 use Rattle.plain.specs.declared.request.Reply.{Reply}
 use Rattle.plain.specs.declared.request.Reply.TheVariants.{Data, Written, Refused}
-use Rattle.plain.specs.declared.request.Failure.TheVariants.{Invalid as Declined, Io}
+use Rattle.plain.specs.declared.request.Failure.TheVariants.{Invalid as Declined, Io, Overflow}
 use Rattle.volume_laws.proofs.PlaceWrites.{picture_placed}
 use Rattle.settled.specs.Saves.{Saving as Stored, next_of, saved}
 use Rattle.settled.specs.Order.{IsInOrder}
@@ -22,7 +24,7 @@ use Rattle.settled.proofs.PictureSectors.{place_inside, one_of}
 use Rattle.settled.specs.Devices.{Device, answers, written_by}
 use Rattle.settled.specs.Snaps.{Snap, shown}
 use Rattle.settled.specs.Saving.{Saving, next_place, is_full, has_chunk, save}
-use Rattle.settled.specs.Pieces.{Answered, Served, write_place, write_snap, in_snap}
+use Rattle.settled.specs.Pieces.{Answered, Served, shuts, overflown, write_place, write_saved, write_snap, in_snap}
 use Rattle.event_machine.specs.Held.{Held}
 use Rattle.event_machine.specs.Rest.{IsResting}
 use Rattle.settled.proofs.Each.{Each}
@@ -32,6 +34,7 @@ use Rattle.settled.proofs.Keeps.{copy_keeps}
 use Rattle.settling.proofs.PlaceRests.{place_rests}
 use Rattle.settled.proofs.SavedBytes.{save_bytes}
 use Rattle.resting.specs.Showing.{entry_of, saved_at, with_bytes, changed_at}
+use Rattle.resting.proofs.Overflows.{save_overflow, taken_overflow}
 use Rattle.resting.proofs.Rests.{IsOrderly, IsInside}
 
 -- saving a chunk keeps a snapshot's number
@@ -71,6 +74,26 @@ IsShownBy piece part old new (Data bytes) = ⊥
 IsShownBy piece part old new Written = (array : List ℕ) × (old ≡ Live array) × (new ≡ Live (with_sectors array piece.first part))
 IsShownBy piece part old new (Refused Declined) = new ≡ Invalid
 IsShownBy piece part old new (Refused Io) = (array : List ℕ) × (old ≡ Live array) × (new ≡ old)
+IsShownBy piece part old new (Refused Overflow) = (array : List ℕ) × (old ≡ Live array) × (new ≡ old)
+
+-- and what a full store does to it then
+abbrev pub IsMarkedBy : Overflowing → Overflowing → Reply → Type 0
+IsMarkedBy old new (Data bytes) = ⊥
+IsMarkedBy old new Written = (old ≢ Did) × (new ≡ old)
+IsMarkedBy old new (Refused Declined) = new ≡ old
+IsMarkedBy old new (Refused Io) = new ≡ old
+IsMarkedBy old new (Refused Overflow) = (old ≢ Never) × (new ≡ Did)
+
+-- a live snapshot that takes no write may overflow, or did; one that takes it did not
+and_first : (a b : Bool) → (a && b) ≡ true → a ≡ true
+and_first true b e = refl
+and_first false b e = e
+
+shut_not_never : (c : ℕ) (s : Snap) → shuts c s ≡ true → s.overflow ≢ Never
+shut_not_never c s shut never = (let free : shuts c s ≡ false = rw (and_first s.live _ shut, never) refl in true≢false (sym shut ∙ free))
+
+open_not_did : (c : ℕ) (s : Snap) → shuts c s ≡ false → s.live ≡ true → s.overflow ≢ Did
+open_not_did c s free live did = (let shut : shuts c s ≡ true = rw (live, did) refl in true≢false (sym shut ∙ free))
 
 module _ (sectors chunk : ℕ) (pos : 0 < chunk) (piece : Span) (part : List ℕ) (fits : IsInside sectors chunk piece) (len : length part ≡ 512 * piece.count) where
   -- at a copy's place
@@ -103,9 +126,10 @@ module _ (sectors chunk : ℕ) (pos : 0 < chunk) (piece : Span) (part : List ℕ
             (array, old_is, cond-true _ _ _ live ∙ ap (λ (b : List ℕ). Live (picture t.chunk o b)) now ∙ ap Live is ∙ sym old_is))
       ]
 
-  -- one snapshot
-  pub snap_written : (origin : Device) (s : Snap) → length origin.bytes ≡ 512 * sectors → s.chunk ≡ chunk → IsOrderly sectors s → IsShownBy piece part (shown origin.bytes s) (shown origin.bytes (write_snap piece part origin s).snap) (write_snap piece part origin s).reply
-  snap_written origin s whole same orderly =
+  -- one snapshot that takes the write
+  taken_written : (origin : Device) (s : Snap) → length origin.bytes ≡ 512 * sectors → s.chunk ≡ chunk → IsOrderly sectors s
+      → (let a : Served = write_saved piece part (save (piece.first / s.chunk) origin s) in IsShownBy piece part (shown origin.bytes s) (shown origin.bytes a.snap) a.reply)
+  taken_written origin s whole same orderly =
       let c : ℕ = piece.first / s.chunk in
       let a : Saving = save c origin s in
       let t : Snap = a.snap in
@@ -130,6 +154,50 @@ module _ (sectors chunk : ℕ) (pos : 0 < chunk) (piece : Span) (part : List ℕ
             ]))
       ]
 
+  -- any snapshot
+  pub snap_written : (origin : Device) (s : Snap) → length origin.bytes ≡ 512 * sectors → s.chunk ≡ chunk → IsOrderly sectors s → IsShownBy piece part (shown origin.bytes s) (shown origin.bytes (write_snap piece part origin s).snap) (write_snap piece part origin s).reply
+  snap_written origin s whole same orderly =
+      let c : ℕ = piece.first / s.chunk in
+      let By : Served → Type 0 = λ (x : Served). IsShownBy piece part (shown origin.bytes s) (shown origin.bytes x.snap) x.reply in
+      elim (cases_Bool (shuts c s)) [
+        | inl shut ↦ subst By (sym (cond-true _ _ _ shut)) (picture s.chunk origin.bytes s.store.bytes, cond-true _ _ _ (and_first s.live _ shut), refl)
+        | inr free ↦ subst By (sym (cond-false _ _ _ free)) (taken_written origin s whole same orderly)
+      ]
+
+-- what a full store does to it, after a write that it takes, and after any
+module _ (piece : Span) (part : List ℕ) (origin : Device) (s : Snap) where
+  abbrev chunk_at : ℕ
+  chunk_at = piece.first / s.chunk
+
+  abbrev after : Saving
+  after = save chunk_at origin s
+
+  place_marked : s.overflow ≢ Did → (o : Option ℕ) → (let a : Served = write_place piece part after.origin after.snap o in IsMarkedBy s.overflow a.snap.overflow a.reply)
+  place_marked free None = save_overflow chunk_at origin s
+  place_marked free (Some n) =
+      let kept : after.snap.overflow ≡ s.overflow = save_overflow chunk_at origin s in
+      elim (cases_Bool (answers after.snap.store (Writes (after.snap.chunk * n + piece.first % after.snap.chunk) piece.count))) [
+        | inl ok ↦ subst (IsMarkedBy s.overflow after.snap.overflow) (sym (cond-true _ _ _ ok)) (free, kept)
+        | inr failed ↦ subst (IsMarkedBy s.overflow after.snap.overflow) (sym (cond-false _ _ _ failed)) kept
+      ]
+
+  taken_marked : shuts chunk_at s ≡ false → (let a : Served = write_saved piece part after in IsMarkedBy s.overflow a.snap.overflow a.reply)
+  taken_marked free =
+      let By : Served → Type 0 = λ (x : Served). IsMarkedBy s.overflow x.snap.overflow x.reply in
+      elim (cases_Bool after.snap.live) [
+        | inl live ↦ (let was = live_saved chunk_at origin s live in
+            subst By (sym (cond-true _ _ _ live)) (place_marked (open_not_did chunk_at s free was.0) (place_of (pairs_of after.snap.chunk after.snap.store.bytes) (piece.first / after.snap.chunk))))
+        | inr out ↦ subst By (sym (cond-false _ _ _ out)) (save_overflow chunk_at origin s)
+      ]
+
+  pub snap_marked : IsMarkedBy s.overflow (write_snap piece part origin s).snap.overflow (write_snap piece part origin s).reply
+  snap_marked =
+      let By : Served → Type 0 = λ (x : Served). IsMarkedBy s.overflow x.snap.overflow x.reply in
+      elim (cases_Bool (shuts chunk_at s)) [
+        | inl shut ↦ subst By (sym (cond-true _ _ _ shut)) (shut_not_never chunk_at s shut, refl)
+        | inr free ↦ subst By (sym (cond-false _ _ _ free)) (taken_marked free)
+      ]
+
 -- its number and the origin's bytes stay
 place_origin : (piece : Span) (part : List ℕ) (origin : Device) (s : Snap) (o : Option ℕ) → ((write_place piece part origin s o).origin.bytes ≡ origin.bytes) × ((write_place piece part origin s o).snap.number ≡ s.number)
 place_origin piece part origin s None = (refl, refl)
@@ -140,36 +208,60 @@ snap_stays piece part origin s =
     let c : ℕ = piece.first / s.chunk in
     let a : Saving = save c origin s in
     let Stays : Served → Type 0 = λ (x : Served). (x.origin.bytes ≡ origin.bytes) × (x.snap.number ≡ s.number) in
-    elim (cases_Bool a.snap.live) [
-      | inl live ↦ (let p = place_origin piece part a.origin a.snap (place_of (pairs_of a.snap.chunk a.snap.store.bytes) (piece.first / a.snap.chunk)) in
-          subst Stays (sym (cond-true _ _ _ live)) (p.0 ∙ save_bytes c origin s, p.1 ∙ save_number c origin s))
-      | inr out ↦ subst Stays (sym (cond-false _ _ _ out)) (save_bytes c origin s, save_number c origin s)
+    elim (cases_Bool (shuts c s)) [
+      | inl shut ↦ subst Stays (sym (cond-true _ _ _ shut)) (refl, refl)
+      | inr free ↦ subst Stays (sym (cond-false _ _ _ free)) (elim (cases_Bool a.snap.live) [
+        | inl live ↦ (let p = place_origin piece part a.origin a.snap (place_of (pairs_of a.snap.chunk a.snap.store.bytes) (piece.first / a.snap.chunk)) in
+            subst Stays (sym (cond-true _ _ _ live)) (p.0 ∙ save_bytes c origin s, p.1 ∙ save_number c origin s))
+        | inr out ↦ subst Stays (sym (cond-false _ _ _ out)) (save_bytes c origin s, save_number c origin s)
+      ])
     ]
 
--- what all snapshots show after a write of one
+-- what all snapshots show after a write of one, and whether that is marked
 abbrev pub AreShownBy : ℕ → Span → List ℕ → List Entry → List Entry → Reply → Type 0
 AreShownBy number piece part old new (Data bytes) = ⊥
-AreShownBy number piece part old new Written = ((array : List ℕ) × (saved_at number old ≡ Live array)) × (new ≡ changed_at number (with_bytes piece.first part) old)
+AreShownBy number piece part old new Written = ((array : List ℕ) × (saved_at number old ≡ Live array)) × (overflow_under number old ≢ Did) × (new ≡ changed_at number (with_bytes piece.first part) old)
 AreShownBy number piece part old new (Refused Declined) = new ≡ changed_at number (λ saved. Invalid) old
 AreShownBy number piece part old new (Refused Io) = ((array : List ℕ) × (saved_at number old ≡ Live array)) × (new ≡ old)
+AreShownBy number piece part old new (Refused Overflow) = ((array : List ℕ) × (saved_at number old ≡ Live array)) × (overflow_under number old ≢ Never) × (new ≡ marked_in number old)
 
-shown_first : (number : ℕ) (piece : Span) (part : List ℕ) (old new : Entry) (es : List Entry) (reply : Reply) → (old.number == number) ≡ true → new.number ≡ old.number → IsShownBy piece part old.saved new.saved reply → AreShownBy number piece part (old ∷ es) (new ∷ es) reply
-shown_first number piece part old new es (Data bytes) this same by = by
-shown_first number piece part old new es Written this same by =
-    let mk : ℕ → Saved → List Entry = λ (n : ℕ) (s : Saved). (record { number = n; saved = s }) ∷ es in
-    ((by.0, cond-true _ _ _ this ∙ by.1), ap (λ (n : ℕ). mk n new.saved) same ∙ ap (mk old.number) (by.2 ∙ sym (ap (with_bytes piece.first part) by.1)) ∙ sym (cond-true _ _ _ this))
-shown_first number piece part old new es (Refused Declined) this same by =
-    let mk : ℕ → Saved → List Entry = λ (n : ℕ) (s : Saved). (record { number = n; saved = s }) ∷ es in
-    ap (λ (n : ℕ). mk n new.saved) same ∙ ap (mk old.number) by ∙ sym (cond-true _ _ _ this)
-shown_first number piece part old new es (Refused Io) this same by =
-    let mk : ℕ → Saved → List Entry = λ (n : ℕ) (s : Saved). (record { number = n; saved = s }) ∷ es in
-    ((by.0, cond-true _ _ _ this ∙ by.1), ap (λ (n : ℕ). mk n new.saved) same ∙ ap (mk old.number) by.2)
+entry_is : (e : Entry) (number : ℕ) (saved : Saved) (overflow : Overflowing) → e.number ≡ number → e.saved ≡ saved → e.overflow ≡ overflow → e ≡ record { number = number; saved = saved; overflow = overflow }
+entry_is e number saved overflow is shows full =
+    let mk : ℕ → Saved → Overflowing → Entry = λ (n : ℕ) (s : Saved) (o : Overflowing). record { number = n; saved = s; overflow = o } in
+    ap (λ (n : ℕ). mk n e.saved e.overflow) is ∙ ap (λ (s : Saved). mk number s e.overflow) shows ∙ ap (mk number saved) full
+
+shown_first : (number : ℕ) (piece : Span) (part : List ℕ) (old new : Entry) (es : List Entry) (reply : Reply) → (old.number == number) ≡ true → new.number ≡ old.number
+    → IsShownBy piece part old.saved new.saved reply → IsMarkedBy old.overflow new.overflow reply → AreShownBy number piece part (old ∷ es) (new ∷ es) reply
+shown_first number piece part old new es (Data bytes) this same by full = by
+shown_first number piece part old new es Written this same by full = (
+  (by.0, cond-true _ _ _ this ∙ by.1),
+  (λ did. full.0 (sym (cond-true _ _ _ this) ∙ did)),
+  ap (λ (e : Entry). e ∷ es) (entry_is new old.number (with_bytes piece.first part old.saved) old.overflow same (by.2 ∙ sym (ap (with_bytes piece.first part) by.1)) full.1) ∙ sym (cond-true _ _ _ this),
+)
+shown_first number piece part old new es (Refused Declined) this same by full =
+    ap (λ (e : Entry). e ∷ es) (entry_is new old.number Invalid old.overflow same by full) ∙ sym (cond-true _ _ _ this)
+shown_first number piece part old new es (Refused Io) this same by full =
+    ((by.0, cond-true _ _ _ this ∙ by.1), ap (λ (e : Entry). e ∷ es) (entry_is new old.number old.saved old.overflow same by.2 full))
+shown_first number piece part old new es (Refused Overflow) this same by full = (
+  (by.0, cond-true _ _ _ this ∙ by.1),
+  (λ never. full.0 (sym (cond-true _ _ _ this) ∙ never)),
+  ap (λ (e : Entry). e ∷ es) (entry_is new old.number old.saved Did same by.2 full.1) ∙ sym (cond-true _ _ _ this),
+)
 
 shown_later : (number : ℕ) (piece : Span) (part : List ℕ) (e : Entry) (old new : List Entry) (reply : Reply) → (e.number == number) ≡ false → AreShownBy number piece part old new reply → AreShownBy number piece part (e ∷ old) (e ∷ new) reply
 shown_later number piece part e old new (Data bytes) other by = by
-shown_later number piece part e old new Written other by = ((by.0.0, cond-false _ _ _ other ∙ by.0.1), ap (λ (es : List Entry). e ∷ es) by.1 ∙ sym (cond-false _ _ _ other))
+shown_later number piece part e old new Written other by = (
+  (by.0.0, cond-false _ _ _ other ∙ by.0.1),
+  (λ did. by.1 (sym (cond-false _ _ _ other) ∙ did)),
+  ap (λ (es : List Entry). e ∷ es) by.2 ∙ sym (cond-false _ _ _ other),
+)
 shown_later number piece part e old new (Refused Declined) other by = ap (λ (es : List Entry). e ∷ es) by ∙ sym (cond-false _ _ _ other)
 shown_later number piece part e old new (Refused Io) other by = ((by.0.0, cond-false _ _ _ other ∙ by.0.1), ap (λ (es : List Entry). e ∷ es) by.1)
+shown_later number piece part e old new (Refused Overflow) other by = (
+  (by.0.0, cond-false _ _ _ other ∙ by.0.1),
+  (λ never. by.1 (sym (cond-false _ _ _ other) ∙ never)),
+  ap (λ (es : List Entry). e ∷ es) by.2 ∙ sym (cond-false _ _ _ other),
+)
 
 pub in_stays : (number : ℕ) (piece : Span) (part : List ℕ) (origin : Device) (snaps : List Snap) → (in_snap number (write_snap piece part) origin snaps).volume.origin.bytes ≡ origin.bytes
 in_stays number piece part origin [] = refl
@@ -188,7 +280,7 @@ module _ (sectors chunk : ℕ) (pos : 0 < chunk) (number : ℕ) (piece : Span) (
       elim (cases_Bool (s.number == number)) [
         | inl this ↦ subst By (sym (cond-true _ _ _ this))
             (shown_first number piece part (entry_of origin.bytes s) (entry_of origin.bytes (write_snap piece part origin s).snap) (map (entry_of origin.bytes) snaps) (write_snap piece part origin s).reply this (snap_stays piece part origin s).1
-            (snap_written sectors chunk pos piece part fits len origin s whole chunks.0 orders.0))
+            (snap_written sectors chunk pos piece part fits len origin s whole chunks.0 orders.0) (snap_marked piece part origin s))
         | inr other ↦ subst By (sym (cond-false _ _ _ other))
             (shown_later number piece part (entry_of origin.bytes s) (map (entry_of origin.bytes) snaps) (map (entry_of origin.bytes) (in_snap number (write_snap piece part) origin snaps).volume.snaps) (in_snap number (write_snap piece part) origin snaps).reply other
             (in_written origin snaps whole chunks.1 orders.1))

@@ -7,6 +7,7 @@ use Rattle.sector.specs.declared.refusal.Refusal.{Refusal}
 use Rattle.sector.specs.declared.refusal.Refusal.TheVariants.{MergeInProgress, Stale}
 use Rattle.served.specs.Refusals.{is_starved}
 use Rattle.device.specs.Layers.{Layer, is_loud}
+use Rattle.plain.specs.Plain.{overflow_of}
 use Rattle.settled.specs.Snaps.{Volume}
 use Rattle.settled.specs.Attaching.{attached, refused_attach}
 use Rattle.snapshot.specs.declared.opening.StoreDev.{StoreDev}
@@ -60,7 +61,7 @@ none_begun_in : {B : Type 0} (o : Option (Merging B)) → is_some o ≡ false �
 none_begun_in None e = refl
 none_begun_in (Some m) e = absurd (cc)
 
-module _ {B : Type 0} (contents : B → List ℕ) (layers : B → List Layer) (size : B → ℕ) (number chunk : ℕ) (store : StoreDev B) (old new : Volumed B) (gained : IsGained layers size number store old new) where
+module _ {B : Type 0} (contents : B → List ℕ) (layers : B → List Layer) (size : B → ℕ) (number chunk : ℕ) (overflow : Bool) (store : StoreDev B) (old new : Volumed B) (gained : IsGained layers size number overflow store old new) where
   done_snap : is_done_of gained.snap ≡ true
   done_snap = rw (gained.copies, gained.marks, gained.untried) refl
 
@@ -82,7 +83,7 @@ module _ {B : Type 0} (contents : B → List ℕ) (layers : B → List Layer) (s
       let was = none_begun_in old.merge (not_begun store.stale (is_some old.merge) (is_quiet_of old) (length old.snaps) old.attached chunk admitted) in
       (was, ap (λ (v : Volumed B). v.merge) gained.becomes ∙ was)
 
-  pub taken_as : IsTakenAs layers size number store (rested_of old) (rested_of new)
+  pub taken_as : IsTakenAs layers size number overflow store (rested_of old) (rested_of new)
   taken_as = record {
     snap = attached_of gained.snap;
     origin = ap (λ (v : Volumed B). v.origin) gained.becomes;
@@ -93,6 +94,7 @@ module _ {B : Type 0} (contents : B → List ℕ) (layers : B → List Layer) (s
     number_is = gained.number_is;
     live = gained.live;
     stale = gained.stale;
+    overflow = gained.overflow_is;
     sizes = gained.sizes;
     loud = gained.loud;
   }
@@ -104,25 +106,25 @@ module _ {B : Type 0} (contents : B → List ℕ) (layers : B → List Layer) (s
     quiet = (taken_quiet admitted).1;
   }
 
-module _ {B : Type 0} (contents : B → List ℕ) (layers : B → List Layer) (number chunk : ℕ) where
+module _ {B : Type 0} (contents : B → List ℕ) (layers : B → List Layer) (number chunk : ℕ) (overflow : Bool) where
   -- in the words of what callers see
-  pub attached_seen : (store : StoreDev B) (old new : Volumed B) → IsAttachedAs contents layers number chunk store old new
-      → attached number chunk (store_of contents layers store) (settled_of contents layers (rested_of old)) ≡ record { volume = settled_of contents layers (rested_of new); refused = None; back = None }
+  pub attached_seen : (store : StoreDev B) (old new : Volumed B) → IsAttachedAs contents layers number chunk overflow store old new
+      → attached number chunk (overflow_of overflow) (store_of contents layers store) (settled_of contents layers (rested_of old)) ≡ record { volume = settled_of contents layers (rested_of new); refused = None; back = None }
   attached_seen store old new a =
-      ap (attached number chunk (store_of contents layers store)) (settled_same contents layers None old) ∙ a.exact
+      ap (attached number chunk (overflow_of overflow) (store_of contents layers store)) (settled_same contents layers None old) ∙ a.exact
       ∙ ap (λ (v : Volume). record { volume = v; refused = None; back = None }) (sym (settled_same contents layers None new))
 
-  pub refused_seen : (refusal : Refusal) (store back : StoreDev B) (old : Volumed B) → attached number chunk (store_of contents layers store) (volume_in contents layers old) ≡ refused_attach refusal (store_of contents layers back) (volume_in contents layers old)
-      → attached number chunk (store_of contents layers store) (settled_of contents layers (rested_of old)) ≡ refused_attach refusal (store_of contents layers back) (settled_of contents layers (rested_of old))
+  pub refused_seen : (refusal : Refusal) (store back : StoreDev B) (old : Volumed B) → attached number chunk (overflow_of overflow) (store_of contents layers store) (volume_in contents layers old) ≡ refused_attach refusal (store_of contents layers back) (volume_in contents layers old)
+      → attached number chunk (overflow_of overflow) (store_of contents layers store) (settled_of contents layers (rested_of old)) ≡ refused_attach refusal (store_of contents layers back) (settled_of contents layers (rested_of old))
   refused_seen refusal store back old e =
-      ap (attached number chunk (store_of contents layers store)) (settled_same contents layers None old) ∙ e ∙ ap (refused_attach refusal (store_of contents layers back)) (sym (settled_same contents layers None old))
+      ap (attached number chunk (overflow_of overflow) (store_of contents layers store)) (settled_same contents layers None old) ∙ e ∙ ap (refused_attach refusal (store_of contents layers back)) (sym (settled_same contents layers None old))
 
   -- where a merge is begun only a stale store is refused for its own sake
   module _ (store back : StoreDev B) (old : Volumed B) (m : Merging B) (begun : old.merge ≡ Some m) (refusal : Refusal) (unread : attach_refusal store.stale chunk old ≡ Some refusal → back ≡ store) where
     began : attach_refusal store.stale chunk old ≡ (if store.stale then Some Stale else Some MergeInProgress)
     began = ap (λ o. taking_refusal store.stale (is_some o) (is_quiet_of old) (length old.snaps) old.attached chunk) begun
 
-    pub refused_begun : (first : attach_refusal store.stale chunk old ≡ Some refusal) → refusal ≢ MergeInProgress → (v : Volume) → attached number chunk (store_of contents layers store) v ≡ refused_attach refusal (store_of contents layers back) v
+    pub refused_begun : (first : attach_refusal store.stale chunk old ≡ Some refusal) → refusal ≢ MergeInProgress → (v : Volume) → attached number chunk (overflow_of overflow) (store_of contents layers store) v ≡ refused_attach refusal (store_of contents layers back) v
     unfolding attached
     refused_begun first other v = elim (cases_Bool store.stale) [
       | inl stale ↦ (let why : Some Stale ≡ Some refusal = sym (cond-true _ _ _ stale) ∙ sym began ∙ first in
@@ -141,17 +143,17 @@ module _ {B : Type 0} (contents : B → List ℕ) (layers : B → List Layer) (n
         not_begun_at false e = absurd (cc)
 
     pub begun_back : (origin size : ℕ) (bytes : List ℕ) → IsNotTaken store.stale chunk origin size bytes old refusal → refusal ≢ MergeInProgress → (v : Volume)
-        → attached number chunk (store_of contents layers store) v ≡ refused_attach refusal (store_of contents layers back) v
+        → attached number chunk (overflow_of overflow) (store_of contents layers store) v ≡ refused_attach refusal (store_of contents layers back) v
     begun_back origin size bytes (inl first) other v = refused_begun first other v
     begun_back origin size bytes (inr later) other v = absurd (never_admitted later.0)
 
   -- whether one is begun or not
   pub back_seen : (store back : StoreDev B) (old : Volumed B) (refusal : Refusal) (origin size : ℕ) (bytes : List ℕ) → IsNotTaken store.stale chunk origin size bytes old refusal → (attach_refusal store.stale chunk old ≡ Some refusal → back ≡ store)
-      → (old.merge ≡ None → attached number chunk (store_of contents layers store) (volume_in contents layers old) ≡ refused_attach refusal (store_of contents layers back) (volume_in contents layers old)) → refusal ≢ MergeInProgress
-      → attached number chunk (store_of contents layers store) (settled_of contents layers (rested_of old)) ≡ refused_attach refusal (store_of contents layers back) (settled_of contents layers (rested_of old))
+      → (old.merge ≡ None → attached number chunk (overflow_of overflow) (store_of contents layers store) (volume_in contents layers old) ≡ refused_attach refusal (store_of contents layers back) (volume_in contents layers old)) → refusal ≢ MergeInProgress
+      → attached number chunk (overflow_of overflow) (store_of contents layers store) (settled_of contents layers (rested_of old)) ≡ refused_attach refusal (store_of contents layers back) (settled_of contents layers (rested_of old))
   back_seen store back old refusal origin size bytes refused unread alone other = seen_of old.merge refl
     where
-      seen_of : (o : Option (Merging B)) → old.merge ≡ o → attached number chunk (store_of contents layers store) (settled_of contents layers (rested_of old)) ≡ refused_attach refusal (store_of contents layers back) (settled_of contents layers (rested_of old))
+      seen_of : (o : Option (Merging B)) → old.merge ≡ o → attached number chunk (overflow_of overflow) (store_of contents layers store) (settled_of contents layers (rested_of old)) ≡ refused_attach refusal (store_of contents layers back) (settled_of contents layers (rested_of old))
       seen_of None none = refused_seen refusal store back old (alone none)
       seen_of (Some m) begun = begun_back store back old m begun refusal unread origin size bytes refused other (settled_of contents layers (rested_of old))
 

@@ -4,6 +4,7 @@ use Rattle.std.specs.List.{list_any, list_all}
 use Rattle.device.specs.Layers.{Layer, is_loud}
 use Rattle.plain.specs.declared.request.Dev.{Dev}
 use Rattle.plain.specs.declared.request.Dev.TheVariants.{Origin, Snap as ToSnap}
+use Rattle.plain.specs.declared.request.Overflowing.{Overflowing}
 use Rattle.event_machine.specs.MergeRest.{merge_in}
 use Rattle.settled.specs.Merges.{Merged}
 use Rattle.settled.specs.Snaps.{Snap, Volume}
@@ -13,12 +14,14 @@ use Rattle.volume.specs.Causes.{counts_with}
 use Rattle.volume.specs.Leaving.{is_quiet_of}
 use Rattle.volume.specs.Moved.{device_of, moving_of}
 
--- A snapshot: its number, the sectors of its chunks, whether it is live, whether its store is stale, and its store's device.
+-- A snapshot: its number, the sectors of its chunks, whether it is live, whether its store is stale, whether that may overflow
+-- and did, and its store's device.
 pub record Attached (B : Type 0) : Type 0 where
   pub number : ℕ
   pub chunk : ℕ
   pub live : Bool
   pub stale : Bool
+  pub overflow : Overflowing
   pub store : B
 
 -- requests, copies, attached: how many numbers of each kind were given; events: the volume of events that it is, of which
@@ -33,14 +36,14 @@ pub record Rested (B : Type 0) : Type 0 where
   pub events : Volumed B
 
 abbrev pub attached_of : {B : Type 0} → Kept B → Attached B
-attached_of s = record { number = s.number; chunk = s.state.chunk; live = s.live; stale = s.stale; store = s.device }
+attached_of s = record { number = s.number; chunk = s.state.chunk; live = s.live; stale = s.stale; overflow = s.overflow; store = s.device }
 
 -- what callers see of a volume of events
 abbrev pub rested_of : {B : Type 0} → Volumed B → Rested B
 rested_of v = record { origin = v.origin; snaps = map attached_of v.snaps; requests = v.requests; copies = v.copies; attached = v.attached; events = v }
 
 abbrev pub snap_of : {B : Type 0} → (B → List ℕ) → (B → List Layer) → Attached B → Snap
-snap_of contents layers s = record { number = s.number; chunk = s.chunk; live = s.live; stale = s.stale; store = device_of contents layers s.store }
+snap_of contents layers s = record { number = s.number; chunk = s.chunk; live = s.live; stale = s.stale; overflow = s.overflow; store = device_of contents layers s.store }
 
 -- the settled machine's volume: the devices' own bytes and layers
 abbrev pub settled_of : {B : Type 0} → (B → List ℕ) → (B → List Layer) → Rested B → Volume

@@ -1,13 +1,14 @@
 -- What a settled volume shows, in words of saved arrays alone, and what reads and writes of many sectors do to that. This
 -- project's own; the kernel's admin-guide page on snapshots says in words what a snapshot keeps, and where reads and writes go.
-use Rattle.std.specs.Prelude.{◌≡◌, ◌⊎◌, ◌==◌, ℕ, ◌+◌, ◌*◌, ◌<◌, List, [], ◌∷◌, length, map, take, Option, Some, None, if◌then◌else◌}
+use Rattle.std.specs.Prelude.{◌≡◌, ◌≢◌, ◌⊎◌, ◌==◌, ℕ, ◌+◌, ◌*◌, ◌<◌, List, [], ◌∷◌, length, map, take, Option, Some, None, if◌then◌else◌}
 use Rattle.sector.specs.Bytes.{sectors_at, with_sectors}
 use Rattle.sector.specs.declared.refusal.Refusal.{Refusal}
-use Rattle.sector.specs.declared.refusal.Refusal.TheVariants.{NoSuchDevice, NoMemory, JournalFull, Invalid as InvalidRefusal, Io as IoRefusal}
+use Rattle.sector.specs.declared.refusal.Refusal.TheVariants.{NoSuchDevice, NoMemory, JournalFull, Invalid as InvalidRefusal, Io as IoRefusal, Overflow as OverflowRefusal}
 use Rattle.chunk.specs.Pieces.{Span}
-use Rattle.plain.specs.Plain.{Saved, Live, Invalid, Entry}
+use Rattle.plain.specs.Plain.{Saved, Live, Invalid, Entry, marked_in, overflow_under}
 use Rattle.plain.specs.declared.request.Dev.{Dev}
 use Rattle.plain.specs.declared.request.Dev.TheVariants.{Origin, Snap as ToSnap}
+use Rattle.plain.specs.declared.request.Overflowing.TheVariants.{May, Did}
 use Rattle.device.specs.Layers.{Layer}
 use Rattle.settled.specs.Snaps.{Snap, Volume, shown}
 use Rattle.served.specs.Beside.{pieces_beside}
@@ -22,7 +23,7 @@ pub record Arrays : Type 0 where
 
 -- those of a volume's own bytes
 abbrev pub entry_of : List ℕ → Snap → Entry
-entry_of origin s = record { number = s.number; saved = shown origin s }
+entry_of origin s = record { number = s.number; saved = shown origin s; overflow = s.overflow }
 
 abbrev pub arrays_of : Volume → Arrays
 arrays_of v = record { origin = v.origin.bytes; saved = map (entry_of v.origin.bytes) v.snaps }
@@ -50,6 +51,11 @@ saved_of (ToSnap number) a = saved_at number a.saved
 -- it has an array
 abbrev pub IsLive : Dev → Arrays → Type 0
 IsLive dev a = (array : List ℕ) × (saved_of dev a ≡ Live array)
+
+-- it takes writes: the origin does, and a snapshot of which no write overflowed its store
+abbrev pub IsOpen : Dev → Arrays → Type 0
+IsOpen Origin a = Unit {0}
+IsOpen (ToSnap number) a = overflow_under number a.saved ≢ Did
 
 -- A read of these sectors gave these bytes: they are those of the device's array, and what is shown is as it was.
 pub record IsPlainRead (dev : Dev) (span : Span) (bytes : List ℕ) (old new : Arrays) : Type 0 where
@@ -81,14 +87,14 @@ with_bytes first bytes Invalid = Invalid
 abbrev pub changed_at : ℕ → (Saved → Saved) → List Entry → List Entry
 changed_at number f [] = []
 changed_at number f (entry ∷ entries) =
-    if entry.number == number then (record { number = entry.number; saved = f entry.saved }) ∷ entries else entry ∷ changed_at number f entries
+    if entry.number == number then (record entry { saved = f entry.saved }) ∷ entries else entry ∷ changed_at number f entries
 
--- each shows what it showed, or is lost for good
+-- each shows what it showed, or is lost for good, and its store overflowed no more than before
 abbrev pub AreKept : List Entry → List Entry → Type 0
 AreKept [] [] = Unit {0}
 AreKept [] (t ∷ ts) = ⊥
 AreKept (s ∷ ss) [] = ⊥
-AreKept (s ∷ ss) (t ∷ ts) = (t.number ≡ s.number) × ((t.saved ≡ s.saved) ⊎ (t.saved ≡ Invalid)) × AreKept ss ts
+AreKept (s ∷ ss) (t ∷ ts) = (t.number ≡ s.number) × (t.overflow ≡ s.overflow) × ((t.saved ≡ s.saved) ⊎ (t.saved ≡ Invalid)) × AreKept ss ts
 
 -- A merge goes on: nobody sees it, but that snapshots may be lost.
 pub record IsGoneOn (old new : Arrays) : Type 0 where
@@ -108,7 +114,7 @@ IsLost (ToSnap number) old new = (new.origin ≡ old.origin) × (new.saved ≡ c
 
 -- a write of all these bytes
 abbrev pub IsPlainWrite : Dev → Span → List ℕ → Arrays → Arrays → Type 0
-IsPlainWrite dev span bytes old new = IsLive dev old × IsWritten dev span.first bytes old new
+IsPlainWrite dev span bytes old new = IsLive dev old × IsOpen dev old × IsWritten dev span.first bytes old new
 
 -- the pieces of a range, by the chunks of the snapshots and the merge
 abbrev pub pieces_for : {B : Type 0} → (B → List ℕ) → (B → List Layer) → Span → Rested B → List Span
@@ -120,17 +126,27 @@ sectors_in [] = 0
 sectors_in (piece ∷ pieces) = piece.count + sectors_in pieces
 
 -- some first pieces stand, but not all
-abbrev pub IsWrittenInPart : Dev → Span → List Span → List ℕ → Arrays → Arrays → Type 0
-IsWrittenInPart dev span pieces bytes old new =
-    (count : ℕ) × (count < length pieces) × IsWritten dev span.first (take (512 * sectors_in (take count pieces)) bytes) old new
+abbrev pub IsWrittenInPart : Dev → ℕ → List Span → List ℕ → Arrays → Arrays → Type 0
+IsWrittenInPart dev first pieces bytes old new =
+    (count : ℕ) × (count < length pieces) × IsWritten dev first (take (512 * sectors_in (take count pieces)) bytes) old new
+
+-- A write overflowed a snapshot's store: one had before, and nothing changed; or its store may overflow, some first pieces
+-- stand, but not all, and the snapshot is marked.
+abbrev pub IsOverflown : Dev → ℕ → List Span → List ℕ → Arrays → Arrays → Type 0
+IsOverflown Origin first pieces bytes old new = ⊥
+IsOverflown (ToSnap number) first pieces bytes old new =
+    ((overflow_under number old.saved ≡ Did) × (new ≡ old))
+    ⊎ ((overflow_under number old.saved ≡ May) × (mid : Arrays) × IsWrittenInPart (ToSnap number) first pieces bytes old mid × (new ≡ record mid { saved = marked_in number mid.saved }))
 
 -- A write in these pieces is refused: its snapshot is lost; or a device failed, or there was no room for it, and some first
--- pieces stand; or its device is not there.
+-- pieces stand; or it overflowed its snapshot's store, which shows what it showed, with some first pieces; or its device is not
+-- there.
 abbrev pub IsPlainWriteRefused : Dev → Span → List Span → List ℕ → Refusal → Arrays → Arrays → Type 0
 IsPlainWriteRefused dev span pieces bytes InvalidRefusal old new = IsLost dev old new
-IsPlainWriteRefused dev span pieces bytes IoRefusal old new = IsLive dev old × IsWrittenInPart dev span pieces bytes old new
-IsPlainWriteRefused dev span pieces bytes NoMemory old new = IsWrittenInPart dev span pieces bytes old new
-IsPlainWriteRefused dev span pieces bytes JournalFull old new = IsWrittenInPart dev span pieces bytes old new
+IsPlainWriteRefused dev span pieces bytes IoRefusal old new = IsLive dev old × IsWrittenInPart dev span.first pieces bytes old new
+IsPlainWriteRefused dev span pieces bytes OverflowRefusal old new = IsLive dev old × IsOverflown dev span.first pieces bytes old new
+IsPlainWriteRefused dev span pieces bytes NoMemory old new = IsWrittenInPart dev span.first pieces bytes old new
+IsPlainWriteRefused dev span pieces bytes JournalFull old new = IsWrittenInPart dev span.first pieces bytes old new
 IsPlainWriteRefused dev span pieces bytes NoSuchDevice old new = (saved_of dev old ≡ Invalid) × (new ≡ old)
 IsPlainWriteRefused dev span pieces bytes other old new = ⊥
 

@@ -2,6 +2,7 @@
 ghost use Rattle.std.specs.Prelude.{◌≡◌, ◌≢◌, ◌⊎◌, ℕ, ◌+◌, [], length, None, Some, Option, IfErr, IfOk, OnOk, OnErr, Ok, Err, is_some, true, false};
 ghost use Rattle.sector.specs.declared.refusal.Refusal.TheVariants.{Busy, JournalFull, MergeInProgress, NoSuchDevice, NotQuiet};
 ghost use Rattle.device.specs.Layers.{is_loud};
+ghost use Rattle.plain.specs.Plain.{overflow_of};
 ghost use Rattle.plain.specs.declared.request.Dev.TheVariants.{Snap};
 ghost use Rattle.settled.specs.Attaching.{attached, refused_attach};
 ghost use Rattle.served.specs.Refusals.{is_starved};
@@ -28,14 +29,15 @@ fn take<B: Layered>(
     volume: &mut Journaled<B>,
     store: StoreDev<B>,
     chunk: u32,
+    overflow: bool,
 ) -> Result<SnapId, (Refusal, StoreDev<B>)>
     ensures alone { OnOk result ((volume.old.merge ≡ None) × (volume.new.merge ≡ None)) }
     ensures quiet { OnOk result ((is_quiet_of volume.old ≡ true) × (is_quiet_of volume.new ≡ true)) }
     ensures number { IfOk result (λ number. number ≡ volume.old.attached + 1) }
-    ensures taken { IfOk result (λ number. IsTakenAs B.layers B.size number store (rested_of volume.old) (rested_of volume.new)) }
+    ensures taken { IfOk result (λ number. IsTakenAs B.layers B.size number overflow store (rested_of volume.old) (rested_of volume.new)) }
     ensures settled { IfOk result (λ number. IsSettled B.layers (rested_of volume.old) → is_loud (B.layers store.device) ≡ true → IsSettled B.layers (rested_of volume.new)) }
-    ensures exact { IfOk result (λ number. IsSettled B.layers (rested_of volume.old) → is_loud (B.layers store.device) ≡ true → attached number chunk (store_of B.contents B.layers store) (settled_of B.contents B.layers (rested_of volume.old)) ≡ record { volume = settled_of B.contents B.layers (rested_of volume.new); refused = None; back = None }) }
-    ensures back { IfErr result (λ e. is_starved e.0 ≡ false → e.0 ≢ MergeInProgress → IsSettled B.layers (rested_of volume.old) → is_loud (B.layers store.device) ≡ true → attached (volume.old.attached + 1) chunk (store_of B.contents B.layers store) (settled_of B.contents B.layers (rested_of volume.old)) ≡ refused_attach e.0 (store_of B.contents B.layers e.1) (settled_of B.contents B.layers (rested_of volume.old))) }
+    ensures exact { IfOk result (λ number. IsSettled B.layers (rested_of volume.old) → is_loud (B.layers store.device) ≡ true → attached number chunk (overflow_of overflow) (store_of B.contents B.layers store) (settled_of B.contents B.layers (rested_of volume.old)) ≡ record { volume = settled_of B.contents B.layers (rested_of volume.new); refused = None; back = None }) }
+    ensures back { IfErr result (λ e. is_starved e.0 ≡ false → e.0 ≢ MergeInProgress → IsSettled B.layers (rested_of volume.old) → is_loud (B.layers store.device) ≡ true → attached (volume.old.attached + 1) chunk (overflow_of overflow) (store_of B.contents B.layers store) (settled_of B.contents B.layers (rested_of volume.old)) ≡ refused_attach e.0 (store_of B.contents B.layers e.1) (settled_of B.contents B.layers (rested_of volume.old))) }
     ensures refused { IfErr result (λ e. ((is_starved e.0 ≡ true) × (e.1 ≡ store)) ⊎ IsNotTaken store.stale chunk (B.size volume.old.origin) (B.size store.device) (B.contents store.device) volume.old e.0) }
     ensures unread { IfErr result (λ e. attach_refusal store.stale chunk volume.old ≡ Some e.0 → e.1 ≡ store) }
     ensures starved { IfErr result (λ e. is_starved e.0 ≡ true → (B.contents e.1.device ≡ B.contents store.device) × AreRead (B.layers store.device) (B.layers e.1.device)) }
@@ -44,7 +46,7 @@ fn take<B: Layered>(
     ensures size { IfErr result (λ e. B.size e.1.device ≡ B.size store.device) }
     ensures loud { IfErr result (λ e. is_loud (B.layers e.1.device) ≡ is_loud (B.layers store.device)) }
 {
-    match volume.attach(store, chunk) {
+    match volume.attach(store, chunk, overflow) {
         Ok(number) => Ok(number),
         Err(refused) => Err(refused),
     }
@@ -65,8 +67,9 @@ fn leave<B: Layered>(volume: &mut Journaled<B>, number: SnapId) -> Result<StoreD
 }
 
 impl<B: Layered> Resting<B> {
-    /// Takes a snapshot of a quiet volume over a store, by a table line with this chunk size, and tells its number: over a
-    /// settled volume, and a store that drops no writes, it is the settled machine's attach. Where it is refused the store is
+    /// Takes a snapshot of a quiet volume over a store, by a table line with this chunk size that says whether the store may
+    /// overflow, and tells its number: over a settled volume, and a store that drops no writes, it is the settled machine's
+    /// attach. Where it is refused the store is
     /// given back, and nothing else changed; after `NoMemory` some of the store's sectors may have been read. A volume with a
     /// merge begun refuses with `MergeInProgress`, after `Stale`, and one that is not quiet with `NotQuiet`, after both.
     pub fn attach(
@@ -74,13 +77,14 @@ impl<B: Layered> Resting<B> {
         alloc: Global,
         store: StoreDev<B>,
         chunk: u32,
+        overflow: bool,
     ) -> Result<SnapId, (Refusal, StoreDev<B>)>
         ensures alone { OnOk result ((self.old.events.merge ≡ None) × (self.new.events.merge ≡ None)) }
         ensures number { IfOk result (λ number. number ≡ self.old.attached + 1) }
-        ensures taken { IfOk result (λ number. IsTakenAs B.layers B.size number store self.old self.new) }
+        ensures taken { IfOk result (λ number. IsTakenAs B.layers B.size number overflow store self.old self.new) }
         ensures settled { IfOk result (λ number. IsSettled B.layers self.old → is_loud (B.layers store.device) ≡ true → IsSettled B.layers self.new) }
-        ensures exact { IfOk result (λ number. IsSettled B.layers self.old → is_loud (B.layers store.device) ≡ true → attached number chunk (store_of B.contents B.layers store) (settled_of B.contents B.layers self.old) ≡ record { volume = settled_of B.contents B.layers self.new; refused = None; back = None }) }
-        ensures back { IfErr result (λ e. is_starved e.0 ≡ false → e.0 ≢ MergeInProgress → IsSettled B.layers self.old → is_loud (B.layers store.device) ≡ true → attached (self.old.attached + 1) chunk (store_of B.contents B.layers store) (settled_of B.contents B.layers self.old) ≡ refused_attach e.0 (store_of B.contents B.layers e.1) (settled_of B.contents B.layers self.old)) }
+        ensures exact { IfOk result (λ number. IsSettled B.layers self.old → is_loud (B.layers store.device) ≡ true → attached number chunk (overflow_of overflow) (store_of B.contents B.layers store) (settled_of B.contents B.layers self.old) ≡ record { volume = settled_of B.contents B.layers self.new; refused = None; back = None }) }
+        ensures back { IfErr result (λ e. is_starved e.0 ≡ false → e.0 ≢ MergeInProgress → IsSettled B.layers self.old → is_loud (B.layers store.device) ≡ true → attached (self.old.attached + 1) chunk (overflow_of overflow) (store_of B.contents B.layers store) (settled_of B.contents B.layers self.old) ≡ refused_attach e.0 (store_of B.contents B.layers e.1) (settled_of B.contents B.layers self.old)) }
         ensures refused { IfErr result (λ e. ((is_starved e.0 ≡ true) × (e.1 ≡ store)) ⊎ IsNotTaken store.stale chunk (B.size self.old.origin) (B.size store.device) (B.contents store.device) self.old.events e.0) }
         ensures unread { IfErr result (λ e. attach_refusal store.stale chunk self.old.events ≡ Some e.0 → e.1 ≡ store) }
         ensures starved { IfErr result (λ e. is_starved e.0 ≡ true → (B.contents e.1.device ≡ B.contents store.device) × AreRead (B.layers store.device) (B.layers e.1.device)) }
@@ -90,7 +94,7 @@ impl<B: Layered> Resting<B> {
         ensures loud { IfErr result (λ e. is_loud (B.layers e.1.device) ≡ is_loud (B.layers store.device)) }
         ensures quiet { OnOk result ((is_quiet_of self.old.events ≡ true) × (is_quiet_of self.new.events ≡ true)) }
     {
-        take(&mut self.volume, store, chunk)
+        take(&mut self.volume, store, chunk, overflow)
     }
 
     /// Takes a snapshot of a quiet volume away, and gives its store back, stale where its invalid mark failed. `MergeInProgress`

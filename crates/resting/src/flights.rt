@@ -1,10 +1,12 @@
 // Requests in flight between commands: one is started, and one event is done.
 ghost use Rattle.std.specs.Prelude.{◌≡◌, ◌≢◌, ◌⊎◌, ◌+◌, ◌*◌, ◌<◌, ◌≤◌, ℕ, List, length, AllPairs, Option, Some, None, IfOk, IfErr, IsOk, OnOk, OnErr, is_ok, true};
-ghost use Rattle.sector.specs.declared.refusal.Refusal.TheVariants.{Invalid};
-ghost use Rattle.plain.specs.declared.request.Failure.TheVariants.{Invalid as IsInvalid};
+ghost use Rattle.sector.specs.declared.refusal.Refusal.TheVariants.{Invalid, Overflow};
+ghost use Rattle.plain.specs.declared.request.Failure.{Failure};
+ghost use Rattle.plain.specs.declared.request.Failure.TheVariants.{Io};
 ghost use Rattle.plain.specs.declared.request.Reply.{Reply as AnyReply};
 ghost use Rattle.plain.specs.declared.request.Reply.TheVariants.{Refused};
 ghost use Rattle.plain.specs.declared.request.Op.TheVariants.{Write};
+ghost use Rattle.plain.specs.Failures.{refusal_of};
 ghost use Rattle.plain.specs.Legal.{IsLegalStep};
 ghost use Rattle.served.specs.Refusals.{IsStarved};
 ghost use Rattle.event_machine.specs.Submitting.{submitted};
@@ -48,9 +50,10 @@ fn begin<B: Layered>(volume: &mut Journaled<B>, request: Request) -> Result<ReqI
     ensures admitted { IfOk result (λ _. submit_refusal B.size request volume.old ≡ None) }
     ensures exact { IfOk result (λ number. (replied : Option AnyReply) → submitted number request (moving_of B.contents B.layers replied volume.old) ≡ moving_of B.contents B.layers replied volume.new) }
     ensures refused { IfErr result (λ refusal. IsStarved refusal volume.old volume.new ⊎ IsRefusedAs B.contents B.layers B.size request refusal volume.old volume.new) }
-    ensures declined { IfErr result (λ refusal. refusal ≡ Invalid → (number : ℕ) (replied : Option AnyReply) → submitted number request (moving_of B.contents B.layers replied volume.old) ≡ moving_of B.contents B.layers (Some (Refused IsInvalid)) volume.new) }
-    ensures starved { IfErr result (λ refusal. refusal ≢ Invalid → (replied : Option AnyReply) → moving_of B.contents B.layers replied volume.new ≡ moving_of B.contents B.layers replied volume.old) }
-    ensures same { IfErr result (λ refusal. refusal ≢ Invalid → (merged_of B.contents B.layers (rested_of volume.new) ≡ merged_of B.contents B.layers (rested_of volume.old)) × (is_quiet_of volume.new ≡ is_quiet_of volume.old)) }
+    ensures declined { IfErr result (λ refusal. (failure : Failure) → refusal ≡ refusal_of failure → failure ≢ Io → (number : ℕ) (replied : Option AnyReply) → submitted number request (moving_of B.contents B.layers replied volume.old) ≡ moving_of B.contents B.layers (Some (Refused failure)) volume.new) }
+    ensures starved { IfErr result (λ refusal. refusal ≢ Invalid → refusal ≢ Overflow → (replied : Option AnyReply) → moving_of B.contents B.layers replied volume.new ≡ moving_of B.contents B.layers replied volume.old) }
+    ensures same { IfErr result (λ refusal. refusal ≢ Invalid → refusal ≢ Overflow → merged_of B.contents B.layers (rested_of volume.new) ≡ merged_of B.contents B.layers (rested_of volume.old)) }
+    ensures still { IfErr result (λ refusal. refusal ≢ Invalid → is_quiet_of volume.new ≡ is_quiet_of volume.old) }
     ensures kept { KeepsDevices B.layers B.size (rested_of volume.old) (rested_of volume.new) }
     ensures requests { volume.new.requests ≤ volume.old.requests + 1 }
 {
@@ -96,19 +99,21 @@ impl<B: Layered> Resting<B> {
     /// Starts a request, which lies inside one piece of the volume: it is in flight from here on, under the number that is
     /// told, and no device is asked for anything yet.
     ///
-    /// Refused, in this order: there is no such snapshot (`NoSuchDevice`), it is spoiled (`Invalid`), the range is empty or
-    /// lies not inside the origin and one piece (`OutOfRange`), it is the 65th request, starts the 257th copy, or is past the
-    /// last number (`TooMany`), memory is refused (`NoMemory`), or a snapshot's write finds its store full (`Invalid`: the
-    /// one refusal that changes something, for that snapshot is spoiled).
+    /// Refused, in this order: there is no such snapshot (`NoSuchDevice`), it is spoiled (`Invalid`), it is a write of a
+    /// snapshot whose store overflowed (`Overflow`), the range is empty or lies not inside the origin and one piece
+    /// (`OutOfRange`), it is the 65th request, starts the 257th copy, or is past the last number (`TooMany`), memory is
+    /// refused (`NoMemory`), or a snapshot's write finds its store full. That alone changes something: the snapshot is spoiled
+    /// (`Invalid`), or, if its store may overflow, marked (`Overflow`).
     pub fn start(&mut self, alloc: Global, request: Request) -> Result<ReqId, Refusal>
         requires bytes { (bytes : List ℕ) → request.op ≡ Write bytes → length bytes ≡ 512 * request.range.count }
         ensures ok { IfOk result (λ number. IsAcceptedAs B.contents B.layers request number self.old.events self.new.events) }
         ensures admitted { IfOk result (λ _. submit_refusal B.size request self.old.events ≡ None) }
         ensures exact { IfOk result (λ number. (replied : Option AnyReply) → submitted number request (moving_of B.contents B.layers replied self.old.events) ≡ moving_of B.contents B.layers replied self.new.events) }
         ensures refused { IfErr result (λ refusal. IsStarved refusal self.old.events self.new.events ⊎ IsRefusedAs B.contents B.layers B.size request refusal self.old.events self.new.events) }
-        ensures declined { IfErr result (λ refusal. refusal ≡ Invalid → (number : ℕ) (replied : Option AnyReply) → submitted number request (moving_of B.contents B.layers replied self.old.events) ≡ moving_of B.contents B.layers (Some (Refused IsInvalid)) self.new.events) }
-        ensures starved { IfErr result (λ refusal. refusal ≢ Invalid → (replied : Option AnyReply) → moving_of B.contents B.layers replied self.new.events ≡ moving_of B.contents B.layers replied self.old.events) }
-        ensures same { IfErr result (λ refusal. refusal ≢ Invalid → (merged_of B.contents B.layers self.new ≡ merged_of B.contents B.layers self.old) × (is_quiet_of self.new.events ≡ is_quiet_of self.old.events)) }
+        ensures declined { IfErr result (λ refusal. (failure : Failure) → refusal ≡ refusal_of failure → failure ≢ Io → (number : ℕ) (replied : Option AnyReply) → submitted number request (moving_of B.contents B.layers replied self.old.events) ≡ moving_of B.contents B.layers (Some (Refused failure)) self.new.events) }
+        ensures starved { IfErr result (λ refusal. refusal ≢ Invalid → refusal ≢ Overflow → (replied : Option AnyReply) → moving_of B.contents B.layers replied self.new.events ≡ moving_of B.contents B.layers replied self.old.events) }
+        ensures same { IfErr result (λ refusal. refusal ≢ Invalid → refusal ≢ Overflow → merged_of B.contents B.layers self.new ≡ merged_of B.contents B.layers self.old) }
+        ensures still { IfErr result (λ refusal. refusal ≢ Invalid → is_quiet_of self.new.events ≡ is_quiet_of self.old.events) }
         ensures whole { IsWhole self.old × IsWhole self.new }
         ensures kept { KeepsDevices B.layers B.size self.old self.new }
         ensures requests { self.new.requests ≤ self.old.requests + 1 }

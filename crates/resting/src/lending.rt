@@ -11,7 +11,7 @@ ghost use Rattle.resting.specs.Using.{IsInUse, IsUsed};
 use crate::Resting;
 use chunk_alloc::Usage;
 use layers::Layered;
-use plain::SnapId;
+use plain::{Overflowing, SnapId};
 
 impl<B: Layered> Resting<B> {
     /// Its number: no snapshot before it has the same, nor the one that is being merged.
@@ -39,6 +39,14 @@ impl<B: Layered> Resting<B> {
         ensures { (d : Attached B) → result ≡ (slice_index_or self.now.snaps k d).live }
     {
         self.volume.snap(k).is_live()
+    }
+
+    /// What a write of it does that finds its store full, and whether one did.
+    pub fn overflow(&self, k: usize) -> Overflowing
+        requires { k < length self.now.snaps }
+        ensures { (d : Attached B) → result ≡ (slice_index_or self.now.snaps k d).overflow }
+    {
+        self.volume.snap(k).overflow()
     }
 
     /// The device of its store.

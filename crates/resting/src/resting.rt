@@ -101,8 +101,9 @@ impl<B: Layered> Resting<B> {
     /// is spoiled; one to a snapshot changes what that shows alone.
     ///
     /// Refused: there is no such snapshot (`NoSuchDevice`), and then nothing changed; the snapshot is spoiled (`Invalid`), or
-    /// the device of a piece failed (`Io`), and the pieces before it stand; or memory is refused (`NoMemory`), and some first
-    /// pieces stand, but not all.
+    /// the device of a piece failed (`Io`), and the pieces before it stand; the snapshot's store overflowed before
+    /// (`Overflow`), and nothing changed, or it does at a piece, if it may, and the pieces before it stand; or memory is
+    /// refused (`NoMemory`), and some first pieces stand, but not all.
     pub fn write(
         &mut self,
         alloc: Global,

@@ -1,8 +1,7 @@
 // One piece of a command: it is submitted, and the events that are due are done until none is.
-ghost use Rattle.std.specs.Prelude.{◌≡◌, ℕ, ◌+◌, ◌≤◌, length, Option, None, Some, IfOk, IfErr, OnOk, true, false};
+ghost use Rattle.std.specs.Prelude.{◌≡◌, ℕ, ◌+◌, ◌≤◌, length, Option, None, Some, IfOk, IfErr, true, false};
 ghost use Rattle.plain.specs.declared.request.Reply.{Reply};
 ghost use Rattle.plain.specs.declared.request.Reply.TheVariants.{Refused};
-ghost use Rattle.plain.specs.declared.request.Failure.TheVariants.{Invalid};
 ghost use Rattle.served.specs.Refusals.{is_starved};
 ghost use Rattle.event_machine.specs.Due.{due};
 ghost use Rattle.event_machine.specs.Submitting.{submitted};
@@ -47,13 +46,14 @@ fn settle<B: Layered>(volume: &mut Journaled<B>, mut reply: Reply) -> Reply
     reply
 }
 
-/// Submits the request of a piece. One that its snapshot refuses is answered `Invalid`, and may have spoiled that snapshot;
-/// where memory is refused nothing changed.
-fn enter<B: Layered>(volume: &mut Journaled<B>, request: Request) -> Result<(), Refusal>
+/// Submits the request of a piece, and tells what it is answered where no event answers it. One that its snapshot refuses is
+/// answered `Invalid` or `Overflow` at once, and may have spoiled or marked that snapshot; any other will be answered. Where
+/// memory is refused nothing changed.
+fn enter<B: Layered>(volume: &mut Journaled<B>, request: Request) -> Result<Failure, Refusal>
     requires quiet { is_quiet_of volume.old ≡ true }
     requires few { length volume.old.snaps ≤ 8 }
     requires can { CanServe B.size request.dev request.op request.range volume.old }
-    ensures ok { OnOk result ((number : ℕ) × (submitted number request (moving_of B.contents B.layers (Some (Refused Invalid)) volume.old) ≡ moving_of B.contents B.layers (Some (Refused Invalid)) volume.new)) }
+    ensures ok { IfOk result (λ failure. (number : ℕ) × (submitted number request (moving_of B.contents B.layers (Some (Refused failure)) volume.old) ≡ moving_of B.contents B.layers (Some (Refused failure)) volume.new)) }
     ensures starved { IfErr result (λ refusal. (is_starved refusal ≡ true) × SameButRoom volume.old volume.new × (moving_of B.contents B.layers None volume.new ≡ moving_of B.contents B.layers None volume.old)) }
     ensures free { has_group_in volume.new.merge ≡ false }
     ensures loud { is_loud_in_all B.layers volume.new ≡ is_loud_in_all B.layers volume.old }
@@ -63,9 +63,10 @@ fn enter<B: Layered>(volume: &mut Journaled<B>, request: Request) -> Result<(), 
     // Of the snapshots that a request may go to, none is the one that is being merged.
     let _ = volume.merging();
     match volume.submit(request) {
-        Ok(_) => Ok(()),
+        Ok(_) => Ok(Failure::Invalid),
         Err(refusal) => match refusal {
-            Refusal::Invalid => Ok(()),
+            Refusal::Invalid => Ok(Failure::Invalid),
+            Refusal::Overflow => Ok(Failure::Overflow),
             _ => Err(refusal),
         },
     }
@@ -89,10 +90,9 @@ pub(crate) fn serve<B: Layered>(
     // A quiet volume, no device of which drops writes, is at rest.
     let _ = volume.is_quiet();
     match enter(volume, request) {
-        Ok(()) => {}
-        Err(refusal) => return Err(refusal),
+        Ok(failure) => Ok(settle(volume, Reply::Refused(failure))),
+        Err(refusal) => Err(refusal),
     }
-    Ok(settle(volume, Reply::Refused(Failure::Invalid)))
 }
 
 /// A look at how many snapshots there are: eight at most.

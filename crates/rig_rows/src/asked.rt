@@ -5,7 +5,7 @@ use board::{State, Usage};
 use copier::Gate;
 use device::Block;
 use layers::Layered;
-use plain::{Dev, Op, Request, SnapId};
+use plain::{Dev, Op, Overflowing, Request, SnapId};
 use rig::{Rig, Room, Seat};
 use sector::{Buf, Range, Refusal, SECTOR_BYTES};
 use std::alloc::Global;
@@ -119,6 +119,17 @@ pub fn ask_volume<B: Block>(
     }
 }
 
+/// Whether the store of a snapshot overflowed. One that is being merged has no mark.
+fn has_overflowed<B: Block>(volume: &Volume<B>, number: SnapId) -> bool {
+    for k in 0..volume.len() {
+        let snap = volume.snap(k);
+        if snap.number() == number {
+            return snap.overflow() == Overflowing::Did;
+        }
+    }
+    false
+}
+
 /// What the status of a snapshot says.
 pub fn status_of<B: Block>(volume: &Volume<B>, snap: SnapId) -> Usage {
     if volume.merging() == Some(snap) && volume.is_merge_failed() {
@@ -129,6 +140,11 @@ pub fn status_of<B: Block>(volume: &Volume<B>, snap: SnapId) -> Usage {
         };
     }
     match volume.usage(snap) {
+        Ok(Some(_)) if has_overflowed(volume, snap) => Usage {
+            state: State::Overflow,
+            allocated: 0,
+            metadata: 0,
+        },
         Ok(Some(sectors)) => Usage {
             state: State::Good,
             allocated: sectors.allocated,

@@ -164,7 +164,7 @@ fn a_look_is_answered_while_a_read_holds_the_lock(rt: HostRuntime) -> Result<(),
         device: slow(alloc, &waiting)?,
         stale: false,
     };
-    let Ok(_) = volume.attach(alloc, store, 1) else {
+    let Ok(_) = volume.attach(alloc, store, 1, false) else {
         return Err(Fail::from("no snapshot"));
     };
     let Ok(audit) = Audit::new(alloc, volume) else {

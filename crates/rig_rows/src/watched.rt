@@ -26,14 +26,17 @@ use volume::Volume;
 /// The first snapshot.
 const LARGE: SnapId = 1;
 
-/// The second one, whose store is full after two copies.
+/// The second one, whose store is full after two copies, and may overflow.
 const SMALL: SnapId = 2;
 
 /// The calls in turn, each with the seat that makes it, from 0.
-const CALLS: [(usize, Asked); 7] = [
+const CALLS: [(usize, Asked); 10] = [
     (0, Asked::Write(Dev::Origin, 3, 1)),
     (1, Asked::Write(Dev::Snap(LARGE), 9, 1)),
     (0, Asked::Read(Dev::Snap(LARGE), 3, 1)),
+    (1, Asked::Write(Dev::Snap(SMALL), 30, 1)),
+    (0, Asked::Write(Dev::Snap(SMALL), 31, 1)),
+    (1, Asked::Read(Dev::Snap(SMALL), 30, 2)),
     (1, Asked::Write(Dev::Origin, 10, 2)),
     (0, Asked::Write(Dev::Origin, 20, 30)),
     (1, Asked::Merge(LARGE)),
@@ -221,6 +224,7 @@ fn with_snapshot(
     alloc: Global,
     volume: Volume<MemDisk>,
     device: MemDisk,
+    overflow: bool,
 ) -> Result<Volume<MemDisk>, Fail>
     requires { volume.flights ≡ [] }
     ensures { IfOk result (λ v. v.flights ≡ []) }
@@ -230,7 +234,7 @@ fn with_snapshot(
         device,
         stale: false,
     };
-    match volume.attach(alloc, store, 1) {
+    match volume.attach(alloc, store, 1, overflow) {
         Ok(_) => Ok(volume),
         Err(_) => Err(Fail::from("no snapshot")),
     }
@@ -243,8 +247,8 @@ pub fn volume_of_two(alloc: Global) -> Result<Volume<MemDisk>, Fail>
     let Ok(volume) = Volume::new(alloc, MemDisk::new(alloc, SECTORS)?) else {
         return Err(Fail::from("no volume"));
     };
-    let volume = with_snapshot(alloc, volume, MemDisk::new(alloc, 64)?)?;
-    with_snapshot(alloc, volume, MemDisk::new(alloc, 4)?)
+    let volume = with_snapshot(alloc, volume, MemDisk::new(alloc, 64)?, false)?;
+    with_snapshot(alloc, volume, MemDisk::new(alloc, 4)?, true)
 }
 
 #[test]

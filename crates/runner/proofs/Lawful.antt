@@ -16,7 +16,7 @@ use Rattle.words.proofs.Bools.{and-split, and-join}
 use Rattle.table.specs.declared.lines.Line.{Line}
 use Rattle.table.specs.declared.lines.Target.{Target}
 use Rattle.table.specs.declared.lines.Target.TheVariants.{Flakey, Dust}
-use Rattle.table.specs.Grammar.{times, are_features, features_among, features_in, seconds_of, is_block, are_none, store_in, origin_in, snapshot_in, merge_in, flakey_in, dust_in, error_in, target_in, line_in}
+use Rattle.table.specs.Grammar.{times, are_features, features_among, features_in, seconds_of, is_block, are_none, overflow_of, store_in, origin_in, snapshot_in, merge_in, flakey_in, dust_in, error_in, target_in, line_in}
 use Rattle.table.specs.Lawful.{is_target, is_line}
 use Rattle.command.specs.declared.grammar.Command.{Command}
 use Rattle.command.specs.declared.grammar.Command.TheVariants.{Message}
@@ -76,7 +76,7 @@ origin_lawful (device ∷ []) = follows (name_of device) _ (λ name. is_name nam
 origin_lawful (device ∷ word ∷ words) = tt
 
 -- both names and the chunk size
-abbrev IsStore : List ℕ × List ℕ × ℕ → Type 0
+abbrev IsStore : List ℕ × List ℕ × ℕ × Bool → Type 0
 IsStore s = (is_name s.0 && is_name s.1 && is_chunk s.2) ≡ true
 
 store_lawful : (words : List (List ℕ)) → IfOk (store_in words) IsStore
@@ -87,9 +87,10 @@ store_lawful (device ∷ store ∷ persistent ∷ []) = tt
 store_lawful (device ∷ store ∷ persistent ∷ chunk ∷ features) =
     follows (name_of device) _ (λ name. is_name name ≡ true) IsStore (name_lawful device) (λ d is_d.
     follows (name_of store) _ (λ name. is_name name ≡ true) IsStore (name_lawful store) (λ s is_s.
+    after (overflow_of persistent) _ IsStore (λ o.
     after (numeral_of chunk) _ IsStore (λ c.
-    either (bytes_eq persistent (codes "P") && are_none features) _ _ IsStore (λ is.
-    either (is_chunk c) (Ok (d, s, c)) _ IsStore (λ is_c. and-join (is_name d && is_name s) (is_chunk c) (and-join (is_name d) (is_name s) is_d is_s) is_c) tt) tt)))
+    either (are_none features) _ _ IsStore (λ is.
+    either (is_chunk c) (Ok (d, s, c, o)) _ IsStore (λ is_c. and-join (is_name d && is_name s) (is_chunk c) (and-join (is_name d) (is_name s) is_d is_s) is_c) tt) tt))))
 
 snapshot_lawful : (words : List (List ℕ)) → IfOk (snapshot_in words) IsTarget
 snapshot_lawful words = follows (store_in words) _ IsStore IsTarget (store_lawful words) (λ s is. is)

@@ -16,9 +16,9 @@ use Rattle.runner.proofs.RuledLemmas.{ruled_as}
 use Rattle.runner.proofs.ShownLemmas.{IsWellSaid}
 
 target_numbered : (target : Target) (table : Table) → IsLookedAt table (changed_under target) → IsNumberedTarget target table
-target_numbered (targets.Snapshot device store chunk) table look = numbered_for device table look
+target_numbered (targets.Snapshot device store chunk overflow) table look = numbered_for device table look
 target_numbered (targets.Origin device) table look = tt
-target_numbered (targets.Merge device store chunk) table look = tt
+target_numbered (targets.Merge device store chunk overflow) table look = tt
 target_numbered (targets.Flakey device offset up down features) table look = tt
 target_numbered (targets.Dust device block) table look = tt
 target_numbered targets.Error table look = tt

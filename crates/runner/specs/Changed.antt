@@ -9,9 +9,9 @@ use Rattle.devices.specs.Order.{IsInOrderFor}
 
 -- the name on whose volume a target's snapshot is made
 abbrev pub changed_under : Target → Option (List ℕ)
-changed_under (targets.Snapshot device store chunk) = Some device
+changed_under (targets.Snapshot device store chunk overflow) = Some device
 changed_under (targets.Origin device) = None
-changed_under (targets.Merge device store chunk) = None
+changed_under (targets.Merge device store chunk overflow) = None
 changed_under (targets.Flakey device offset up down features) = None
 changed_under (targets.Dust device block) = None
 changed_under targets.Error = None

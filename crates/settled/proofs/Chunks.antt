@@ -13,7 +13,7 @@ use Rattle.model.specs.Picture.{place_of}
 use Rattle.settled.specs.Devices.{Device, answers}
 use Rattle.settled.specs.Snaps.{Snap, Volume}
 use Rattle.settled.specs.Saving.{Saving, next_place, is_full, has_chunk, save}
-use Rattle.settled.specs.Pieces.{Answered, Served, save_all, write_place, write_snap, read_place, read_snap, in_snap}
+use Rattle.settled.specs.Pieces.{Answered, Served, save_all, write_place, write_saved, shuts, write_snap, read_place, read_snap, in_snap}
 use Rattle.settled.specs.Requests.{answered_by}
 use Rattle.settled.proofs.Each.{Each}
 use Rattle.settled.proofs.Saves.{saves_nothing, saves_full, saves_copy, chunk_read}
@@ -57,13 +57,19 @@ module _ (chunk : ℕ) where
   place_keeps piece bytes origin s None = refl
   place_keeps piece bytes origin s (Some n) = refl
 
-  write_keeps : (piece : Span) (bytes : List ℕ) (origin : Device) (s : Snap) → (write_snap piece bytes origin s).snap.chunk ≡ s.chunk
-  write_keeps piece bytes origin s =
+  saved_keeps : (piece : Span) (bytes : List ℕ) (origin : Device) (s : Snap) → (write_saved piece bytes (save (piece.first / s.chunk) origin s)).snap.chunk ≡ s.chunk
+  saved_keeps piece bytes origin s =
       let a : Saving = save (piece.first / s.chunk) origin s in
       elim (cases_Bool a.snap.live) [
         | inl on ↦ ap (λ (x : Served). x.snap.chunk) (cond-true _ _ _ on) ∙ place_keeps piece bytes a.origin a.snap (place_of (pairs_of a.snap.chunk a.snap.store.bytes) (piece.first / a.snap.chunk)) ∙ save_chunk (piece.first / s.chunk) origin s
         | inr out ↦ ap (λ (x : Served). x.snap.chunk) (cond-false _ _ _ out) ∙ save_chunk (piece.first / s.chunk) origin s
       ]
+
+  write_keeps : (piece : Span) (bytes : List ℕ) (origin : Device) (s : Snap) → (write_snap piece bytes origin s).snap.chunk ≡ s.chunk
+  write_keeps piece bytes origin s = elim (cases_Bool (shuts (piece.first / s.chunk) s)) [
+    | inl shut ↦ ap (λ (x : Served). x.snap.chunk) (cond-true _ _ _ shut)
+    | inr takes ↦ ap (λ (x : Served). x.snap.chunk) (cond-false _ _ _ takes) ∙ saved_keeps piece bytes origin s
+  ]
 
   read_place_keeps : (piece : Span) (origin : Device) (s : Snap) (o : Option ℕ) → (read_place piece origin s o).snap.chunk ≡ s.chunk
   read_place_keeps piece origin s None = refl

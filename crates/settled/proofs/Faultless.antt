@@ -5,6 +5,7 @@ use Rattle.std.proofs.lemmas.Bool.{cases_Bool, cond-true, cond-false}
 use Rattle.sector.specs.Bytes.{with_sectors}
 use Rattle.sector.specs.declared.pair.Pair.{Pair}
 use Rattle.chunk.specs.Pieces.{Span, pieces_of}
+use Rattle.plain.specs.declared.request.Overflowing.{Overflowing}
 use Rattle.plain.specs.declared.request.Dev.TheVariants.{Origin as ToOrigin}
 use Rattle.plain.specs.declared.request.Reply.{Reply}
 use Rattle.plain.specs.declared.request.Reply.TheVariants.{Written}
@@ -25,27 +26,27 @@ abbrev pub plainly : List ℕ → Device
 plainly bytes = record { bytes = bytes; layers = [] }
 
 -- a live snapshot, and one as it was saved
-abbrev pub live_snap : ℕ → ℕ → List ℕ → Snap
-live_snap number chunk store = record { number = number; chunk = chunk; live = true; stale = false; store = plainly store }
+abbrev pub live_snap : ℕ → Overflowing → ℕ → List ℕ → Snap
+live_snap number overflow chunk store = record { number = number; chunk = chunk; live = true; overflow = overflow; stale = false; store = plainly store }
 
-abbrev pub saved_as : ℕ → ℕ → Stored → Snap
-saved_as number chunk x = record { number = number; chunk = chunk; live = x.live; stale = false; store = plainly x.store }
+abbrev pub saved_as : ℕ → Overflowing → ℕ → Stored → Snap
+saved_as number overflow chunk x = record { number = number; chunk = chunk; live = x.live; overflow = overflow; stale = false; store = plainly x.store }
 
-module _ (number chunk : ℕ) where
-  commit_bare : (k : ℕ) (q : Pair) (store : List ℕ) → commit k q (live_snap number chunk store) ≡ saved_as number chunk (committed chunk store k q)
+module _ (number : ℕ) (overflow : Overflowing) (chunk : ℕ) where
+  commit_bare : (k : ℕ) (q : Pair) (store : List ℕ) → commit k q (live_snap number overflow chunk store) ≡ saved_as number overflow chunk (committed chunk store k q)
   commit_bare k q store = elim (cases_Bool (((k + 1) % (32 * chunk)) == 0)) [
-    | inr part ↦ cond-false _ _ _ part ∙ ap (saved_as number chunk) (sym (cond-false _ _ _ part))
-    | inl full ↦ elim (cases_Bool (lacks_area ((k + 1) / (32 * chunk)) (live_snap number chunk store))) [
-      | inl lacks ↦ cond-true _ _ _ full ∙ cond-true _ _ _ lacks ∙ ap (saved_as number chunk) (sym (cond-true _ _ _ full ∙ cond-true _ _ _ lacks))
-      | inr room ↦ cond-true _ _ _ full ∙ cond-false _ _ _ room ∙ ap (saved_as number chunk) (sym (cond-true _ _ _ full ∙ cond-false _ _ _ room))
+    | inr part ↦ cond-false _ _ _ part ∙ ap (saved_as number overflow chunk) (sym (cond-false _ _ _ part))
+    | inl full ↦ elim (cases_Bool (lacks_area ((k + 1) / (32 * chunk)) (live_snap number overflow chunk store))) [
+      | inl lacks ↦ cond-true _ _ _ full ∙ cond-true _ _ _ lacks ∙ ap (saved_as number overflow chunk) (sym (cond-true _ _ _ full ∙ cond-true _ _ _ lacks))
+      | inr room ↦ cond-true _ _ _ full ∙ cond-false _ _ _ room ∙ ap (saved_as number overflow chunk) (sym (cond-true _ _ _ full ∙ cond-false _ _ _ room))
     ]
   ]
 
-  save_bare : (c : ℕ) (disk store : List ℕ) → save c (plainly disk) (live_snap number chunk store) ≡ record { origin = plainly disk; snap = saved_as number chunk (saved chunk disk store c) }
+  save_bare : (c : ℕ) (disk store : List ℕ) → save c (plainly disk) (live_snap number overflow chunk store) ≡ record { origin = plainly disk; snap = saved_as number overflow chunk (saved chunk disk store c) }
   unfolding saved
   save_bare c disk store =
-      let s : Snap = live_snap number chunk store in
-      let made : Stored → Saving = λ (x : Stored). record { origin = plainly disk; snap = saved_as number chunk x } in
+      let s : Snap = live_snap number overflow chunk store in
+      let made : Stored → Saving = λ (x : Stored). record { origin = plainly disk; snap = saved_as number overflow chunk x } in
       elim (cases_Bool (has_chunk c s)) [
         | inl some ↦ saves_nothing c (plainly disk) s some ∙ ap made (sym (cond-true _ _ _ some))
         | inr lacks ↦ elim (cases_Bool (is_full s)) [
@@ -59,9 +60,9 @@ module _ (number chunk : ℕ) where
       ]
 
   -- a snapshot as the other machine saves it
-  live_after : (array : List ℕ) (x : Stored) → saved_as number chunk x ≡ bare number (after_saving chunk array x)
+  live_after : (array : List ℕ) (x : Stored) → saved_as number overflow chunk x ≡ bare number overflow (after_saving chunk array x)
   live_after array x =
-      let mk : Bool → Snap = λ (b : Bool). record { number = number; chunk = chunk; live = b; stale = false; store = plainly x.store } in
+      let mk : Bool → Snap = λ (b : Bool). record { number = number; chunk = chunk; live = b; overflow = overflow; stale = false; store = plainly x.store } in
       ap mk (is_live_if x.live)
     where
       is_live_if : (b : Bool) → b ≡ is_live (if b then Live array else Invalid)
@@ -69,24 +70,24 @@ module _ (number chunk : ℕ) where
       is_live_if false = refl
 
 -- saving a chunk in one snapshot
-save_in_bare : (disk : List ℕ) (first number chunk : ℕ) (store : List ℕ) (shown : Saved) → (let was : Plainly = record { chunk = chunk; saved = shown; store = store } in
-    save (first / chunk) (plainly disk) (bare number was) ≡ record { origin = plainly disk; snap = bare number (save_for disk first chunk store shown) })
-save_in_bare disk first number chunk store (Live array) =
+save_in_bare : (disk : List ℕ) (first number : ℕ) (overflow : Overflowing) (chunk : ℕ) (store : List ℕ) (shown : Saved) → (let was : Plainly = record { chunk = chunk; saved = shown; store = store } in
+    save (first / chunk) (plainly disk) (bare number overflow was) ≡ record { origin = plainly disk; snap = bare number overflow (save_for disk first chunk store shown) })
+save_in_bare disk first number overflow chunk store (Live array) =
     let put : Snap → Saving = λ (t : Snap). record { origin = plainly disk; snap = t } in
-    save_bare number chunk (first / chunk) disk store ∙ ap put (live_after number chunk array (saved chunk disk store (first / chunk)))
-save_in_bare disk first number chunk store Invalid = saves_nothing (first / chunk) (plainly disk) (bare number (record { chunk = chunk; saved = Invalid; store = store })) refl
+    save_bare number overflow chunk (first / chunk) disk store ∙ ap put (live_after number overflow chunk array (saved chunk disk store (first / chunk)))
+save_in_bare disk first number overflow chunk store Invalid = saves_nothing (first / chunk) (plainly disk) (bare number overflow (record { chunk = chunk; saved = Invalid; store = store })) refl
 
-save_is : (disk : List ℕ) (first : ℕ) (s : Snap) (t : Plainly) → s ≡ bare s.number t → save (first / s.chunk) (plainly disk) s ≡ record { origin = plainly disk; snap = bare s.number (save_in disk first t) }
-save_is disk first s t is = ap (λ (x : Snap). save (first / x.chunk) (plainly disk) x) is ∙ save_in_bare disk first s.number t.chunk t.store t.saved
+save_is : (disk : List ℕ) (first : ℕ) (s : Snap) (t : Plainly) → s ≡ bare s.number s.overflow t → save (first / s.chunk) (plainly disk) s ≡ record { origin = plainly disk; snap = bare s.number s.overflow (save_in disk first t) }
+save_is disk first s t is = ap (λ (x : Snap). save (first / x.chunk) (plainly disk) x) is ∙ save_in_bare disk first s.number s.overflow t.chunk t.store t.saved
 
 save_all_bare : (disk : List ℕ) (first : ℕ) (ss : List Snap) (ts : List Plainly) → AreBare ss ts → ((save_all first (plainly disk) ss).origin ≡ plainly disk) × AreBare (save_all first (plainly disk) ss).snaps (map (save_in disk first) ts)
 save_all_bare disk first [] [] are = (refl, tt)
 save_all_bare disk first [] (t ∷ ts) are = absurd are
 save_all_bare disk first (s ∷ ss) [] are = absurd are
 save_all_bare disk first (s ∷ ss) (t ∷ ts) are =
-    let is : save (first / s.chunk) (plainly disk) s ≡ record { origin = plainly disk; snap = bare s.number (save_in disk first t) } = save_is disk first s t are.0 in
+    let is : save (first / s.chunk) (plainly disk) s ≡ record { origin = plainly disk; snap = bare s.number s.overflow (save_in disk first t) } = save_is disk first s t are.0 in
     let then_all : Saving → Volume = λ (x : Saving). record { origin = (save_all first x.origin ss).origin; snaps = x.snap ∷ (save_all first x.origin ss).snaps } in
-    let all : save_all first (plainly disk) (s ∷ ss) ≡ record { origin = (save_all first (plainly disk) ss).origin; snaps = bare s.number (save_in disk first t) ∷ (save_all first (plainly disk) ss).snaps } = ap then_all is in
+    let all : save_all first (plainly disk) (s ∷ ss) ≡ record { origin = (save_all first (plainly disk) ss).origin; snaps = bare s.number s.overflow (save_in disk first t) ∷ (save_all first (plainly disk) ss).snaps } = ap then_all is in
     let rest = save_all_bare disk first ss ts are.1 in (
       ap (λ (v : Volume). v.origin) all ∙ rest.0,
       subst (λ (v : Volume). AreBare v.snaps (map (save_in disk first) (t ∷ ts))) (sym all) (refl, rest.1),

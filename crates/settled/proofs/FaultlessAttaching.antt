@@ -18,6 +18,7 @@ use Rattle.model.specs.Picture.{picture}
 use Rattle.cow_header.specs.HeaderText.{found_in}
 use Rattle.cow_header.specs.declared.found.Found.{Found}
 use Rattle.cow_header.specs.declared.found.Found.TheVariants.{Fresh, Header}
+use Rattle.plain.specs.declared.request.Overflowing.{Overflowing}
 use Rattle.settled.specs.Loads.{made, trimmed, is_loadable, is_too_small, taken_fresh, taken_written, taken_as, taken}
 use Rattle.settled.specs.Faultless.{Snap as Plainly, Settled}
 use Rattle.settled.specs.FaultlessAttaching.{with_taken, attached as settled_attached}
@@ -204,48 +205,48 @@ count_same [] (t ∷ ts) are = absurd are
 count_same (s ∷ ss) [] are = absurd are
 count_same (s ∷ ss) (t ∷ ts) are = ap suc (count_same ss ts are.1)
 
-one_more : (ss : List Snap) (ts : List Plainly) (s : Snap) (t : Plainly) → AreBare ss ts → s ≡ bare s.number t → AreBare (ss ++ s ∷ []) (ts ++ t ∷ [])
+one_more : (ss : List Snap) (ts : List Plainly) (s : Snap) (t : Plainly) → AreBare ss ts → s ≡ bare s.number s.overflow t → AreBare (ss ++ s ∷ []) (ts ++ t ∷ [])
 one_more [] [] s t are is = (is, tt)
 one_more [] (u ∷ ts) s t are is = absurd are
 one_more (r ∷ ss) [] s t are is = absurd are
 one_more (r ∷ ss) (u ∷ ts) s t are is = (are.0, one_more ss ts s t are.1 is)
 
-tried_agrees : (number : ℕ) (v : Volume) (w : Settled) (tried : Tried) (judged : Result Plainly Refusal) → IsBare v w → Agrees v.snaps tried judged → AttachAgrees (with_tried number tried v) v (with_taken w judged)
-tried_agrees number v w tried (Err refusal) is agrees = (ap (λ o. (taken_by number tried.device o v).refused) agrees, ap (λ o. (taken_by number tried.device o v).volume) agrees)
-tried_agrees number v w tried (Ok t) is agrees =
+tried_agrees : (number : ℕ) (overflow : Overflowing) (v : Volume) (w : Settled) (tried : Tried) (judged : Result Plainly Refusal) → IsBare v w → Agrees v.snaps tried judged → AttachAgrees (with_tried number overflow tried v) v (with_taken w judged)
+tried_agrees number overflow v w tried (Err refusal) is agrees = (ap (λ o. (taken_by number overflow tried.device o v).refused) agrees, ap (λ o. (taken_by number overflow tried.device o v).volume) agrees)
+tried_agrees number overflow v w tried (Ok t) is agrees =
     let same : is_wanted v.snaps t.chunk ≡ list_all (λ (other : Plainly). other.chunk == t.chunk) w.snaps = wanted_same t.chunk v.snaps w.snaps is.snaps in
     elim (cases_Bool (is_wanted v.snaps t.chunk)) [
-      | inl wanted ↦ (let goes : with_tried number tried v ≡ with_tried number (done t.chunk (plainly t.store)) v = ap (λ (x : Tried). with_tried number x v) (agrees.1 wanted) in
-          let mk : Bool → Snap = λ (b : Bool). record { number = number; chunk = t.chunk; live = b; stale = false; store = plainly t.store } in
-          subst (AttachAgrees (with_tried number tried v) v) (sym (cond-true _ _ _ (sym same ∙ wanted)))
+      | inl wanted ↦ (let goes : with_tried number overflow tried v ≡ with_tried number overflow (done t.chunk (plainly t.store)) v = ap (λ (x : Tried). with_tried number overflow x v) (agrees.1 wanted) in
+          let mk : Bool → Snap = λ (b : Bool). record { number = number; chunk = t.chunk; live = b; overflow = overflow; stale = false; store = plainly t.store } in
+          subst (AttachAgrees (with_tried number overflow tried v) v) (sym (cond-true _ _ _ (sym same ∙ wanted)))
           (subst (λ (a : Attached). (a.refused ≡ None) × IsBare a.volume (record { array = w.array; disk = w.disk; snaps = w.snaps ++ t ∷ [] })) (sym goes)
           (refl, record { origin = is.origin; snaps = one_more v.snaps w.snaps (mk true) t is.snaps (ap mk (sym agrees.0)) })))
       | inr other ↦ (let refused = agrees.2 other in
-          subst (AttachAgrees (with_tried number tried v) v) (sym (cond-false _ _ _ (sym same ∙ other)))
-          (ap (λ o. (taken_by number tried.device o v).refused) refused, ap (λ o. (taken_by number tried.device o v).volume) refused))
+          subst (AttachAgrees (with_tried number overflow tried v) v) (sym (cond-false _ _ _ (sym same ∙ other)))
+          (ap (λ o. (taken_by number overflow tried.device o v).refused) refused, ap (λ o. (taken_by number overflow tried.device o v).volume) refused))
     ]
 
 -- an attach of a store that is not stale, under a number of 32 bits
-pub attach_faultless : (number line size : ℕ) (bytes : List ℕ) (v : Volume) (w : Settled) → number < 4_294_967_296 → IsBare v w → length w.array ≡ length w.disk → length bytes ≡ 512 * size →
-    AttachAgrees (attached number line (record { device = plainly bytes; stale = false }) v) v (settled_attached line bytes w)
+pub attach_faultless : (number line size : ℕ) (overflow : Overflowing) (bytes : List ℕ) (v : Volume) (w : Settled) → number < 4_294_967_296 → IsBare v w → length w.array ≡ length w.disk → length bytes ≡ 512 * size →
+    AttachAgrees (attached number line overflow (record { device = plainly bytes; stale = false }) v) v (settled_attached line bytes w)
 unfolding attached settled_attached
-attach_faultless number line size bytes v w few is array whole =
+attach_faultless number line size overflow bytes v w few is array whole =
     let count : length v.snaps ≡ length w.snaps = count_same v.snaps w.snaps is.snaps in
     let store : Store = record { device = plainly bytes; stale = false } in
-    let outer : Bool → Bool → Attached = λ (b c : Bool). if b then (if c then with_tried number (open_store v.snaps (sectors_of v.origin) line store.device) v else refused_attach BadChunk store v) else refused_attach TooMany store v in
+    let outer : Bool → Bool → Attached = λ (b c : Bool). if b then (if c then with_tried number overflow (open_store v.snaps (sectors_of v.origin) line store.device) v else refused_attach BadChunk store v) else refused_attach TooMany store v in
     let outer' : Bool → Bool → Result Settled Refusal = λ (b c : Bool). if b then (if c then with_taken w (taken line w.array bytes) else Err BadChunk) else Err TooMany in
     let same : (nat_lt (length v.snaps) 8 && nat_lt number 4_294_967_296) ≡ nat_lt (length w.snaps) 8 = ap (λ b. nat_lt (length v.snaps) 8 && b) (lt-ltb _ _ few) ∙ and_all (nat_lt (length v.snaps) 8) ∙ ap (λ n. nat_lt n 8) count in
     let sectors : sectors_of v.origin ≡ length w.array / 512 = ap (λ (d : Device). length d.bytes / 512) is.origin ∙ ap (λ n. n / 512) (sym array) in
     subst (λ b. AttachAgrees (outer (nat_lt (length v.snaps) 8 && nat_lt number 4_294_967_296) (is_chunk line)) v (outer' b (is_chunk line))) same
-    (by_tests (nat_lt (length v.snaps) 8 && nat_lt number 4_294_967_296) (is_chunk line) (λ allowed. subst (λ n. AttachAgrees (with_tried number (open_store v.snaps n line (plainly bytes)) v) v (with_taken w (taken line w.array bytes))) (sym sectors)
-    (tried_agrees number v w (open_store v.snaps (length w.array / 512) line (plainly bytes)) (taken line w.array bytes) is (open_agrees v.snaps line size w.array bytes (is_chunk-some line allowed) whole))))
+    (by_tests (nat_lt (length v.snaps) 8 && nat_lt number 4_294_967_296) (is_chunk line) (λ allowed. subst (λ n. AttachAgrees (with_tried number overflow (open_store v.snaps n line (plainly bytes)) v) v (with_taken w (taken line w.array bytes))) (sym sectors)
+    (tried_agrees number overflow v w (open_store v.snaps (length w.array / 512) line (plainly bytes)) (taken line w.array bytes) is (open_agrees v.snaps line size w.array bytes (is_chunk-some line allowed) whole))))
   where
     and_all : (b : Bool) → (b && true) ≡ b
     and_all true = refl
     and_all false = refl
 
-    by_tests : (b c : Bool) → (c ≡ true → AttachAgrees (with_tried number (open_store v.snaps (sectors_of v.origin) line (plainly bytes)) v) v (with_taken w (taken line w.array bytes))) →
-        AttachAgrees (if b then (if c then with_tried number (open_store v.snaps (sectors_of v.origin) line (plainly bytes)) v else refused_attach BadChunk (record { device = plainly bytes; stale = false }) v) else refused_attach TooMany (record { device = plainly bytes; stale = false }) v) v
+    by_tests : (b c : Bool) → (c ≡ true → AttachAgrees (with_tried number overflow (open_store v.snaps (sectors_of v.origin) line (plainly bytes)) v) v (with_taken w (taken line w.array bytes))) →
+        AttachAgrees (if b then (if c then with_tried number overflow (open_store v.snaps (sectors_of v.origin) line (plainly bytes)) v else refused_attach BadChunk (record { device = plainly bytes; stale = false }) v) else refused_attach TooMany (record { device = plainly bytes; stale = false }) v) v
         (if b then (if c then with_taken w (taken line w.array bytes) else Err BadChunk) else Err TooMany)
     by_tests true true f = f refl
     by_tests true false f = (refl, refl)

@@ -1,4 +1,4 @@
--- What a copy leaves of a snapshot: its number, and the sectors of its chunks.
+-- What a copy leaves of a snapshot: its number, the sectors of its chunks, and what a full store does to it.
 use Rattle.std.proofs.Common.{◌≡◌, inl, inr, ℕ, ◌+◌, ◌*◌, ◌/◌, ◌%◌, List, length, refl, ap, ◌∙◌}
 use Rattle.std.specs.Prelude.{◌==◌}
 use Rattle.std.proofs.lemmas.Bool.{cases_Bool, cond-true, cond-false}
@@ -13,8 +13,8 @@ use Rattle.settled.specs.Devices.{Device, answers, written_by}
 use Rattle.settled.specs.Snaps.{Snap}
 use Rattle.settled.specs.Saving.{spoilt, write_then, write_pair, lacks_area, commit, copy}
 
--- what neither a write nor a spoil changes: the number, and the sectors of a chunk
-module _ (f : Snap → ℕ) (stores : (t : Snap) (device : Device) → f (record t { store = device }) ≡ f t) (spoils : (t : Snap) → f (spoilt t) ≡ f t) where
+-- what neither a write nor a spoil changes: the number, the sectors of a chunk, and what a full store does
+module _ {X : Type 0} (f : Snap → X) (stores : (t : Snap) (device : Device) → f (record t { store = device }) ≡ f t) (spoils : (t : Snap) → f (spoilt t) ≡ f t) where
   write_keeps : (s : Snap) (n count : ℕ) (bytes : List ℕ) (next : Snap → Snap) → ((t : Snap) → f (next t) ≡ f t) → f (write_then s n count bytes next) ≡ f s
   write_keeps s n count bytes next same =
       let op : Operation = Writes (s.chunk * n) count in

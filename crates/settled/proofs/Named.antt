@@ -9,7 +9,7 @@ use Rattle.model.specs.Picture.{place_of}
 use Rattle.settled.specs.Devices.{Device, answers}
 use Rattle.settled.specs.Snaps.{Snap, shown}
 use Rattle.settled.specs.Saving.{Saving, next_place, is_full, has_chunk, save}
-use Rattle.settled.specs.Pieces.{Answered, Served, save_all, write_place, write_snap, read_place, read_snap, in_snap}
+use Rattle.settled.specs.Pieces.{Answered, Served, save_all, write_place, write_saved, shuts, write_snap, read_place, read_snap, in_snap}
 use Rattle.settled.specs.Shown.{ShowTheSame}
 use Rattle.settled.specs.Merges.{snap_named}
 use Rattle.settled.proofs.Saves.{saves_nothing, saves_full, saves_copy, chunk_read}
@@ -37,21 +37,34 @@ place_bytes : (piece : Span) (bytes : List ℕ) (origin : Device) (s : Snap) (o 
 place_bytes piece bytes origin s None = refl
 place_bytes piece bytes origin s (Some n) = refl
 
-pub write_number : (piece : Span) (bytes : List ℕ) (origin : Device) (s : Snap) → (write_snap piece bytes origin s).snap.number ≡ s.number
-write_number piece bytes origin s =
+-- a write that the snapshot takes, and any write
+saved_number : (piece : Span) (bytes : List ℕ) (origin : Device) (s : Snap) → (write_saved piece bytes (save (piece.first / s.chunk) origin s)).snap.number ≡ s.number
+saved_number piece bytes origin s =
     let a : Saving = save (piece.first / s.chunk) origin s in
     elim (cases_Bool a.snap.live) [
       | inl on ↦ ap (λ (x : Served). x.snap.number) (cond-true _ _ _ on) ∙ place_number piece bytes a.origin a.snap (place_of (pairs_of a.snap.chunk a.snap.store.bytes) (piece.first / a.snap.chunk)) ∙ save_number (piece.first / s.chunk) origin s
       | inr out ↦ ap (λ (x : Served). x.snap.number) (cond-false _ _ _ out) ∙ save_number (piece.first / s.chunk) origin s
     ]
 
-pub write_bytes : (piece : Span) (bytes : List ℕ) (origin : Device) (s : Snap) → (write_snap piece bytes origin s).origin.bytes ≡ origin.bytes
-write_bytes piece bytes origin s =
+pub write_number : (piece : Span) (bytes : List ℕ) (origin : Device) (s : Snap) → (write_snap piece bytes origin s).snap.number ≡ s.number
+write_number piece bytes origin s = elim (cases_Bool (shuts (piece.first / s.chunk) s)) [
+  | inl shut ↦ ap (λ (x : Served). x.snap.number) (cond-true _ _ _ shut)
+  | inr takes ↦ ap (λ (x : Served). x.snap.number) (cond-false _ _ _ takes) ∙ saved_number piece bytes origin s
+]
+
+saved_bytes : (piece : Span) (bytes : List ℕ) (origin : Device) (s : Snap) → (write_saved piece bytes (save (piece.first / s.chunk) origin s)).origin.bytes ≡ origin.bytes
+saved_bytes piece bytes origin s =
     let a : Saving = save (piece.first / s.chunk) origin s in
     elim (cases_Bool a.snap.live) [
       | inl on ↦ ap (λ (x : Served). x.origin.bytes) (cond-true _ _ _ on) ∙ place_bytes piece bytes a.origin a.snap (place_of (pairs_of a.snap.chunk a.snap.store.bytes) (piece.first / a.snap.chunk)) ∙ save_bytes (piece.first / s.chunk) origin s
       | inr out ↦ ap (λ (x : Served). x.origin.bytes) (cond-false _ _ _ out) ∙ save_bytes (piece.first / s.chunk) origin s
     ]
+
+pub write_bytes : (piece : Span) (bytes : List ℕ) (origin : Device) (s : Snap) → (write_snap piece bytes origin s).origin.bytes ≡ origin.bytes
+write_bytes piece bytes origin s = elim (cases_Bool (shuts (piece.first / s.chunk) s)) [
+  | inl shut ↦ ap (λ (x : Served). x.origin.bytes) (cond-true _ _ _ shut)
+  | inr takes ↦ ap (λ (x : Served). x.origin.bytes) (cond-false _ _ _ takes) ∙ saved_bytes piece bytes origin s
+]
 
 -- a read changes nothing that is shown
 pub record IsRead (origin : Device) (s : Snap) (r : Served) : Type 0 where

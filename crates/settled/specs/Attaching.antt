@@ -7,6 +7,7 @@ use Rattle.std.specs.List.{list_all}
 use Rattle.sector.specs.Bytes.{with_part, sector_at}
 use Rattle.sector.specs.declared.refusal.Refusal.{Refusal}
 use Rattle.sector.specs.declared.refusal.Refusal.TheVariants.{Io, TooMany, BadChunk, StoreTooSmall, Damaged, Stale, ChunkMismatch}
+use Rattle.plain.specs.declared.request.Overflowing.{Overflowing}
 use Rattle.device.specs.declared.operation.Operation.{Operation}
 use Rattle.device.specs.declared.operation.Operation.TheVariants.{Reads, Writes}
 use Rattle.chunk.specs.Sizes.{is_chunk}
@@ -104,24 +105,24 @@ pub record Attached : Type 0 where
 abbrev pub refused_attach : Refusal → Store → Volume → Attached
 refused_attach refusal store v = record { volume = v; refused = Some refusal; back = Some store }
 
--- the volume with one snapshot more, under this number
-abbrev pub taken_by : ℕ → Device → Result ℕ Refusal → Volume → Attached
-taken_by number device (Err refusal) v = refused_attach refusal (record { device = device; stale = false }) v
-taken_by number device (Ok chunk) v = record {
-  volume = record { origin = v.origin; snaps = v.snaps ++ (record { number = number; chunk = chunk; live = true; stale = false; store = device }) ∷ [] };
+-- the volume with one snapshot more, under this number, which may overflow or not
+abbrev pub taken_by : ℕ → Overflowing → Device → Result ℕ Refusal → Volume → Attached
+taken_by number overflow device (Err refusal) v = refused_attach refusal (record { device = device; stale = false }) v
+taken_by number overflow device (Ok chunk) v = record {
+  volume = record { origin = v.origin; snaps = v.snaps ++ (record { number = number; chunk = chunk; live = true; overflow = overflow; stale = false; store = device }) ∷ [] };
   refused = None;
   back = None;
 }
 
-abbrev pub with_tried : ℕ → Tried → Volume → Attached
-with_tried number tried v = taken_by number tried.device tried.outcome v
+abbrev pub with_tried : ℕ → Overflowing → Tried → Volume → Attached
+with_tried number overflow tried v = taken_by number overflow tried.device tried.outcome v
 
--- An attach of a store, under a number and by a table line with this chunk size. A volume has eight snapshots at most, and
--- numbers have 32 bits.
-unfoldable pub attached : ℕ → ℕ → Store → Volume → Attached
-attached number chunk store v =
+-- An attach of a store, under a number and by a table line with this chunk size, that says whether it may overflow. A volume
+-- has eight snapshots at most, and numbers have 32 bits.
+unfoldable pub attached : ℕ → ℕ → Overflowing → Store → Volume → Attached
+attached number chunk overflow store v =
     if store.stale then refused_attach Stale store v
-    else (if nat_lt (length v.snaps) 8 && nat_lt number 4_294_967_296 then (if is_chunk chunk then with_tried number (open_store v.snaps (sectors_of v.origin) chunk store.device) v else refused_attach BadChunk store v)
+    else (if nat_lt (length v.snaps) 8 && nat_lt number 4_294_967_296 then (if is_chunk chunk then with_tried number overflow (open_store v.snaps (sectors_of v.origin) chunk store.device) v else refused_attach BadChunk store v)
     else refused_attach TooMany store v)
 
 -- a detach of the snapshot of a number, the first that has it: its store, with its stale mark

@@ -1,5 +1,6 @@
 -- Devices without layers: the machine whose devices never fail (`Faultless`).
 use Rattle.std.specs.Prelude.{◌≡◌, ℕ, Bool, true, false, List, [], ◌∷◌}
+use Rattle.plain.specs.declared.request.Overflowing.{Overflowing}
 use Rattle.plain.specs.Plain.{Saved, Live, Invalid}
 use Rattle.settled.specs.Faultless.{Snap as Plainly, Settled}
 use Rattle.settled.specs.Snaps.{Snap, Volume}
@@ -8,16 +9,16 @@ abbrev pub is_live : Saved → Bool
 is_live (Live array) = true
 is_live Invalid = false
 
--- a snapshot of that machine under a number
-abbrev pub bare : ℕ → Plainly → Snap
-bare number t = record { number = number; chunk = t.chunk; live = is_live t.saved; stale = false; store = record { bytes = t.store; layers = [] } }
+-- a snapshot of that machine under a number, which may overflow or not: no write of the origin asks
+abbrev pub bare : ℕ → Overflowing → Plainly → Snap
+bare number overflow t = record { number = number; chunk = t.chunk; live = is_live t.saved; overflow = overflow; stale = false; store = record { bytes = t.store; layers = [] } }
 
 -- the same snapshots, one by one
 abbrev pub AreBare : List Snap → List Plainly → Type 0
 AreBare [] [] = Unit {0}
 AreBare [] (t ∷ ts) = ⊥
 AreBare (s ∷ ss) [] = ⊥
-AreBare (s ∷ ss) (t ∷ ts) = (s ≡ bare s.number t) × AreBare ss ts
+AreBare (s ∷ ss) (t ∷ ts) = (s ≡ bare s.number s.overflow t) × AreBare ss ts
 
 -- a volume without layers that is one of that machine
 pub record IsBare (v : Volume) (w : Settled) : Type 0 where

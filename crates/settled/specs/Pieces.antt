@@ -1,18 +1,20 @@
 -- To be believed: `run`'s output, a volume's steps or its attach are said in these words.
 -- A read or a write of one piece of the origin or of a snapshot: this project's own big step. The kernel's admin-guide page
 -- on snapshots says in words which device a read or a write goes to.
-use Rattle.std.specs.Prelude.{◌==◌, ℕ, ◌+◌, ◌*◌, ◌/◌, ◌%◌, List, [], ◌∷◌, Option, Some, None, if◌then◌else◌}
+use Rattle.std.specs.Prelude.{◌==◌, ◌&&◌, ◌||◌, not, ℕ, ◌+◌, ◌*◌, ◌/◌, ◌%◌, Bool, List, [], ◌∷◌, Option, Some, None, if◌then◌else◌}
 use Rattle.sector.specs.Bytes.{with_sectors}
 use Rattle.device.specs.declared.operation.Operation.TheVariants.{Reads, Writes}
 use Rattle.chunk.specs.Pieces.{Span}
 use Rattle.model.specs.Pairs.{pairs_of}
 use Rattle.model.specs.Picture.{place_of}
+use Rattle.plain.specs.Plain.{did_overflow, may_overflow}
+use Rattle.plain.specs.declared.request.Overflowing.TheVariants.{Did}
 use Rattle.plain.specs.declared.request.Reply.{Reply}
 use Rattle.plain.specs.declared.request.Reply.TheVariants.{Written, Refused}
-use Rattle.plain.specs.declared.request.Failure.TheVariants.{Invalid, Io}
+use Rattle.plain.specs.declared.request.Failure.TheVariants.{Invalid, Io, Overflow}
 use Rattle.settled.specs.Devices.{Device, answers, met, written_by, read_reply}
 use Rattle.settled.specs.Snaps.{Snap, Volume}
-use Rattle.settled.specs.Saving.{Saving, save}
+use Rattle.settled.specs.Saving.{Saving, is_full, has_chunk, save}
 
 -- a volume after a request, and the reply
 pub record Answered : Type 0 where
@@ -64,14 +66,25 @@ write_place piece bytes origin s (Some n) =
       reply = if answers s.store write then Written else Refused Io;
     }
 
--- a write of a snapshot: its chunk is saved, and then it goes to the copy, or is answered Invalid where there is none
+-- a write of a snapshot that takes it: its chunk is saved, and then it goes to the copy, or is answered Invalid where there is none
 abbrev pub write_saved : Span → List ℕ → Saving → Served
 write_saved piece bytes a =
     if a.snap.live then write_place piece bytes a.origin a.snap (place_of (pairs_of a.snap.chunk a.snap.store.bytes) (piece.first / a.snap.chunk))
     else record { origin = a.origin; snap = a.snap; reply = Refused Invalid }
 
+-- whether a live snapshot takes no write of chunk c: its store overflowed, or overflows by it
+abbrev pub shuts : ℕ → Snap → Bool
+shuts c s = s.live && (did_overflow s.overflow || (may_overflow s.overflow && (not (has_chunk c s) && is_full s)))
+
+-- its store overflowed
+abbrev pub overflown : Snap → Snap
+overflown s = record s { overflow = Did }
+
+-- a write of a snapshot: one whose store overflowed, or that may overflow and does, takes none from then on
 abbrev pub write_snap : Span → List ℕ → Device → Snap → Served
-write_snap piece bytes origin s = write_saved piece bytes (save (piece.first / s.chunk) origin s)
+write_snap piece bytes origin s =
+    if shuts (piece.first / s.chunk) s then record { origin = origin; snap = overflown s; reply = Refused Overflow }
+    else write_saved piece bytes (save (piece.first / s.chunk) origin s)
 
 -- a read by the place of its chunk's copy: of the store, or of the origin without one
 abbrev pub read_place : Span → Device → Snap → Option ℕ → Served

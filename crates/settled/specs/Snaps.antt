@@ -1,16 +1,19 @@
 -- To be believed: `run`'s output, a volume's steps or its attach are said in these words.
--- A snapshot between two commands: all that it is stands in its store's bytes, but whether it is still live.
+-- A snapshot between two commands: all that it is stands in its store's bytes, but whether it is still live, and whether its
+-- store overflowed.
 use Rattle.std.specs.Prelude.{ℕ, Bool, List, if◌then◌else◌}
 use Rattle.model.specs.Picture.{picture}
+use Rattle.plain.specs.declared.request.Overflowing.{Overflowing}
 use Rattle.plain.specs.Plain.{Saved, Live, Invalid}
 use Rattle.settled.specs.Devices.{Device}
 
--- Its number, the sectors of its chunks, whether it is live, whether its store is stale (it was spoiled, and the store could
--- not be marked), and its store.
+-- Its number, the sectors of its chunks, whether it is live, what a write of it does that finds its store full, whether its
+-- store is stale (it was spoiled, and the store could not be marked), and its store.
 pub record Snap : Type 0 where
   pub number : ℕ
   pub chunk : ℕ
   pub live : Bool
+  pub overflow : Overflowing
   pub stale : Bool
   pub store : Device
 

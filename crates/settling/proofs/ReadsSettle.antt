@@ -89,7 +89,7 @@ module _ (g : Option MergeHeld) (sectors number n : ℕ) (range : Range) (origin
   nowhere : (snaps : List Held) → Each (IsResting sectors) snaps → Each (λ h. is_this h ≡ false) snaps → ReadServes snaps
   nowhere snaps rest none =
       serves_there sectors g (read_begun snaps) (at_with g origin snaps [] (Some (Refused Invalid)) k) origin snaps (Refused Invalid) k _
-      (ap (λ o. for_some o (λ h. submit_read number (snap_read_request n range) h (at_with g origin snaps [] a k)) (declined (at_with g origin snaps [] a k))) (none_that is_this snaps none))
+      (ap (λ o. for_some o (λ h. submit_read number (snap_read_request n range) h (at_with g origin snaps [] a k)) (declined Invalid (at_with g origin snaps [] a k))) (none_that is_this snaps none))
       (goes_none _) whole rest (served_nowhere n (read_snap (span_of range)) origin snaps none)
 
   module _ (done rest : List Held) (h : Held) (all : Each (IsResting sectors) (done ++ h ∷ rest)) (before : Each (λ d. is_this d ≡ false) done) (pass : is_this h ≡ true) where
@@ -100,7 +100,7 @@ module _ (g : Option MergeHeld) (sectors number n : ℕ) (range : Range) (origin
     idle = each_weaker (IsResting sectors) IsIdle (done ++ h ∷ rest) (resting_idle sectors) all
 
     begun : read_begun (done ++ h ∷ rest) ≡ submit_read number (snap_read_request n range) h (at_with g origin (done ++ h ∷ rest) [] a k)
-    begun = ap (λ o. for_some o (λ x. submit_read number (snap_read_request n range) x (at_with g origin (done ++ h ∷ rest) [] a k)) (declined (at_with g origin (done ++ h ∷ rest) [] a k))) (here_that is_this done rest h before pass)
+    begun = ap (λ o. for_some o (λ x. submit_read number (snap_read_request n range) x (at_with g origin (done ++ h ∷ rest) [] a k)) (declined Invalid (at_with g origin (done ++ h ∷ rest) [] a k))) (here_that is_this done rest h before pass)
 
     abbrev routed : Route → Going
     routed route = record { number = number; request = snap_read_request n range; route = route }

@@ -13,7 +13,8 @@ use Rattle.plain.specs.declared.request.Dev.TheVariants.{Snap as ToSnap}
 use Rattle.plain.specs.declared.request.Op.TheVariants.{Write}
 use Rattle.plain.specs.declared.request.Reply.{Reply}
 use Rattle.plain.specs.declared.request.Reply.TheVariants.{Refused as Declined}
-use Rattle.plain.specs.declared.request.Failure.TheVariants.{Invalid}
+use Rattle.plain.specs.declared.request.Failure.TheVariants.{Invalid, Overflow}
+use Rattle.plain.specs.Plain.{did_overflow, may_overflow}
 use Rattle.model.specs.NextPlace.{stepped}
 use Rattle.model.specs.Picture.{place_of}
 use Rattle.model.proofs.Pictures.{place-pushed}
@@ -30,12 +31,12 @@ use Rattle.volume_laws.specs.Again.{published_place}
 use Rattle.settled.specs.Devices.{Device, met, written_by}
 use Rattle.settled.specs.Snaps.{Snap}
 use Rattle.settled.specs.Saving.{Saving, spoilt, next_place, is_full, has_chunk, save}
-use Rattle.settled.specs.Pieces.{Answered, Served, write_snap, write_saved, write_place, in_snap}
+use Rattle.settled.specs.Pieces.{Answered, Served, shuts, write_snap, write_saved, write_place, in_snap}
 use Rattle.event_machine.specs.Held.{Held, Going, MergeHeld, Moving, with_store, spoiled}
 use Rattle.event_machine.specs.Due.{copy_at, least_in}
 use Rattle.event_machine.specs.Again.{again}
 use Rattle.event_machine.specs.Stepping.{for_some, answer, on_store, write_reply}
-use Rattle.event_machine.specs.Submitting.{submitted, accepted, declined, needs_none, is_filled, with_copy, write_placed, write_snap as submit_write}
+use Rattle.event_machine.specs.Submitting.{submitted, accepted, declined, needs_none, is_filled, with_copy, write_placed, shuts as submit_shuts, overflown, write_snap as submit_write}
 use Rattle.event_machine.specs.Rest.{IsKept, IsResting, IsAtRest}
 use Rattle.event_machine.specs.Settles.{SettlesTo}
 use Rattle.settled.proofs.Each.{Each, each_weaker, each_from}
@@ -90,9 +91,9 @@ module _ (g : Option MergeHeld) (sectors number n : ℕ) (range : Range) (bytes 
   refused_goes : (origin : Device) (snaps : List Held) (a : Option Reply) (k : ℕ) → Each IsIdle snaps → Goes (at_with g origin snaps (routed Refused ∷ []) a k) (at_with g origin snaps [] (Some (Declined Invalid)) k)
   refused_goes origin snaps a k idle = goes_to _ _ _ (issued g origin snaps (routed Refused) a k idle refl) (answered_here g origin snaps (routed Refused) (Declined Invalid) a k)
 
-  -- what the big step does of a write, by what saving the chunk leaves
-  saved_is : (origin : Device) (s : Snap) (x : Saving) → save (range.first / s.chunk) origin s ≡ x → write_snap (span_of range) bytes origin s ≡ write_saved (span_of range) bytes x
-  saved_is origin s x is = ap (write_saved (span_of range) bytes) is
+  -- what the big step does of a write that the snapshot takes, by what saving the chunk leaves
+  saved_is : (origin : Device) (s : Snap) (x : Saving) → shuts (range.first / s.chunk) s ≡ false → save (range.first / s.chunk) origin s ≡ x → write_snap (span_of range) bytes origin s ≡ write_saved (span_of range) bytes x
+  saved_is origin s x takes is = cond-false _ _ _ takes ∙ ap (write_saved (span_of range) bytes) is
 
   saved_dead : (x : Saving) → x.snap.live ≡ false → write_saved (span_of range) bytes x ≡ record { origin = x.origin; snap = x.snap; reply = Declined Invalid }
   saved_dead x out = cond-false _ _ _ out
@@ -114,7 +115,7 @@ module _ (g : Option MergeHeld) (sectors number n : ℕ) (range : Range) (bytes 
     nowhere : (snaps : List Held) → Each (IsResting sectors) snaps → Each (λ h. is_this h ≡ false) snaps → WriteServes snaps
     nowhere snaps rest none =
         serves_there sectors g (write_begun snaps) (at_with g origin snaps [] (Some (Declined Invalid)) k) origin snaps (Declined Invalid) k _
-        (ap (λ o. for_some o (λ h. submit_write number (snap_write_request n range bytes) is_this h (at_with g origin snaps [] a k)) (declined (at_with g origin snaps [] a k))) (none_that is_this snaps none))
+        (ap (λ o. for_some o (λ h. submit_write number (snap_write_request n range bytes) is_this h (at_with g origin snaps [] a k)) (declined Invalid (at_with g origin snaps [] a k))) (none_that is_this snaps none))
         (goes_none _) whole rest (served_nowhere n (write_snap (span_of range) bytes) origin snaps none)
 
     module _ (done rest : List Held) (h : Held) (all : Each (IsResting sectors) (done ++ h ∷ rest)) (before : Each (λ d. is_this d ≡ false) done) (pass : is_this h ≡ true) (piece : range.first + range.count ≤ h.snap.chunk * (range.first / h.snap.chunk) + h.snap.chunk) where
@@ -134,7 +135,39 @@ module _ (g : Option MergeHeld) (sectors number n : ℕ) (range : Range) (bytes 
       idle_rest = each_weaker (IsResting sectors) IsIdle rest (resting_idle sectors) (each_last (IsResting sectors) done rest h all)
 
       begun : write_begun (done ++ h ∷ rest) ≡ submit_write number (snap_write_request n range bytes) is_this h (at_with g origin (done ++ h ∷ rest) [] a k)
-      begun = ap (λ o. for_some o (λ x. submit_write number (snap_write_request n range bytes) is_this x (at_with g origin (done ++ h ∷ rest) [] a k)) (declined (at_with g origin (done ++ h ∷ rest) [] a k))) (here_that is_this done rest h before pass)
+      begun = ap (λ o. for_some o (λ x. submit_write number (snap_write_request n range bytes) is_this x (at_with g origin (done ++ h ∷ rest) [] a k)) (declined Invalid (at_with g origin (done ++ h ∷ rest) [] a k))) (here_that is_this done rest h before pass)
+
+      full_same : h.snap.live ≡ true → is_filled h ≡ is_full h.snap
+      full_same on = ap (λ x. nat_lt (length h.snap.store.bytes) (512 * (h.snap.chunk * (x + 1)))) (next_same sectors h (here.live on))
+
+      -- the two machines shut out the same writes
+      shuts_if : Bool → Bool → Bool → Bool
+      shuts_if live there full = live && (did_overflow h.snap.overflow || (may_overflow h.snap.overflow && (not there && full)))
+
+      shuts_same : submit_shuts c h ≡ shuts c h.snap
+      unfolding shuts_if
+      shuts_same = elim (cases_Bool h.snap.live) [
+        | inr out ↦ (let is : shuts_if h.snap.live (needs_none c h) (is_filled h) ≡ shuts_if h.snap.live (has_chunk c h.snap) (is_full h.snap) =
+            ap (λ b. shuts_if b (needs_none c h) (is_filled h)) out ∙ sym (ap (λ b. shuts_if b (has_chunk c h.snap) (is_full h.snap)) out) in is)
+        | inl on ↦ (let is : shuts_if h.snap.live (needs_none c h) (is_filled h) ≡ shuts_if h.snap.live (has_chunk c h.snap) (is_full h.snap) =
+            ap (λ x. shuts_if h.snap.live x (is_filled h)) (needs_same sectors c h here ∙ ap (λ b. not b || has_chunk c h.snap) on) ∙ ap (shuts_if h.snap.live (has_chunk c h.snap)) (full_same on) in is)
+      ]
+
+      -- one whose store overflowed, or overflows now
+      shut_rests : IsResting sectors (overflown h)
+      shut_rests = record {
+        tried = here.tried;
+        copies = here.copies;
+        marks = here.marks;
+        live = λ live. (let kept = here.live live in record { order = kept.order; pairs = kept.pairs; next = kept.next; zeroed = kept.zeroed });
+      }
+
+      write_shut : submit_shuts c h ≡ true → WriteServes (done ++ h ∷ rest)
+      write_shut shut =
+          let reply : Reply = Declined Overflow in
+          served_by sectors g n (write_snap (span_of range) bytes) origin origin done rest h (overflown h) reply k _ (at_with g origin (done ++ overflown h ∷ rest) [] (Some reply) k) before pass all shut_rests whole
+          (cond-true _ _ _ (sym shuts_same ∙ shut))
+          (begun ∙ cond-true _ _ _ shut ∙ ap (declined Overflow) (put_here g origin done rest [] a k is_this h before pass (overflown h))) (goes_none _)
 
       if_some : (o : Option ℕ) → (if is_some o && not false then o else None) ≡ o
       if_some None = refl
@@ -145,30 +178,30 @@ module _ (g : Option MergeHeld) (sectors number n : ℕ) (range : Range) (bytes 
       published_rest ps ms x none = ap (λ (m : List Mark). published_place ps m x) none ∙ if_some (place_of ps x)
 
       -- by the place of the chunk
-      by_place : (o : Option ℕ) → h.snap.live ≡ true → place_of h.pairs c ≡ o → write_begun (done ++ h ∷ rest) ≡ write_placed number (snap_write_request n range bytes) is_this h o (at_with g origin (done ++ h ∷ rest) [] a k)
-      by_place o on is = begun ∙ cond-true _ _ _ on ∙ ap (λ x. write_placed number (snap_write_request n range bytes) is_this h x (at_with g origin (done ++ h ∷ rest) [] a k)) (published_rest h.pairs h.marks c here.marks ∙ is)
+      by_place : (o : Option ℕ) → submit_shuts c h ≡ false → h.snap.live ≡ true → place_of h.pairs c ≡ o → write_begun (done ++ h ∷ rest) ≡ write_placed number (snap_write_request n range bytes) is_this h o (at_with g origin (done ++ h ∷ rest) [] a k)
+      by_place o takes on is = begun ∙ cond-false _ _ _ takes ∙ cond-true _ _ _ on ∙ ap (λ x. write_placed number (snap_write_request n range bytes) is_this h x (at_with g origin (done ++ h ∷ rest) [] a k)) (published_rest h.pairs h.marks c here.marks ∙ is)
+
+      takes_same : submit_shuts c h ≡ false → shuts c h.snap ≡ false
+      takes_same takes = sym shuts_same ∙ takes
 
       -- a snapshot that is not live
-      write_dead : h.snap.live ≡ false → WriteServes (done ++ h ∷ rest)
-      write_dead out =
+      write_dead : submit_shuts c h ≡ false → h.snap.live ≡ false → WriteServes (done ++ h ∷ rest)
+      write_dead takes out =
           let x : Saving = record { origin = origin; snap = h.snap } in
           served_by sectors g n (write_snap (span_of range) bytes) origin origin done rest h h (Declined Invalid) k _ (at_with g origin (done ++ h ∷ rest) [] (Some (Declined Invalid)) k) before pass all here whole
-          (saved_is origin h.snap x (saves_nothing c origin h.snap (rw out refl)) ∙ saved_dead x out) (begun ∙ cond-false _ _ _ out) (goes_none _)
+          (saved_is origin h.snap x (takes_same takes) (saves_nothing c origin h.snap (rw out refl)) ∙ saved_dead x out) (begun ∙ cond-false _ _ _ takes ∙ cond-false _ _ _ out) (goes_none _)
 
       has_same : (o : Option ℕ) → h.snap.live ≡ true → place_of h.pairs c ≡ o → has_chunk c h.snap ≡ is_some o
       has_same o on is = ap (λ ps. is_some (place_of ps c)) (here.live on).pairs ∙ ap is_some is
 
       -- one that has the chunk
-      write_stored : (place : ℕ) → h.snap.live ≡ true → place_of h.pairs c ≡ Some place → WriteServes (done ++ h ∷ rest)
-      write_stored place on some =
+      write_stored : (place : ℕ) → submit_shuts c h ≡ false → h.snap.live ≡ true → place_of h.pairs c ≡ Some place → WriteServes (done ++ h ∷ rest)
+      write_stored place takes on some =
           let x : Saving = record { origin = origin; snap = h.snap } in
           served_by sectors g n (write_snap (span_of range) bytes) origin origin done rest h (after_place h place) (place_reply h place) k _ (at_with g origin (done ++ h ∷ rest) (routed (Store place) ∷ []) a k) before pass all
           (place_rests sectors place range.first range.count bytes h here on some piece len) whole
-          (saved_is origin h.snap x (saves_nothing c origin h.snap (rw (on, has_same (Some place) on some) refl)) ∙ saved_there x h place refl on (here.live on) some)
-          (by_place (Some place) on some) (place_goes origin done rest h place a k idle before pass)
-
-      full_same : h.snap.live ≡ true → is_filled h ≡ is_full h.snap
-      full_same on = ap (λ x. nat_lt (length h.snap.store.bytes) (512 * (h.snap.chunk * (x + 1)))) (next_same sectors h (here.live on))
+          (saved_is origin h.snap x (takes_same takes) (saves_nothing c origin h.snap (rw (on, has_same (Some place) on some) refl)) ∙ saved_there x h place refl on (here.live on) some)
+          (by_place (Some place) takes on some) (place_goes origin done rest h place a k idle before pass)
 
       lacks : h.snap.live ≡ true → place_of h.pairs c ≡ None → (not h.snap.live || has_chunk c h.snap) ≡ false
       lacks on none = rw (on, has_same None on none) refl
@@ -177,15 +210,15 @@ module _ (g : Option MergeHeld) (sectors number n : ℕ) (range : Range) (bytes 
       lacks_copy on none = needs_same sectors c h here ∙ lacks on none
 
       -- one whose store is full
-      write_full : h.snap.live ≡ true → place_of h.pairs c ≡ None → is_filled h ≡ true → WriteServes (done ++ h ∷ rest)
-      write_full on none filled =
+      write_full : submit_shuts c h ≡ false → h.snap.live ≡ true → place_of h.pairs c ≡ None → is_filled h ≡ true → WriteServes (done ++ h ∷ rest)
+      write_full takes on none filled =
           let x : Saving = record { origin = origin; snap = spoilt h.snap } in
           let reply : Reply = Declined Invalid in
           let v : Moving = at_with g origin (done ++ spoiled h ∷ rest) [] (Some reply) k in
           served_by sectors g n (write_snap (span_of range) bytes) origin origin done rest h (tried_of h) reply k _ v before pass all
           (record { tried = refl; copies = refl; marks = refl; live = λ live. absurd (true≢false (sym live)) }) whole
-          (saved_is origin h.snap x (saves_full c origin h.snap (lacks on none) (sym (full_same on) ∙ filled)) ∙ saved_dead x refl)
-          (by_place None on none ∙ cond-false _ _ _ (lacks_copy on none) ∙ cond-true _ _ _ filled ∙ ap declined (put_here g origin done rest [] a k is_this h before pass (spoiled h)))
+          (saved_is origin h.snap x (takes_same takes) (saves_full c origin h.snap (lacks on none) (sym (full_same on) ∙ filled)) ∙ saved_dead x refl)
+          (by_place None takes on none ∙ cond-false _ _ _ (lacks_copy on none) ∙ cond-true _ _ _ filled ∙ ap (declined Invalid) (put_here g origin done rest [] a k is_this h before pass (spoiled h)))
           (marks_here g origin done rest [] (Some reply) k (spoiled h) (each_weaker IsIdle (λ (d : Held). d.untried ≡ false) done (λ d i. i.tried) idle_done) refl)
 
       -- one that copies the chunk first
@@ -211,7 +244,7 @@ module _ (g : Option MergeHeld) (sectors number n : ℕ) (range : Range) (bytes 
           (copy_bytes sectors origin h.snap c (next_place h.snap) whole) (ap (least (Some (k + 1))) low))
 
       -- the snapshot once its copy came to its end
-      module _ (on : h.snap.live ≡ true) (none : place_of h.pairs c ≡ None) (filled : is_filled h ≡ false) (e : CopyEnds) where
+      module _ (takes : submit_shuts c h ≡ false) (on : h.snap.live ≡ true) (none : place_of h.pairs c ≡ None) (filled : is_filled h ≡ false) (e : CopyEnds) where
         copied_chunk : e.held.snap.chunk ≡ h.snap.chunk
         copied_chunk = ap (λ (t : Snap). t.chunk) e.snap ∙ saved_chunk sectors c origin h h
 
@@ -235,10 +268,10 @@ module _ (g : Option MergeHeld) (sectors number n : ℕ) (range : Range) (bytes 
         copied_idle = each_joined IsIdle done rest e.held idle_done (resting_idle sectors e.held copied_rests) idle_rest
 
         copied_begun : write_begun (done ++ h ∷ rest) ≡ at_with g origin (done ++ with_copy (k + 1) c h ∷ rest) (routed Waits ∷ []) a (k + 1)
-        copied_begun = by_place None on none ∙ cond-false _ _ _ (lacks_copy on none) ∙ cond-false _ _ _ filled ∙ ap (accepted number (snap_write_request n range bytes) Waits) (put_here g origin done rest [] a (k + 1) is_this h before pass (with_copy (k + 1) c h))
+        copied_begun = by_place None takes on none ∙ cond-false _ _ _ (lacks_copy on none) ∙ cond-false _ _ _ filled ∙ ap (accepted number (snap_write_request n range bytes) Waits) (put_here g origin done rest [] a (k + 1) is_this h before pass (with_copy (k + 1) c h))
 
         copied_saved : write_snap (span_of range) bytes origin h.snap ≡ write_saved (span_of range) bytes saving
-        copied_saved = saved_is origin h.snap saving (saves_copy c origin h.snap (lacks on none) has_room)
+        copied_saved = saved_is origin h.snap saving (takes_same takes) (saves_copy c origin h.snap (lacks on none) has_room)
 
         abbrev copied_after : List Held
         copied_after = done ++ e.held ∷ rest
@@ -292,15 +325,18 @@ module _ (g : Option MergeHeld) (sectors number n : ℕ) (range : Range) (bytes 
         copied_settles : WriteServes (done ++ h ∷ rest)
         copied_settles = elim (cases_Bool e.held.snap.live) [ inl live ↦ copied_live live | inr out ↦ copied_dead out ]
 
-      write_copied : h.snap.live ≡ true → place_of h.pairs c ≡ None → is_filled h ≡ false → WriteServes (done ++ h ∷ rest)
-      write_copied on none filled = copied_settles on none filled (copy_ends on none)
+      write_copied : submit_shuts c h ≡ false → h.snap.live ≡ true → place_of h.pairs c ≡ None → is_filled h ≡ false → WriteServes (done ++ h ∷ rest)
+      write_copied takes on none filled = copied_settles takes on none filled (copy_ends on none)
 
       write_here : WriteServes (done ++ h ∷ rest)
-      write_here = elim (cases_Bool h.snap.live) [
-        | inr out ↦ write_dead out
-        | inl on ↦ elim (option_cases (place_of h.pairs c)) [
-          | inr some ↦ write_stored some.0 on some.1
-          | inl none ↦ elim (cases_Bool (is_filled h)) [ inl filled ↦ write_full on none filled | inr room ↦ write_copied on none room ]
+      write_here = elim (cases_Bool (submit_shuts c h)) [
+        | inl shut ↦ write_shut shut
+        | inr takes ↦ elim (cases_Bool h.snap.live) [
+          | inr out ↦ write_dead takes out
+          | inl on ↦ elim (option_cases (place_of h.pairs c)) [
+            | inr some ↦ write_stored some.0 takes on some.1
+            | inl none ↦ elim (cases_Bool (is_filled h)) [ inl filled ↦ write_full takes on none filled | inr room ↦ write_copied takes on none room ]
+          ]
         ]
       ]
 

@@ -148,26 +148,26 @@ module _ (name : List ℕ) (sectors : ℕ) (table : Table) where
   kept_same : (rule : Result Table Refusal) → arrays_in (changed table rule).left ≡ arrays_in table → (new : Table) → rule ≡ Ok new → arrays_in new ≡ arrays_in table
   kept_same rule same new is = ap (λ (r : Result Table Refusal). arrays_in (changed table r).left) (sym is) ∙ same
 
-  snapshot_makes : (device store : List ℕ) (chunk : ℕ) → IsNumberedFor device table → Makes (targets.Snapshot device store chunk) (snapshot_made name sectors device store chunk table)
+  snapshot_makes : (device store : List ℕ) (chunk : ℕ) (overflow : Bool) → IsNumberedFor device table → Makes (targets.Snapshot device store chunk overflow) (snapshot_made name sectors device store chunk overflow table)
   unfolding snapshot_made
-  snapshot_makes device store chunk numbered = by (named_in sectors device store table) refl
+  snapshot_makes device store chunk overflow numbered = by (named_in sectors device store table) refl
     where
-      by_met : (n : Line_names) → AreNames sectors device table n → (o : Option Refusal) → (meet name chunk n.stacked n.volume).refused ≡ o → Makes (targets.Snapshot device store chunk) (snapshot_left n.i n.v o (meet name chunk n.stacked n.volume).stacked (meet name chunk n.stacked n.volume).volume table)
+      by_met : (n : Line_names) → AreNames sectors device table n → (o : Option Refusal) → (meet name chunk overflow n.stacked n.volume).refused ≡ o → Makes (targets.Snapshot device store chunk overflow) (snapshot_left n.i n.v o (meet name chunk overflow n.stacked n.volume).stacked (meet name chunk overflow n.stacked n.volume).volume table)
       by_met n are (Some refusal) is = refl
       by_met n are None is =
           let place = over_there (place_of device table) n.v are.over in
           let here = numbered n.v (Under zero) n.volume place are.volume in
-          (n.v, are.over, changed_in n.v table n.volume (meet name chunk n.stacked n.volume).volume (IsSnapshotMade name) are.volume (met_shows name chunk n.stacked n.volume here.named is))
+          (n.v, are.over, changed_in n.v table n.volume (meet name chunk overflow n.stacked n.volume).volume (IsSnapshotMade name) are.volume (met_shows name chunk overflow n.stacked n.volume here.named is))
 
-      by : (r : Result Line_names Refusal) → named_in sectors device store table ≡ r → Makes (targets.Snapshot device store chunk) (snapshot_by name chunk table r)
+      by : (r : Result Line_names Refusal) → named_in sectors device store table ≡ r → Makes (targets.Snapshot device store chunk overflow) (snapshot_by name chunk overflow table r)
       by (Err e) is = refl
-      by (Ok n) is = by_met n (are_names sectors device store table n is) (meet name chunk n.stacked n.volume).refused refl
+      by (Ok n) is = by_met n (are_names sectors device store table n is) (meet name chunk overflow n.stacked n.volume).refused refl
 
   made_makes : (target : Target) → is_merge target ≡ false → IsNumberedTarget target table → Makes target (made name sectors target table)
   unfolding made
   made_makes (targets.Origin device) other numbered = by_rule (targets.Origin device) (origin_made name sectors device table) (λ new is. origin_shows name sectors device table new is)
-  made_makes (targets.Snapshot device store chunk) other numbered = snapshot_makes device store chunk numbered
-  made_makes (targets.Merge device store chunk) other numbered = absurd (cc)
+  made_makes (targets.Snapshot device store chunk overflow) other numbered = snapshot_makes device store chunk overflow numbered
+  made_makes (targets.Merge device store chunk overflow) other numbered = absurd (cc)
   made_makes (targets.Flakey device offset up down features) other numbered =
       by_rule (targets.Flakey device offset up down features) (flakey_over name sectors device offset up down features table) (kept_same (flakey_over name sectors device offset up down features table) (laid_same name (Flaky 0 up down (features_of features) offset) offset sectors device table))
   made_makes (targets.Dust device block) other numbered =

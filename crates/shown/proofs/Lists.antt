@@ -6,7 +6,7 @@ use Rattle.std.proofs.lemmas.Bool.{cases_Bool, cond-true, cond-false}
 use Rattle.std.proofs.lemmas.Option.{slice_get_cases}
 use Rattle.volume_laws.proofs.Lists.{AllPairs-head, AllPairs-tail}
 use Rattle.sector.specs.declared.refusal.Refusal.TheVariants.{NoSuchDevice}
-use Rattle.plain.specs.Plain.{Saved, Entry}
+use Rattle.plain.specs.Plain.{Saved, Entry, marked_in}
 use Rattle.settled.specs.Snaps.{Snap, Volume as Settled}
 use Rattle.settled.specs.Attaching.{detached}
 use Rattle.settled.proofs.Each.{Each, each_from}
@@ -75,6 +75,15 @@ named_is disk [] snaps = refl
 named_is disk (n ∷ names) [] = refl
 named_is disk (n ∷ names) (s ∷ snaps) = ap (λ xs. record { name = n.snapshot; saved = (entry_of disk s).saved } ∷ xs) (named_is disk names snaps)
 
+-- one that is marked shows what it showed
+pub named_marked : (number : ℕ) (names : List Names) (es : List Entry) → named_with names (marked_in number es) ≡ named_with names es
+named_marked number [] es = refl
+named_marked number (n ∷ names) [] = refl
+named_marked number (n ∷ names) (e ∷ es) = elim (cases_Bool (e.number == number)) [
+  | inl this ↦ ap (named_with (n ∷ names)) (cond-true _ _ _ this)
+  | inr other ↦ ap (named_with (n ∷ names)) (cond-false _ _ _ other) ∙ ap (λ xs. record { name = n.snapshot; saved = e.saved } ∷ xs) (named_marked number names es)
+]
+
 pub numbers_are : (disk : List ℕ) (snaps : List Snap) → map (λ e. e.number) (map (entry_of disk) snaps) ≡ map (λ s. s.number) snaps
 numbers_are disk [] = refl
 numbers_are disk (s ∷ snaps) = ap (λ ns. s.number ∷ ns) (numbers_are disk snaps)
@@ -89,7 +98,7 @@ entries_kept [] es fs kept = tt
 entries_kept (n ∷ names) [] [] kept = tt
 entries_kept (n ∷ names) [] (f ∷ fs) kept = absurd kept
 entries_kept (n ∷ names) (e ∷ es) [] kept = absurd kept
-entries_kept (n ∷ names) (e ∷ es) (f ∷ fs) kept = (refl, kept.1, entries_kept names es fs kept.2)
+entries_kept (n ∷ names) (e ∷ es) (f ∷ fs) kept = (refl, kept.2, entries_kept names es fs kept.3)
 
 -- What the snapshot with a number shows is what the one at a place shows, and a change of the one is that of the other.
 pub record IsHere (number k : ℕ) (f : Saved → Saved) (names : List Names) (es : List Entry) : Type 0 where

@@ -5,7 +5,8 @@ use Rattle.std.specs.List.{remove}
 use Rattle.std.proofs.lemmas.Bool.{cond-true}
 use Rattle.sector.specs.declared.refusal.Refusal.{Refusal}
 use Rattle.sector.specs.declared.refusal.Refusal.TheVariants.{Busy, TooMany, Stale, BadChunk}
-use Rattle.plain.specs.Plain.{Saved}
+use Rattle.plain.specs.declared.request.Overflowing.{Overflowing}
+use Rattle.plain.specs.Plain.{Saved, overflow_of}
 use Rattle.settled.specs.Snaps.{Snap, Volume as Settled}
 use Rattle.chunk.specs.Sizes.{is_chunk}
 use Rattle.model.specs.Picture.{picture}
@@ -55,29 +56,29 @@ either v false x y hx hy = hy
 not_taken : (v : Settled) (refusal : Refusal) (store : Store) → IsTaken v (refused_attach refusal store v)
 not_taken v refusal store none = absurd (cc)
 
-taken : (v : Settled) (number : ℕ) (device : Device) (outcome : Result ℕ Refusal) → IsTaken v (taken_by number device outcome v)
-taken v number device (Err refusal) = not_taken v refusal (record { device = device; stale = false })
-taken v number device (Ok chunk) = λ none. (record { number = number; chunk = chunk; live = true; stale = false; store = device }, refl, refl)
+taken : (v : Settled) (number : ℕ) (overflow : Overflowing) (device : Device) (outcome : Result ℕ Refusal) → IsTaken v (taken_by number overflow device outcome v)
+taken v number overflow device (Err refusal) = not_taken v refusal (record { device = device; stale = false })
+taken v number overflow device (Ok chunk) = λ none. (record { number = number; chunk = chunk; live = true; stale = false; overflow = overflow; store = device }, refl, refl)
 
-is_taken : (chunk : ℕ) (stacked : Stacked) (volume : Volume) → IsTaken volume.state (attached_to chunk stacked volume)
+is_taken : (chunk : ℕ) (overflow : Bool) (stacked : Stacked) (volume : Volume) → IsTaken volume.state (attached_to chunk overflow stacked volume)
 unfolding attached_to attached
-is_taken chunk stacked volume =
+is_taken chunk overflow stacked volume =
     let v : Settled = volume.state in
     either v (is_some volume.merging) _ _ (not_taken v (kept_out stacked) (store_of stacked))
     (either v stacked.stale _ _ (not_taken v Stale (store_of stacked))
     (either v (nat_lt (length v.snaps) 8 && nat_lt (volume.given + 1) 4_294_967_296) _ _
-    (either v (is_chunk chunk) _ _ (taken v (volume.given + 1) (open_store v.snaps (sectors_of v.origin) chunk stacked.device).device (open_store v.snaps (sectors_of v.origin) chunk stacked.device).outcome) (not_taken v BadChunk (store_of stacked)))
+    (either v (is_chunk chunk) _ _ (taken v (volume.given + 1) (overflow_of overflow) (open_store v.snaps (sectors_of v.origin) chunk stacked.device).device (open_store v.snaps (sectors_of v.origin) chunk stacked.device).outcome) (not_taken v BadChunk (store_of stacked)))
     (not_taken v TooMany (store_of stacked))))
 
 -- the volume then
-pub met_shows : (name : List ℕ) (chunk : ℕ) (stacked : Stacked) (volume : Volume) → length volume.snaps ≡ length volume.state.snaps → (meet name chunk stacked volume).refused ≡ None → IsSnapshotMade name (arrays_of volume) (arrays_of (meet name chunk stacked volume).volume)
+pub met_shows : (name : List ℕ) (chunk : ℕ) (overflow : Bool) (stacked : Stacked) (volume : Volume) → length volume.snaps ≡ length volume.state.snaps → (meet name chunk overflow stacked volume).refused ≡ None → IsSnapshotMade name (arrays_of volume) (arrays_of (meet name chunk overflow stacked volume).volume)
 unfolding meet
-met_shows name chunk stacked volume len none =
-    let a : Attached = attached_to chunk stacked volume in
-    let (s, live, is) = is_taken chunk stacked volume none in
+met_shows name chunk overflow stacked volume len none =
+    let a : Attached = attached_to chunk overflow stacked volume in
+    let (s, live, is) = is_taken chunk overflow stacked volume none in
     let disk : List ℕ = volume.state.origin.bytes in
-    let new : Names = record { snapshot = name; store = stacked.names } in
-    subst (λ (w : Settled). IsSnapshotMade name (arrays_of volume) (arrays_of (with_snapshot name stacked w volume))) (sym is) (record {
+    let new : Names = record { snapshot = name; store = stacked.names; overflow = overflow } in
+    subst (λ (w : Settled). IsSnapshotMade name (arrays_of volume) (arrays_of (with_snapshot name overflow stacked w volume))) (sym is) (record {
       shows = picture s.chunk disk s.store.bytes;
       same = refl;
       array = refl;

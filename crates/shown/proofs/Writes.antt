@@ -8,12 +8,12 @@ use Rattle.sector.specs.declared.refusal.Refusal.{Refusal}
 use Rattle.sector.specs.declared.refusal.Refusal.TheVariants.{OutOfRange}
 use Rattle.chunk.specs.Pieces.{Span, AreCutFrom, pieces_of}
 use Rattle.chunk.proofs.Whole.{cut_pieces}
-use Rattle.plain.specs.Plain.{Saved, Live, Invalid}
+use Rattle.plain.specs.Plain.{Saved, Live, Invalid, marked_in}
 use Rattle.plain.specs.declared.request.Dev.{Dev}
 use Rattle.plain.specs.declared.request.Dev.TheVariants as devs
 use Rattle.plain.specs.declared.request.Reply.{Reply}
 use Rattle.plain.specs.declared.request.Reply.TheVariants.{Data, Written, Refused}
-use Rattle.plain.specs.declared.request.Failure.TheVariants.{Invalid as Declined, Io}
+use Rattle.plain.specs.declared.request.Failure.TheVariants.{Invalid as Declined, Io, Overflow}
 use Rattle.settled.specs.Devices.{sectors_of}
 use Rattle.settled.specs.Snaps.{Snap}
 use Rattle.settled.specs.Merges.{Merge, Merged}
@@ -30,7 +30,7 @@ use Rattle.named.specs.State.{Names, Merging as Begun, Volume, merge_in, merged_
 use Rattle.served.specs.Refusals.{is_starved}
 use Rattle.named.specs.declared.place.Role.{Role}
 use Rattle.named.specs.declared.place.Role.TheVariants.{Origin, Under, Snapshot, Store, Merging as InMerging, MergingStore}
-use Rattle.resting.specs.Showing.{entry_of, changed_at, saved_at, with_bytes, IsLive, IsWritten, IsLost, sectors_in}
+use Rattle.resting.specs.Showing.{Arrays as Plainly, entry_of, changed_at, saved_at, with_bytes, IsLive, IsWritten, IsLost, sectors_in}
 use Rattle.resting.proofs.Shown.{arrays_with}
 use Rattle.resting.proofs.Rests.{IsInside}
 use Rattle.resting.proofs.PlainReads.{span_inside, sectors_joined, has_pieces}
@@ -41,7 +41,7 @@ use Rattle.resting.proofs.Writing.{write_whole, write_first}
 use Rattle.shown.specs.Arrays.{Named, Arrays, named_by, arrays_of}
 use Rattle.shown.specs.Shown.{AreKept, IsOriginWritten, IsSnapshotChanged, IsSavedWritten, IsWrittenTo, IsWriteDone, IsWriteRefused}
 use Rattle.shown.specs.Well.{IsWell}
-use Rattle.shown.proofs.Lists.{Rise, named_with, named_is, numbers_are, entry_at, entries_kept, IsHere, is_here, snap_there}
+use Rattle.shown.proofs.Lists.{Rise, named_with, named_is, named_marked, numbers_are, entry_at, entries_kept, IsHere, is_here, snap_there}
 use Rattle.shown.proofs.Resting.{rests}
 
 -- the arrays of a volume with other devices
@@ -62,6 +62,13 @@ module _ (name : List ℕ) (names : List Names) (m after : Merged) where
   abbrev new : Arrays
   new = arrays_at name names after
 
+  -- nothing was
+  pub same_named : arrays_with after ≡ arrays_with m → new ≡ old
+  same_named is =
+      let mk : List ℕ → List Named → Arrays = λ (array : List ℕ) (snaps : List Named). record { name = name; array = array; snaps = snaps } in
+      ap (mk (origin_shown after)) (named_is after.volume.origin.bytes names after.volume.snaps) ∙ ap (λ (a : Plainly). mk a.origin (named_with names a.saved)) is
+      ∙ ap (mk (origin_shown m)) (sym (named_is m.volume.origin.bytes names m.volume.snaps))
+
   -- the origin is written
   pub origin_named : (first : ℕ) (bytes : List ℕ) → IsWritten devs.Origin first bytes (arrays_with m) (arrays_with after) → IsOriginWritten first bytes old new
   origin_named first bytes law = record {
@@ -80,7 +87,7 @@ module _ (name : List ℕ) (names : List Names) (m after : Merged) where
         length-mapped [] = refl
         length-mapped (t ∷ snaps) = ap (λ n. suc n) (length-mapped snaps)
 
-    changed_named : (f : Saved → Saved) (how : Saved → Saved → Type 0) → ((saved : Saved) → saved_at s.number (arrays_with m).saved ≡ saved → how saved (f saved)) → (arrays_with after).origin ≡ (arrays_with m).origin → (arrays_with after).saved ≡ changed_at s.number f (arrays_with m).saved → IsSnapshotChanged k how old new
+    changed_named : (f : Saved → Saved) (how : Saved → Saved → Type 0) → ((saved : Saved) → saved_at s.number (arrays_with m).saved ≡ saved → how saved (f saved)) → (arrays_with after).origin ≡ (arrays_with m).origin → named_with names (arrays_with after).saved ≡ named_with names (changed_at s.number f (arrays_with m).saved) → IsSnapshotChanged k how old new
     changed_named f how so array saved =
         let h = here f in
         record {
@@ -90,21 +97,28 @@ module _ (name : List ℕ) (names : List Names) (m after : Merged) where
           becomes = so h.snapshot.saved h.shows;
           name = refl;
           array = array;
-          snaps = named_is after.volume.origin.bytes names after.volume.snaps ∙ ap (named_with names) saved ∙ h.becomes ∙ ap (λ xs. slice_set xs k (record { name = h.snapshot.name; saved = f h.snapshot.saved })) (sym (named_is m.volume.origin.bytes names m.volume.snaps));
+          snaps = named_is after.volume.origin.bytes names after.volume.snaps ∙ saved ∙ h.becomes ∙ ap (λ xs. slice_set xs k (record { name = h.snapshot.name; saved = f h.snapshot.saved })) (sym (named_is m.volume.origin.bytes names m.volume.snaps));
         }
 
-    pub snapshot_named : (first : ℕ) (bytes : List ℕ) → IsLive (devs.Snap s.number) (arrays_with m) → IsWritten (devs.Snap s.number) first bytes (arrays_with m) (arrays_with after) → IsSnapshotChanged k (IsSavedWritten first bytes) old new
-    snapshot_named first bytes live law = changed_named (with_bytes first bytes) (IsSavedWritten first bytes) (written live) law.0 law.1
+    written : (first : ℕ) (bytes : List ℕ) → IsLive (devs.Snap s.number) (arrays_with m) → (saved : Saved) → saved_at s.number (arrays_with m).saved ≡ saved → IsSavedWritten first bytes saved (with_bytes first bytes saved)
+    written first bytes live saved e = by saved live.0 (sym e ∙ live.1)
       where
         by : (saved : Saved) (array : List ℕ) → saved ≡ Live array → IsSavedWritten first bytes saved (with_bytes first bytes saved)
         by (Live xs) array e = refl
         by Invalid array e = absurd (cc)
 
-        written : IsLive (devs.Snap s.number) (arrays_with m) → (saved : Saved) → saved_at s.number (arrays_with m).saved ≡ saved → IsSavedWritten first bytes saved (with_bytes first bytes saved)
-        written live saved e = by saved live.0 (sym e ∙ live.1)
+    pub snapshot_named : (first : ℕ) (bytes : List ℕ) → IsLive (devs.Snap s.number) (arrays_with m) → IsWritten (devs.Snap s.number) first bytes (arrays_with m) (arrays_with after) → IsSnapshotChanged k (IsSavedWritten first bytes) old new
+    snapshot_named first bytes live law = changed_named (with_bytes first bytes) (IsSavedWritten first bytes) (written first bytes live) law.0 (ap (named_with names) law.1)
+
+    -- and then it was marked for its full store
+    pub snapshot_overflown : (first : ℕ) (bytes : List ℕ) → IsLive (devs.Snap s.number) (arrays_with m) → (mid : Plainly) → IsWritten (devs.Snap s.number) first bytes (arrays_with m) mid
+        → arrays_with after ≡ record mid { saved = marked_in s.number mid.saved } → IsSnapshotChanged k (IsSavedWritten first bytes) old new
+    snapshot_overflown first bytes live mid law is =
+        changed_named (with_bytes first bytes) (IsSavedWritten first bytes) (written first bytes live) (ap (λ (a : Plainly). a.origin) is ∙ law.0)
+        (ap (λ (a : Plainly). named_with names a.saved) is ∙ named_marked s.number names mid.saved ∙ ap (named_with names) law.1)
 
     pub snapshot_lost : IsLost (devs.Snap s.number) (arrays_with m) (arrays_with after) → IsSnapshotChanged k (λ before saved. saved ≡ Invalid) old new
-    snapshot_lost law = changed_named (λ saved. Invalid) (λ before saved. saved ≡ Invalid) (λ saved e. refl) law.0 law.1
+    snapshot_lost law = changed_named (λ saved. Invalid) (λ before saved. saved ≡ Invalid) (λ saved e. refl) law.0 (ap (named_with names) law.1)
 
 -- a merge is begun after a request where it was before
 served_begun : (dev : Dev) (span : Span) (bytes : List ℕ) (m : Merged) → is_some (written_beside dev span bytes m).state.merge ≡ is_some m.merge
@@ -179,16 +193,28 @@ module _ (volume : Volume) (well : IsWell volume) (first count : ℕ) (bytes : L
   origin_done (Data all) after law = absurd law
   origin_done Written after law = origin_named volume.origin volume.snaps m after first bytes (subst (λ (b : List ℕ). IsWritten devs.Origin first b (arrays_with m) (arrays_with after)) whole_bytes law.1)
   origin_done (Refused Declined) after law = absurd law
+  origin_done (Refused Overflow) after law = absurd law.1
   origin_done (Refused Io) after law = inr (inr (inl refl, (sectors_in (take law.1.0 pieces), fewer_bytes law.1.0 law.1.1, origin_named volume.origin volume.snaps m after first (take (512 * sectors_in (take law.1.0 pieces)) bytes) law.1.2)))
 
   -- a write of a snapshot
   snapshot_done : (k : ℕ) (s : Snap) → slice_get volume.state.snaps k ≡ Some s → (reply : Reply) (after : Merged) → AreWritten (devs.Snap s.number) first pieces bytes (arrays_with m) (arrays_with after) reply → IsWriteDone (Snapshot k) first bytes (write_answer reply) before (seen_after after)
   snapshot_done k s at (Data all) after law = absurd law
   snapshot_done k s at Written after law =
-      snapshot_named volume.origin volume.snaps m after k s well.numbered.named well.numbered.numbers at first bytes (law.0 many) (subst (λ (b : List ℕ). IsWritten (devs.Snap s.number) first b (arrays_with m) (arrays_with after)) whole_bytes law.1)
+      snapshot_named volume.origin volume.snaps m after k s well.numbered.named well.numbered.numbers at first bytes (law.0 many).0 (subst (λ (b : List ℕ). IsWritten (devs.Snap s.number) first b (arrays_with m) (arrays_with after)) whole_bytes law.1)
   snapshot_done k s at (Refused Declined) after law = inr (inl (refl, snapshot_lost volume.origin volume.snaps m after k s well.numbered.named well.numbered.numbers at law))
   snapshot_done k s at (Refused Io) after law =
       inr (inr (inl refl, (sectors_in (take law.1.0 pieces), fewer_bytes law.1.0 law.1.1, snapshot_named volume.origin volume.snaps m after k s well.numbered.named well.numbered.numbers at first (take (512 * sectors_in (take law.1.0 pieces)) bytes) law.0 law.1.2)))
+  snapshot_done k s at (Refused Overflow) after law = elim law.1 [
+    | inl did ↦ inl (same_named volume.origin volume.snaps m after did.1)
+    | inr may ↦ inr (inr (
+      inr (inl refl),
+      (
+        sectors_in (take may.2.0 pieces),
+        fewer_bytes may.2.0 may.2.1,
+        snapshot_overflown volume.origin volume.snaps m after k s well.numbered.named well.numbered.numbers at first (take (512 * sectors_in (take may.2.0 pieces)) bytes) law.0 may.1 may.2.2 may.3,
+      ),
+    ))
+  ]
 
   -- by the role of the device
   role_done : (role : Role) (dev : Dev) → dev_of role volume.state ≡ Ok dev → (reply : Reply) (after : Merged) → AreWritten dev first pieces bytes (arrays_with m) (arrays_with after) reply → IsWriteDone role first bytes (write_answer reply) before (seen_after after)
@@ -300,7 +326,7 @@ module _ (volume : Volume) (well : IsWell volume) (first count : ℕ) (bytes : L
       by (suc n) lt wrote =
           let a = law (suc n) wrote in
           let sum : ℕ = sectors_in (take (suc n) Pieces) in
-          inr (inr (inr wanting, (sum, fewer_bytes volume well first count bytes len some fits (suc n) lt, role_first volume well first count bytes len some fits role dev is (take (512 * sum) bytes) (a.0 (many_first n Pieces lt)) (done_first (suc n)).state a.1)))
+          inr (inr (inr (inr wanting), (sum, fewer_bytes volume well first count bytes len some fits (suc n) lt, role_first volume well first count bytes len some fits role dev is (take (512 * sum) bytes) (a.0 (many_first n Pieces lt)).0 (done_first (suc n)).state a.1)))
         where
           many_first : (n : ℕ) (ps : List Span) → suc n < length ps → 0 < length (take (suc n) ps)
           many_first n [] lt = absurd (omega (arith, lt))

@@ -47,8 +47,8 @@ IsRemoved (Some (In v (MergingStore depth))) old new = ⊥
 -- a device is made
 abbrev pub IsMade : List ℕ → Target → Table → List Arrays → List Arrays → Type 0
 IsMade name (targets.Origin device) table old new = (array : List ℕ) × (new ≡ old ++ (record { name = name; array = array; snaps = [] }) ∷ [])
-IsMade name (targets.Snapshot device store chunk) table old new = (v : ℕ) × (over (place_of device table) ≡ Ok v) × IsChangedAt v (IsSnapshotMade name) old new
-IsMade name (targets.Merge device store chunk) table old new = ⊥
+IsMade name (targets.Snapshot device store chunk overflow) table old new = (v : ℕ) × (over (place_of device table) ≡ Ok v) × IsChangedAt v (IsSnapshotMade name) old new
+IsMade name (targets.Merge device store chunk overflow) table old new = ⊥
 IsMade name (targets.Flakey device offset up down features) table old new = new ≡ old
 IsMade name (targets.Dust device block) table old new = new ≡ old
 IsMade name targets.Error table old new = new ≡ old

@@ -4,7 +4,7 @@ use Rattle.std.specs.Prelude.{◌≡◌, ◌⊎◌, ℕ, ◌*◌, ◌<◌, true,
 use Rattle.std.specs.List.{remove}
 use Rattle.sector.specs.Bytes.{with_sectors}
 use Rattle.sector.specs.declared.refusal.Refusal.{Refusal}
-use Rattle.sector.specs.declared.refusal.Refusal.TheVariants.{Invalid as InvalidRefusal, Io as IoRefusal}
+use Rattle.sector.specs.declared.refusal.Refusal.TheVariants.{Invalid as InvalidRefusal, Io as IoRefusal, Overflow as OverflowRefusal}
 use Rattle.plain.specs.Plain.{Saved, Live, Invalid}
 use Rattle.served.specs.Refusals.{is_starved}
 use Rattle.named.specs.declared.place.Role.{Role}
@@ -80,11 +80,16 @@ IsLostBy (Store k depth) old new = ⊥
 IsLostBy Merging old new = ⊥
 IsLostBy (MergingStore depth) old new = ⊥
 
--- Why a write is refused: before it began, and nothing changed; or its snapshot is lost; or a device failed, or memory or a
--- journal's room was wanting, and some first sectors stand.
+-- whether a write that is refused for this reason may leave some first sectors: a device failed, or its snapshot's store
+-- overflowed, or memory or a journal's room was wanting
+abbrev pub StopsWrite : Refusal → Type 0
+StopsWrite refusal = (refusal ≡ IoRefusal) ⊎ (refusal ≡ OverflowRefusal) ⊎ (is_starved refusal ≡ true)
+
+-- Why a write is refused: before it began, and nothing changed; or its snapshot is lost; or it stopped, and some first sectors
+-- stand.
 abbrev pub IsWriteRefused : Role → ℕ → List ℕ → Refusal → Arrays → Arrays → Type 0
 IsWriteRefused role first bytes refusal old new =
-    (new ≡ old) ⊎ ((refusal ≡ InvalidRefusal) × IsLostBy role old new) ⊎ (((refusal ≡ IoRefusal) ⊎ (is_starved refusal ≡ true)) × IsPartWrittenTo role first bytes old new)
+    (new ≡ old) ⊎ ((refusal ≡ InvalidRefusal) × IsLostBy role old new) ⊎ (StopsWrite refusal × IsPartWrittenTo role first bytes old new)
 
 -- a write, by its answer
 abbrev pub IsWriteDone : Role → ℕ → List ℕ → Result (Unit {0}) Refusal → Arrays → Arrays → Type 0

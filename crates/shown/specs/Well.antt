@@ -33,9 +33,9 @@ IsWellFor name table = HoldsFor IsWell name table
 
 -- the volume that a snapshot's line names is numbered
 abbrev pub IsNumberedTarget : Target → Table → Type 0
-IsNumberedTarget (targets.Snapshot device store chunk) table = IsNumberedFor device table
+IsNumberedTarget (targets.Snapshot device store chunk overflow) table = IsNumberedFor device table
 IsNumberedTarget (targets.Origin device) table = Unit {0}
-IsNumberedTarget (targets.Merge device store chunk) table = Unit {0}
+IsNumberedTarget (targets.Merge device store chunk overflow) table = Unit {0}
 IsNumberedTarget (targets.Flakey device offset up down features) table = Unit {0}
 IsNumberedTarget (targets.Dust device block) table = Unit {0}
 IsNumberedTarget targets.Error table = Unit {0}

@@ -1,5 +1,5 @@
 -- What an opened store is, and what its snapshot shows.
-use Rattle.std.proofs.Common.{◌≡◌, ◌≢◌, inl, inr, ℕ, ◌+◌, ◌*◌, ◌/◌, ◌%◌, ◌<◌, List, [], get_or, refl, sym, ◌∙◌, ap, subst, arith, true, false, Option, Some, None}
+use Rattle.std.proofs.Common.{◌≡◌, ◌≢◌, inl, inr, ℕ, ◌+◌, ◌*◌, ◌/◌, ◌%◌, ◌<◌, List, [], get_or, refl, sym, ◌∙◌, ap, subst, arith, Bool, true, false, Option, Some, None}
 use Rattle.std.specs.Prelude.{map}
 use Rattle.std.specs.List.{All}
 use Rattle.std.proofs.lemmas.Bool.{true≢false}
@@ -16,6 +16,7 @@ use Rattle.store.specs.declared.state.Left.TheVariants.{Nothing}
 use Rattle.store.specs.declared.state.State.{State}
 use Rattle.store.specs.Stored.{new_of}
 use Rattle.device.specs.Layers.{Layer, is_loud}
+use Rattle.plain.specs.Plain.{overflow_of}
 use Rattle.model.specs.NextPlace.{IsNextPlace}
 use Rattle.snapshot.specs.Kept.{Kept}
 use Rattle.snapshot.specs.Opened.{IsOpened}
@@ -99,13 +100,13 @@ opened_copying line origin size bytes s ps (inl f) = ap (λ (t : State). t.copyi
 opened_copying line origin size bytes s ps (inr w) = w.rest.3
 
 -- a snapshot over an opened store whose load is written
-pub opened_is : {B : Type 0} (contents : B → List ℕ) (layers : B → List Layer) (number line origin size : ℕ) (device dev : B) (loaded st : State) (next : ℕ) (pairs : List Pair) (s : Kept B)
-    → s ≡ record { number = number; live = true; untried = false; stale = false; device = dev; state = st; next = next; pairs = pairs; begun = []; copies = []; marks = []; room = 0; kept_back = 0; spare = false; merging = None }
+pub opened_is : {B : Type 0} (contents : B → List ℕ) (layers : B → List Layer) (number line origin size : ℕ) (overflow : Bool) (device dev : B) (loaded st : State) (next : ℕ) (pairs : List Pair) (s : Kept B)
+    → s ≡ record { number = number; live = true; untried = false; stale = false; overflow = overflow_of overflow; device = dev; state = st; next = next; pairs = pairs; begun = []; copies = []; marks = []; room = 0; kept_back = 0; spare = false; merging = None }
     → st ≡ record loaded { left = Nothing } → IsOpenedAs line origin size (contents device) loaded pairs → IsNextPlace st.chunk (map new_of pairs) next
-    → (is_loud (layers device) ≡ true → contents dev ≡ prepared loaded.left loaded (contents device)) → IsOpened contents layers number line origin size device s
-opened_is {B} contents layers number line origin size device dev loaded st next pairs s fields state opened place bytes =
-    let kept : State → Kept B = λ t. record { number = number; live = true; untried = false; stale = false; device = dev; state = t; next = next; pairs = pairs; begun = []; copies = []; marks = []; room = 0; kept_back = 0; spare = false; merging = None } in
-    subst (IsOpened contents layers number line origin size device) (sym fields) (record {
+    → (is_loud (layers device) ≡ true → contents dev ≡ prepared loaded.left loaded (contents device)) → IsOpened contents layers number line origin size overflow device s
+opened_is {B} contents layers number line origin size overflow device dev loaded st next pairs s fields state opened place bytes =
+    let kept : State → Kept B = λ t. record { number = number; live = true; untried = false; stale = false; overflow = overflow_of overflow; device = dev; state = t; next = next; pairs = pairs; begun = []; copies = []; marks = []; room = 0; kept_back = 0; spare = false; merging = None } in
+    subst (IsOpened contents layers number line origin size overflow device) (sym fields) (record {
       loaded = loaded;
       opened = opened;
       fields = ap kept state;

@@ -4,6 +4,7 @@ use Rattle.std.specs.Prelude.{◌==◌, ◌&&◌, ◌||◌, not, ℕ, ◌+◌, �
 use Rattle.std.specs.List.{list_any}
 use Rattle.sector.specs.declared.pair.Pair.{Pair}
 use Rattle.device.specs.Layers.{Layer, is_loud}
+use Rattle.plain.specs.declared.request.Overflowing.{Overflowing}
 use Rattle.pending.specs.declared.copies.ChunkCopy.{ChunkCopy}
 use Rattle.pending.specs.declared.copies.Mark.{Mark}
 use Rattle.pending.specs.Due.{batch}
@@ -12,7 +13,7 @@ use Rattle.volume_laws.specs.Books.{SnapBooks}
 use Rattle.volume_laws.specs.Due.{DueSnap}
 
 -- A snapshot, with the device of its store. untried: it is spoiled, and its store's header was not yet marked invalid;
--- stale: that mark failed. next: the store's next place. begun: the pairs that the store began and did not commit.
+-- stale: that mark failed. overflow: what a write of it does that finds its store full, and whether one did. next: the store's next place. begun: the pairs that the store began and did not commit.
 -- room: how many copies may start without more memory. kept_back: how many more a merge may start, one at a time; spare:
 -- whether the buffer for its next one is there; merging: the number of the one that it started, until that is published.
 pub record Kept (B : Type 0) : Type 0 where
@@ -20,6 +21,7 @@ pub record Kept (B : Type 0) : Type 0 where
   pub live : Bool
   pub untried : Bool
   pub stale : Bool
+  pub overflow : Overflowing
   pub device : B
   pub state : State
   pub next : ℕ
@@ -38,6 +40,7 @@ books_of contents layers s = record {
   number = s.number;
   live = s.live;
   untried = s.untried;
+  overflow = s.overflow;
   loud = is_loud (layers s.device);
   chunk = s.state.chunk;
   sectors = s.state.origin;

@@ -1,5 +1,5 @@
-//! One snapshot of a volume: its store, whether it is live, the copies that are not committed, and those that are
-//! committed and not published. Each call is one event of it, or one look at it.
+//! One snapshot of a volume: its store, whether it is live, whether its store overflowed, the copies that are not committed,
+//! and those that are committed and not published. Each call is one event of it, or one look at it.
 //!
 //! It stands on `store`, which keeps the pairs on the device, and on `pending`, whose lists it holds. It promises of each
 //! event the relation between the snapshot before and after that `volume_laws` has laws for, the one operation of its
@@ -13,6 +13,7 @@ mod copying;
 mod layering;
 mod merging;
 mod opening;
+mod overflowing;
 mod placing;
 mod snapshot;
 mod spoiling;

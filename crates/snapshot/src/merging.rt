@@ -119,6 +119,7 @@ impl<B: Block> Snapshot<B> {
             live: _,
             untried: _,
             stale: _,
+            overflow: _,
             store,
             copies: _,
             marks: _,

@@ -51,9 +51,9 @@ fn is_wanted(wanted: Option<u32>, chunk: u32) -> bool
 fn open_wanted<B: Block>(
     alloc: Global,
     device: B,
+    sectors: u64,
     chunk: u32,
     wanted: Option<u32>,
-    sectors: u64,
 ) -> Result<Store<B>, (Refusal, B)>
     requires { is_chunk chunk ≡ true }
     ensures opened { IfOk result (λ store. IsOpenedAs chunk sectors (B.size device) (B.contents device) store.state (committed store.exceptions)) }
@@ -110,20 +110,22 @@ fn prepare_all<B: Block>(store: &mut Store<B>) -> Result<(), Io>
 }
 
 /// Opens a snapshot over a store, for an origin of so many sectors: a fresh store gets chunks of so many sectors, a written
-/// one has its own. All writes of its load are done. Where other snapshots have chunks of another size it is refused with
-/// `ChunkMismatch`, after the refusals of the store's load and before anything is written. The store is given back with a
-/// refusal; after `Io` its area 0 may be zeroed, where it was fresh. Whatever a stop before, within or after it leaves of the
-/// store is as it was, fresh as it was, or loaded again with the pairs that it had.
+/// one has its own. Whether it may overflow is asked for, and no write of it found its store full yet. All writes of its load
+/// are done. Where other snapshots have chunks of another size it is refused with `ChunkMismatch`, after the refusals of the
+/// store's load and before anything is written. The store is given back with a refusal; after `Io` its area 0 may be zeroed,
+/// where it was fresh. Whatever a stop before, within or after it leaves of the store is as it was, fresh as it was, or loaded
+/// again with the pairs that it had.
 pub fn open_snapshot<B: Block>(
     alloc: Global,
     number: SnapId,
     store: StoreDev<B>,
-    chunk: u32,
-    wanted: Option<u32>,
     sectors: u64,
+    chunk: u32,
+    overflow: bool,
+    wanted: Option<u32>,
 ) -> Result<Snapshot<B>, (Refusal, StoreDev<B>)>
     requires { is_chunk chunk ≡ true }
-    ensures opened { IfOk result (λ s. IsOpened B.contents B.layers number chunk sectors (B.size store.device) store.device s) }
+    ensures opened { IfOk result (λ s. IsOpened B.contents B.layers number chunk sectors (B.size store.device) overflow store.device s) }
     ensures wanted { IfOk result (λ s. IsWanted wanted s.state.chunk) }
     ensures counted { IfOk result (λ s. length s.pairs ≡ s.state.current * (32 * s.state.chunk) + s.state.filled) }
     ensures unfilled { IfOk result (λ s. s.state.filled < 32 * s.state.chunk) }
@@ -144,12 +146,12 @@ pub fn open_snapshot<B: Block>(
     ensures faults { MatchResult result (λ s. B.fault_count s.device ≡ B.fault_count store.device) (λ e. B.fault_count e.1.device ≡ faults_after e.0 (B.fault_count store.device)) }
 {
     let StoreDev { device, stale } = store;
-    let mut store = match open_wanted(alloc, device, chunk, wanted, sectors) {
+    let mut store = match open_wanted(alloc, device, sectors, chunk, wanted) {
         Ok(store) => store,
         Err((refusal, device)) => return Err((refusal, StoreDev { device, stale })),
     };
     match prepare_all(&mut store) {
-        Ok(()) => Ok(Snapshot::over(alloc, number, store)),
+        Ok(()) => Ok(Snapshot::over(alloc, number, store, overflow)),
         Err(Io) => {
             let device = store.into_device();
             Err((Refusal::Io, StoreDev { device, stale }))

@@ -13,13 +13,13 @@ ghost use Rattle.snapshot.specs.Rest.{IsStill};
 use chunk_alloc::Usage;
 use device::Block;
 use pending::{ChunkCopy, Mark, batch, is_marked};
-use plain::{CopyId, SnapId};
+use plain::{CopyId, Overflowing, SnapId};
 use sector::Chunk;
 use std::marker::Model;
 use store::Store;
 
-/// One snapshot of a volume. Contracts see its number, its flags, the device of its store with the store's state, its
-/// pairs, its copies, its marks, for how many copies it has room, and what it keeps for a merge.
+/// One snapshot of a volume. Contracts see its number, its flags, what a full store does to it, the device of its store with
+/// the store's state, its pairs, its copies, its marks, for how many copies it has room, and what it keeps for a merge.
 #[derive(Drop)]
 pub struct Snapshot<B: Block> {
     pub(crate) number: SnapId,
@@ -28,6 +28,8 @@ pub struct Snapshot<B: Block> {
     pub(crate) untried: bool,
     /// That mark failed.
     pub(crate) stale: bool,
+    /// What a write of it does that finds its store full, and whether one did.
+    pub(crate) overflow: Overflowing,
     pub(crate) store: Store<B>,
     pub(crate) copies: Vec<ChunkCopy>,
     pub(crate) marks: Vec<Mark>,
@@ -52,7 +54,7 @@ impl<B: Block> Model for Snapshot<B> {
     ghost use Rattle.store.specs.Held.{committed, pairs_pending, reserved};
     ghost use Rattle.snapshot.specs.Held.{IsSnapshot, HasRoom, IsSpared};
 
-    ghost view = { λ s. record { number = s.number; live = s.live; untried = s.untried; stale = s.stale; device = s.store.device; state = s.store.state; next = s.store.places.next; pairs = committed s.store.exceptions; begun = pairs_pending s.store.exceptions; copies = s.copies.items; marks = s.marks.items; room = s.room; kept_back = s.kept_back; spare = is_some s.spare; merging = s.merging } };
+    ghost view = { λ s. record { number = s.number; live = s.live; untried = s.untried; stale = s.stale; overflow = s.overflow; device = s.store.device; state = s.store.state; next = s.store.places.next; pairs = committed s.store.exceptions; begun = pairs_pending s.store.exceptions; copies = s.copies.items; marks = s.marks.items; room = s.room; kept_back = s.kept_back; spare = is_some s.spare; merging = s.merging } };
 
     ghost invariant = { λ s. IsSnapshot s.live s.untried s.stale s.store.state (pairs_pending s.store.exceptions) s.copies.items s.marks.items × HasRoom s.room s.kept_back s.left (reserved s.store.exceptions) (length s.copies.items) (length s.marks.items) (vec_capacity s.copies) (vec_capacity s.marks) (is_some s.spare) s.merging × IsSpared s.store.state.chunk s.spare s.merging s.copies.items };
 }

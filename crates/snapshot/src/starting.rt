@@ -5,6 +5,7 @@ ghost use Rattle.sector.specs.declared.refusal.Refusal.TheVariants.{NoMemory};
 ghost use Rattle.chunk.specs.Sizes.{is_chunk};
 ghost use Rattle.model.specs.NextPlace.{IsFull};
 ghost use Rattle.model.specs.Picture.{place_of as place_in};
+ghost use Rattle.plain.specs.Plain.{overflow_of};
 ghost use Rattle.pending.specs.Copies.{count_of};
 ghost use Rattle.store.specs.declared.state.Left.TheVariants.{Nothing};
 ghost use Rattle.store.specs.Held.{committed, pending as pending_of, reserved};
@@ -14,6 +15,7 @@ ghost use Rattle.snapshot.specs.Kept.{books_of};
 ghost use Rattle.snapshot.specs.Calls.{StartsAt, started};
 
 use crate::Snapshot;
+use crate::overflowing::overflowing;
 use device::Block;
 use pending::{ChunkCopy, Mark, Stage};
 use plain::{CopyId, SnapId};
@@ -22,8 +24,9 @@ use std::alloc::Global;
 use store::Store;
 
 impl<B: Block> Snapshot<B> {
-    /// A live snapshot over a store that was opened, and which the load's writes have left ready. It takes no memory.
-    pub fn over(alloc: Global, number: SnapId, store: Store<B>) -> Snapshot<B>
+    /// A live snapshot over a store that was opened, and which the load's writes have left ready; whether it may overflow is
+    /// asked for. It takes no memory.
+    pub fn over(alloc: Global, number: SnapId, store: Store<B>, overflow: bool) -> Snapshot<B>
         requires allowed { is_chunk store.state.chunk ≡ true }
         requires ready { store.state.left ≡ Nothing }
         requires copying { store.state.copying ≡ true }
@@ -31,7 +34,7 @@ impl<B: Block> Snapshot<B> {
         requires idle { length (pending_of store.exceptions) ≡ 0 }
         requires valid { store.state.valid ≡ true }
         requires unreserved { reserved store.exceptions ≡ 0 }
-        ensures fields { result ≡ record { number = number; live = true; untried = false; stale = false; device = store.device; state = store.state; next = store.places.next; pairs = committed store.exceptions; begun = []; copies = []; marks = []; room = 0; kept_back = 0; spare = false; merging = None } }
+        ensures fields { result ≡ record { number = number; live = true; untried = false; stale = false; overflow = overflow_of overflow; device = store.device; state = store.state; next = store.places.next; pairs = committed store.exceptions; begun = []; copies = []; marks = []; room = 0; kept_back = 0; spare = false; merging = None } }
         ensures new { (origin : List ℕ) → length origin ≡ 512 * store.state.origin → IsNewSnap origin (books_of B.contents B.layers result) }
         ensures counted { length result.pairs ≡ result.state.current * (32 * result.state.chunk) + result.state.filled }
         ensures unfilled { result.state.filled < 32 * result.state.chunk }
@@ -42,6 +45,7 @@ impl<B: Block> Snapshot<B> {
             live: true,
             untried: false,
             stale: false,
+            overflow: overflowing(overflow),
             store,
             copies: Vec::new(alloc),
             marks: Vec::new(alloc),
@@ -62,6 +66,7 @@ impl<B: Block> Snapshot<B> {
             live: _,
             untried: _,
             stale: _,
+            overflow: _,
             store,
             copies: _,
             marks: _,

@@ -3,12 +3,14 @@
 -- without a line end is this project's own.
 use Rattle.std.specs.Prelude.{ℕ, List, ◌++◌, codes, decimal}
 use Rattle.status.specs.declared.State.{State}
-use Rattle.status.specs.declared.State.TheVariants.{Invalid, Failed, Used}
+use Rattle.status.specs.declared.State.TheVariants.{Invalid, Failed, Overflow, Used}
 
--- `<allocated>/<total> <metadata>` in sectors, or that the snapshot is spoiled, or that its merge failed
+-- `<allocated>/<total> <metadata>` in sectors, or that the snapshot is spoiled, that its merge failed, or that its store
+-- overflowed
 abbrev pub state_text : State → List ℕ
 state_text Invalid = codes "Invalid"
 state_text Failed = codes "Merge failed"
+state_text Overflow = codes "Overflow"
 state_text (Used allocated total metadata) = decimal allocated ++ codes "/" ++ decimal total ++ codes " " ++ decimal metadata
 
 -- of an origin of so many sectors

@@ -18,6 +18,8 @@ pub enum State {
     Invalid,
     /// A device failed in the merge, which stands still.
     Failed,
+    /// The snapshot's store overflowed: it refuses writes, and shows what it showed.
+    Overflow,
     /// Sectors of the snapshot's store: those in use, all, and those in use that hold no copies.
     Used {
         allocated: u64,
@@ -44,6 +46,7 @@ fn push_state(text: &mut Vec<u8>, state: State) -> Result<(), AllocError>
     match state {
         State::Invalid => text.extend_from_slice(b"Invalid"),
         State::Failed => text.extend_from_slice(b"Merge failed"),
+        State::Overflow => text.extend_from_slice(b"Overflow"),
         State::Used {
             allocated,
             total,

@@ -15,7 +15,7 @@ pub fn volume_over<B: Block + Drop>(alloc: Global, origin: B) -> Result<Volume<B
     }
 }
 
-/// Attaches a store. A refused one is given back.
+/// Attaches a store, which may overflow. A refused one is given back.
 pub fn attach<B: Block>(
     alloc: Global,
     volume: &mut Volume<B>,
@@ -23,7 +23,7 @@ pub fn attach<B: Block>(
     chunk: u32,
 ) -> Result<SnapId, (Refusal, B)> {
     let stale = false;
-    match volume.attach(alloc, StoreDev { device, stale }, chunk) {
+    match volume.attach(alloc, StoreDev { device, stale }, chunk, true) {
         Ok(number) => Ok(number),
         Err((refusal, store)) => Err((refusal, store.device)),
     }

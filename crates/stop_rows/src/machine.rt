@@ -143,6 +143,16 @@ impl<B: Layered + Drop> Machine<B> {
         Ok(false)
     }
 
+    /// Submits a write of a chunk to a snapshot, which is refused since its store overflows by it, or did.
+    fn overflow(&mut self, alloc: Global, number: SnapId, chunk: u64) -> Result<bool, Fail> {
+        let range = self.range(chunk)?;
+        match calls::submit_write(alloc, &mut self.volume, Dev::Snap(number), range, 0x99) {
+            Err(Refusal::Overflow) => Ok(false),
+            Err(refusal) => Err(Fail::from(refusal)),
+            Ok(_) => Err(Fail::from("not refused")),
+        }
+    }
+
     /// Submits writes of chunks, and does what is due after every eighth and at the end.
     fn fill(
         &mut self,
@@ -265,6 +275,7 @@ impl<B: Layered + Drop> Machine<B> {
                 self.arrays.set_state(number, State::Spoilt);
                 Ok(false)
             }
+            Step::Overflow(number, chunk) => self.overflow(alloc, number, chunk),
             Step::Merge(number) => self.merge(alloc, number),
             Step::Finish => self.finish(),
         }

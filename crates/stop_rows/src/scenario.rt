@@ -20,6 +20,8 @@ pub enum Step {
     Settle,
     /// Says that the write before found the store of this snapshot full.
     Full(SnapId),
+    /// Submits a write of a chunk to a snapshot whose store is full, or overflowed before: it is refused.
+    Overflow(SnapId, u64),
     /// Begins to merge a snapshot.
     Merge(SnapId),
     /// Takes the merge out.
@@ -95,6 +97,17 @@ pub static WRITTEN_MERGE: [Step; 10] = [
     Step::Do(Event::Issue(4)),
     Step::Settle,
     Step::Finish,
+];
+
+/// The store is full after two copies, and overflows. Of the origin those chunks are written that it has.
+pub static OVERFLOWED: [Step; 7] = [
+    Step::Attach,
+    Step::Fill(Dev::Snap(1), 5, 2, 0x77),
+    Step::Overflow(1, 9),
+    Step::Fill(Dev::Origin, 5, 2, 0xaa),
+    Step::Overflow(1, 5),
+    Step::Read(Dev::Snap(1), 5),
+    Step::Read(Dev::Snap(1), 9),
 ];
 
 /// A whole area of pairs, in chunks of one sector, fills its store, and one write more spoils the snapshot.

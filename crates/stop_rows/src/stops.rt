@@ -3,8 +3,8 @@ use crate::again::load_again;
 use crate::disks::disks_of;
 use crate::machine::Machine;
 use crate::scenario::{
-    ATTACH, ATTACH_WRITTEN, FULL_STORE, LONG_MERGE, MERGE_BESIDE, ONE_COPY, Scenario, Step,
-    WHOLE_AREA, WRITTEN_MERGE,
+    ATTACH, ATTACH_WRITTEN, FULL_STORE, LONG_MERGE, MERGE_BESIDE, ONE_COPY, OVERFLOWED, Scenario,
+    Step, WHOLE_AREA, WRITTEN_MERGE,
 };
 use device::MemDisk;
 use fuse::Fuse;
@@ -171,6 +171,14 @@ fn a_stop_within_a_merge_beside_a_snapshot(rt: HostRuntime) -> Result<(), Fail> 
 fn a_stop_within_a_merge_that_is_written(rt: HostRuntime) -> Result<(), Fail> {
     let count = stop_in_both(rt.alloc(), &[64], &WRITTEN_MERGE)?;
     assert!(rt; count > 60, "{count}");
+    Ok(())
+}
+
+#[test]
+fn a_stop_behind_an_overflow(rt: HostRuntime) -> Result<(), Fail> {
+    let count = stop_in_both(rt.alloc(), &[4], &OVERFLOWED)?;
+    // The store is made ready by two writes, each copy, its pair and its data are written, and two writes reach the origin.
+    assert_eq!(rt; count, 10 * 2 + 10 * 4);
     Ok(())
 }
 

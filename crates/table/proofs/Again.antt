@@ -16,15 +16,19 @@ use Rattle.table.specs.declared.lines.Features.{Features}
 use Rattle.table.specs.declared.lines.Line.{Line}
 use Rattle.table.specs.declared.lines.Target.{Target}
 use Rattle.table.specs.declared.lines.Target.TheVariants.{Origin, Snapshot, Merge, Flakey, Dust, Error}
-use Rattle.table.specs.Grammar.{is_block, features_in, seconds_of, store_in, flakey_in, dust_in, line_in, line_of}
+use Rattle.table.specs.Grammar.{is_block, features_in, seconds_of, overflow_of, store_in, flakey_in, dust_in, line_in, line_of}
 use Rattle.table.specs.Lawful.{is_target, is_line}
-use Rattle.table.specs.Printed.{feature_words, counted, target_words, text_of}
+use Rattle.table.specs.Printed.{feature_words, counted, overflow_word, target_words, text_of}
 
--- the devices and the chunk size of a snapshot
-store_again : (device store : List ℕ) (chunk : ℕ) → is_name device ≡ true → is_name store ≡ true → is_chunk chunk ≡ true → store_in (device ∷ store ∷ codes "P" ∷ decimal chunk ∷ []) ≡ Ok (device, store, chunk)
-store_again device store chunk d s c =
+-- the devices and the chunk size of a snapshot, and whether its store may overflow
+overflow_again : (overflow : Bool) → overflow_of (overflow_word overflow) ≡ Ok overflow
+overflow_again true = refl
+overflow_again false = refl
+
+store_again : (device store : List ℕ) (chunk : ℕ) (overflow : Bool) → is_name device ≡ true → is_name store ≡ true → is_chunk chunk ≡ true → store_in (device ∷ store ∷ overflow_word overflow ∷ decimal chunk ∷ []) ≡ Ok (device, store, chunk, overflow)
+store_again device store chunk overflow d s c =
     let small : chunk < 2 ^ 32 = omega (arith, is_chunk-small chunk c) in
-    rw (name_of-name device d, name_of-name store s, numeral_of-decimal chunk small, c) refl
+    rw (name_of-name device d, name_of-name store s, overflow_again overflow, numeral_of-decimal chunk small, c) refl
 
 -- a number below a limit passes the test
 ltb-below : (a b : ℕ) → a < b → nat_lt a b ≡ true
@@ -103,10 +107,10 @@ dust_again device block d b = rw (name_of-name device d, numeral_of-decimal bloc
 -- a target after its line's sectors
 line_again : (sectors : ℕ) (t : Target) → sectors < 2 ^ 32 → is_target t ≡ true → line_in (codes "0" ∷ decimal sectors ∷ target_words t) ≡ Ok (record { sectors = sectors; target = t })
 line_again sectors (Origin device) small h = rw (numeral_of-decimal sectors small, name_of-name device h) refl
-line_again sectors (Snapshot device store chunk) small h =
-    let is = store_parts device store chunk h in rw (numeral_of-decimal sectors small, store_again device store chunk is.0 is.1 is.2) refl
-line_again sectors (Merge device store chunk) small h =
-    let is = store_parts device store chunk h in rw (numeral_of-decimal sectors small, store_again device store chunk is.0 is.1 is.2) refl
+line_again sectors (Snapshot device store chunk overflow) small h =
+    let is = store_parts device store chunk h in rw (numeral_of-decimal sectors small, store_again device store chunk overflow is.0 is.1 is.2) refl
+line_again sectors (Merge device store chunk overflow) small h =
+    let is = store_parts device store chunk h in rw (numeral_of-decimal sectors small, store_again device store chunk overflow is.0 is.1 is.2) refl
 line_again sectors (Flakey device offset up down f) small h = rw (numeral_of-decimal sectors small, flakey_again device offset up down f (flakey_parts device offset up down f h)) refl
 line_again sectors (Dust device block) small h =
     let is = and-split (is_name device) (is_block block) h in rw (numeral_of-decimal sectors small, dust_again device block is.0 is.1) refl
@@ -116,15 +120,19 @@ line_again sectors Error small h = rw (numeral_of-decimal sectors small) refl
 list_all-both : (ws vs : List (List ℕ)) → list_all is_word ws ≡ true → list_all is_word vs ≡ true → list_all is_word (ws ++ vs) ≡ true
 list_all-both ws vs a b = list_all-append is_word ws vs ∙ and-join _ _ a b
 
+overflow_spelled : (overflow : Bool) → is_word (overflow_word overflow) ≡ true
+overflow_spelled true = refl
+overflow_spelled false = refl
+
 -- all that is printed of a target is words
 target_spelled : (t : Target) → is_target t ≡ true → list_all is_word (target_words t) ≡ true
 target_spelled (Origin device) h = rw (is_word-name device h) refl
-target_spelled (Snapshot device store chunk) h =
+target_spelled (Snapshot device store chunk overflow) h =
     let is = store_parts device store chunk h in
-    rw (is_word-name device is.0, is_word-name store is.1, is_word-decimal chunk (omega (arith, is_chunk-small chunk is.2))) refl
-target_spelled (Merge device store chunk) h =
+    rw (is_word-name device is.0, is_word-name store is.1, overflow_spelled overflow, is_word-decimal chunk (omega (arith, is_chunk-small chunk is.2))) refl
+target_spelled (Merge device store chunk overflow) h =
     let is = store_parts device store chunk h in
-    rw (is_word-name device is.0, is_word-name store is.1, is_word-decimal chunk (omega (arith, is_chunk-small chunk is.2))) refl
+    rw (is_word-name device is.0, is_word-name store is.1, overflow_spelled overflow, is_word-decimal chunk (omega (arith, is_chunk-small chunk is.2))) refl
 target_spelled (Flakey device offset up down f) h =
     let is = flakey_parts device offset up down f h in
     list_all-both (codes "flakey" ∷ device ∷ decimal offset ∷ decimal up ∷ decimal down ∷ []) (counted (feature_words f))

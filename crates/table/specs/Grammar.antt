@@ -61,21 +61,26 @@ are_none [] = true
 are_none (word ∷ []) = bytes_eq word (codes "0")
 are_none (word ∷ words) = false
 
--- the device under the origin, the store and the chunk size; the last is tested last of all
-abbrev pub store_in : List (List ℕ) → Result (List ℕ × List ℕ × ℕ) Refusal
+-- whether a store may overflow: it lasts either way
+abbrev pub overflow_of : List ℕ → Result Bool Refusal
+overflow_of word = if bytes_eq word (codes "P") then Ok false else if bytes_eq word (codes "PO") then Ok true else Err BadTable
+
+-- the device under the origin, the store, the chunk size, and whether the store may overflow; the chunk size is tested
+-- last of all
+abbrev pub store_in : List (List ℕ) → Result (List ℕ × List ℕ × ℕ × Bool) Refusal
 store_in (device ∷ store ∷ persistent ∷ chunk ∷ features) = do
   device ← name_of device
   store ← name_of store
+  overflow ← overflow_of persistent
   chunk ← numeral_of chunk
-  if bytes_eq persistent (codes "P") && are_none features
-      then (if is_chunk chunk then Ok (device, store, chunk) else Err BadChunk) else Err BadTable
+  if are_none features then (if is_chunk chunk then Ok (device, store, chunk, overflow) else Err BadChunk) else Err BadTable
 store_in words = Err BadTable
 
 abbrev pub snapshot_in : List (List ℕ) → Result Target Refusal
-snapshot_in words = store_in words >>= λ s. Ok (Snapshot s.0 s.1 s.2)
+snapshot_in words = store_in words >>= λ s. Ok (Snapshot s.0 s.1 s.2 s.3)
 
 abbrev pub merge_in : List (List ℕ) → Result Target Refusal
-merge_in words = store_in words >>= λ s. Ok (Merge s.0 s.1 s.2)
+merge_in words = store_in words >>= λ s. Ok (Merge s.0 s.1 s.2 s.3)
 
 abbrev pub flakey_in : List (List ℕ) → Result Target Refusal
 flakey_in (device ∷ offset ∷ up ∷ down ∷ words) = do

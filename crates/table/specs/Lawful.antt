@@ -10,8 +10,8 @@ use Rattle.table.specs.Grammar.{is_block}
 -- a target whose names, numbers and features are such as a line may say
 abbrev pub is_target : Target → Bool
 is_target (Origin device) = is_name device
-is_target (Snapshot device store chunk) = is_name device && is_name store && is_chunk chunk
-is_target (Merge device store chunk) = is_name device && is_name store && is_chunk chunk
+is_target (Snapshot device store chunk overflow) = is_name device && is_name store && is_chunk chunk
+is_target (Merge device store chunk overflow) = is_name device && is_name store && is_chunk chunk
 is_target (Flakey device offset up down features) =
     is_name device && nat_lt offset (2 ^ 32) && nat_lt up (2 ^ 31) && nat_lt down (2 ^ 31) && nat_lt 0 (up + down) && not (features.error_writes && features.drop_writes)
 is_target (Dust device block) = is_name device && is_block block

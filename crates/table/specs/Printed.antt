@@ -23,11 +23,15 @@ abbrev pub counted : List (List ℕ) → List (List ℕ)
 counted [] = []
 counted (word ∷ words) = decimal (length (word ∷ words)) ∷ word ∷ words
 
+-- the word for a store, which may overflow or not
+abbrev pub overflow_word : Bool → List ℕ
+overflow_word overflow = if overflow then codes "PO" else codes "P"
+
 -- the name of a target and its parameters
 abbrev pub target_words : Target → List (List ℕ)
 target_words (Origin device) = codes "snapshot-origin" ∷ device ∷ []
-target_words (Snapshot device store chunk) = codes "snapshot" ∷ device ∷ store ∷ codes "P" ∷ decimal chunk ∷ []
-target_words (Merge device store chunk) = codes "snapshot-merge" ∷ device ∷ store ∷ codes "P" ∷ decimal chunk ∷ []
+target_words (Snapshot device store chunk overflow) = codes "snapshot" ∷ device ∷ store ∷ overflow_word overflow ∷ decimal chunk ∷ []
+target_words (Merge device store chunk overflow) = codes "snapshot-merge" ∷ device ∷ store ∷ overflow_word overflow ∷ decimal chunk ∷ []
 target_words (Flakey device offset up down features) =
     (codes "flakey" ∷ device ∷ decimal offset ∷ decimal up ∷ decimal down ∷ []) ++ counted (feature_words features)
 target_words (Dust device block) = codes "dust" ∷ device ∷ codes "0" ∷ decimal block ∷ []

@@ -16,17 +16,21 @@ pub enum Target {
     Origin {
         device: Name,
     },
-    /// `snapshot`: a snapshot of the origin over `device`, its exceptions in `store`, `chunk` sectors a chunk.
+    /// `snapshot`: a snapshot of the origin over `device`, its exceptions in `store`, `chunk` sectors a chunk. Where
+    /// `overflow` holds, the line's word for the store is `PO` in place of `P`: a write of the snapshot that finds the
+    /// store full is refused, and does not spoil the snapshot.
     Snapshot {
         device: Name,
         store: Name,
         chunk: u32,
+        overflow: bool,
     },
     /// `snapshot-merge`: the same store while it is merged into the origin over `device`.
     Merge {
         device: Name,
         store: Name,
         chunk: u32,
+        overflow: bool,
     },
     /// `flakey`: `device` from sector `offset` on, reliable for `up` seconds and unreliable for `down`, in turn.
     Flakey {

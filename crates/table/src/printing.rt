@@ -5,7 +5,7 @@ ghost use Rattle.table.specs.Grammar.{line_of};
 ghost use Rattle.table.specs.Lawful.{is_line};
 ghost use Rattle.words.specs.Texts.{texts};
 ghost use Rattle.words.specs.Words.{spaced};
-ghost use Rattle.table.specs.Printed.{word_if, feature_words, counted, target_words, text_of, Adds};
+ghost use Rattle.table.specs.Printed.{word_if, feature_words, counted, overflow_word, target_words, text_of, Adds};
 
 use crate::{Features, Line, Target};
 use itoa::Buffer;
@@ -54,20 +54,20 @@ fn add_store<'a>(
     device: &'a Name,
     store: &'a Name,
     chunk: u32,
+    overflow: bool,
 ) -> Result<(), AllocError>
-    ensures { Adds result out.old out.new (spaced (kind.now ∷ device.now ∷ store.now ∷ codes "P" ∷ decimal chunk ∷ [])) }
+    ensures { Adds result out.old out.new (spaced (kind.now ∷ device.now ∷ store.now ∷ overflow_word overflow ∷ decimal chunk ∷ [])) }
 {
     let mut buffer = Buffer::new();
     let chunk = buffer.format(chunk).as_bytes();
+    let persistent = if overflow {
+        b"PO".as_slice()
+    } else {
+        b"P".as_slice()
+    };
     add_words(
         out,
-        &[
-            kind,
-            device.as_slice(),
-            store.as_slice(),
-            b"P".as_slice(),
-            chunk,
-        ],
+        &[kind, device.as_slice(), store.as_slice(), persistent, chunk],
     )
 }
 
@@ -158,12 +158,14 @@ fn add_target(out: &mut Vec<u8>, target: &Target) -> Result<(), AllocError>
             device,
             store,
             chunk,
-        } => add_store(out, b"snapshot", device, store, *chunk),
+            overflow,
+        } => add_store(out, b"snapshot", device, store, *chunk, *overflow),
         Target::Merge {
             device,
             store,
             chunk,
-        } => add_store(out, b"snapshot-merge", device, store, *chunk),
+            overflow,
+        } => add_store(out, b"snapshot-merge", device, store, *chunk, *overflow),
         Target::Flakey {
             device,
             offset,

@@ -6,7 +6,7 @@ ghost use Rattle.words.specs.Texts.{texts};
 ghost use Rattle.words.specs.Names.{is_name};
 ghost use Rattle.chunk.specs.Sizes.{is_chunk};
 ghost use Rattle.table.specs.Lawful.{is_target, is_line};
-ghost use Rattle.table.specs.Grammar.{times, is_block, seconds_of, features_in, origin_in, are_none, store_in, snapshot_in, merge_in, flakey_in, dust_in, error_in, target_in, line_in, line_of};
+ghost use Rattle.table.specs.Grammar.{times, is_block, seconds_of, features_in, origin_in, are_none, overflow_of, store_in, snapshot_in, merge_in, flakey_in, dust_in, error_in, target_in, line_in, line_of};
 
 use crate::{Features, Line, Target};
 use chunk::is_chunk_size;
@@ -65,8 +65,22 @@ fn origin(words: &[&[u8]]) -> Result<Target, Refusal>
     }
 }
 
-// The devices and the chunk size of a snapshot. A word `0` after them says that there are no features.
-fn store(words: &[&[u8]]) -> Result<(Name, Name, u32), Refusal>
+// Whether a store may overflow: `PO`, and `P` where it may not.
+fn overflow(word: &[u8]) -> Result<bool, Refusal>
+    ensures { result ≡ overflow_of word.now }
+{
+    if word == b"P".as_slice() {
+        Ok(false)
+    } else if word == b"PO".as_slice() {
+        Ok(true)
+    } else {
+        Err(Refusal::BadTable)
+    }
+}
+
+// The devices and the chunk size of a snapshot, and whether its store may overflow. A word `0` after them says that there
+// are no features.
+fn store(words: &[&[u8]]) -> Result<(Name, Name, u32, bool), Refusal>
     ensures reads { result ≡ store_in (texts words.now) }
     ensures lawful { IfOk result (λ s. (is_name s.0 && is_name s.1 && is_chunk s.2) ≡ true) }
 {
@@ -74,14 +88,15 @@ fn store(words: &[&[u8]]) -> Result<(Name, Name, u32), Refusal>
         [device, store, persistent, chunk, features @ ..] => {
             let device = Name::new(device)?;
             let store = Name::new(store)?;
+            let overflow = overflow(persistent)?;
             let chunk = numeral(chunk)?;
-            if *persistent != b"P".as_slice() || !are_none(features) {
+            if !are_none(features) {
                 return Err(Refusal::BadTable);
             }
             if !is_chunk_size(chunk) {
                 return Err(Refusal::BadChunk);
             }
-            Ok((device, store, chunk))
+            Ok((device, store, chunk, overflow))
         }
         _ => Err(Refusal::BadTable),
     }
@@ -101,11 +116,12 @@ fn snapshot(words: &[&[u8]]) -> Result<Target, Refusal>
     ensures reads { result ≡ snapshot_in (texts words.now) }
     ensures lawful { IfOk result (λ target. is_target target ≡ true) }
 {
-    let (device, store, chunk) = store(words)?;
+    let (device, store, chunk, overflow) = store(words)?;
     Ok(Target::Snapshot {
         device,
         store,
         chunk,
+        overflow,
     })
 }
 
@@ -113,11 +129,12 @@ fn merge(words: &[&[u8]]) -> Result<Target, Refusal>
     ensures reads { result ≡ merge_in (texts words.now) }
     ensures lawful { IfOk result (λ target. is_target target ≡ true) }
 {
-    let (device, store, chunk) = store(words)?;
+    let (device, store, chunk, overflow) = store(words)?;
     Ok(Target::Merge {
         device,
         store,
         chunk,
+        overflow,
     })
 }
 

@@ -9,6 +9,7 @@ use Rattle.pending.specs.Kinds.{in_flight, kind_of}
 use Rattle.pending.specs.declared.flights.Flight.{Flight}
 use Rattle.pending.specs.declared.flights.Kind.{Kind}
 use Rattle.pending.specs.declared.flights.Route.{Route}
+use Rattle.snapshot.specs.Kept.{Kept}
 use Rattle.volume.specs.Volumed.{Volumed, is_loud_in_all, plain_of}
 use Rattle.volume.specs.Causes.{lives_of}
 use Rattle.volume.specs.Submitting.{IsEntered, IsAcceptedAs, SameButRoom, lives_after, spoiled_by}
@@ -26,7 +27,7 @@ entered_flown rs qs f same = pushed qs ∙ ap (λ xs. xs ++ in_flight f ∷ []) 
 -- one that spoils nothing
 pub entered_accepted : {B : Type 0} (contents : B → List ℕ) (layers : B → List Layer) (request : Request) (route : Route) (number : ℕ) (v w : Volumed B) (kind : Kind) → kind_of request ≡ kind → spoiled_by kind request.range.first v.merge v.snaps ≡ [] → lives_of v ≡ lives_after kind request.range.first v.merge v.snaps
     → IsEntered contents layers request route number v w → IsSubmittedAs contents layers request number v w → IsAcceptedAs contents layers request number v w
-entered_accepted contents layers request route number v w kind is_kind none live e exact = record {
+entered_accepted {B = B} contents layers request route number v w kind is_kind none live e exact = record {
   next = e.next;
   origin = ap (λ (x : Volumed _). x.origin) e.becomes;
   given = ap (λ (x : Volumed _). x.requests) e.becomes ∙ sym e.next;
@@ -41,6 +42,7 @@ entered_accepted contents layers request route number v w kind is_kind none live
   flown = ap (λ (x : Volumed _). map in_flight x.flights) e.becomes ∙ entered_flown v.flights v.flights e.flight refl
       ∙ ap (λ (x : InFlight). map in_flight v.flights ++ x ∷ []) (ap (λ (n : ℕ). let x : InFlight = record { number = n; request = e.flight.request } in x) e.number_is ∙ ap (λ (q : Request). let x : InFlight = record { number = number; request = q } in x) e.request_is);
   exact = exact;
+  overflows = ap (λ (x : Volumed B). map (λ (s : Kept B). s.overflow) x.snaps) e.becomes;
   kept = keeps_entered contents layers v w e.flight e.becomes;
 }
 

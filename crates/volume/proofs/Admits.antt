@@ -16,7 +16,7 @@ use Rattle.pending.specs.Kinds.{kind_of, kind_at}
 use Rattle.volume_laws.specs.Published.{IsPiece}
 use Rattle.volume.specs.Volumed.{Volumed, piece_with}
 use Rattle.snapshots.specs.Numbers.{count_in}
-use Rattle.volume.specs.Submitting.{first_of_two, range_refusal, limit_refusal, dev_refusal, submit_refusal, is_piece_of, are_too_many, starting}
+use Rattle.volume.specs.Submitting.{first_of_two, range_refusal, limit_refusal, dev_refusal, shut_refusal, submit_refusal, is_piece_of, are_too_many, starting}
 
 both_none : (a b : Option Refusal) → first_of_two a b ≡ None → (a ≡ None) × (b ≡ None)
 both_none None b e = (refl, e)
@@ -59,6 +59,7 @@ inside_piece first count piece q r within whole = let turned : q * piece ≡ pie
 -- what holds of it
 pub record IsAdmitted {B : Type 0} (size : B → ℕ) (request : Request) (v : Volumed B) : Type 0 where
   pub dev : dev_refusal request.dev v.merge v.snaps ≡ None
+  pub writable : shut_refusal (kind_of request) v.snaps ≡ None
   pub some : 0 < request.range.count
   pub inside : request.range.first + request.range.count ≤ size v.origin
   pub piece : IsPiece (piece_with v.merge v.snaps) request.range
@@ -70,7 +71,8 @@ pub admitted : {B : Type 0} (size : B → ℕ) (request : Request) (v : Volumed 
 admitted size request v e =
     let new = starting (kind_of request) request.range.first v.merge v.snaps in
     let one = both_none (dev_refusal request.dev v.merge v.snaps) _ e in
-    let two = both_none (range_refusal (piece_with v.merge v.snaps) (size v.origin) request.range) _ one.1 in
+    let then = both_none (shut_refusal (kind_of request) v.snaps) _ one.1 in
+    let two = both_none (range_refusal (piece_with v.merge v.snaps) (size v.origin) request.range) _ then.1 in
     let range = range_fits (piece_with v.merge v.snaps) (size v.origin) request.range two.0 in
     let limits = limits_fit new v two.1 in
     let count = request.range.count in
@@ -86,6 +88,7 @@ admitted size request v e =
     let whole : request.range.first / piece_with v.merge v.snaps * piece_with v.merge v.snaps + request.range.first % piece_with v.merge v.snaps ≡ request.range.first = div-add-mod' request.range.first (piece_with v.merge v.snaps) in
     record {
       dev = one.0;
+      writable = then.0;
       some = ltb-true 0 request.range.count (and_first (nat_lt 0 request.range.count) (nat_le (request.range.first + request.range.count) (size v.origin)) range_two);
       inside = leb-true (request.range.first + request.range.count) (size v.origin) (and_second (nat_lt 0 request.range.count) (nat_le (request.range.first + request.range.count) (size v.origin)) range_two);
       piece = record { within = inside_piece request.range.first request.range.count (piece_with v.merge v.snaps) (request.range.first / piece_with v.merge v.snaps) (request.range.first % piece_with v.merge v.snaps) within whole };

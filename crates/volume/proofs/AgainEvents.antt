@@ -147,7 +147,7 @@ module _ {B : Type 0} (contents : B → List ℕ) (layers : B → List Layer) (s
           counted = counts;
           left = left_spoilt s s' (f.1 ∙ t.was);
         } in
-        silent_good contents layers size faults done v h (WriteInvalid number) outcome told still calm v.origin k s s' within is disk loud sized (again v.flights) (again_flown (merge_books contents layers true v.merge) clear v.flights) stays
+        silent_good contents layers size faults done v h (WriteInvalid number) outcome told still calm v.origin k s s' within is disk loud sized (again v.flights) (again_flown (merge_books contents layers true v.merge) clear v.flights) stays t.overflow
         (silent_then vb ub wb one two (loud_one k (snap_books contents layers s) (snap_books contents layers s') vb ub e_is loud))
         (waits_tried k (snap_books contents layers s) (snap_books contents layers s') vb ub wb h.waits e_is t (reroutes v.flights))
         (tried_left (due_of_kept contents layers s) (due_of_kept contents layers s') (both_right (nat_eq s.number number) s.untried found) f.2 (f.1 ∙ t.was) f.4 f.5)
@@ -201,7 +201,7 @@ module _ {B : Type 0} (contents : B → List ℕ) (layers : B → List Layer) (s
           counted = λ counts. subst IsCounted (sym f) (counted_marks s counts (remove s.marks j) (unpublished m.number s.merging));
           left = left_same s s' (ap (λ (x : Kept B). x.live) f) (ap (λ (x : Kept B). x.state.size) f) (ap (λ (x : Kept B). x.next) f);
         } in
-        silent_good contents layers size faults done v h (Publish number) Done (λ p q x. x) (λ xs ys e. e) (λ b. refl) v.origin k s s' within is disk loud (ap size device) (again placed) (again_flown (merge_books contents layers true v.merge) clear placed ∙ placed_flown b v.flights) stays
+        silent_good contents layers size faults done v h (Publish number) Done (λ p q x. x) (λ xs ys e. e) (λ b. refl) v.origin k s s' within is disk loud (ap size device) (again placed) (again_flown (merge_books contents layers true v.merge) clear placed ∙ placed_flown b v.flights) stays (ap (λ (x : Kept B). x.overflow) f)
         (silent_then vb ub wb one (silent_then ub xb wb two three (same_loud v.flights placed)) (loud_one k a b vb ub e_is loud))
         (waits_published k j m a b vb ub xb wb h.waits e_is r places (reroutes placed))
         (unmark_left j m (due_of_kept contents layers s) (due_of_kept contents layers s') r (ap (λ (x : Kept B). x.state.zeroed) f))

@@ -1,5 +1,5 @@
 -- What is asked of the snapshot with a number, which is being merged or not.
-use Rattle.std.proofs.Common.{◌≡◌, inr, ℕ, ◌+◌, ◌*◌, Bool, true, false, List, Some, None, get_or, refl, sym, ◌∙◌, ap, subst}
+use Rattle.std.proofs.Common.{◌≡◌, inr, ℕ, ◌+◌, ◌*◌, true, false, Some, None, get_or, sym, ◌∙◌, ap, subst}
 use Rattle.std.proofs.lemmas.Bool.{cond-true, cond-false}
 use Rattle.chunk_alloc.specs.declared.usage.Usage.{Usage}
 use Rattle.snapshot.specs.Kept.{Kept}

@@ -10,7 +10,9 @@ use Rattle.sector.specs.declared.refusal.Refusal.TheVariants.{Stale, MergeInProg
 use Rattle.chunk.specs.Sizes.{is_chunk}
 use Rattle.device.specs.Layers.{Layer, is_loud}
 use Rattle.model.specs.NextPlace.{IsNextPlace}
+use Rattle.plain.specs.declared.request.Overflowing.{Overflowing}
 use Rattle.plain.specs.declared.request.Reply.{Reply}
+use Rattle.plain.specs.Plain.{overflow_of}
 use Rattle.settled.specs.Devices.{Device, sectors_of}
 use Rattle.settled.specs.Snaps.{Snap, Volume}
 use Rattle.event_machine.specs.Held.{Held}
@@ -62,12 +64,12 @@ limit_here : (v : Volume) (count given : ℕ) (b : Bool) → given ≤ 4_294_967
 limit_here v count given b few len is = ap (λ n. nat_lt n 8 && nat_lt (given + 1) 4_294_967_296) len ∙ limit_same count given few ∙ ap not is
 
 -- refused before the store is looked at
-pub refused_before : (stale begun quiet : Bool) (count given chunk : ℕ) (store : Store) (v : Volume) (refusal : Refusal) → given ≤ 4_294_967_295 → begun ≡ false → quiet ≡ true → store.stale ≡ stale → length v.snaps ≡ count → taking_refusal stale begun quiet count given chunk ≡ Some refusal → attached (given + 1) chunk store v ≡ refused_attach refusal store v
+pub refused_before : (stale begun quiet : Bool) (count given chunk : ℕ) (overflow : Overflowing) (store : Store) (v : Volume) (refusal : Refusal) → given ≤ 4_294_967_295 → begun ≡ false → quiet ≡ true → store.stale ≡ stale → length v.snaps ≡ count → taking_refusal stale begun quiet count given chunk ≡ Some refusal → attached (given + 1) chunk overflow store v ≡ refused_attach refusal store v
 unfolding attached
-refused_before true begun quiet count given chunk store v refusal few alone calm is len e = cond-true _ _ _ is ∙ ap (λ r. refused_attach r store v) (some_same Stale refusal e)
-refused_before false true quiet count given chunk store v refusal few alone calm is len e = absurd (false≢true (sym alone))
-refused_before false false false count given chunk store v refusal few alone calm is len e = absurd (false≢true calm)
-refused_before false false true count given chunk store v refusal few alone calm is len e = cond-false _ _ _ is ∙ elim (cases_Bool (nat_le 8 count || (given == 4_294_967_295))) [
+refused_before true begun quiet count given chunk overflow store v refusal few alone calm is len e = cond-true _ _ _ is ∙ ap (λ r. refused_attach r store v) (some_same Stale refusal e)
+refused_before false true quiet count given chunk overflow store v refusal few alone calm is len e = absurd (false≢true (sym alone))
+refused_before false false false count given chunk overflow store v refusal few alone calm is len e = absurd (false≢true calm)
+refused_before false false true count given chunk overflow store v refusal few alone calm is len e = cond-false _ _ _ is ∙ elim (cases_Bool (nat_le 8 count || (given == 4_294_967_295))) [
   | inl many ↦ cond-false _ _ _ (limit_here v count given true few len many) ∙ ap (λ r. refused_attach r store v) (some_same TooMany refusal (sym (cond-true _ _ _ many) ∙ e))
   | inr room ↦ cond-true _ _ _ (limit_here v count given false few len room) ∙ elim (cases_Bool (is_chunk chunk)) [
     | inl allowed ↦ (let got : ◌≡◌ {A = Option Refusal} None (Some refusal) = sym (cond-false _ _ _ room ∙ cond-true _ _ _ allowed) ∙ e in absurd (cc))
@@ -104,12 +106,12 @@ no_memory false false true count given chunk e = elim (cases_Bool (nat_le 8 coun
 ]
 
 -- not refused before that: the store is opened
-pub admitted : (stale begun quiet : Bool) (count given chunk : ℕ) (store : Store) (v : Volume) → given ≤ 4_294_967_295 → store.stale ≡ stale → length v.snaps ≡ count → taking_refusal stale begun quiet count given chunk ≡ None → (is_chunk chunk ≡ true) × (store.stale ≡ false) × (attached (given + 1) chunk store v ≡ with_tried (given + 1) (open_store v.snaps (sectors_of v.origin) chunk store.device) v)
+pub admitted : (stale begun quiet : Bool) (count given chunk : ℕ) (overflow : Overflowing) (store : Store) (v : Volume) → given ≤ 4_294_967_295 → store.stale ≡ stale → length v.snaps ≡ count → taking_refusal stale begun quiet count given chunk ≡ None → (is_chunk chunk ≡ true) × (store.stale ≡ false) × (attached (given + 1) chunk overflow store v ≡ with_tried (given + 1) overflow (open_store v.snaps (sectors_of v.origin) chunk store.device) v)
 unfolding attached
-admitted true begun quiet count given chunk store v few is len e = absurd (cc)
-admitted false true quiet count given chunk store v few is len e = absurd (cc)
-admitted false false false count given chunk store v few is len e = absurd (cc)
-admitted false false true count given chunk store v few is len e = elim (cases_Bool (nat_le 8 count || (given == 4_294_967_295))) [
+admitted true begun quiet count given chunk overflow store v few is len e = absurd (cc)
+admitted false true quiet count given chunk overflow store v few is len e = absurd (cc)
+admitted false false false count given chunk overflow store v few is len e = absurd (cc)
+admitted false false true count given chunk overflow store v few is len e = elim (cases_Bool (nat_le 8 count || (given == 4_294_967_295))) [
   | inl many ↦ (let got : ◌≡◌ {A = Option Refusal} (Some TooMany) None = sym (cond-true _ _ _ many) ∙ e in absurd (cc))
   | inr room ↦ elim (cases_Bool (is_chunk chunk)) [
     | inl allowed ↦ (allowed, is, cond-false _ _ _ is ∙ cond-true _ _ _ (limit_here v count given false few len room) ∙ cond-true _ _ _ allowed)
@@ -117,9 +119,9 @@ admitted false false true count given chunk store v few is len e = elim (cases_B
   ]
 ]
 
-snap_same : (number number' chunk : ℕ) (live live' stale stale' : Bool) (store : Device) → number ≡ number' → live ≡ live' → stale ≡ stale' →
-    (let a : Snap = record { number = number; chunk = chunk; live = live; stale = stale; store = store } in a) ≡ record { number = number'; chunk = chunk; live = live'; stale = stale'; store = store }
-snap_same number number' chunk live live' stale stale' store p q r = cc
+snap_same : (number number' chunk : ℕ) (live live' : Bool) (overflow overflow' : Overflowing) (stale stale' : Bool) (store : Device) → number ≡ number' → live ≡ live' → overflow ≡ overflow' → stale ≡ stale' →
+    (let a : Snap = record { number = number; chunk = chunk; live = live; overflow = overflow; stale = stale; store = store } in a) ≡ record { number = number'; chunk = chunk; live = live'; overflow = overflow'; stale = stale'; store = store }
+snap_same number number' chunk live live' overflow overflow' stale stale' store p q o r = cc
 
 map_push : {X Y : Type 0} (f : X → Y) (xs : List X) (x : X) → map f (xs ++ x ∷ []) ≡ map f xs ++ f x ∷ []
 map_push f [] x = refl
@@ -155,12 +157,12 @@ module _ {B : Type 0} (contents : B → List ℕ) (layers : B → List Layer) wh
   snaps_taken (t ∷ ss) s = ap (λ ys. snap_of t ∷ ys) (snaps_taken ss s)
 
   -- what is attached is the volume with one more
-  pub exactly : (v : Volumed B) (number : ℕ) (s : Kept B) → s.number ≡ number → s.live ≡ true → s.stale ≡ false →
-      with_tried number (done s.state.chunk (device_of contents layers s.device)) (volume_in contents layers v) ≡ record { volume = volume_in contents layers (taken v number s); refused = None; back = None }
-  exactly v number s number_is live stale =
+  pub exactly : (v : Volumed B) (number : ℕ) (overflow : Overflowing) (s : Kept B) → s.number ≡ number → s.live ≡ true → s.overflow ≡ overflow → s.stale ≡ false →
+      with_tried number overflow (done s.state.chunk (device_of contents layers s.device)) (volume_in contents layers v) ≡ record { volume = volume_in contents layers (taken v number s); refused = None; back = None }
+  exactly v number overflow s number_is live overflow_is stale =
       let whole : List Snap → Attached = λ (ts : List Snap). record { volume = record { origin = device_of contents layers v.origin; snaps = ts }; refused = None; back = None } in
       let before : List Snap = (volume_in contents layers v).snaps in
-      ap (λ (t : Snap). whole (before ++ t ∷ [])) (sym (snap_same s.number number s.state.chunk s.live true s.stale false (device_of contents layers s.device) number_is live stale))
+      ap (λ (t : Snap). whole (before ++ t ∷ [])) (sym (snap_same s.number number s.state.chunk s.live true s.overflow overflow s.stale false (device_of contents layers s.device) number_is live overflow_is stale))
       ∙ ap whole (sym (snaps_taken v.snaps s))
 
   -- nothing is left to do for the new one
@@ -187,50 +189,51 @@ module _ {B : Type 0} (contents : B → List ℕ) (layers : B → List Layer) wh
   }
 
   -- the new one, over an origin of so many sectors
-  pub attached_is : (v : Volumed B) (number size_origin chunk : ℕ) (store : StoreDev B) (s : Kept B) (snaps : List (Kept B)) → length (contents v.origin) ≡ 512 * size_origin →
-      attached number chunk (store_of contents layers store) (volume_in contents layers v) ≡ with_tried number (open_store (volume_in contents layers v).snaps (sectors_of (device_of contents layers v.origin)) chunk (device_of contents layers store.device)) (volume_in contents layers v) →
+  pub attached_is : (v : Volumed B) (number size_origin chunk : ℕ) (overflow : Bool) (store : StoreDev B) (s : Kept B) (snaps : List (Kept B)) → length (contents v.origin) ≡ 512 * size_origin →
+      attached number chunk (overflow_of overflow) (store_of contents layers store) (volume_in contents layers v) ≡ with_tried number (overflow_of overflow) (open_store (volume_in contents layers v).snaps (sectors_of (device_of contents layers v.origin)) chunk (device_of contents layers store.device)) (volume_in contents layers v) →
       open_store (volume_in contents layers v).snaps size_origin chunk (device_of contents layers store.device) ≡ done s.state.chunk (device_of contents layers s.device) →
-      s.number ≡ number → s.live ≡ true → s.stale ≡ false → IsResting size_origin (held_of contents layers s) → snaps ≡ v.snaps ++ s ∷ [] →
-      IsAttachedAs contents layers number chunk store v (record v { snaps = snaps; attached = number })
-  attached_is v number size_origin chunk store s snaps whole goes opens number_is live stale here same =
+      s.number ≡ number → s.live ≡ true → s.overflow ≡ overflow_of overflow → s.stale ≡ false → IsResting size_origin (held_of contents layers s) → snaps ≡ v.snaps ++ s ∷ [] →
+      IsAttachedAs contents layers number chunk overflow store v (record v { snaps = snaps; attached = number })
+  attached_is v number size_origin chunk overflow store s snaps whole goes opens number_is live overflow_is stale here same =
       let vol : Volume = volume_in contents layers v in
       let count : sectors_of (device_of contents layers v.origin) ≡ size_origin = size_of (length (contents v.origin)) size_origin whole in
-      subst (λ (ss : List (Kept B)). IsAttachedAs contents layers number chunk store v (record v { snaps = ss; attached = number })) (sym same) (record {
-        exact = goes ∙ ap (λ n. with_tried number (open_store (volume_in contents layers v).snaps n chunk (device_of contents layers store.device)) (volume_in contents layers v)) count
-            ∙ ap (λ (t : Tried). with_tried number t (volume_in contents layers v)) opens ∙ exactly v number s number_is live stale;
+      subst (λ (ss : List (Kept B)). IsAttachedAs contents layers number chunk overflow store v (record v { snaps = ss; attached = number })) (sym same) (record {
+        exact = goes ∙ ap (λ n. with_tried number (overflow_of overflow) (open_store (volume_in contents layers v).snaps n chunk (device_of contents layers store.device)) (volume_in contents layers v)) count
+            ∙ ap (λ (t : Tried). with_tried number (overflow_of overflow) t (volume_in contents layers v)) opens ∙ exactly v number (overflow_of overflow) s number_is live overflow_is stale;
         snap = s;
         becomes = refl;
         number_is = number_is;
         live = live;
         stale = stale;
+        overflow_is = overflow_is;
         rests = λ sectors replied rest. (let e : size_origin ≡ sectors = let w = rest.whole in omega (arith, whole, w) in
             rests_taken v number sectors s replied (subst (λ (n : ℕ). IsResting n (held_of contents layers s)) e here) rest);
       })
 
   -- the store that is given back
-  pub back_is : (v : Volumed B) (number size_origin chunk : ℕ) (store back : StoreDev B) (refusal : Refusal) → length (contents v.origin) ≡ 512 * size_origin →
-      attached number chunk (store_of contents layers store) (volume_in contents layers v) ≡ with_tried number (open_store (volume_in contents layers v).snaps (sectors_of (device_of contents layers v.origin)) chunk (device_of contents layers store.device)) (volume_in contents layers v) →
+  pub back_is : (v : Volumed B) (number size_origin chunk : ℕ) (overflow : Bool) (store back : StoreDev B) (refusal : Refusal) → length (contents v.origin) ≡ 512 * size_origin →
+      attached number chunk (overflow_of overflow) (store_of contents layers store) (volume_in contents layers v) ≡ with_tried number (overflow_of overflow) (open_store (volume_in contents layers v).snaps (sectors_of (device_of contents layers v.origin)) chunk (device_of contents layers store.device)) (volume_in contents layers v) →
       open_store (volume_in contents layers v).snaps size_origin chunk (device_of contents layers store.device) ≡ refuse refusal (device_of contents layers back.device) → back.stale ≡ false →
-      attached number chunk (store_of contents layers store) (volume_in contents layers v) ≡ refused_attach refusal (store_of contents layers back) (volume_in contents layers v)
-  back_is v number size_origin chunk store back refusal whole goes opens stale =
+      attached number chunk (overflow_of overflow) (store_of contents layers store) (volume_in contents layers v) ≡ refused_attach refusal (store_of contents layers back) (volume_in contents layers v)
+  back_is v number size_origin chunk overflow store back refusal whole goes opens stale =
       let count : sectors_of (device_of contents layers v.origin) ≡ size_origin = size_of (length (contents v.origin)) size_origin whole in
-      goes ∙ ap (λ n. with_tried number (open_store (volume_in contents layers v).snaps n chunk (device_of contents layers store.device)) (volume_in contents layers v)) count
-      ∙ ap (λ (t : Tried). with_tried number t (volume_in contents layers v)) opens
+      goes ∙ ap (λ n. with_tried number (overflow_of overflow) (open_store (volume_in contents layers v).snaps n chunk (device_of contents layers store.device)) (volume_in contents layers v)) count
+      ∙ ap (λ (t : Tried). with_tried number (overflow_of overflow) t (volume_in contents layers v)) opens
       ∙ ap (λ b. refused_attach refusal (store_at b) (volume_in contents layers v)) (sym stale)
     where
       store_at : Bool → Store
       store_at b = record { device = device_of contents layers back.device; stale = b }
 
   -- no area of the new one is zeroed ahead
-  pub size_opened : (number line origin size : ℕ) (device : B) (s : Kept B) → IsOpened contents layers number line origin size device s → s.state.size ≡ size
-  size_opened number line origin size device s o = ap (λ (x : Kept B). x.state.size) o.fields ∙ of_loaded o.opened
+  pub size_opened : (number line origin size : ℕ) (overflow : Bool) (device : B) (s : Kept B) → IsOpened contents layers number line origin size overflow device s → s.state.size ≡ size
+  size_opened number line origin size overflow device s o = ap (λ (x : Kept B). x.state.size) o.fields ∙ of_loaded o.opened
     where
       of_loaded : IsOpenedAs line origin size (contents device) o.loaded s.pairs → o.loaded.size ≡ size
       of_loaded (inl fresh) = ap (λ (t : State). t.size) fresh.state
       of_loaded (inr written) = written.rest.1
 
-  pub unzeroed_of : (number line origin size : ℕ) (device : B) (s : Kept B) → IsOpened contents layers number line origin size device s → s.state.zeroed ≡ false
-  unzeroed_of number line origin size device s o = ap (λ (x : Kept B). x.state.zeroed) o.fields ∙ of_loaded o.opened
+  pub unzeroed_of : (number line origin size : ℕ) (overflow : Bool) (device : B) (s : Kept B) → IsOpened contents layers number line origin size overflow device s → s.state.zeroed ≡ false
+  unzeroed_of number line origin size overflow device s o = ap (λ (x : Kept B). x.state.zeroed) o.fields ∙ of_loaded o.opened
     where
       of_loaded : IsOpenedAs line origin size (contents device) o.loaded s.pairs → o.loaded.zeroed ≡ false
       of_loaded (inl fresh) = ap (λ (t : State). t.zeroed) fresh.state

@@ -11,6 +11,7 @@ use Rattle.std.proofs.lemmas.List.Quantifiers.{all_pairs_push}
 use Rattle.std.proofs.lemmas.List.Sums.{sum_by-append}
 use Rattle.device.specs.Layers.{Layer}
 use Rattle.model.specs.Picture.{picture}
+use Rattle.plain.specs.declared.request.Overflowing.{Overflowing}
 use Rattle.plain.specs.Legal.{IsTaken}
 use Rattle.volume_laws.specs.Books.{number_of}
 use Rattle.volume_laws.specs.Steps.{Attaches, IsNewSnap}
@@ -112,13 +113,15 @@ module _ {B : Type 0} (contents : B → List ℕ) (layers : B → List Layer) (s
         numbers_left = let sums = sum_by-append starts_left v.snaps (s ∷ []) in let one = sum_cons starts_left s [] in let most = left_whole s 16_777_216 small in omega (arith, h.numbers_left, sums, one, most);
       }
 
-  pub plain_taken : (array : List ℕ) → picture s.state.chunk (contents v.origin) (contents s.device) ≡ array → IsTaken (plain_of contents layers v) (v.attached + 1) array (plain_of contents layers taken)
+  pub plain_taken : (array : List ℕ) → picture s.state.chunk (contents v.origin) (contents s.device) ≡ array → IsTaken (plain_of contents layers v) (v.attached + 1) array s.overflow (plain_of contents layers taken)
   plain_taken array shows =
       let step = (attach_event (snap_books contents layers s) (books_of contents layers size v) (books_of contents layers size taken) h.holds attaches new).1 in
-      subst (λ (n : ℕ). IsTaken (plain_of contents layers v) n array (plain_of contents layers taken)) number
-      (subst (λ (x : List ℕ). IsTaken (plain_of contents layers v) s.number x (plain_of contents layers taken)) shows
-      (subst (λ p. IsTaken p s.number (picture s.state.chunk (contents v.origin) (contents s.device)) (plain_of contents layers taken)) (sym (shown contents layers size v))
-      (subst (IsTaken (plain_books (books_of contents layers size v)) s.number (picture s.state.chunk (contents v.origin) (contents s.device))) (sym (shown contents layers size taken)) step)))
+      subst (λ (n : ℕ). IsTaken (plain_of contents layers v) n array s.overflow (plain_of contents layers taken)) number
+      (subst (λ (x : List ℕ). IsTaken (plain_of contents layers v) s.number x s.overflow (plain_of contents layers taken)) shows
+      (subst (λ p. IsTaken p s.number (picture s.state.chunk (contents v.origin) (contents s.device)) s.overflow (plain_of contents layers taken)) (sym (shown contents layers size v))
+      (subst (IsTaken (plain_books (books_of contents layers size v)) s.number (picture s.state.chunk (contents v.origin) (contents s.device)) s.overflow) (sym (shown contents layers size taken)) step)))
 
-  pub plain_taken_as : (array : List ℕ) (snaps : List (Kept B)) → snaps ≡ v.snaps ++ s ∷ [] → picture s.state.chunk (contents v.origin) (contents s.device) ≡ array → IsTaken (plain_of contents layers v) (v.attached + 1) array (plain_of contents layers (record v { snaps = snaps; attached = v.attached + 1 }))
-  plain_taken_as array snaps same shows = subst (λ (x : List (Kept B)). IsTaken (plain_of contents layers v) (v.attached + 1) array (plain_of contents layers (record v { snaps = x; attached = v.attached + 1 }))) (sym same) (plain_taken array shows)
+  pub plain_taken_as : (array : List ℕ) (overflow : Overflowing) (snaps : List (Kept B)) → s.overflow ≡ overflow → snaps ≡ v.snaps ++ s ∷ [] → picture s.state.chunk (contents v.origin) (contents s.device) ≡ array → IsTaken (plain_of contents layers v) (v.attached + 1) array overflow (plain_of contents layers (record v { snaps = snaps; attached = v.attached + 1 }))
+  plain_taken_as array overflow snaps overflow_is same shows =
+      subst (λ (x : List (Kept B)). IsTaken (plain_of contents layers v) (v.attached + 1) array overflow (plain_of contents layers (record v { snaps = x; attached = v.attached + 1 }))) (sym same)
+      (subst (λ (o : Overflowing). IsTaken (plain_of contents layers v) (v.attached + 1) array o (plain_of contents layers taken)) overflow_is (plain_taken array shows))

@@ -3,6 +3,7 @@ use Rattle.std.proofs.Common.{◌≡◌, ℕ, ◌+◌, ◌<◌, true, false, Lis
 use Rattle.std.specs.List.{All}
 use Rattle.device.specs.Layers.{Layer, is_loud}
 use Rattle.model.specs.Picture.{place_of}
+use Rattle.plain.specs.Plain.{did_overflow}
 use Rattle.pending.specs.Kinds.{kind_of, room_of}
 use Rattle.pending.specs.Routes.{read_route_of}
 use Rattle.pending.specs.declared.flights.Flight.{Flight}
@@ -58,13 +59,13 @@ module _ {B : Type 0} (contents : B → List ℕ) (layers : B → List Layer) (s
         (fresh contents layers size u f h number) (beside_read kind) (pieces_all contents layers size u f h number asked.piece)
         k (snap_books contents layers s) (books_within contents layers size u u.origin k s s within is) (books_is contents layers size u u.origin k s s within is) live kind route
 
-    pub snap_write_held_enters : kind_of f.request ≡ SnapWrite s.number → f.route ≡ Held → IsCopying (chunk_of s.state.chunk f) (snap_books contents layers s) → IsTakenIn which f.number f.request (books_of contents layers size v0) (books_of contents layers size (entered_of f u))
-    snap_write_held_enters kind route copying = snap_write_held_taken which f (books_of contents layers size v0) (books_of contents layers size u) (books_of contents layers size (entered_of f u)) p (accepts contents layers size u f h number) one
+    pub snap_write_held_enters : kind_of f.request ≡ SnapWrite s.number → did_overflow s.overflow ≡ false → f.route ≡ Held → IsCopying (chunk_of s.state.chunk f) (snap_books contents layers s) → IsTakenIn which f.number f.request (books_of contents layers size v0) (books_of contents layers size (entered_of f u))
+    snap_write_held_enters kind did route copying = snap_write_held_taken which f (books_of contents layers size v0) (books_of contents layers size u) (books_of contents layers size (entered_of f u)) p (accepts contents layers size u f h number) one
         (fresh contents layers size u f h number) (beside_write kind) (pieces_all contents layers size u f h number asked.piece)
-        k (snap_books contents layers s) (books_within contents layers size u u.origin k s s within is) (books_is contents layers size u u.origin k s s within is) live kind route copying
+        k (snap_books contents layers s) (books_within contents layers size u u.origin k s s within is) (books_is contents layers size u u.origin k s s within is) live kind did route copying
 
-    pub snap_write_placed_enters : (place : ℕ) → kind_of f.request ≡ SnapWrite s.number → f.route ≡ Store place → place_of s.pairs (chunk_of s.state.chunk f) ≡ Some place → IsPublished s.pairs s.marks (chunk_of s.state.chunk f)
+    pub snap_write_placed_enters : (place : ℕ) → kind_of f.request ≡ SnapWrite s.number → did_overflow s.overflow ≡ false → f.route ≡ Store place → place_of s.pairs (chunk_of s.state.chunk f) ≡ Some place → IsPublished s.pairs s.marks (chunk_of s.state.chunk f)
         → IsTakenIn which f.number f.request (books_of contents layers size v0) (books_of contents layers size (entered_of f u))
-    snap_write_placed_enters place kind route named published = snap_write_placed_taken which f (books_of contents layers size v0) (books_of contents layers size u) (books_of contents layers size (entered_of f u)) p (accepts contents layers size u f h number) one
+    snap_write_placed_enters place kind did route named published = snap_write_placed_taken which f (books_of contents layers size v0) (books_of contents layers size u) (books_of contents layers size (entered_of f u)) p (accepts contents layers size u f h number) one
         (fresh contents layers size u f h number) (beside_write kind) (pieces_all contents layers size u f h number asked.piece)
-        k (snap_books contents layers s) (books_within contents layers size u u.origin k s s within is) (books_is contents layers size u u.origin k s s within is) live place kind route named published
+        k (snap_books contents layers s) (books_within contents layers size u u.origin k s s within is) (books_is contents layers size u u.origin k s s within is) live place kind did route named published

@@ -83,7 +83,7 @@ module _ {B : Type 0} (contents : B → List ℕ) (layers : B → List Layer) (s
   good reply answered cause one fits = reply_good contents layers size faults done v issued h number place reply in_list refl refl refl refl (snaps_fit contents layers size v (size o') h same_size)
       (goes_same contents layers size v issued v.merge same_size refl refl h.merge) refl refl refl
       (ap (λ b. is_loud_with layers v.merge (b && list_all (λ (s : Kept B). is_loud (layers s.device)) v.snaps)) same_loud)
-      (record { attached = refl; numbers = refl; chunks = refl; merged = refl; sizes = ap (λ n. counts_with size v.merge (n ∷ map (λ (s : Kept B). size s.device) v.snaps)) same_size }) answered waits cause one (taken_out number place reply r vb wb out fits)
+      (record { attached = refl; numbers = refl; chunks = refl; merged = refl; sizes = ap (λ n. counts_with size v.merge (n ∷ map (λ (s : Kept B). size s.device) v.snaps)) same_size }) refl answered waits cause one (taken_out number place reply r vb wb out fits)
 
   faultless : faults o' ≡ faults v.origin → IsFaultless faults v issued
   faultless same = record { counts = ap (λ n. counts_with faults v.merge (n ∷ map (λ (s : Kept B). faults s.device) v.snaps)) same; lives = refl }

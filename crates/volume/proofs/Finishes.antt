@@ -39,7 +39,7 @@ use Rattle.volume.proofs.Roomed.{roomed_beside, roomed_sum, books_roomed, whole_
 use Rattle.volume.proofs.SavingAt.{AreSavingAt, saving_none_at, saving_asked}
 use Rattle.volume.proofs.Savings.{AreDone, done_all}
 use Rattle.volume.proofs.Shown.{shown}
-use Rattle.volume.proofs.Keeping.{keeps_saved}
+use Rattle.volume.proofs.Keeping.{keeps_saved, overflows_saved}
 use Rattle.volume.proofs.MovedAccepts.{origin_write_is}
 use Rattle.volume.proofs.MovedSubmits.{IsSized}
 use Rattle.volume.proofs.Submitted.{sized_all}
@@ -176,6 +176,7 @@ module _ {B : Type 0} (contents : B → List ℕ) (layers : B → List Layer) (s
         ∙ sym (ap (λ (q : Kind). lives_after q first v.merge v.snaps) kind ∙ if_false (is_merged_at first v.merge) (map (λ (s : Kept B). s.live) v.snaps) (map (λ (s : Kept B). if overflows first s then false else s.live) v.snaps) unmerged));
     flown = entered_flown v.flights gs f done.prepared.requests;
     exact = λ replied. origin_write_is contents layers replied f.number f.request f refl refl v written m before after gs kind unmerged e sized at route refl;
+    overflows = overflows_saved contents layers f.request.range.first v.copies m v.snaps before after v.flights gs e at;
     kept = keeps_saved contents layers v written f.request.range.first v.copies m before v.flights gs refl refl refl e at;
   }
 

@@ -1,6 +1,7 @@
 -- An event of one snapshot leaves its volume whole, and does what a step promises.
-use Rattle.std.proofs.Common.{◌≡◌, inr, ℕ, ◌<◌, Bool, true, false, List, [], ◌∷◌, ◌++◌, length, get_or, map, refl, sym, ◌∙◌, ap, arith}
+use Rattle.std.proofs.Common.{◌≡◌, inr, ℕ, ◌<◌, Bool, true, false, List, [], ◌∷◌, ◌++◌, length, get_or, set, map, refl, sym, ◌∙◌, ap, arith}
 use Rattle.std.proofs.lemmas.List.{length-map}
+use Rattle.std.proofs.Math.Seq.{map-set_same}
 use Rattle.device.specs.Layers.{Layer, is_loud}
 use Rattle.plain.specs.Plain.{InFlight, Plain, spoiled}
 use Rattle.plain.specs.Legal.{IsLegalStep, Spoils}
@@ -64,6 +65,7 @@ pub record SpoiltTo {B : Type 0} (s s' : Kept B) : Type 0 where
   pub number : s'.number ≡ s.number
   pub live : s'.live ≡ false
   pub untried : s'.untried ≡ true
+  pub overflow : s'.overflow ≡ s.overflow
   pub chunk_is : s'.state.chunk ≡ s.state.chunk
   pub origin : s'.state.origin ≡ s.state.origin
   pub pairs : s'.pairs ≡ s.pairs
@@ -85,13 +87,16 @@ module _ {B : Type 0} (contents : B → List ℕ) (layers : B → List Layer) (s
   kept : (flights : List Flight) → s'.number ≡ s.number → s'.state.chunk ≡ s.state.chunk → KeepsAll size v (changed v o' k s' flights)
   kept flights number chunk = kept_changed size v o' k s s' flights within is same.sectors sized number chunk
 
+  overflows_kept : s'.overflow ≡ s.overflow → map (λ (x : Kept B). x.overflow) (set v.snaps k s') ≡ map (λ (x : Kept B). x.overflow) v.snaps
+  overflows_kept one = map-set_same (λ (x : Kept B). x.overflow) v.snaps k s' s (one ∙ ap (λ (x : Kept B). x.overflow) is)
+
   -- nothing is seen of it
-  pub silent_good : (flights : List Flight) → map in_flight flights ≡ map in_flight v.flights → StaysAttached s s'
+  pub silent_good : (flights : List Flight) → map in_flight flights ≡ map in_flight v.flights → StaysAttached s s' → s'.overflow ≡ s.overflow
       → IsSilent (books_of contents layers size v) (books_of contents layers size (changed v o' k s' flights)) → Waits (books_of contents layers size (changed v o' k s' flights))
       → left_in (due_of_kept contents layers s') < left_in (due_of_kept contents layers s)
       → HasCause faults event outcome v (changed v o' k s' flights) → IsOneAtMost done v (changed v o' k s' flights) → KeepsRoom (room_of contents layers s) (room_of contents layers s')
       → IsGood contents layers size faults done event outcome v (changed v o' k s' flights)
-  silent_good flights same_flights stays silent waits less cause one keeps =
+  silent_good flights same_flights stays overflow silent waits less cause one keeps =
       let numbers = same_numbers v.flights flights same_flights in
       let w = changed v o' k s' flights in
       let count : length flights ≡ length v.flights = omega (arith, ap length numbers, length-map flights number_of_flight, length-map v.flights number_of_flight) in
@@ -108,6 +113,7 @@ module _ {B : Type 0} (contents : B → List ℕ) (layers : B → List Layer) (s
           requests = refl;
           copies = omega arith;
           given = omega arith;
+          overflows = overflows_kept overflow;
           failed = sym (calm (has_failed v.merge));
         };
       }
@@ -120,7 +126,7 @@ module _ {B : Type 0} (contents : B → List ℕ) (layers : B → List Layer) (s
       let flights = map (refused_of (s.number ∷ [])) v.flights in
       let w = changed v o' k s' flights in
       let sb = snap_books contents layers in
-      let spoils : SpoilsSnap (sb s) (sb s') = record { number = t.number; was = live; live = t.live; chunk = t.chunk_is; pairs = t.pairs; copies = t.copies; marks = t.marks } in
+      let spoils : SpoilsSnap (sb s) (sb s') = record { number = t.number; was = live; live = t.live; overflow = t.overflow; chunk = t.chunk_is; pairs = t.pairs; copies = t.copies; marks = t.marks } in
       let e = spoils_one contents layers size v o' k s s' within is same spoils in
       let numbers = refused_numbers (s.number ∷ []) v.flights in
       let count : length flights ≡ length v.flights = length-map v.flights (refused_of (s.number ∷ [])) in
@@ -140,6 +146,7 @@ module _ {B : Type 0} (contents : B → List ℕ) (layers : B → List Layer) (s
           requests = refl;
           copies = omega arith;
           given = omega arith;
+          overflows = overflows_kept t.overflow;
           failed = sym (calm (has_failed v.merge));
         };
       }

@@ -14,8 +14,9 @@ use Rattle.volume.specs.Volumed.{Volumed}
 use Rattle.snapshots.specs.Numbers.{number_of_snap}
 use Rattle.volume.specs.Causes.{counts_with}
 use Rattle.volume.specs.Stepping.{KeepsAll, KeepsDevices, merged_of}
+use Rattle.plain.specs.declared.request.Overflowing.TheVariants.{Did}
 use Rattle.snapshots.specs.Starting.{unroomed, starts, overflows, spoilt_of, IsSavedIn, AreSavedIn}
-use Rattle.volume.specs.Submitting.{entered_of, SameButRoom, IsFoundFull, IsRefusedAs}
+use Rattle.volume.specs.Submitting.{entered_of, SameButRoom, IsFoundFull, IsOverflown, IsRefusedAs}
 use Rattle.snapshots.proofs.Roomed.{roomed}
 
 -- what each device has of a kind
@@ -72,6 +73,20 @@ module _ {B : Type 0} (contents : B → List ℕ) (layers : B → List Layer) wh
     set_fixed : (xs : List (Kept B)) (k : ℕ) (s t : Kept B) → s ≡ get_or xs k s → f t ≡ f s → map f (set xs k t) ≡ map f xs
     set_fixed xs k s t is same = map-set_same f xs k t s (same ∙ ap f is)
 
+  fixed_overflow : IsFixed contents layers (λ (s : Kept B). s.overflow)
+  fixed_overflow = record { room = λ s. refl; begun = λ s t p at. ap (λ (x : Kept B). x.overflow) at.fields; spoilt = λ s. refl }
+
+  -- what a full store does to each stays where a request is accepted
+  pub overflows_saved : (first n m : ℕ) (snaps before after : List (Kept B)) (fs gs : List Flight) → map unroomed before ≡ map unroomed snaps → AreSavedIn contents layers first before after n m fs gs
+      → map (λ (s : Kept B). s.overflow) after ≡ map (λ (s : Kept B). s.overflow) snaps
+  overflows_saved first n m snaps before after fs gs room saved =
+      all_fixed (λ (s : Kept B). s.overflow) fixed_overflow first before after n m fs gs saved ∙ roomed (λ (s : Kept B). s.overflow) before snaps room (λ s. refl)
+
+  pub overflows_begun : (snaps : List (Kept B)) (k : ℕ) (before : List (Kept B)) (s t : Kept B) (p : ChunkCopy) → map unroomed before ≡ map unroomed snaps → s ≡ get_or before k s → StartsAt contents layers p s t
+      → map (λ (s : Kept B). s.overflow) (set before k t) ≡ map (λ (s : Kept B). s.overflow) snaps
+  overflows_begun snaps k before s t p room is at =
+      set_fixed (λ (s : Kept B). s.overflow) fixed_overflow before k s t is (fixed_overflow.begun s t p at) ∙ roomed (λ (s : Kept B). s.overflow) before snaps room (λ s. refl)
+
   -- by what each snapshot keeps
   keeps_by : (v w : Volumed B) → w.origin ≡ v.origin → w.merge ≡ v.merge → w.attached ≡ v.attached → ((X : Type 0) (f : Kept B → X) → IsFixed contents layers f → map f w.snaps ≡ map f v.snaps) → KeepsDevices v w
   keeps_by v w origin merge attached same = record {
@@ -106,12 +121,30 @@ module _ {B : Type 0} (contents : B → List ℕ) (layers : B → List Layer) wh
   keeps_full number first v w e = keeps_by v w (ap (λ (x : Volumed B). x.origin) e.becomes) (ap (λ (x : Volumed B). x.merge) e.becomes) (ap (λ (x : Volumed B). x.attached) e.becomes)
       (λ X f fixed. roomed f w.snaps (set v.snaps e.place (spoilt_of e.snap)) e.spoilt fixed.room ∙ set_fixed f fixed v.snaps e.place e.snap (spoilt_of e.snap) e.is (fixed.spoilt e.snap))
 
+  -- one is marked
+  keeps_overflown : (number first : ℕ) (v w : Volumed B) → IsOverflown contents layers number first v w → KeepsDevices v w
+  keeps_overflown number first v w e = record {
+    origin = ap (λ (x : Volumed B). x.origin) e.becomes;
+    devices = same (λ (s : Kept B). s.device) (λ s. refl) (λ s. refl);
+    attached = ap (λ (x : Volumed B). x.attached) e.becomes;
+    numbers = same number_of_snap (λ s. refl) (λ s. refl);
+    chunks = same (λ (s : Kept B). s.state.chunk) (λ s. refl) (λ s. refl);
+    merge = ap (λ (x : Volumed B). x.merge) e.becomes;
+  }
+    where
+      same : {X : Type 0} (f : Kept B → X) → ((s : Kept B) → f (unroomed s) ≡ f s) → ((s : Kept B) → f (record s { overflow = Did }) ≡ f s) → map f w.snaps ≡ map f v.snaps
+      same f room marked = roomed f w.snaps (set v.snaps e.place (record e.snap { overflow = Did })) e.marked room
+          ∙ map-set_same f v.snaps e.place (record e.snap { overflow = Did }) e.snap (marked e.snap ∙ ap f e.is)
+
   pub keeps_refused : (size : B → ℕ) (request : Request) (refusal : Refusal) (v w : Volumed B) → IsRefusedAs contents layers size request refusal v w → KeepsDevices v w
   keeps_refused size request refusal v w e = elim e [
     | inl early ↦ keeps_same v w early.1
     | inr later ↦ elim later [
       | inl lacking ↦ (let (free, memory, same) = lacking in keeps_room v w same)
-      | inr full ↦ (let (free, invalid, rest) = full in let (number, kind, found) = rest in keeps_full number _ v w found)
+      | inr full ↦ elim full [
+        | inl spoilt ↦ (let (free, invalid, rest) = spoilt in let (number, kind, found) = rest in keeps_full number _ v w found)
+        | inr marked ↦ (let (free, overflow, rest) = marked in let (number, kind, found) = rest in keeps_overflown number _ v w found)
+      ]
     ]
   ]
 

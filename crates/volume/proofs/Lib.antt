@@ -55,6 +55,7 @@ pub mod Roomed
 pub mod Admits
 pub mod Keeping
 pub mod Finishes
+pub mod MovedShuts
 pub mod MovedSubmits
 pub mod MovedAccepts
 pub mod Named

@@ -169,5 +169,6 @@ module _ {B : Type 0} (contents : B → List ℕ) (layers : B → List Layer) (s
               requests = refl;
               copies = omega arith;
               given = omega arith;
+              overflows = refl;
             };
           }

@@ -55,6 +55,7 @@ pub record IsNextDone {B : Type 0} (contents : B → List ℕ) (layers : B → L
   pub rooms : KeepBack m.state.chunk m.pairs (map (room_of contents layers) w.snaps)
   pub flights : map in_flight w.flights ≡ map in_flight u.flights
   pub numbers : map number_of_snap w.snaps ≡ map number_of_snap u.snaps
+  pub overflows : map (λ (s : Kept B). s.overflow) w.snaps ≡ map (λ (s : Kept B). s.overflow) u.snaps
   pub chunks : map (λ (s : Kept B). s.state.chunk) w.snaps ≡ map (λ (s : Kept B). s.state.chunk) u.snaps
   pub counts : (count : B → ℕ) → map (λ (s : Kept B). count s.device) w.snaps ≡ map (λ (s : Kept B). count s.device) u.snaps
   pub loud : map (λ (s : Kept B). is_loud (layers s.device)) w.snaps ≡ map (λ (s : Kept B). is_loud (layers s.device)) u.snaps
@@ -74,6 +75,7 @@ module _ {B : Type 0} (contents : B → List ℕ) (layers : B → List Layer) (s
     rooms = kept;
     flights = refl;
     numbers = refl;
+    overflows = refl;
     chunks = refl;
     counts = λ count. refl;
     loud = refl;
@@ -102,6 +104,7 @@ module _ {B : Type 0} (contents : B → List ℕ) (layers : B → List Layer) (s
         rooms = all.room.kept;
         flights = all.starting.prepared.requests;
         numbers = next_same contents layers (m.state.chunk * q.old) number_of_snap (λ s a b c d e f. refl) (λ s. refl) u.snaps ts u.copies n u.flights gs saved;
+        overflows = next_same contents layers (m.state.chunk * q.old) (λ (s : Kept B). s.overflow) (λ s a b c d e f. refl) (λ s. refl) u.snaps ts u.copies n u.flights gs saved;
         chunks = next_same contents layers (m.state.chunk * q.old) (λ (s : Kept B). s.state.chunk) (λ s a b c d e f. refl) (λ s. refl) u.snaps ts u.copies n u.flights gs saved;
         counts = λ count. next_same contents layers (m.state.chunk * q.old) (λ (s : Kept B). count s.device) (λ s a b c d e f. refl) (λ s. refl) u.snaps ts u.copies n u.flights gs saved;
         loud = next_same contents layers (m.state.chunk * q.old) (λ (s : Kept B). is_loud (layers s.device)) (λ s a b c d e f. refl) (λ s. refl) u.snaps ts u.copies n u.flights gs saved;
@@ -242,6 +245,7 @@ module _ {B : Type 0} (contents : B → List ℕ) (layers : B → List Layer) (s
             requests = refl;
             copies = (let one = merged_in contents layers size v m was h in omega (arith, done.few, one.few, seven));
             given = done.given;
+            overflows = done.overflows;
           };
         }
           where

@@ -201,7 +201,7 @@ module _ {B : Type 0} (contents : B → List ℕ) (layers : B → List Layer) (s
           → IsGood contents layers size faults done (Issue number) (Replied number reply) v (record v { merge = Some m'; flights = remove v.flights place })
       good reply answered cause fits =
           subst (λ (x : Merging B). IsGood contents layers size faults done (Issue number) (Replied number reply) v (record v { merge = Some x; flights = remove v.flights place })) (sym f)
-          (reply_good contents layers size faults done v issued h number place reply in_list refl refl refl refl fit goes (ap has_failed (sym begun)) left refl loud_now kept answered waits cause
+          (reply_good contents layers size faults done v issued h number place reply in_list refl refl refl refl fit goes (ap has_failed (sym begun)) left refl loud_now kept refl answered waits cause
           (inr (merging_device v, store_within v m (on_device m d) begun v.origin (remove v.flights place) done, merged_store v m (on_device m d) begun v.origin (remove v.flights place) done refl more))
           (taken_out number place reply r vb (record wb { merge = vb.merge }) out fits))
 

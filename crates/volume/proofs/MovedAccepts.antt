@@ -7,7 +7,9 @@ use Rattle.device.specs.Layers.{Layer}
 use Rattle.model.specs.Picture.{place_of}
 use Rattle.plain.specs.declared.request.Reply.{Reply}
 use Rattle.plain.specs.declared.request.Reply.TheVariants.{Refused as Declined}
-use Rattle.plain.specs.declared.request.Failure.TheVariants.{Invalid}
+use Rattle.plain.specs.declared.request.Failure.TheVariants.{Invalid, Overflow}
+use Rattle.plain.specs.declared.request.Overflowing.TheVariants.{Never, Did}
+use Rattle.plain.specs.Plain.{did_overflow}
 use Rattle.plain.specs.declared.request.Request.{Request}
 use Rattle.pending.specs.Kinds.{kind_of}
 use Rattle.pending.specs.Routes.{read_route_of, write_route_of, refused_of}
@@ -22,7 +24,7 @@ use Rattle.event_machine.specs.Again.{is_clear, is_grouped, merged_place, write_
 use Rattle.event_machine.specs.MergeSeen.{held_in}
 use Rattle.event_machine.specs.Seen.{going_of}
 use Rattle.event_machine.specs.Stepping.{for_some, put, spoil}
-use Rattle.event_machine.specs.Submitting.{accepted, declined, started_all, started_by, refused_by, is_filled, needs_none, with_copy, read_snap, write_placed, write_snap, start_copies, submitted, submitted_as}
+use Rattle.event_machine.specs.Submitting.{accepted, declined, started_all, started_by, refused_by, is_filled, needs_none, with_copy, read_snap, write_placed, write_open, write_snap, shuts, overflown, start_copies, submitted, submitted_as}
 use Rattle.volume_laws.specs.Published.{is_clear as is_clear_in}
 use Rattle.snapshot.specs.Kept.{Kept, books_of as snap_books}
 use Rattle.volume.specs.Volumed.{Volumed}
@@ -34,6 +36,7 @@ use Rattle.volume.proofs.MergeRoutes.{grouped_held, place_held_is, unmerged_rout
 use Rattle.volume.proofs.MovedLists.{IsFirst, first_is, with_is, if_true, if_false}
 use Rattle.volume.proofs.MovedMarks.{clear_seen}
 use Rattle.volume.proofs.MovedSnaps.{spoil_is}
+use Rattle.volume.proofs.MovedShuts.{has_open, room_open, never_open, dead_open}
 use Rattle.volume.proofs.MovedSubmits.{IsSized, AreAll, all_are, lacks_live, needs_is, filled_is, not_of, yes_of}
 
 module _ {B : Type 0} (contents : B → List ℕ) (layers : B → List Layer) where
@@ -115,55 +118,56 @@ module _ {B : Type 0} (contents : B → List ℕ) (layers : B → List Layer) wh
             let m : Moving = moving_of contents layers replied v in
             let route : Route = read_route_of (place_of s.pairs (request.range.first / s.state.chunk)) in
             ap (λ (x : Kind). submitted_as x number request m) kind
-            ∙ ap (λ (x : Option Held). for_some x (λ h. read_snap number request h m) (declined m)) (first_is (held_of contents layers) (λ (h : Held). h.snap.number == n) k s v.snaps found)
-            ∙ if_true s.live (accepted number request route m) (declined m) live
+            ∙ ap (λ (x : Option Held). for_some x (λ h. read_snap number request h m) (declined Invalid m)) (first_is (held_of contents layers) (λ (h : Held). h.snap.number == n) k s v.snaps found)
+            ∙ if_true s.live (accepted number request route m) (declined Invalid m) live
             ∙ accepted_is v w route is becomes
 
-        write_found : kind_of request ≡ SnapWrite n → s.live ≡ true → (place : Option ℕ) → published_place s.pairs s.marks (request.range.first / s.state.chunk) ≡ place
+        write_found : kind_of request ≡ SnapWrite n → s.live ≡ true → shuts (request.range.first / s.state.chunk) (held_of contents layers s) ≡ false → (place : Option ℕ) → published_place s.pairs s.marks (request.range.first / s.state.chunk) ≡ place
             → submitted number request (moving_of contents layers replied v) ≡ write_placed number request (λ (h : Held). h.snap.number == n) (held_of contents layers s) place (moving_of contents layers replied v)
-        write_found kind live place at =
+        write_found kind live takes place at =
             let m : Moving = moving_of contents layers replied v in
             let h : Held = held_of contents layers s in
             let test : Held → Bool = λ (x : Held). x.snap.number == n in
             ap (λ (x : Kind). submitted_as x number request m) kind
-            ∙ ap (λ (x : Option Held). for_some x (λ y. write_snap number request test y m) (declined m)) (first_is (held_of contents layers) test k s v.snaps found)
-            ∙ if_true s.live (write_placed number request test h (published_place s.pairs s.marks (request.range.first / s.state.chunk)) m) (declined m) live
+            ∙ ap (λ (x : Option Held). for_some x (λ y. write_snap number request test y m) (declined Invalid m)) (first_is (held_of contents layers) test k s v.snaps found)
+            ∙ if_false (shuts (request.range.first / s.state.chunk) h) (declined Overflow (put test (overflown h) m)) (write_open number request test h m) takes
+            ∙ if_true s.live (write_placed number request test h (published_place s.pairs s.marks (request.range.first / s.state.chunk)) m) (declined Invalid m) live
             ∙ ap (λ (x : Option ℕ). write_placed number request test h x m) at
 
         -- a write of a chunk that it has published
-        pub snap_write_placed_is : (place : ℕ) → kind_of request ≡ SnapWrite n → s.live ≡ true → published_place s.pairs s.marks (request.range.first / s.state.chunk) ≡ Some place → f.route ≡ Store place → w ≡ entered_of f v
+        pub snap_write_placed_is : (place : ℕ) → kind_of request ≡ SnapWrite n → s.live ≡ true → did_overflow s.overflow ≡ false → lacks request.range.first s ≡ false → published_place s.pairs s.marks (request.range.first / s.state.chunk) ≡ Some place → f.route ≡ Store place → w ≡ entered_of f v
             → submitted number request (moving_of contents layers replied v) ≡ moving_of contents layers replied w
-        snap_write_placed_is place kind live at is becomes = write_found kind live (Some place) at ∙ accepted_is v w (Store place) is becomes
+        snap_write_placed_is place kind live did has at is becomes = write_found kind live (has_open contents layers request.range.first s did has) (Some place) at ∙ accepted_is v w (Store place) is becomes
 
         -- of one whose copy is under way
-        pub snap_write_waits_is : kind_of request ≡ SnapWrite n → s.live ≡ true → published_place s.pairs s.marks (request.range.first / s.state.chunk) ≡ None → lacks request.range.first s ≡ false → f.route ≡ Waits
+        pub snap_write_waits_is : kind_of request ≡ SnapWrite n → s.live ≡ true → did_overflow s.overflow ≡ false → published_place s.pairs s.marks (request.range.first / s.state.chunk) ≡ None → lacks request.range.first s ≡ false → f.route ≡ Waits
             → w ≡ entered_of f v → submitted number request (moving_of contents layers replied v) ≡ moving_of contents layers replied w
-        snap_write_waits_is kind live at has is becomes =
+        snap_write_waits_is kind live did at has is becomes =
             let m : Moving = moving_of contents layers replied v in
             let h : Held = held_of contents layers s in
             let test : Held → Bool = λ (x : Held). x.snap.number == n in
             let h' : Held = with_copy (v.copies + 1) (request.range.first / s.state.chunk) h in
-            write_found kind live None at
-            ∙ if_true (needs_none (request.range.first / s.state.chunk) h) (accepted number request Waits m) (if is_filled h then declined (spoil test h m) else accepted number request Waits (put test h' (record m { started = v.copies + 1 })))
+            write_found kind live (has_open contents layers request.range.first s did has) None at
+            ∙ if_true (needs_none (request.range.first / s.state.chunk) h) (accepted number request Waits m) (if is_filled h then declined Invalid (spoil test h m) else accepted number request Waits (put test h' (record m { started = v.copies + 1 })))
             (yes_of (needs_none (request.range.first / s.state.chunk) h) (lacks request.range.first s) (needs_is contents layers request.range.first s) has)
             ∙ accepted_is v w Waits is becomes
 
         -- of one that it lacks: a copy is started, and the write waits
-        pub snap_write_held_is : (t : Kept B) → kind_of request ≡ SnapWrite n → published_place s.pairs s.marks (request.range.first / s.state.chunk) ≡ None → IsSized contents s → lacks request.range.first s ≡ true → is_full_of s ≡ false
+        pub snap_write_held_is : (t : Kept B) → kind_of request ≡ SnapWrite n → did_overflow s.overflow ≡ false → published_place s.pairs s.marks (request.range.first / s.state.chunk) ≡ None → IsSized contents s → lacks request.range.first s ≡ true → is_full_of s ≡ false
             → held_of contents layers t ≡ with_copy (v.copies + 1) (request.range.first / s.state.chunk) (held_of contents layers s) → f.route ≡ Waits
             → w ≡ entered_of f (record v { snaps = set v.snaps k t; copies = v.copies + 1 })
             → submitted number request (moving_of contents layers replied v) ≡ moving_of contents layers replied w
-        snap_write_held_is t kind at sized lacking room copy is becomes =
+        snap_write_held_is t kind did at sized lacking room copy is becomes =
             let m : Moving = moving_of contents layers replied v in
             let h : Held = held_of contents layers s in
             let test : Held → Bool = λ (x : Held). x.snap.number == n in
             let h' : Held = with_copy (v.copies + 1) (request.range.first / s.state.chunk) h in
             let u : Volumed B = record v { snaps = set v.snaps k t; copies = v.copies + 1 } in
             let live : s.live ≡ true = lacks_live request.range.first s lacking in
-            write_found kind live None at
-            ∙ if_false (needs_none (request.range.first / s.state.chunk) h) (accepted number request Waits m) (if is_filled h then declined (spoil test h m) else accepted number request Waits (put test h' (record m { started = v.copies + 1 })))
+            write_found kind live (room_open contents layers request.range.first s did sized lacking room) None at
+            ∙ if_false (needs_none (request.range.first / s.state.chunk) h) (accepted number request Waits m) (if is_filled h then declined Invalid (spoil test h m) else accepted number request Waits (put test h' (record m { started = v.copies + 1 })))
             (not_of (needs_none (request.range.first / s.state.chunk) h) (lacks request.range.first s) (needs_is contents layers request.range.first s) lacking)
-            ∙ if_false (is_filled h) (declined (spoil test h m)) (accepted number request Waits (put test h' (record m { started = v.copies + 1 }))) (filled_is contents layers request.range.first s sized live ∙ room)
+            ∙ if_false (is_filled h) (declined Invalid (spoil test h m)) (accepted number request Waits (put test h' (record m { started = v.copies + 1 }))) (filled_is contents layers request.range.first s sized live ∙ room)
             ∙ ap (λ (x : Held). accepted number request Waits (put test x (record m { started = v.copies + 1 }))) (sym copy)
             ∙ ap (λ (hs : List Held). accepted number request Waits (record m { snaps = hs; started = v.copies + 1 })) (with_is (held_of contents layers) test k s t v.snaps found)
             ∙ accepted_is u w Waits is becomes
@@ -178,27 +182,41 @@ module _ {B : Type 0} (contents : B → List ℕ) (layers : B → List Layer) wh
         let c : ℕ = request.range.first / s.state.chunk in
         elim kind [
           | inl read ↦ ap (λ (x : Kind). submitted_as x number request m) read
-              ∙ ap (λ (x : Option Held). for_some x (λ y. read_snap number request y m) (declined m)) (first_is (held_of contents layers) test k s v.snaps found)
-              ∙ if_false s.live (accepted number request (read_route_of (place_of s.pairs c)) m) (declined m) dead
+              ∙ ap (λ (x : Option Held). for_some x (λ y. read_snap number request y m) (declined Invalid m)) (first_is (held_of contents layers) test k s v.snaps found)
+              ∙ if_false s.live (accepted number request (read_route_of (place_of s.pairs c)) m) (declined Invalid m) dead
           | inr write ↦ ap (λ (x : Kind). submitted_as x number request m) write
-              ∙ ap (λ (x : Option Held). for_some x (λ y. write_snap number request test y m) (declined m)) (first_is (held_of contents layers) test k s v.snaps found)
-              ∙ if_false s.live (write_placed number request test h (published_place s.pairs s.marks c) m) (declined m) dead
+              ∙ ap (λ (x : Option Held). for_some x (λ y. write_snap number request test y m) (declined Invalid m)) (first_is (held_of contents layers) test k s v.snaps found)
+              ∙ if_false (shuts c h) (declined Overflow (put test (overflown h) m)) (write_open number request test h m) (dead_open contents layers request.range.first s dead)
+              ∙ if_false s.live (write_placed number request test h (published_place s.pairs s.marks c) m) (declined Invalid m) dead
         ]
 
     -- a store that is found full: the snapshot is spoiled, its requests are refused, and so is this one
-    pub snap_write_full_is : kind_of request ≡ SnapWrite n → published_place s.pairs s.marks (request.range.first / s.state.chunk) ≡ None → IsSized contents s → lacks request.range.first s ≡ true → is_full_of s ≡ true
+    pub snap_write_full_is : kind_of request ≡ SnapWrite n → s.overflow ≡ Never → published_place s.pairs s.marks (request.range.first / s.state.chunk) ≡ None → IsSized contents s → lacks request.range.first s ≡ true → is_full_of s ≡ true
         → submitted number request (moving_of contents layers replied v) ≡ moving_of contents layers (Some (Declined Invalid)) (record v { snaps = set v.snaps k (spoilt_of s); flights = map (refused_of (s.number ∷ [])) v.flights })
-    snap_write_full_is kind at sized lacking full =
+    snap_write_full_is kind never at sized lacking full =
         let m : Moving = moving_of contents layers replied v in
         let h : Held = held_of contents layers s in
         let test : Held → Bool = λ (x : Held). x.snap.number == n in
         let h' : Held = with_copy (v.copies + 1) (request.range.first / s.state.chunk) h in
         let live : s.live ≡ true = lacks_live request.range.first s lacking in
         ap (λ (x : Kind). submitted_as x number request m) kind
-        ∙ ap (λ (x : Option Held). for_some x (λ y. write_snap number request test y m) (declined m)) (first_is (held_of contents layers) test k s v.snaps found)
-        ∙ if_true s.live (write_placed number request test h (published_place s.pairs s.marks (request.range.first / s.state.chunk)) m) (declined m) live
+        ∙ ap (λ (x : Option Held). for_some x (λ y. write_snap number request test y m) (declined Invalid m)) (first_is (held_of contents layers) test k s v.snaps found)
+        ∙ if_false (shuts (request.range.first / s.state.chunk) h) (declined Overflow (put test (overflown h) m)) (write_open number request test h m) (never_open contents layers request.range.first s never)
+        ∙ if_true s.live (write_placed number request test h (published_place s.pairs s.marks (request.range.first / s.state.chunk)) m) (declined Invalid m) live
         ∙ ap (λ (x : Option ℕ). write_placed number request test h x m) at
-        ∙ if_false (needs_none (request.range.first / s.state.chunk) h) (accepted number request Waits m) (if is_filled h then declined (spoil test h m) else accepted number request Waits (put test h' (record m { started = v.copies + 1 })))
+        ∙ if_false (needs_none (request.range.first / s.state.chunk) h) (accepted number request Waits m) (if is_filled h then declined Invalid (spoil test h m) else accepted number request Waits (put test h' (record m { started = v.copies + 1 })))
         (not_of (needs_none (request.range.first / s.state.chunk) h) (lacks request.range.first s) (needs_is contents layers request.range.first s) lacking)
-        ∙ if_true (is_filled h) (declined (spoil test h m)) (accepted number request Waits (put test h' (record m { started = v.copies + 1 }))) (filled_is contents layers request.range.first s sized live ∙ full)
-        ∙ ap declined (spoil_is contents layers replied v k s test found v.origin m.origin (spoilt_of s) h refl refl refl)
+        ∙ if_true (is_filled h) (declined Invalid (spoil test h m)) (accepted number request Waits (put test h' (record m { started = v.copies + 1 }))) (filled_is contents layers request.range.first s sized live ∙ full)
+        ∙ ap (declined Invalid) (spoil_is contents layers replied v k s test found v.origin m.origin (spoilt_of s) h refl refl refl)
+
+    -- a live snapshot that takes no write: it is marked, its requests stay, and this one is refused
+    pub snap_write_shut_is : kind_of request ≡ SnapWrite n → shuts (request.range.first / s.state.chunk) (held_of contents layers s) ≡ true
+        → submitted number request (moving_of contents layers replied v) ≡ moving_of contents layers (Some (Declined Overflow)) (record v { snaps = set v.snaps k (record s { overflow = Did }) })
+    snap_write_shut_is kind shut =
+        let m : Moving = moving_of contents layers replied v in
+        let h : Held = held_of contents layers s in
+        let test : Held → Bool = λ (x : Held). x.snap.number == n in
+        ap (λ (x : Kind). submitted_as x number request m) kind
+        ∙ ap (λ (x : Option Held). for_some x (λ y. write_snap number request test y m) (declined Invalid m)) (first_is (held_of contents layers) test k s v.snaps found)
+        ∙ if_true (shuts (request.range.first / s.state.chunk) h) (declined Overflow (put test (overflown h) m)) (write_open number request test h m) shut
+        ∙ ap (λ (hs : List Held). declined Overflow (record m { snaps = hs })) (with_is (held_of contents layers) test k s (record s { overflow = Did }) v.snaps found)

@@ -18,12 +18,14 @@ use Rattle.volume_laws.specs.Accepting.{IsPrepared, IsTakenIn}
 use Rattle.volume_laws.proofs.Preparing.{prepared_none}
 use Rattle.std.proofs.lemmas.List.{get_or-map, get_or_default}
 use Rattle.sector.specs.declared.refusal.Refusal.{Refusal}
-use Rattle.sector.specs.declared.refusal.Refusal.TheVariants.{NoSuchDevice, MergingSnapshot, Invalid}
+use Rattle.sector.specs.declared.refusal.Refusal.TheVariants.{NoSuchDevice, MergingSnapshot, Invalid, Overflow}
 use Rattle.plain.specs.declared.request.Dev.{Dev}
 use Rattle.plain.specs.declared.request.Dev.TheVariants.{Origin, Snap}
 use Rattle.plain.specs.declared.request.Op.{Op}
 use Rattle.plain.specs.declared.request.Op.TheVariants.{Read, Write}
+use Rattle.plain.specs.declared.request.Overflowing.TheVariants.{Never}
 use Rattle.plain.specs.declared.request.Request.{Request}
+use Rattle.plain.specs.Plain.{did_overflow}
 use Rattle.pending.specs.Kinds.{kind_of, kind_at, room_of}
 use Rattle.pending.specs.declared.flights.Kind.TheVariants.{SnapRead, SnapWrite}
 use Rattle.snapshot.specs.Kept.{Kept, books_of as snap_books}
@@ -32,7 +34,7 @@ use Rattle.volume.specs.Volumed.{Volumed, books_of, piece_with}
 use Rattle.volume.specs.Whole.{IsWhole}
 use Rattle.snapshots.specs.Finding.{place_of_snap}
 use Rattle.snapshots.specs.Starting.{lacks}
-use Rattle.volume.specs.Submitting.{IsAsked, entered_of, refusal_at, dev_refusal, is_merging}
+use Rattle.volume.specs.Submitting.{IsAsked, entered_of, refusal_at, dev_refusal, is_merging, shut_at}
 use Rattle.volume.proofs.ByKind.{snap_read_enters, snap_write_held_enters, snap_write_placed_enters}
 use Rattle.volume.proofs.Savings.{not_lacking}
 use Rattle.snapshots.proofs.Finds.{position_none}
@@ -79,6 +81,16 @@ found_live merge snaps dev n k d free is at =
     sym (get_or-map (λ s. s.live) snaps k d false within) ∙ elim (cases_Bool (get_or (map (λ (s : Kept _). s.live) snaps) k false)) [
       | inl live ↦ live
       | inr dead ↦ (let got : Some Invalid ≡ None = rw dead at here in absurd (cc))
+    ]
+
+-- and takes writes, where it is not shut
+pub found_open : {B : Type 0} (snaps : List (Kept B)) (n k : ℕ) (d : Kept B) → shut_at snaps (place_of_snap n snaps) ≡ None → Some k ≡ place_of_snap n snaps → did_overflow (get_or snaps k d).overflow ≡ false
+found_open snaps n k d free at =
+    let within = (found_place n snaps k d at).0 in
+    let here : shut_at snaps (Some k) ≡ None = ap (shut_at snaps) at ∙ free in
+    ap did_overflow (sym (get_or-map (λ s. s.overflow) snaps k d Never within)) ∙ elim (cases_Bool (did_overflow (get_or (map (λ (s : Kept _). s.overflow) snaps) k Never))) [
+      | inl did ↦ (let got : Some Overflow ≡ None = rw did at here in absurd (cc))
+      | inr not ↦ not
     ]
 
 -- at a place of the list
@@ -153,17 +165,17 @@ module _ {B : Type 0} (contents : B → List ℕ) (layers : B → List Layer) (s
   snap_read_goes kind route = snap_read_enters contents layers size v v [] none h f number asked room k s n.within n.is n.live (kind ∙ ap SnapRead (sym n.number)) route
 
   -- a write of a chunk that has its place
-  pub snap_write_placed_goes : kind_of f.request ≡ SnapWrite id → is_published s.pairs s.marks (f.request.range.first / s.state.chunk) ≡ true → f.route ≡ read_route_of (place_of s.pairs (f.request.range.first / s.state.chunk))
+  pub snap_write_placed_goes : kind_of f.request ≡ SnapWrite id → did_overflow s.overflow ≡ false → is_published s.pairs s.marks (f.request.range.first / s.state.chunk) ≡ true → f.route ≡ read_route_of (place_of s.pairs (f.request.range.first / s.state.chunk))
       → IsTakenIn [] f.number f.request (books_of contents layers size v) (books_of contents layers size (entered_of f v))
-  snap_write_placed_goes kind published route =
+  snap_write_placed_goes kind did published route =
       let (place, at) = place_published s.pairs s.marks (f.request.range.first / s.state.chunk) published in
-      snap_write_placed_enters contents layers size v v [] none h f number asked room k s n.within n.is n.live place (kind ∙ ap SnapWrite (sym n.number))
+      snap_write_placed_enters contents layers size v v [] none h f number asked room k s n.within n.is n.live place (kind ∙ ap SnapWrite (sym n.number)) did
       (route ∙ ap read_route_of at)
       at (published_true s.pairs s.marks (f.request.range.first / s.state.chunk) published)
 
   -- a write of a chunk whose copy is under way
-  pub snap_write_held_goes : kind_of f.request ≡ SnapWrite id → is_published s.pairs s.marks (f.request.range.first / s.state.chunk) ≡ false → lacks f.request.range.first s ≡ false → f.route ≡ Held
+  pub snap_write_held_goes : kind_of f.request ≡ SnapWrite id → did_overflow s.overflow ≡ false → is_published s.pairs s.marks (f.request.range.first / s.state.chunk) ≡ false → lacks f.request.range.first s ≡ false → f.route ≡ Held
       → IsTakenIn [] f.number f.request (books_of contents layers size v) (books_of contents layers size (entered_of f v))
-  snap_write_held_goes kind unpublished has route =
-      snap_write_held_enters contents layers size v v [] none h f number asked room k s n.within n.is n.live (kind ∙ ap SnapWrite (sym n.number)) route
+  snap_write_held_goes kind did unpublished has route =
+      snap_write_held_enters contents layers size v v [] none h f number asked room k s n.within n.is n.live (kind ∙ ap SnapWrite (sym n.number)) did route
       (copying_held contents layers f.request.range.first s n.live unpublished has)

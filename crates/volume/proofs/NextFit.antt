@@ -193,7 +193,7 @@ module _ {B : Type 0} (contents : B → List ℕ) (layers : B → List Layer) (s
     next_spoilt : overflows (chunk * q.old) s ≡ true → AreNext (k + 1) (which ++ s.number ∷ []) (changed v v.origin k (spoilt_of s) (map (refused_of (s.number ∷ [])) v.flights))
     next_spoilt over =
         let x : Kept B = spoilt_of s in
-        let spoils : SpoilsSnap (snap_books contents layers s) (snap_books contents layers x) = record { number = refl; was = is_live (and_first (lacks (chunk * q.old) s) (is_full_of s) over); live = refl; chunk = refl; pairs = refl; copies = refl; marks = refl } in
+        let spoils : SpoilsSnap (snap_books contents layers s) (snap_books contents layers x) = record { number = refl; was = is_live (and_first (lacks (chunk * q.old) s) (is_full_of s) over); live = refl; overflow = refl; chunk = refl; pairs = refl; copies = refl; marks = refl } in
         let w : Volumed B = changed v v.origin k x (map (refused_of (s.number ∷ [])) v.flights) in
         let spoil = spoils_one contents layers size v v.origin k s x within is (same_disk contents layers size v.origin) spoils in
         record {

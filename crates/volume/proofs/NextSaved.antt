@@ -123,7 +123,7 @@ module _ {B : Type 0} (contents : B → List ℕ) (layers : B → List Layer) wh
       | inr unsaid ↦ elim (cases_Bool (overflows first s)) [
         | inl over ↦
             (let (same, m_is, g) = MatchBool-at_true _ _ over (MatchBool-at_false _ _ unsaid e) in
-            let spoils : SpoilsSnap (snap_books contents layers s) (snap_books contents layers (spoilt_of s)) = record { number = refl; was = overflows_live first s over; live = refl; chunk = refl; pairs = refl; copies = refl; marks = refl } in
+            let spoils : SpoilsSnap (snap_books contents layers s) (snap_books contents layers (spoilt_of s)) = record { number = refl; was = overflows_live first s over; live = refl; overflow = refl; chunk = refl; pairs = refl; copies = refl; marks = refl } in
             let one = spoiled_left (due_of_kept contents layers s) (due_of_kept contents layers (spoilt_of s)) spoils in
             omega (arith, one, ap (λ (x : Kept B). left_in (due_of_kept contents layers x)) same))
         | inr fine ↦ (let (same, m_is, g) = MatchBool-at_false _ _ fine (MatchBool-at_false _ _ unsaid e) in omega (arith, ap (λ (x : Kept B). left_in (due_of_kept contents layers x)) same))

@@ -1,13 +1,16 @@
--- A write of a snapshot starts the copy of its chunk, or finds the store full.
-use Rattle.std.proofs.Common.{◌≡◌, ◌≢◌, inl, inr, ℕ, zero, suc, ◌+◌, ◌/◌, ◌<◌, ◌≤◌, Bool, true, false, List, [], ◌∷◌, ◌++◌, Some, length, get_or, set, map, refl, sym, ◌∙◌, ap, subst, arith, length-append, nat_eq, if◌then◌else◌}
+-- A write of a snapshot starts the copy of its chunk, or finds the store full, which spoils the snapshot or marks it.
+use Rattle.std.proofs.Common.{◌≡◌, ◌≢◌, ◌⊎◌, inl, inr, ℕ, zero, suc, ◌+◌, ◌/◌, ◌<◌, ◌≤◌, Bool, true, false, List, [], ◌∷◌, ◌++◌, Some, length, get_or, set, map, refl, sym, ◌∙◌, ap, subst, arith, length-append, nat_eq, if◌then◌else◌}
 use Rattle.std.specs.Prelude.{◌&&◌, not, Any, Option, sum_by, count_by}
 use Rattle.std.specs.Global.{Vec}
 use Rattle.std.proofs.lemmas.Bool.{cases_Bool, true≢false, eq-eqb, MatchBool-at_true, MatchBool-at_false}
 use Rattle.std.proofs.lemmas.List.{get_or-set_same, get_or-append-add, length-set, map-set}
 use Rattle.std.proofs.Math.Seq.{map-set_same}
+use Rattle.sector.specs.declared.refusal.Refusal.{Refusal}
+use Rattle.sector.specs.declared.refusal.Refusal.TheVariants.{Invalid, NoMemory, Overflow}
 use Rattle.device.specs.Layers.{Layer, is_loud}
-use Rattle.plain.specs.Legal.{IsSubmitted, Spoils}
-use Rattle.plain.specs.Plain.{Plain}
+use Rattle.plain.specs.Legal.{IsSubmitted, Overflows, Spoils}
+use Rattle.plain.specs.Plain.{Plain, did_overflow}
+use Rattle.plain.specs.declared.request.Overflowing.TheVariants.{Never, May, Did}
 use Rattle.plain.specs.declared.request.Request.{Request}
 use Rattle.pending.specs.Kinds.{kind_of, room_of}
 use Rattle.pending.specs.Routes.{refused_of}
@@ -16,11 +19,14 @@ use Rattle.pending.specs.declared.flights.Flight.{Flight}
 use Rattle.pending.specs.declared.flights.Kind.{Kind}
 use Rattle.pending.specs.declared.flights.Kind.TheVariants.{SnapWrite}
 use Rattle.pending.specs.declared.flights.Route.TheVariants.{Held}
-use Rattle.volume_laws.specs.Steps.{SpoilsSnap}
+use Rattle.volume_laws.specs.Steps.{ChangesSnap, Overflows as OverflowsSnap, SpoilsSnap}
 use Rattle.volume_laws.specs.Waits.{IsCopying}
 use Rattle.volume_laws.specs.Whole.{plain_of as plain_books}
 use Rattle.volume_laws.specs.Accepting.{IsPrepared, IsTakenIn}
+use Rattle.volume_laws.proofs.MergeRoomEvents.{overflow_room}
+use Rattle.volume_laws.proofs.Overflowing.{overflow_event, overflow_waits}
 use Rattle.volume_laws.proofs.Preparing.{prepared_none, prepared_start, prepared_spoil}
+use Rattle.merge_beside.specs.Rooms.{room_of as kept_room}
 use Rattle.snapshot.specs.Kept.{Kept, books_of as snap_books}
 use Rattle.snapshot.specs.Calls.{StartsAt, started}
 use Rattle.volume.specs.Volumed.{Volumed, books_of, piece_with, plain_of}
@@ -34,11 +40,11 @@ use Rattle.snapshots.specs.Finding.{place_of_snap}
 use Rattle.volume.specs.Moved.{moving_of}
 use Rattle.snapshots.specs.Starting.{lacks, is_full_of, starts, overflows, spoilt_of, unroomed, IsSavedIn}
 use Rattle.snapshots.proofs.Roomed.{roomed}
-use Rattle.volume.specs.Submitting.{IsAsked, IsAcceptedAs, IsFoundFull, entered_of, lives_after, spoiled_by}
+use Rattle.volume.specs.Submitting.{IsAsked, IsAcceptedAs, IsFoundFull, IsOverflown, SameButRoom, entered_of, lives_after, spoiled_by}
 use Rattle.volume.proofs.Accepts.{entered_flown}
 use Rattle.volume.proofs.Begins.{whole_begun, numbers_pushed, room_begun, room_spoilt}
 use Rattle.volume.proofs.ByKind.{snap_write_held_enters}
-use Rattle.volume.proofs.Changing.{same_disk, changes, piece_beside, spoils_one, whole_changed, loud_changed}
+use Rattle.volume.proofs.Changing.{same_disk, changes, few_same, piece_beside, spoils_one, whole_changed, loud_changed}
 use Rattle.volume.proofs.Enters.{fresh_plain, whole_entered, plain_entered}
 use Rattle.volume.proofs.Finishes.{plain_roomed, loud_roomed}
 use Rattle.volume.proofs.Named.{IsNamed}
@@ -46,12 +52,12 @@ use Rattle.volume.proofs.Roomed.{roomed_beside, roomed_sum, whole_roomed}
 use Rattle.volume.proofs.Savings.{neither, refused_numbers}
 use Rattle.volume.proofs.Shown.{shown, loud_books}
 use Rattle.volume.proofs.Sums.{count_cons}
-use Rattle.volume.proofs.Keeping.{keeps_begun}
+use Rattle.volume.proofs.Keeping.{keeps_begun, overflows_begun}
 use Rattle.volume.proofs.MovedAccepts.{snap_write_held_is, unroomed_seen}
 use Rattle.volume.proofs.MovedLists.{IsFirst}
 use Rattle.volume.proofs.MovedSubmits.{IsSized, with_copy_is}
 use Rattle.volume.proofs.Submitted.{lacking_unpublished, named_first, sized_at}
-use Rattle.volume.proofs.StartsLeft.{left_spoilt, left_started}
+use Rattle.volume.proofs.StartsLeft.{left_same, left_spoilt, left_started}
 use Rattle.volume.proofs.MovedCounts.{counted_begun, counted_spoilt}
 
 and_first : (a b : Bool) → (a && b) ≡ true → a ≡ true
@@ -102,9 +108,12 @@ module _ {B : Type 0} (contents : B → List ℕ) (layers : B → List Layer) (s
   first_roomy : IsFirst (λ (x : Kept B). nat_eq x.number id) k s1 (set v.snaps k s1)
   first_roomy = named_first contents layers size roomy roomy_whole id k s1 (record { within = within_roomy; is = is_roomy; live = live_roomy; number = number_roomy })
 
-  module _ (f : Flight) (number : f.number ≡ v.requests + 1) (asked : IsAsked (size v.origin) (piece_with v.merge v.snaps) f.request) (room : length f.room.items ≡ room_of f.request) (kind : kind_of f.request ≡ SnapWrite id) (route : f.route ≡ Held)
+  module _ (f : Flight) (number : f.number ≡ v.requests + 1) (asked : IsAsked (size v.origin) (piece_with v.merge v.snaps) f.request) (room : length f.room.items ≡ room_of f.request) (kind : kind_of f.request ≡ SnapWrite id) (route : f.route ≡ Held) (did : did_overflow s.overflow ≡ false)
       (space : length v.flights < 64) (few : sum_by count_in v.snaps + count_by (λ x. nat_eq x.number id && starts f.request.range.first x) v.snaps ≤ 256)
       (t : Kept B) (buffer : Vec ℕ) (begins : starts f.request.range.first s1 ≡ true) (at : StartsAt contents layers (started (v.copies + 1) (f.request.range.first / s1.state.chunk) s1.next buffer) s1 t) where
+    did_roomy : did_overflow s1.overflow ≡ false
+    did_roomy = ap (λ (x : Kept B). did_overflow x.overflow) e1 ∙ did
+
     abbrev copy : ChunkCopy
     copy = started (v.copies + 1) (f.request.range.first / s1.state.chunk) s1.next buffer
 
@@ -147,7 +156,7 @@ module _ {B : Type 0} (contents : B → List ℕ) (layers : B → List Layer) (s
     taken : IsTakenIn [] f.number f.request (books_of contents layers size roomy) (books_of contents layers size (entered_of f copying))
     taken = snap_write_held_enters contents layers size roomy copying [] prepared_copying whole_copying f number (subst (λ (c : ℕ). IsAsked (size v.origin) c f.request) (sym piece_copying) asked) room
         k t (omega (arith, within_roomy, length-set (set v.snaps k s1) k t)) (sym (get_or-set_same (set v.snaps k s1) k t t within_roomy)) (ap (λ (x : Kept B). x.live) at.fields ∙ live_roomy)
-        (kind ∙ ap SnapWrite (sym (ap (λ (x : Kept B). x.number) at.fields ∙ number_roomy))) route is_copying
+        (kind ∙ ap SnapWrite (sym (ap (λ (x : Kept B). x.number) at.fields ∙ number_roomy))) (ap (λ (x : Kept B). did_overflow x.overflow) at.fields ∙ did_roomy) route is_copying
 
     pub held_whole : IsWhole contents layers size (entered_of f copying)
     held_whole = whole_entered contents layers size copying f whole_copying number [] roomy space taken
@@ -162,7 +171,7 @@ module _ {B : Type 0} (contents : B → List ℕ) (layers : B → List Layer) (s
     held_submitted replied =
         let sized : IsSized contents s1 = sized_at contents layers size roomy roomy_whole k s1 within_roomy is_roomy in
         ap (submitted f.number f.request) (moving_roomed replied)
-        ∙ snap_write_held_is contents layers replied f.number f.request f refl refl roomy (entered_of f copying) id k s1 first_roomy t kind
+        ∙ snap_write_held_is contents layers replied f.number f.request f refl refl roomy (entered_of f copying) id k s1 first_roomy t kind did_roomy
         (lacking_unpublished f.request.range.first s1 lacking) sized lacking free (sym (with_copy_is contents layers f.request.range.first s1 t v.copies buffer at)) route refl
 
     pub held_accepted : IsAcceptedAs contents layers f.request f.number v (entered_of f copying)
@@ -185,6 +194,7 @@ module _ {B : Type 0} (contents : B → List ℕ) (layers : B → List Layer) (s
           ∙ sym (ap (λ (q : Kind). lives_after q c v.merge v.snaps) kind));
       flown = entered_flown v.flights v.flights f refl;
       exact = held_submitted;
+      overflows = overflows_begun contents layers v.snaps k (set v.snaps k s1) s1 t copy one_roomed is_roomy at;
       kept = keeps_begun contents layers v (entered_of f copying) k (set v.snaps k s1) s1 t copy refl refl refl refl one_roomed is_roomy at;
     }
 
@@ -194,7 +204,7 @@ module _ {B : Type 0} (contents : B → List ℕ) (layers : B → List Layer) (s
 
   prepared_filled : IsPrepared (s1.number ∷ []) (books_of contents layers size roomy) (books_of contents layers size filled)
   prepared_filled =
-      let spoils : SpoilsSnap (snap_books contents layers s1) (snap_books contents layers (spoilt_of s1)) = record { number = refl; was = live_roomy; live = refl; chunk = refl; pairs = refl; copies = refl; marks = refl } in
+      let spoils : SpoilsSnap (snap_books contents layers s1) (snap_books contents layers (spoilt_of s1)) = record { number = refl; was = live_roomy; live = refl; overflow = refl; chunk = refl; pairs = refl; copies = refl; marks = refl } in
       prepared_spoil [] k (snap_books contents layers s1) (snap_books contents layers (spoilt_of s1)) (books_of contents layers size roomy) (books_of contents layers size roomy) (books_of contents layers size filled) prepared_roomy
       (spoils_one contents layers size roomy v.origin k s1 (spoilt_of s1) within_roomy is_roomy (same_disk contents layers size v.origin) spoils) refl refl
 
@@ -202,13 +212,14 @@ module _ {B : Type 0} (contents : B → List ℕ) (layers : B → List Layer) (s
   filled_whole = whole_changed contents layers size roomy v.origin k s1 (spoilt_of s1) within_roomy is_roomy (map (refused_of (s1.number ∷ [])) v.flights) roomy_whole (same_disk contents layers size v.origin)
       (record { number = refl; chunk_is = refl; origin = refl; numbers = inr (inr refl); few = omega arith; counted = λ counts. counted_spoilt s1 counts; left = left_spoilt s1 (spoilt_of s1) refl }) (refused_numbers (s1.number ∷ []) v.flights) prepared_filled.holds prepared_filled.waits (room_spoilt contents layers s1 live_roomy)
 
-  pub found_full : (c : ℕ) → overflows c s1 ≡ true → place_of_snap id v.snaps ≡ Some k → IsFoundFull contents layers id c v filled
-  found_full c over found = record {
+  pub found_full : (c : ℕ) → overflows c s1 ≡ true → s.overflow ≡ Never → place_of_snap id v.snaps ≡ Some k → IsFoundFull contents layers id c v filled
+  found_full c over never found = record {
     place = k;
     snap = s;
     found = found;
     is = n.is;
     full = sym (ap (overflows c) e1) ∙ over;
+    strict = never;
     spoilt = map-set unroomed (set v.snaps k s1) k (spoilt_of s1) ∙ ap (λ (xs : List (Kept B)). set xs k (unroomed (spoilt_of s1))) one_roomed
         ∙ ap (λ (x : Kept B). set (map unroomed v.snaps) k (unroomed (spoilt_of x))) e1 ∙ sym (map-set unroomed v.snaps k (spoilt_of s));
     becomes = ap (λ (m : ℕ). let w : Volumed B = record v { snaps = set (set v.snaps k s1) k (spoilt_of s1); flights = map (refused_of (m ∷ [])) v.flights } in w) number_roomy;
@@ -219,6 +230,57 @@ module _ {B : Type 0} (contents : B → List ℕ) (layers : B → List Layer) (s
         (subst (Spoils (s1.number ∷ []) (plain_books (books_of contents layers size roomy))) (sym (shown contents layers size filled))
         (prepared_filled.step (loud_books contents layers size roomy (loud_roomed contents layers size v (set v.snaps k s1) one_roomed ∙ loud)))));
   }
+
+  -- or it may overflow, and is marked
+  abbrev marked : Kept B
+  marked = record s1 { overflow = Did }
+
+  abbrev pub overflown : Volumed B
+  overflown = record v { snaps = set (set v.snaps k s1) k marked }
+
+  module _ (may : s.overflow ≡ May) where
+    marks : OverflowsSnap (snap_books contents layers s1) (snap_books contents layers marked)
+    marks = record { was = live_roomy; may = ap (λ (x : Kept B). x.overflow) e1 ∙ may; becomes = refl }
+
+    marks_one : ChangesSnap k (snap_books contents layers s1) (snap_books contents layers marked) (books_of contents layers size roomy) (books_of contents layers size overflown)
+    marks_one = changes contents layers size roomy v.origin k s1 marked within_roomy is_roomy (same_disk contents layers size v.origin)
+
+    pub overflown_whole : IsWhole contents layers size overflown
+    overflown_whole =
+        let event = overflow_event k (snap_books contents layers s1) (snap_books contents layers marked) (books_of contents layers size roomy) (books_of contents layers size overflown) marks_one marks roomy_whole.holds in
+        whole_changed contents layers size roomy v.origin k s1 marked within_roomy is_roomy v.flights roomy_whole (same_disk contents layers size v.origin)
+        (record {
+          number = refl;
+          chunk_is = refl;
+          origin = refl;
+          numbers = inl refl;
+          few = few_same s1 marked refl refl;
+          counted = λ counts. record { some = counts.some; count = counts.count; fits = counts.fits; idle = counts.idle };
+          left = left_same s1 marked refl refl refl;
+        })
+        refl event.0
+        (overflow_waits k (snap_books contents layers s1) (snap_books contents layers marked) (books_of contents layers size roomy) (books_of contents layers size overflown) marks_one marks roomy_whole.waits)
+        (overflow_room (kept_room contents layers s1) (kept_room contents layers marked) marks (record { kept_back = refl; spare = refl; merging = refl }))
+
+    pub found_overflown : (c : ℕ) → overflows c s1 ≡ true → place_of_snap id v.snaps ≡ Some k → IsOverflown contents layers id c v overflown
+    found_overflown c over found =
+        let event = overflow_event k (snap_books contents layers s1) (snap_books contents layers marked) (books_of contents layers size roomy) (books_of contents layers size overflown) marks_one marks roomy_whole.holds in
+        record {
+          place = k;
+          snap = s;
+          found = found;
+          is = n.is;
+          full = sym (ap (overflows c) e1) ∙ over;
+          may = may;
+          marked = map-set unroomed (set v.snaps k s1) k marked ∙ ap (λ (xs : List (Kept B)). set xs k (unroomed marked)) one_roomed
+              ∙ ap (λ (x : Kept B). set (map unroomed v.snaps) k (unroomed (record x { overflow = Did }))) e1 ∙ sym (map-set unroomed v.snaps k (record s { overflow = Did }));
+          becomes = refl;
+          legal = λ _. subst (λ (m : ℕ). Overflows m (plain_of contents layers v) (plain_of contents layers overflown)) number_roomy
+              (subst (λ (p : Plain). Overflows s1.number p (plain_of contents layers overflown)) (sym (shown contents layers size roomy) ∙ plain_roomed contents layers size v (set v.snaps k s1) one_roomed)
+              (subst (Overflows s1.number (plain_books (books_of contents layers size roomy))) (sym (shown contents layers size overflown)) event.1));
+          loud = loud_changed contents layers size roomy v.origin k s1 marked within_roomy is_roomy v.flights (same_disk contents layers size v.origin) refl
+              ∙ loud_roomed contents layers size v (set v.snaps k s1) one_roomed;
+        }
 
 -- a copy was started where a number was given
 pub saved_begins : {B : Type 0} (contents : B → List ℕ) (layers : B → List Layer) (c : ℕ) (s t : Kept B) (m l : ℕ) (fs gs : List Flight) → IsSavedIn contents layers c s t m l fs gs → l ≢ m → starts c s ≡ true
@@ -243,34 +305,71 @@ saved_full contents layers c s t m l fs gs e lacking same = elim (cases_Bool (st
 
 module _ {B : Type 0} (contents : B → List ℕ) (layers : B → List Layer) (size : B → ℕ) (v : Volumed B) (h : IsWhole contents layers size v) (id k : ℕ) (s : Kept B) (n : IsNamed v id k s) (s1 : Kept B) (e1 : unroomed s1 ≡ unroomed s) (t : Kept B) (m : ℕ) (gs : List Flight) where
   -- a number was given: the write is in flight
-  pub held_done : (f : Flight) (request : Request) → f.request ≡ request → f.number ≡ v.requests + 1 → f.route ≡ Held → length v.flights < 64 → IsAsked (size v.origin) (piece_with v.merge v.snaps) request → length f.room.items ≡ room_of request → kind_of request ≡ SnapWrite id
+  pub held_done : (f : Flight) (request : Request) → f.request ≡ request → f.number ≡ v.requests + 1 → f.route ≡ Held → length v.flights < 64 → IsAsked (size v.origin) (piece_with v.merge v.snaps) request → length f.room.items ≡ room_of request → kind_of request ≡ SnapWrite id → did_overflow s.overflow ≡ false
       → sum_by count_in v.snaps + count_by (λ x. nat_eq x.number id && starts request.range.first x) v.snaps ≤ 256
       → IsSavedIn contents layers request.range.first s1 t v.copies m v.flights gs → m ≢ v.copies
       → IsWhole contents layers size (entered_of f (record v { snaps = set (set v.snaps k s1) k t; copies = m; flights = gs }))
       × IsAcceptedAs contents layers request f.number v (entered_of f (record v { snaps = set (set v.snaps k s1) k t; copies = m; flights = gs }))
   held_done f request same number route space = subst
-      (λ (r : Request). IsAsked (size v.origin) (piece_with v.merge v.snaps) r → length f.room.items ≡ room_of r → kind_of r ≡ SnapWrite id
+      (λ (r : Request). IsAsked (size v.origin) (piece_with v.merge v.snaps) r → length f.room.items ≡ room_of r → kind_of r ≡ SnapWrite id → did_overflow s.overflow ≡ false
       → sum_by count_in v.snaps + count_by (λ x. nat_eq x.number id && starts r.range.first x) v.snaps ≤ 256
       → IsSavedIn contents layers r.range.first s1 t v.copies m v.flights gs → m ≢ v.copies
       → IsWhole contents layers size (entered_of f (record v { snaps = set (set v.snaps k s1) k t; copies = m; flights = gs }))
       × IsAcceptedAs contents layers r f.number v (entered_of f (record v { snaps = set (set v.snaps k s1) k t; copies = m; flights = gs })))
       same
-      (λ asked room kind few saved other.
+      (λ asked room kind did few saved other.
       (let begins = saved_begins contents layers f.request.range.first s1 t v.copies m v.flights gs saved other in
       let (buffer, at, m_is, g_is) = MatchBool-at_true _ _ begins saved in
       subst (λ (x : List Flight). IsWhole contents layers size (entered_of f (record v { snaps = set (set v.snaps k s1) k t; copies = m; flights = x }))
       × IsAcceptedAs contents layers f.request f.number v (entered_of f (record v { snaps = set (set v.snaps k s1) k t; copies = m; flights = x }))) (sym g_is)
       (subst (λ (x : ℕ). IsWhole contents layers size (entered_of f (record v { snaps = set (set v.snaps k s1) k t; copies = x; flights = v.flights }))
       × IsAcceptedAs contents layers f.request f.number v (entered_of f (record v { snaps = set (set v.snaps k s1) k t; copies = x; flights = v.flights }))) (sym m_is) (
-        held_whole contents layers size v h id k s n s1 e1 f number asked room kind route space few t buffer begins at,
-        held_accepted contents layers size v h id k s n s1 e1 f number asked room kind route space few t buffer begins at,
+        held_whole contents layers size v h id k s n s1 e1 f number asked room kind route did space few t buffer begins at,
+        held_accepted contents layers size v h id k s n s1 e1 f number asked room kind route did space few t buffer begins at,
       ))))
 
   -- none was given: the snapshot is spoiled
-  pub full_done : (c : ℕ) → IsSavedIn contents layers c s1 t v.copies m v.flights gs → lacks c s ≡ true → m ≡ v.copies → place_of_snap id v.snaps ≡ Some k
+  pub full_done : (c : ℕ) → IsSavedIn contents layers c s1 t v.copies m v.flights gs → lacks c s ≡ true → m ≡ v.copies → s.overflow ≡ Never → place_of_snap id v.snaps ≡ Some k
       → IsWhole contents layers size (record v { snaps = set (set v.snaps k s1) k t; flights = gs }) × IsFoundFull contents layers id c v (record v { snaps = set (set v.snaps k s1) k t; flights = gs })
-  full_done c saved lacking none found =
+  full_done c saved lacking none never found =
       let (over, t_is, g_is) = saved_full contents layers c s1 t v.copies m v.flights gs saved (ap (lacks c) e1 ∙ lacking) none in
       subst (λ (x : List Flight). IsWhole contents layers size (record v { snaps = set (set v.snaps k s1) k t; flights = x }) × IsFoundFull contents layers id c v (record v { snaps = set (set v.snaps k s1) k t; flights = x })) (sym g_is)
       (subst (λ (x : Kept B). IsWhole contents layers size (record v { snaps = set (set v.snaps k s1) k x; flights = map (refused_of (s1.number ∷ [])) v.flights }) × IsFoundFull contents layers id c v (record v { snaps = set (set v.snaps k s1) k x; flights = map (refused_of (s1.number ∷ [])) v.flights })) (sym t_is)
-      (filled_whole contents layers size v h id k s n s1 e1, found_full contents layers size v h id k s n s1 e1 c over found))
+      (filled_whole contents layers size v h id k s n s1 e1, found_full contents layers size v h id k s n s1 e1 c over never found))
+
+  -- the snapshot is marked
+  pub overflown_done : (c : ℕ) → t ≡ record s1 { overflow = Did } → overflows c s1 ≡ true → s.overflow ≡ May → place_of_snap id v.snaps ≡ Some k
+      → IsWhole contents layers size (record v { snaps = set (set v.snaps k s1) k t }) × IsOverflown contents layers id c v (record v { snaps = set (set v.snaps k s1) k t })
+  overflown_done c t_is over may found =
+      subst (λ (x : Kept B). IsWhole contents layers size (record v { snaps = set (set v.snaps k s1) k x }) × IsOverflown contents layers id c v (record v { snaps = set (set v.snaps k s1) k x })) (sym t_is)
+      (overflown_whole contents layers size v h id k s n s1 e1 may, found_overflown contents layers size v h id k s n s1 e1 may c over found)
+
+-- what starting the copy says of a store that is full
+abbrev pub IsRefusedFull : {B : Type 0} → (B → List ℕ) → (B → List Layer) → ℕ → Refusal → Kept B → Kept B → ℕ → List Flight → List Flight → Type 0
+IsRefusedFull contents layers c refusal s t m fs gs =
+    ((refusal ≡ Invalid) × (s.overflow ≡ Never) × IsSavedIn contents layers c s t m m fs gs)
+    ⊎ ((refusal ≡ Overflow) × (s.overflow ≡ May) × (overflows c s ≡ true) × (t ≡ record s { overflow = Did }) × (gs ≡ fs))
+
+-- and why a write of a snapshot is refused then
+abbrev pub IsWriteRefused : {B : Type 0} → (B → List ℕ) → (B → List Layer) → ℕ → ℕ → Refusal → Volumed B → Volumed B → Type 0
+IsWriteRefused contents layers id c refusal v w =
+    ((refusal ≡ NoMemory) × SameButRoom v w) ⊎ ((refusal ≡ Invalid) × IsFoundFull contents layers id c v w) ⊎ ((refusal ≡ Overflow) × IsOverflown contents layers id c v w)
+
+module _ {B : Type 0} (contents : B → List ℕ) (layers : B → List Layer) (size : B → ℕ) (v : Volumed B) (h : IsWhole contents layers size v) (id k : ℕ) (s : Kept B) (n : IsNamed v id k s) (s1 : Kept B) (e1 : unroomed s1 ≡ unroomed s) (t : Kept B) (gs : List Flight) where
+  pub refused_done : (refusal : Refusal) (c : ℕ) → IsRefusedFull contents layers c refusal s1 t v.copies v.flights gs → lacks c s ≡ true → place_of_snap id v.snaps ≡ Some k
+      → IsWhole contents layers size (record v { snaps = set (set v.snaps k s1) k t; flights = gs }) × IsWriteRefused contents layers id c refusal v (record v { snaps = set (set v.snaps k s1) k t; flights = gs })
+  refused_done refusal c e lacking found = elim e [
+    | inl spoilt ↦
+        (let (invalid, never, saved) = spoilt in
+        let done = full_done contents layers size v h id k s n s1 e1 t v.copies gs c saved lacking refl (sym (ap (λ (x : Kept B). x.overflow) e1) ∙ never) found in (
+          done.0,
+          inr (inl (invalid, done.1)),
+        ))
+    | inr marked ↦
+        (let (overflow, may, over, t_is, g_is) = marked in
+        let done = overflown_done contents layers size v h id k s n s1 e1 t v.copies gs c t_is over (sym (ap (λ (x : Kept B). x.overflow) e1) ∙ may) found in
+        subst (λ (fs : List Flight). IsWhole contents layers size (record v { snaps = set (set v.snaps k s1) k t; flights = fs }) × IsWriteRefused contents layers id c refusal v (record v { snaps = set (set v.snaps k s1) k t; flights = fs })) (sym g_is) (
+          done.0,
+          inr (inr (overflow, done.1)),
+        ))
+  ]

@@ -17,7 +17,7 @@ shows_live false x y e = absurd (cc)
 live_shows : (b : Bool) (x : List ℕ) → b ≡ true → (if b then Live x else Invalid) ≡ Live x
 live_shows b x e = cond-true _ _ _ e
 
-spoiled_live : (b : Bool) (e : Entry) (y : List ℕ) → (if b then record { number = e.number; saved = Invalid } else e).saved ≡ Live y → e.saved ≡ Live y
+spoiled_live : (b : Bool) (e : Entry) (y : List ℕ) → (if b then record e { saved = Invalid } else e).saved ≡ Live y → e.saved ≡ Live y
 spoiled_live true e y h = absurd (cc)
 spoiled_live false e y h = h
 
@@ -32,12 +32,12 @@ with_at n saved was (x ∷ es) k d e f lt = by (λ j less g. with_at n saved was
     by : ((j : ℕ) → j < length es → saved_under n es ≡ Some was → WithAt n saved was (get_or es j d) (get_or (with_saved n saved es) j e)) → (b : Bool) → (x.number == n) ≡ b → (k : ℕ) → k < length (x ∷ es)
         → WithAt n saved was (get_or (x ∷ es) k d) (get_or (with_saved n saved (x ∷ es)) k e)
     by later true t zero lt =
-        let now : with_saved n saved (x ∷ es) ≡ (record { number = n; saved = saved }) ∷ es = cond-true _ _ _ t in
+        let now : with_saved n saved (x ∷ es) ≡ (record x { saved = saved }) ∷ es = cond-true _ _ _ t in
         let same : Some x.saved ≡ Some was = sym (cond-true _ _ _ t) ∙ f in
         let is : x.saved ≡ was = cc in
         inr (eqb-true x.number n t, is, ap (λ zs. (get_or zs 0 e).saved) now)
     by later true t (suc k) lt =
-        let now : with_saved n saved (x ∷ es) ≡ (record { number = n; saved = saved }) ∷ es = cond-true _ _ _ t in
+        let now : with_saved n saved (x ∷ es) ≡ (record x { saved = saved }) ∷ es = cond-true _ _ _ t in
         inl (ap (λ zs. get_or zs (suc k) e) now ∙ get_or_default es k e d (omega arith))
     by later false t zero lt =
         let now : with_saved n saved (x ∷ es) ≡ x ∷ with_saved n saved es = cond-false _ _ _ t in

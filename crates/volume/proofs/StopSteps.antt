@@ -27,7 +27,7 @@ use Rattle.plain.specs.declared.request.Op.TheVariants.{Read, Write}
 use Rattle.plain.specs.declared.request.Request.{Request}
 use Rattle.plain.specs.declared.request.Reply.{Reply}
 use Rattle.plain.specs.declared.request.Reply.TheVariants.{Data, Written, Refused}
-use Rattle.plain.specs.declared.request.Failure.TheVariants.{Invalid, Io}
+use Rattle.plain.specs.declared.request.Failure.TheVariants.{Invalid, Io, Overflow}
 use Rattle.pending.specs.Copies.{pair_of, count_of}
 use Rattle.pending.proofs.Batches.{batch_ready}
 use Rattle.pending.specs.Kinds.{in_flight}
@@ -364,6 +364,8 @@ module _ {B : Type 0} (contents : B → List ℕ) (layers : B → List Layer) (s
   serve_law dev (Write bytes) range (Refused Io) inside len served = same_law (given_as dev range (Write bytes)) served.0
   serve_law dev Read range (Refused Invalid) inside len served = same_law None served.0
   serve_law dev (Write bytes) range (Refused Invalid) inside len served = same_law (given_as dev range (Write bytes)) served.0
+  serve_law dev Read range (Refused Overflow) inside len served = absurd served
+  serve_law dev (Write bytes) range (Refused Overflow) inside len served = absurd served
   serve_law dev Read range Written inside len served = absurd served
   serve_law dev (Write bytes) range (Data read) inside len served = absurd served
 

@@ -136,7 +136,7 @@ module _ {B : Type 0} (contents : B → List ℕ) (layers : B → List Layer) (s
         counted = λ counts. subst IsCounted (sym f) (counted_zeroed s counts d);
         left = left_same s s' (ap (λ (x : Kept B). x.live) f) (ap (λ (x : Kept B). x.state.size) f) (ap (λ (x : Kept B). x.next) f);
       } in
-      silent_good contents layers size faults done v h (ZeroNext number) Done (λ a b x. x) (λ xs ys e. e) (λ b. refl) v.origin k s s' within is disk (ap (λ x. is_loud (layers x)) device ∙ loud) (ap size device ∙ sized) v.flights refl stays
+      silent_good contents layers size faults done v h (ZeroNext number) Done (λ a b x. x) (λ xs ys e. e) (λ b. refl) v.origin k s s' within is disk (ap (λ x. is_loud (layers x)) device ∙ loud) (ap size device ∙ sized) v.flights refl stays (ap (λ (x : Kept B). x.overflow) f)
       (zero_event k (sb s) (sb s') (books_of contents layers size v) (books_of contents layers size w) h.holds e_is (s.state.current + 1) live r)
       (waits_changed k (sb s) (sb s') (books_of contents layers size v) (books_of contents layers size w) h.waits e_is (zero_keeps (s.state.current + 1) (sb s) (sb s') r))
       (zero_left (s.state.current + 1) (due_of_kept contents layers s) (due_of_kept contents layers s') r live (zeroing_needs number s found) (ap (λ (x : Kept B). x.state.zeroed) f))
@@ -200,7 +200,7 @@ module _ {B : Type 0} (contents : B → List ℕ) (layers : B → List Layer) (s
         counted = λ counts. subst IsCounted (sym f) (counted_first s counts live d count batched (holds_live live).agree);
         left = left_same s s' (ap (λ (x : Kept B). x.live) f) (ap (λ (x : Kept B). x.state.size) f ∙ sizes.2) (ap (λ (x : Kept B). x.next) f);
       } in
-      silent_good contents layers size faults done v h (WriteArea number) Done (λ a b x. x) (λ xs ys e. e) (λ b. refl) v.origin k s s' within is disk (ap (λ x. is_loud (layers x)) device ∙ loud) (ap size device ∙ sized) v.flights refl stays
+      silent_good contents layers size faults done v h (WriteArea number) Done (λ a b x. x) (λ xs ys e. e) (λ b. refl) v.origin k s s' within is disk (ap (λ x. is_loud (layers x)) device ∙ loud) (ap size device ∙ sized) v.flights refl stays (ap (λ (x : Kept B). x.overflow) f)
       (commit_event k (sb s) (sb s') (books_of contents layers size v) (books_of contents layers size w) h.holds e_is count s.state.current live r)
       (waits_changed k (sb s) (sb s') (books_of contents layers size v) (books_of contents layers size w) h.waits e_is (commit_keeps (contents v.origin) v.flights count s.state.current (sb s) (sb s') (holds_live live) r))
       (commit_left count s.state.current (due_of_kept contents layers s) (due_of_kept contents layers s') r (omega (arith, batched, many)))

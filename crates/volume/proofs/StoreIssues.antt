@@ -96,7 +96,7 @@ module _ {B : Type 0} (contents : B → List ℕ) (layers : B → List Layer) (s
   -- it is answered Invalid
   pub refused_good : r.route ≡ Refused → IsGood contents layers size faults done (Issue number) (Replied number (IsRefused IsInvalid)) v (record v { flights = remove v.flights place })
   refused_good route = reply_good contents layers size faults done v w h number place (IsRefused IsInvalid) in_list refl refl refl refl (snaps_fit contents layers size v (size v.origin) h refl)
-      (goes_same contents layers size v w v.merge refl refl refl h.merge) refl refl refl refl (record { attached = refl; numbers = refl; chunks = refl; merged = refl; sizes = refl }) (by r.request.op refl)
+      (goes_same contents layers size v w v.merge refl refl refl h.merge) refl refl refl refl (record { attached = refl; numbers = refl; chunks = refl; merged = refl; sizes = refl }) refl (by r.request.op refl)
       (waits_out place vb wb h.waits in_list refl refl refl) (record { counts = refl; lives = refl }) (inl refl) (taken_out number place (IsRefused IsInvalid) r vb wb only.out tt)
     where
       w : Volumed B
@@ -201,7 +201,8 @@ module _ {B : Type 0} (contents : B → List ℕ) (layers : B → List Layer) (s
           (snaps_changed contents layers size v v.origin k s s' within is h (same_disk contents layers size v.origin) stays)
           (goes_changed contents layers size v issued v.merge k s s' within is refl refl refl stays.number rooms h.merge) refl refl lefts
           (loud_changed contents layers size v v.origin k s s' within is (remove v.flights place) (same_disk contents layers size v.origin) loud_now)
-          (kept_changed size v v.origin k s s' (remove v.flights place) within is refl (ap size device ∙ sized) stays.number stays.chunk_is) answered waits cause
+          (kept_changed size v v.origin k s s' (remove v.flights place) within is refl (ap size device ∙ sized) stays.number stays.chunk_is)
+          (map-set_same (λ (x : Kept B). x.overflow) v.snaps k s' s (ap (λ (x : Kept B). x.overflow) f ∙ ap (λ (x : Kept B). x.overflow) is)) answered waits cause
           (inr (suc k, store_within v v.origin k s s' (remove v.flights place) within is done, counts_store v v.origin k s s' (remove v.flights place) within is done refl (ap done device ∙ more))) (taken_out number place reply r vb wb out fits)
 
       faultless : faults d ≡ faults s.device → IsFaultless faults v issued
@@ -223,7 +224,7 @@ module _ {B : Type 0} (contents : B → List ℕ) (layers : B → List Layer) (s
         where
           same_now : snap_books contents layers s' ≡ snap_books contents layers s
           same_now = ap (snap_books contents layers) f
-              ∙ same_books (snap_books contents layers (record s { device = d })) (snap_books contents layers s) refl refl refl loud refl refl refl same refl refl refl refl
+              ∙ same_books (snap_books contents layers (record s { device = d })) (snap_books contents layers s) refl refl refl loud refl refl refl refl same refl refl refl refl
 
       pub store_read : r.request.op ≡ Read → (bytes : List ℕ) → length bytes ≡ 512 * r.request.range.count → contents d ≡ contents s.device → bytes ≡ sectors_at (contents s.device) (s.state.chunk * at + r.request.range.first % s.state.chunk) r.request.range.count → faults d ≡ faults s.device
           → IsGood contents layers size faults done (Issue number) (Replied number (Data bytes)) v issued

@@ -8,6 +8,7 @@ use Rattle.device.specs.Layers.{Layer}
 use Rattle.model.specs.Picture.{place_of}
 use Rattle.sector.specs.declared.pair.Pair.{Pair}
 use Rattle.plain.specs.declared.request.Request.{Request}
+use Rattle.plain.specs.Plain.{did_overflow}
 use Rattle.pending.specs.Kinds.{kind_of}
 use Rattle.pending.specs.Routes.{read_route_of, write_route_of}
 use Rattle.pending.specs.declared.copies.Mark.{Mark}
@@ -77,15 +78,15 @@ module _ {B : Type 0} (contents : B → List ℕ) (layers : B → List Layer) (s
           (e.route_is ∙ is) e.becomes
 
       -- a write of a chunk that is published
-      pub snap_placed_submitted : kind_of request ≡ SnapWrite id → is_published s.pairs s.marks (request.range.first / s.state.chunk) ≡ true → route ≡ read_route_of (place_of s.pairs (request.range.first / s.state.chunk))
+      pub snap_placed_submitted : kind_of request ≡ SnapWrite id → did_overflow s.overflow ≡ false → lacks request.range.first s ≡ false → is_published s.pairs s.marks (request.range.first / s.state.chunk) ≡ true → route ≡ read_route_of (place_of s.pairs (request.range.first / s.state.chunk))
           → IsSubmittedAs contents layers request number v w
-      snap_placed_submitted kind published is replied =
+      snap_placed_submitted kind did has published is replied =
           let (place, at) = place_published s.pairs s.marks (request.range.first / s.state.chunk) published in
-          snap_write_placed_is contents layers replied number request e.flight e.number_is e.request_is v w id k s (named_first id k s n) place kind n.live
+          snap_write_placed_is contents layers replied number request e.flight e.number_is e.request_is v w id k s (named_first id k s n) place kind n.live did has
           (published_some s.pairs s.marks c published ∙ at) (e.route_is ∙ is ∙ ap read_route_of at) e.becomes
 
       -- of one whose copy is under way
-      pub snap_waits_submitted : kind_of request ≡ SnapWrite id → is_published s.pairs s.marks (request.range.first / s.state.chunk) ≡ false → lacks request.range.first s ≡ false → route ≡ Held → IsSubmittedAs contents layers request number v w
-      snap_waits_submitted kind unpublished has is replied =
-          snap_write_waits_is contents layers replied number request e.flight e.number_is e.request_is v w id k s (named_first id k s n) kind n.live
+      pub snap_waits_submitted : kind_of request ≡ SnapWrite id → did_overflow s.overflow ≡ false → is_published s.pairs s.marks (request.range.first / s.state.chunk) ≡ false → lacks request.range.first s ≡ false → route ≡ Held → IsSubmittedAs contents layers request number v w
+      snap_waits_submitted kind did unpublished has is replied =
+          snap_write_waits_is contents layers replied number request e.flight e.number_is e.request_is v w id k s (named_first id k s n) kind n.live did
           (published_none s.pairs s.marks c unpublished) has (e.route_is ∙ is) e.becomes

@@ -3,7 +3,6 @@ use Rattle.std.proofs.Common.{◌≡◌, inl, inr, ℕ, false, List, [], ◌∷�
 use Rattle.std.specs.Prelude.{◌==◌}
 use Rattle.std.specs.List.{list_any}
 use Rattle.std.proofs.lemmas.Bool.{cases_Bool, eqb-true, or_parts}
-use Rattle.layers.specs.declared.message.Message.{Message}
 use Rattle.plain.specs.Plain.{Plain, Entry, saved_under, without_saved}
 use Rattle.plain.specs.Runs.{IsRun}
 use Rattle.plain.specs.Unwritten.{is_written, StillShows}

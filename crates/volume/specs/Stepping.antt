@@ -59,7 +59,7 @@ failed_by event outcome was = was
 
 -- Where no device drops writes, the plain machine takes the step that the outcome tells. Whatever the devices do, a whole
 -- number falls, the cause is counted, a request leaves only where it is answered, at most one operation is done, no
--- request is numbered, and only the events of a merge that start copies number any.
+-- request is numbered, only the events of a merge that start copies number any, and no snapshot is marked for a full store.
 pub record IsStepped {B : Type 0} (contents : B → List ℕ) (layers : B → List Layer) (size faults done : B → ℕ) (event : Event) (outcome : Outcome) (old new : Volumed B) : Type 0 where
   pub legal : is_loud_in_all layers old ≡ true → IsLegalStep (plain_of contents layers old) event outcome (plain_of contents layers new)
   pub lower : left_in_all contents layers new < left_in_all contents layers old
@@ -72,3 +72,4 @@ pub record IsStepped {B : Type 0} (contents : B → List ℕ) (layers : B → Li
   pub requests : new.requests ≡ old.requests
   pub copies : new.copies ≤ old.copies + starts_by event
   pub given : old.copies ≤ new.copies
+  pub overflows : map (λ s. s.overflow) new.snaps ≡ map (λ s. s.overflow) old.snaps

@@ -1,15 +1,16 @@
--- When a request is accepted, what it then leaves, and which snapshots it spoils. The limits and the order of the refusals
--- are this project's own; that a full store makes its snapshot invalid is the kernel's rule, of its admin-guide page on
--- snapshots.
+-- When a request is accepted, what it then leaves, and which snapshots it spoils or marks. The limits and the order of the
+-- refusals are this project's own; that a full store makes its snapshot invalid, or, of one that may overflow, that its
+-- writes are refused, is the kernel's rule, of its admin-guide page on snapshots.
 use Rattle.std.specs.Prelude.{◌≡◌, ◌≢◌, ◌⊎◌, ◌==◌, ◌&&◌, ◌||◌, nat_lt, nat_le, ℕ, ◌+◌, ◌*◌, ◌%◌, ◌<◌, ◌≤◌, Bool, true, false, List, [], ◌∷◌, ◌++◌, length, map, sum_by, count_by, Option, Some, None, if◌then◌else◌, slice_index_or, slice_set}
 use Rattle.std.specs.List.{All}
 use Rattle.sector.specs.declared.range.Range.{Range}
 use Rattle.sector.specs.declared.refusal.Refusal.{Refusal}
-use Rattle.sector.specs.declared.refusal.Refusal.TheVariants.{NoSuchDevice, MergingSnapshot, OutOfRange, Invalid, TooMany, NoMemory}
+use Rattle.sector.specs.declared.refusal.Refusal.TheVariants.{NoSuchDevice, MergingSnapshot, OutOfRange, Invalid, Overflow, TooMany, NoMemory}
 use Rattle.device.specs.Layers.{Layer}
 use Rattle.plain.specs.declared.request.Dev.{Dev}
 use Rattle.plain.specs.declared.request.Dev.TheVariants.{Origin, Snap}
 use Rattle.plain.specs.declared.request.Op.TheVariants.{Write}
+use Rattle.plain.specs.declared.request.Overflowing.TheVariants.{Never, May, Did}
 use Rattle.plain.specs.declared.request.Request.{Request}
 use Rattle.pending.specs.Kinds.{in_flight, kind_of}
 use Rattle.pending.specs.Routes.{refused_of}
@@ -18,7 +19,8 @@ use Rattle.pending.specs.declared.flights.Kind.{Kind}
 use Rattle.pending.specs.declared.flights.Kind.TheVariants.{OriginRead, OriginWrite, SnapRead, SnapWrite}
 use Rattle.snapshot.specs.Kept.{Kept}
 use Rattle.pending.specs.declared.flights.Route.{Route}
-use Rattle.plain.specs.Legal.{IsSubmitted, Spoils}
+use Rattle.plain.specs.Plain.{did_overflow}
+use Rattle.plain.specs.Legal.{IsSubmitted, Overflows, Spoils}
 use Rattle.volume_laws.specs.Published.{IsPiece}
 use Rattle.snapshots.specs.Finding.{place_of_snap}
 use Rattle.snapshots.specs.Numbers.{count_in}
@@ -50,6 +52,18 @@ abbrev pub dev_refusal : {B : Type 0} → Dev → Option (Merging B) → List (K
 dev_refusal Origin merge snaps = None
 dev_refusal (Snap number) merge snaps = if is_merging number merge then Some MergingSnapshot else refusal_at snaps (place_of_snap number snaps)
 
+-- a snapshot whose store overflowed
+abbrev pub shut_at : {B : Type 0} → List (Kept B) → Option ℕ → Option Refusal
+shut_at snaps None = None
+shut_at snaps (Some k) = if did_overflow (slice_index_or (map (λ s. s.overflow) snaps) k Never) then Some Overflow else None
+
+-- such a one takes no write
+abbrev pub shut_refusal : {B : Type 0} → Kind → List (Kept B) → Option Refusal
+shut_refusal OriginRead snaps = None
+shut_refusal OriginWrite snaps = None
+shut_refusal (SnapRead number) snaps = None
+shut_refusal (SnapWrite number) snaps = shut_at snaps (place_of_snap number snaps)
+
 -- a range of some sectors, inside a device of so many, and inside one piece
 abbrev pub is_piece_of : ℕ → ℕ → Range → Bool
 is_piece_of piece sectors range = nat_lt 0 range.count && nat_le (range.first + range.count) sectors && nat_le (range.first % piece + range.count) piece
@@ -76,8 +90,9 @@ range_refusal piece sectors range = if is_piece_of piece sectors range then None
 abbrev pub submit_refusal : {B : Type 0} → (B → ℕ) → Request → Volumed B → Option Refusal
 submit_refusal size request v =
     first_of_two (dev_refusal request.dev v.merge v.snaps)
+    (first_of_two (shut_refusal (kind_of request) v.snaps)
     (first_of_two (range_refusal (piece_with v.merge v.snaps) (size v.origin) request.range)
-    (limit_refusal (starting (kind_of request) request.range.first v.merge v.snaps) v))
+    (limit_refusal (starting (kind_of request) request.range.first v.merge v.snaps) v)))
 
 -- a request is in flight, under the next number
 abbrev pub entered_of : {B : Type 0} → Flight → Volumed B → Volumed B
@@ -102,7 +117,7 @@ pub record IsAsked (sectors chunk : ℕ) (request : Request) : Type 0 where
 
 -- The numbers of the snapshots that an accepted request at a sector spoils: a write of the origin that starts copies spoils
 -- those live ones that lack their chunk there and whose stores have no place for its copy, and no other request spoils any.
--- (A write of a snapshot whose own store is found full is refused, and spoils that one: IsFoundFull.)
+-- (A write of a snapshot whose own store is found full is refused, and spoils or marks that one: IsFoundFull, IsOverflown.)
 abbrev pub spoiled_by : {B : Type 0} → Kind → ℕ → Option (Merging B) → List (Kept B) → List ℕ
 spoiled_by OriginRead first merge snaps = []
 spoiled_by OriginWrite first merge snaps = if is_merged_at first merge then [] else overflowing first snaps
@@ -126,6 +141,7 @@ pub record IsAcceptedAs {B : Type 0} (contents : B → List ℕ) (layers : B →
   pub legal : is_loud_in_all layers old ≡ true
       → IsSubmitted (spoiled_by (kind_of request) request.range.first old.merge old.snaps) (plain_of contents layers old) number request (plain_of contents layers new)
   pub lives : lives_of new ≡ lives_after (kind_of request) request.range.first old.merge old.snaps
+  pub overflows : map (λ s. s.overflow) new.snaps ≡ map (λ s. s.overflow) old.snaps
   pub flown : map in_flight new.flights ≡ map in_flight old.flights ++ record { number = number; request = request } ∷ []
   pub exact : IsSubmittedAs contents layers request number old new
   pub kept : KeepsDevices old new
@@ -135,18 +151,33 @@ pub record SameButRoom {B : Type 0} (old new : Volumed B) : Type 0 where
   pub roomed : map unroomed new.snaps ≡ map unroomed old.snaps
   pub becomes : new ≡ record old { snaps = new.snaps }
 
--- A write of a snapshot at a sector found its store full: the snapshot with the number is spoiled, its requests are refused,
--- and nothing else changes.
+-- A write of a snapshot at a sector found its store full, and that one may not overflow: the snapshot with the number is
+-- spoiled, its requests are refused, and nothing else changes.
 pub record IsFoundFull {B : Type 0} (contents : B → List ℕ) (layers : B → List Layer) (number first : ℕ) (old new : Volumed B) : Type 0 where
   pub place : ℕ
   pub snap : Kept B
   pub found : place_of_snap number old.snaps ≡ Some place
   pub is : snap ≡ slice_index_or old.snaps place snap
   pub full : overflows first snap ≡ true
+  pub strict : snap.overflow ≡ Never
   pub spoilt : map unroomed new.snaps ≡ map unroomed (slice_set old.snaps place (spoilt_of snap))
   pub becomes : new ≡ record old { snaps = new.snaps; flights = map (refused_of (number ∷ [])) old.flights }
   pub loud : is_loud_in_all layers new ≡ is_loud_in_all layers old
   pub spoils : is_loud_in_all layers old ≡ true → Spoils (number ∷ []) (plain_of contents layers old) (plain_of contents layers new)
+
+-- A write of a snapshot at a sector found its store full, and that one may overflow: the snapshot with the number is marked,
+-- and nothing else changes; its requests stay in flight, and so do its copies.
+pub record IsOverflown {B : Type 0} (contents : B → List ℕ) (layers : B → List Layer) (number first : ℕ) (old new : Volumed B) : Type 0 where
+  pub place : ℕ
+  pub snap : Kept B
+  pub found : place_of_snap number old.snaps ≡ Some place
+  pub is : snap ≡ slice_index_or old.snaps place snap
+  pub full : overflows first snap ≡ true
+  pub may : snap.overflow ≡ May
+  pub marked : map unroomed new.snaps ≡ map unroomed (slice_set old.snaps place (record snap { overflow = Did }))
+  pub becomes : new ≡ record old { snaps = new.snaps }
+  pub legal : is_loud_in_all layers old ≡ true → Overflows number (plain_of contents layers old) (plain_of contents layers new)
+  pub loud : is_loud_in_all layers new ≡ is_loud_in_all layers old
 
 -- A request was refused: for the first reason, and nothing changed; or memory was refused; or, last of all, a write of a
 -- snapshot found its store full.
@@ -155,3 +186,4 @@ IsRefusedAs contents layers size request refusal old new =
     ((submit_refusal size request old ≡ Some refusal) × (new ≡ old))
     ⊎ ((submit_refusal size request old ≡ None) × (refusal ≡ NoMemory) × SameButRoom old new)
     ⊎ ((submit_refusal size request old ≡ None) × (refusal ≡ Invalid) × ((number : ℕ) × (kind_of request ≡ SnapWrite number) × IsFoundFull contents layers number request.range.first old new))
+    ⊎ ((submit_refusal size request old ≡ None) × (refusal ≡ Overflow) × ((number : ℕ) × (kind_of request ≡ SnapWrite number) × IsOverflown contents layers number request.range.first old new))

@@ -84,7 +84,7 @@ abbrev pub left_in_all : {B : Type 0} → (B → List ℕ) → (B → List Layer
 left_in_all contents layers v = left_of (dues_of contents layers v) v.flights + left_by (merge_due contents v.merge)
 
 abbrev pub snap_shape : {B : Type 0} → Kept B → SnapShape B
-snap_shape s = record { number = s.number; live = s.live; chunk = s.state.chunk; store = s.device }
+snap_shape s = record { number = s.number; live = s.live; overflow = s.overflow; chunk = s.state.chunk; store = s.device }
 
 abbrev pub merge_shape : {B : Type 0} → Option (Merging B) → Option (MergeShape B)
 merge_shape None = None

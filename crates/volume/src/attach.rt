@@ -5,6 +5,7 @@ ghost use Rattle.sector.specs.Bytes.{sector_at};
 ghost use Rattle.cow_header.specs.HeaderText.{found_in};
 ghost use Rattle.device.specs.Layers.{is_loud};
 ghost use Rattle.plain.specs.Legal.{IsTaken};
+ghost use Rattle.plain.specs.Plain.{overflow_of};
 ghost use Rattle.snapshot.specs.Opened.{IsBack};
 ghost use Rattle.snapshot.specs.Opening.{shown_array};
 ghost use Rattle.snapshot.specs.Kept.{Kept};
@@ -61,24 +62,27 @@ impl<B: Block> Volume<B> {
 
     /// Takes a snapshot over a store, by a table line with this chunk size, and tells its number. Over a fresh store it
     /// shows the origin; a written store has a chunk size of its own, and its snapshot shows the chunks that it has in
-    /// place of the origin's. Refused, in this order: a stale store (`Stale`), a volume with a merge
-    /// (`MergeInProgress`), one that is not quiet (`NotQuiet`), a ninth snapshot or one whose number would be 2^32 (`TooMany`), a chunk size that is none (`BadChunk`); and then as
-    /// the store's load says. The store is given back with a refusal. Whatever a stop before, within or after the call leaves
-    /// of the store is as it was, fresh as it was, or loaded again with the pairs that it had.
+    /// place of the origin's. `overflow` says whether a write of it that finds its store full is refused, and spoils
+    /// nothing; of a new snapshot, also over a store that was in use, none did yet. Refused, in this order: a stale store
+    /// (`Stale`), a volume with a merge (`MergeInProgress`), one that is not quiet (`NotQuiet`), a ninth snapshot or one
+    /// whose number would be 2^32 (`TooMany`), a chunk size that is none (`BadChunk`); and then as the store's load says.
+    /// The store is given back with a refusal. Whatever a stop before, within or after the call leaves of the store is as it
+    /// was, fresh as it was, or loaded again with the pairs that it had.
     pub fn attach(
         &mut self,
         alloc: Global,
         store: StoreDev<B>,
         chunk: u32,
+        overflow: bool,
     ) -> Result<SnapId, (Refusal, StoreDev<B>)>
         ensures number { IfOk result (λ number. number ≡ self.old.attached + 1) }
         ensures admitted { IfOk result (λ _. attach_refusal store.stale chunk self.old ≡ None) }
-        ensures taken { IfOk result (λ number. is_loud_in_all B.layers self.old ≡ true → is_loud (B.layers store.device) ≡ true → IsTaken (plain_of B.contents B.layers self.old) number (shown_array (B.contents self.old.origin) (B.contents store.device)) (plain_of B.contents B.layers self.new)) }
+        ensures taken { IfOk result (λ number. is_loud_in_all B.layers self.old ≡ true → is_loud (B.layers store.device) ≡ true → IsTaken (plain_of B.contents B.layers self.old) number (shown_array (B.contents self.old.origin) (B.contents store.device)) (overflow_of overflow) (plain_of B.contents B.layers self.new)) }
         ensures refused { IfErr result (λ e. IsNotTaken store.stale chunk (B.size self.old.origin) (B.size store.device) (B.contents store.device) self.old e.0) }
         ensures unread { IfErr result (λ e. attach_refusal store.stale chunk self.old ≡ Some e.0 → e.1 ≡ store) }
-        ensures gained { IfOk result (λ number. IsGained B.layers B.size number store self.old self.new) }
-        ensures exact { IfOk result (λ number. is_loud_in_all B.layers self.old ≡ true → is_loud (B.layers store.device) ≡ true → IsAttachedAs B.contents B.layers number chunk store self.old self.new) }
-        ensures back { IfErr result (λ e. e.0 ≢ NoMemory → self.old.merge ≡ None → is_quiet_of self.old ≡ true → is_loud_in_all B.layers self.old ≡ true → is_loud (B.layers store.device) ≡ true → attached_by (self.old.attached + 1) chunk (store_of B.contents B.layers store) (volume_in B.contents B.layers self.old) ≡ refused_attach e.0 (store_of B.contents B.layers e.1) (volume_in B.contents B.layers self.old)) }
+        ensures gained { IfOk result (λ number. IsGained B.layers B.size number overflow store self.old self.new) }
+        ensures exact { IfOk result (λ number. is_loud_in_all B.layers self.old ≡ true → is_loud (B.layers store.device) ≡ true → IsAttachedAs B.contents B.layers number chunk overflow store self.old self.new) }
+        ensures back { IfErr result (λ e. e.0 ≢ NoMemory → self.old.merge ≡ None → is_quiet_of self.old ≡ true → is_loud_in_all B.layers self.old ≡ true → is_loud (B.layers store.device) ≡ true → attached_by (self.old.attached + 1) chunk (overflow_of overflow) (store_of B.contents B.layers store) (volume_in B.contents B.layers self.old) ≡ refused_attach e.0 (store_of B.contents B.layers e.1) (volume_in B.contents B.layers self.old)) }
         ensures starved { IfErr result (λ e. e.0 ≡ NoMemory → (B.contents e.1.device ≡ B.contents store.device) × AreRead (B.layers store.device) (B.layers e.1.device)) }
         ensures size { IfErr result (λ e. B.size e.1.device ≡ B.size store.device) }
         ensures loud { MatchResult result (λ _. is_loud_in_all B.layers self.new ≡ (is_loud_in_all B.layers self.old && is_loud (B.layers store.device))) (λ e. is_loud (B.layers e.1.device) ≡ is_loud (B.layers store.device)) }
@@ -102,9 +106,10 @@ impl<B: Block> Volume<B> {
             alloc,
             number,
             store,
-            chunk,
-            self.wanted(),
             self.origin.sectors(),
+            chunk,
+            overflow,
+            self.wanted(),
         ) {
             Ok(snap) => {
                 self.snaps.push_reserved(snap);

@@ -47,8 +47,8 @@ impl<B: Block> Volume<B> {
     /// Does one event, where it is due. It does at most one operation of one device, and where no device drops writes it
     /// is a step of the plain machine: only Issue replies, and every other event is not seen, or spoils the snapshot whose
     /// device failed, or snapshots whose stores are full. Whatever the devices do, a request leaves only where it is
-    /// answered, and a read that is not refused is answered with as many bytes as were asked for; and a merge stops just
-    /// where one of its own operations fails. A commit of a merge takes pairs away, and it is finished where its store's
+    /// answered, and a read that is not refused is answered with as many bytes as were asked for; no snapshot is marked
+    /// for a full store, and no mark is taken away; and a merge stops just where one of its own operations fails. A commit of a merge takes pairs away, and it is finished where its store's
     /// bytes have none. Where no device drops writes, whatever a stop before, within or after the event leaves is loaded
     /// again with the same arrays, but for what an Issue writes; a spoiled snapshot's store whose mark is untried may be
     /// refused instead, and one that was marked is. Where an event is not due, nothing changes at all.
@@ -65,6 +65,7 @@ impl<B: Block> Volume<B> {
         ensures kept { OnOk result (KeepsAll B.size self.old self.new) }
         ensures failed { IfOk result (λ outcome. has_failed self.new.merge ≡ failed_by event outcome (has_failed self.old.merge)) }
         ensures counts { OnOk result ((self.new.requests ≡ self.old.requests) × (self.new.copies ≤ self.old.copies + starts_by event) × (self.old.copies ≤ self.new.copies)) }
+        ensures overflows { OnOk result (map (λ s. s.overflow) self.new.snaps ≡ map (λ s. s.overflow) self.old.snaps) }
         ensures removes { IfOk result (λ outcome. RemovesPairs B.contents B.layers event outcome self.old self.new) }
         ensures finished { OnOk result (is_loud_in_all B.layers self.new ≡ true → is_finished_in self.new.merge ≡ is_finished_on B.contents self.new.merge) }
         ensures stops { IfOk result (λ outcome. is_loud_in_all B.layers self.old ≡ true → StopsVolume B.contents B.size of_all (given_by event (map in_flight self.old.flights)) self.old self.new) }

@@ -10,10 +10,11 @@
 //!
 //! It promises that its devices' own bytes stand for one plain machine, of which every call is a step, and of each event
 //! when it is due, that a whole number falls with it, and what made it fail; whatever the devices do, that a request leaves
-//! only where it is answered; and of each request which snapshots it spoils. Where no device drops writes, each event is
-//! exactly the event machine's, and so is each request that is accepted or found invalid, whatever is in flight. The time and
-//! messages change layers, and nothing that callers see. A list of calls does what its calls do one after another, each with
-//! its answer, and `peek` copies what the origin or a snapshot shows.
+//! only where it is answered, and that no snapshot is marked for a full store; and of each request which snapshots it spoils
+//! or marks. Where no device drops writes, each event is exactly the event machine's, and so is each request that is accepted,
+//! found invalid or refused for a store that overflowed, whatever is in flight. The time and messages change layers, and
+//! nothing that callers see. A list of calls does what its calls do one after another, each with its answer, and `peek` copies
+//! what the origin or a snapshot shows.
 #![tactic(auto)]
 
 mod attach;

@@ -3,24 +3,28 @@ ghost use Rattle.std.specs.Prelude.{◌≡◌};
 ghost use Rattle.pending.specs.Kinds.{kind_of};
 ghost use Rattle.volume.specs.Volumed.{piece_with};
 ghost use Rattle.snapshots.specs.Finding.{place_of_snap};
-ghost use Rattle.volume.specs.Submitting.{are_too_many, dev_refusal, is_merging as is_merging_of, is_piece_of, refusal_at, starting as starting_of, submit_refusal};
+ghost use Rattle.volume.specs.Submitting.{are_too_many, dev_refusal, is_merging as is_merging_of, is_piece_of, refusal_at, shut_at, shut_refusal, starting as starting_of, submit_refusal};
 
 use crate::Volume;
 use device::Block;
 use merge_beside::is_merged_at;
 use pending::{Kind, MAX_COPIES, MAX_REQUESTS, request_kind};
-use plain::{Dev, Request, SnapId};
+use plain::{Dev, Overflowing, Request, SnapId};
 use sector::{Range, Refusal};
 use snapshots::{pending_count, snap_at, starting_count, starting_count_of};
 
 impl<B: Block> Volume<B> {
     /// Why a request is refused, memory and full stores aside: there is no such snapshot (`NoSuchDevice`), it is being merged
-    /// (`MergingSnapshot`) or is spoiled (`Invalid`), the range is empty or lies not inside the origin and one piece
-    /// (`OutOfRange`), or there are too many requests, copies or numbers (`TooMany`).
+    /// (`MergingSnapshot`) or is spoiled (`Invalid`), it is a write of one whose store overflowed (`Overflow`), the range is
+    /// empty or lies not inside the origin and one piece (`OutOfRange`), or there are too many requests, copies or numbers
+    /// (`TooMany`).
     pub(crate) fn submit_refused(&self, request: &Request) -> Option<Refusal>
         ensures { result ≡ submit_refusal B.size request.now self.now }
     {
         if let Some(refusal) = self.dev_refused(request.dev) {
+            return Some(refusal);
+        }
+        if let Some(refusal) = self.shut_refused(request) {
             return Some(refusal);
         }
         if !self.is_piece(&request.range) {
@@ -68,6 +72,29 @@ impl<B: Block> Volume<B> {
                 None
             } else {
                 Some(Refusal::Invalid)
+            },
+        }
+    }
+
+    /// Why a write of a snapshot whose store overflowed is refused.
+    fn shut_refused(&self, request: &Request) -> Option<Refusal>
+        ensures { result ≡ shut_refusal (kind_of request.now) self.now.snaps }
+    {
+        match request_kind(request) {
+            Kind::OriginRead | Kind::OriginWrite | Kind::SnapRead(_) => None,
+            Kind::SnapWrite(number) => self.overflow_refused(number),
+        }
+    }
+
+    /// Why a snapshot takes no write: its store overflowed.
+    fn overflow_refused(&self, number: SnapId) -> Option<Refusal>
+        ensures { result ≡ shut_at self.now.snaps (place_of_snap number self.now.snaps) }
+    {
+        match snap_at(self.snaps.as_slice(), number) {
+            None => None,
+            Some(k) => match self.snaps[k].overflow() {
+                Overflowing::Did => Some(Refusal::Overflow),
+                Overflowing::Never | Overflowing::May => None,
             },
         }
     }

@@ -1,7 +1,9 @@
 // A request is accepted or refused: it is routed, and the copies that it waits for are started.
 ghost use Rattle.std.specs.Prelude.{◌≡◌, ◌≢◌, ◌*◌, ◌+◌, ◌<◌, ◌^◌, ◌≤◌, IfErr, IfOk, List, None, Option, Some, [], count_by, false, length, sum_by, ℕ};
-ghost use Rattle.sector.specs.declared.refusal.Refusal.TheVariants.{Invalid, NoMemory};
-ghost use Rattle.plain.specs.declared.request.Failure.TheVariants.{Invalid as IsInvalid};
+ghost use Rattle.sector.specs.declared.refusal.Refusal.TheVariants.{Invalid, NoMemory, Overflow};
+ghost use Rattle.plain.specs.declared.request.Failure.{Failure};
+ghost use Rattle.plain.specs.declared.request.Failure.TheVariants.{Io as IsIo};
+ghost use Rattle.plain.specs.Failures.{refusal_of};
 ghost use Rattle.plain.specs.declared.request.Op.TheVariants.{Write};
 ghost use Rattle.plain.specs.declared.request.Reply.{Reply};
 ghost use Rattle.plain.specs.declared.request.Reply.TheVariants.{Refused};
@@ -39,10 +41,11 @@ impl<B: Block> Volume<B> {
     /// its chunk, and starts its copy.
     ///
     /// Refused, in this order: there is no such snapshot (`NoSuchDevice`), it is being merged (`MergingSnapshot`), it is
-    /// spoiled (`Invalid`), the range is empty or lies not inside the origin and one piece (`OutOfRange`), it is the 65th
-    /// request, starts the 257th copy, or is past the last number (`TooMany`), memory is refused (`NoMemory`), or a
-    /// snapshot's write finds its store full (`Invalid`: the one refusal that changes something, for that snapshot is
-    /// spoiled).
+    /// spoiled (`Invalid`), it is a write and the snapshot's store overflowed (`Overflow`), the range is empty or lies not
+    /// inside the origin and one piece (`OutOfRange`), it is the 65th request, starts the 257th copy, or is past the last
+    /// number (`TooMany`), memory is refused (`NoMemory`), or a snapshot's write finds its store full. That last reason alone
+    /// changes something: the snapshot is spoiled (`Invalid`), or, where it may overflow, is marked (`Overflow`), and what it
+    /// shows stays, and so do its requests in flight.
     pub fn submit(&mut self, alloc: Global, request: Request) -> Result<ReqId, Refusal>
         requires bytes { (bytes : List ℕ) → request.op ≡ Write bytes → length bytes ≡ 512 * request.range.count }
         ensures ok { IfOk result (λ number. IsAcceptedAs B.contents B.layers request number self.old self.new) }
@@ -52,8 +55,8 @@ impl<B: Block> Volume<B> {
         ensures admitted { IfOk result (λ _. submit_refusal B.size request self.old ≡ None) }
         ensures exact { IfOk result (λ number. (replied : Option Reply) → submitted number request (moving_of B.contents B.layers replied self.old) ≡ moving_of B.contents B.layers replied self.new) }
         ensures refused { IfErr result (λ refusal. IsRefusedAs B.contents B.layers B.size request refusal self.old self.new) }
-        ensures declined { IfErr result (λ refusal. refusal ≡ Invalid → (number : ℕ) (replied : Option Reply) → submitted number request (moving_of B.contents B.layers replied self.old) ≡ moving_of B.contents B.layers (Some (Refused IsInvalid)) self.new) }
-        ensures starved { IfErr result (λ refusal. refusal ≢ Invalid → (replied : Option Reply) → moving_of B.contents B.layers replied self.new ≡ moving_of B.contents B.layers replied self.old) }
+        ensures declined { IfErr result (λ refusal. (failure : Failure) → refusal ≡ refusal_of failure → failure ≢ IsIo → (number : ℕ) (replied : Option Reply) → submitted number request (moving_of B.contents B.layers replied self.old) ≡ moving_of B.contents B.layers (Some (Refused failure)) self.new) }
+        ensures starved { IfErr result (λ refusal. refusal ≢ Invalid → refusal ≢ Overflow → (replied : Option Reply) → moving_of B.contents B.layers replied self.new ≡ moving_of B.contents B.layers replied self.old) }
     {
         // A look at a field: what the type keeps is known from here on.
         let _ = &self.flights;

@@ -1,20 +1,23 @@
 // A request of a snapshot is accepted: it is routed, and the copy that a write waits for is started.
-ghost use Rattle.std.specs.Prelude.{◌≡◌, ◌⊎◌, ◌==◌, ◌&&◌, true, ℕ, ◌+◌, ◌*◌, ◌^◌, ◌<◌, ◌≤◌, List, length, sum_by, count_by, slice_index_or, Some, None, IfOk, IfErr};
-ghost use Rattle.sector.specs.declared.refusal.Refusal.TheVariants.{NoMemory, Invalid};
+ghost use Rattle.std.specs.Prelude.{◌≡◌, ◌≢◌, ◌⊎◌, ◌==◌, ◌&&◌, false, true, ℕ, ◌+◌, ◌*◌, ◌^◌, ◌<◌, ◌≤◌, List, length, sum_by, count_by, slice_index_or, Some, None, IfOk, IfErr};
+ghost use Rattle.sector.specs.declared.refusal.Refusal.TheVariants.{NoMemory, Invalid, Overflow};
+ghost use Rattle.plain.specs.Plain.{did_overflow};
+ghost use Rattle.plain.specs.declared.request.Overflowing.TheVariants.{Did, May, Never};
 ghost use Rattle.pending.specs.Kinds.{kind_of};
 ghost use Rattle.pending.specs.declared.flights.Kind.TheVariants.{SnapRead, SnapWrite};
 ghost use Rattle.snapshot.specs.Kept.{Kept};
 ghost use Rattle.volume.specs.Volumed.{piece_with};
 ghost use Rattle.snapshots.specs.Numbers.{count_in};
 ghost use Rattle.snapshots.specs.Finding.{place_of_snap};
-ghost use Rattle.snapshots.specs.Starting.{lacks, starts};
-ghost use Rattle.volume.specs.Submitting.{dev_refusal, IsAsked, IsAcceptedAs, SameButRoom, IsFoundFull};
+ghost use Rattle.snapshots.specs.Starting.{HasRoomFor, IsSavedIn, lacks, overflows, starts};
+ghost use Rattle.volume.specs.Submitting.{dev_refusal, shut_at, IsAsked, IsAcceptedAs, SameButRoom, IsFoundFull, IsOverflown};
 
 use crate::Volume;
 use device::Block;
 use pending::{Flight, Route, read_route};
-use plain::{ReqId, Request, SnapId};
+use plain::{Overflowing, ReqId, Request, SnapId};
 use sector::Refusal;
+use snapshot::Snapshot;
 use snapshots::{is_lacking, own_chunk, save_in, snap_at, take_room};
 use std::alloc::Global;
 
@@ -43,8 +46,8 @@ impl<B: Block> Volume<B> {
     }
 
     /// Accepts a write of a live snapshot: it goes to the place of its chunk's copy once that is published, and is held until
-    /// then. Where no copy is under way one is started; where the store is full the snapshot is spoiled, and the write is
-    /// refused with `Invalid`.
+    /// then. Where no copy is under way one is started. Where the store is full the snapshot is spoiled, and the write is
+    /// refused with `Invalid`; or, where that one may overflow, it is marked, and the write is refused with `Overflow`.
     pub(crate) fn submit_snap_write(
         &mut self,
         alloc: Global,
@@ -53,13 +56,14 @@ impl<B: Block> Volume<B> {
     ) -> Result<ReqId, Refusal>
         requires kind { kind_of request ≡ SnapWrite id }
         requires found { dev_refusal request.dev self.old.merge self.old.snaps ≡ None }
+        requires writable { shut_at self.old.snaps (place_of_snap id self.old.snaps) ≡ None }
         requires asked { IsAsked (B.size self.old.origin) (piece_with self.old.merge self.old.snaps) request }
         requires room { length self.old.flights < 64 }
         requires numbers { self.old.requests + 1 < 2 ^ 64 }
         requires copies { self.old.copies + 8 < 2 ^ 64 }
         requires few { sum_by count_in self.old.snaps + count_by (λ s. (s.number == id) && starts request.range.first s) self.old.snaps ≤ 256 }
         ensures ok { IfOk result (λ number. IsAcceptedAs B.contents B.layers request number self.old self.new) }
-        ensures err { IfErr result (λ e. ((e ≡ NoMemory) × SameButRoom self.old self.new) ⊎ ((e ≡ Invalid) × IsFoundFull B.contents B.layers id request.range.first self.old self.new)) }
+        ensures err { IfErr result (λ e. ((e ≡ NoMemory) × SameButRoom self.old self.new) ⊎ ((e ≡ Invalid) × IsFoundFull B.contents B.layers id request.range.first self.old self.new) ⊎ ((e ≡ Overflow) × IsOverflown B.contents B.layers id request.range.first self.old self.new)) }
     {
         let Some(k) = snap_at(self.snaps.as_slice(), id) else {
             return Err(Refusal::NoSuchDevice);
@@ -86,6 +90,7 @@ impl<B: Block> Volume<B> {
     ) -> Result<ReqId, Refusal>
         requires kind { kind_of request ≡ SnapWrite id }
         requires found { dev_refusal request.dev self.old.merge self.old.snaps ≡ None }
+        requires writable { shut_at self.old.snaps (place_of_snap id self.old.snaps) ≡ None }
         requires place { Some k ≡ place_of_snap id self.old.snaps }
         requires lacking { (s : Kept B) → s ≡ slice_index_or self.old.snaps k s → lacks request.range.first s ≡ true }
         requires asked { IsAsked (B.size self.old.origin) (piece_with self.old.merge self.old.snaps) request }
@@ -94,7 +99,7 @@ impl<B: Block> Volume<B> {
         requires copies { self.old.copies + 8 < 2 ^ 64 }
         requires few { sum_by count_in self.old.snaps + count_by (λ s. (s.number == id) && starts request.range.first s) self.old.snaps ≤ 256 }
         ensures ok { IfOk result (λ number. IsAcceptedAs B.contents B.layers request number self.old self.new) }
-        ensures err { IfErr result (λ e. ((e ≡ NoMemory) × SameButRoom self.old self.new) ⊎ ((e ≡ Invalid) × IsFoundFull B.contents B.layers id request.range.first self.old self.new)) }
+        ensures err { IfErr result (λ e. ((e ≡ NoMemory) × SameButRoom self.old self.new) ⊎ ((e ≡ Invalid) × IsFoundFull B.contents B.layers id request.range.first self.old self.new) ⊎ ((e ≡ Overflow) × IsOverflown B.contents B.layers id request.range.first self.old self.new)) }
     {
         let first = request.range.first;
         let room = match take_room(alloc, &mut self.snaps[k], first) {
@@ -108,19 +113,48 @@ impl<B: Block> Volume<B> {
             Ok(()) => {}
             Err(_) => return Err(Refusal::NoMemory),
         }
-        let given = save_in(
+        self.copies = match save_or_mark(
             &mut self.snaps[k],
             self.flights.as_mut_slice(),
             self.copies,
             first,
             room,
-        );
-        if given == self.copies {
-            return Err(Refusal::Invalid);
-        }
-        self.copies = given;
+        ) {
+            Ok(given) => given,
+            Err(refusal) => return Err(refusal),
+        };
         self.flights.push_reserved(flight);
         self.requests += 1;
         Ok(self.requests)
+    }
+}
+
+/// Starts the copy of a snapshot's chunk of a sector, which it lacks, and tells the copy's number: the one after `copies`.
+/// Where the store is full the snapshot is spoiled, and its requests are refused (`Invalid`); or, where it may overflow, it is
+/// marked, and its requests stay (`Overflow`).
+fn save_or_mark<B: Block>(
+    snap: &mut Snapshot<B>,
+    flights: &mut [Flight],
+    copies: u64,
+    first: u64,
+    room: Vec<u8>,
+) -> Result<u64, Refusal>
+    requires begins { first < snap.old.state.origin }
+    requires room { HasRoomFor first snap.old room }
+    requires few { copies + 1 < 2 ^ 64 }
+    requires lacking { lacks first snap.old ≡ true }
+    requires writable { did_overflow snap.old.overflow ≡ false }
+    ensures ok { IfOk result (λ given. (given ≢ copies) × IsSavedIn B.contents B.layers first snap.old snap.new copies given flights.old flights.new) }
+    ensures err { IfErr result (λ e. ((e ≡ Invalid) × (snap.old.overflow ≡ Never) × IsSavedIn B.contents B.layers first snap.old snap.new copies copies flights.old flights.new) ⊎ ((e ≡ Overflow) × (snap.old.overflow ≡ May) × (overflows first snap.old ≡ true) × (snap.new ≡ record snap.old { overflow = Did }) × (flights.new ≡ flights.old))) }
+{
+    if snap.is_full() && snap.overflow() == Overflowing::May {
+        snap.mark();
+        return Err(Refusal::Overflow);
+    }
+    let given = save_in(snap, flights, copies, first, room);
+    if given == copies {
+        Err(Refusal::Invalid)
+    } else {
+        Ok(given)
     }
 }

@@ -2,6 +2,7 @@
 use Rattle.std.proofs.Common.{◌≡◌, ◌≢◌, ℕ, ◌<◌, true, false, List, Option, Some, None, length, get_or, sym, ◌∙◌, ap}
 use Rattle.std.specs.List.{All}
 use Rattle.model.specs.Picture.{place_of}
+use Rattle.plain.specs.Plain.{did_overflow}
 use Rattle.pending.specs.Kinds.{kind_of}
 use Rattle.pending.specs.Routes.{read_route_of, write_route_of}
 use Rattle.pending.specs.declared.flights.Flight.{Flight}
@@ -35,8 +36,8 @@ module _ (which : List ℕ) (f : Flight) (v u w : Books) (h : IsPrepared which v
     pub snap_read_taken : kind_of f.request ≡ SnapRead s.number → f.route ≡ read_route_of (place_of s.pairs (chunk_of s.chunk f)) → IsTakenIn which f.number f.request v w
     snap_read_taken = snap_taken which f v u w h e one fresh (none_beside f u.merge alone) pieces j s within was live
 
-    pub snap_write_held_taken : kind_of f.request ≡ SnapWrite s.number → f.route ≡ Held → IsCopying (chunk_of s.chunk f) s → IsTakenIn which f.number f.request v w
+    pub snap_write_held_taken : kind_of f.request ≡ SnapWrite s.number → did_overflow s.overflow ≡ false → f.route ≡ Held → IsCopying (chunk_of s.chunk f) s → IsTakenIn which f.number f.request v w
     snap_write_held_taken = held_taken which f v u w h e one fresh (none_beside f u.merge alone) pieces j s within was live
 
-    pub snap_write_placed_taken : (place : ℕ) → kind_of f.request ≡ SnapWrite s.number → f.route ≡ Store place → place_of s.pairs (chunk_of s.chunk f) ≡ Some place → IsPublished s.pairs s.marks (chunk_of s.chunk f) → IsTakenIn which f.number f.request v w
+    pub snap_write_placed_taken : (place : ℕ) → kind_of f.request ≡ SnapWrite s.number → did_overflow s.overflow ≡ false → f.route ≡ Store place → place_of s.pairs (chunk_of s.chunk f) ≡ Some place → IsPublished s.pairs s.marks (chunk_of s.chunk f) → IsTakenIn which f.number f.request v w
     snap_write_placed_taken = placed_taken which f v u w h e one fresh (none_beside f u.merge alone) pieces j s within was live

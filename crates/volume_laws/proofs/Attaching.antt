@@ -39,7 +39,7 @@ new_live o s n = record {
 }
 
 -- attach
-pub attach_event : (s : SnapBooks) (v w : Books) → Holds v → Attaches s v w → IsNewSnap v.origin s → Holds w × IsTaken (plain_of v) s.number (picture s.chunk v.origin s.store) (plain_of w)
+pub attach_event : (s : SnapBooks) (v w : Books) → Holds v → Attaches s v w → IsNewSnap v.origin s → Holds w × IsTaken (plain_of v) s.number (picture s.chunk v.origin s.store) s.overflow (plain_of w)
 attach_event s v w h e n =
     let after : Books = record v { snaps = v.snaps ++ s ∷ [] } in
     let now : w ≡ after = same_volume w after e.origin e.sectors e.loud e.snaps e.merge e.requests in (
@@ -54,9 +54,10 @@ attach_event s v w h e n =
         numbers = subst (AllPairs (λ m k. m ≢ k)) (sym (map_push number_of v.snaps s)) (all_pairs_push (λ m k. m ≢ k) (map number_of v.snaps) s.number h.numbers e.fresh);
       }),
       record {
+        strict = n.strict;
         becomes = ap plain_of now
             ∙ ap (λ x. plain (origin_of v.origin v.merge) (begun_of v.merge) x (map in_flight v.requests))
-            (map_push (entry_of v.origin) v.snaps s ∙ ap (λ b. map (entry_of v.origin) v.snaps ++ shown s.number b (picture s.chunk v.origin s.store) ∷ []) n.live);
+            (map_push (entry_of v.origin) v.snaps s ∙ ap (λ b. map (entry_of v.origin) v.snaps ++ shown s.number s.overflow b (picture s.chunk v.origin s.store) ∷ []) n.live);
       },
     )
 

@@ -51,7 +51,7 @@ area_zeroed o rs a v w h e =
     let s = e.same in
     let t = h.text in
     let u : SnapBooks = record v { store = w.store } in
-    let now : w ≡ u = same_books w u s.number s.live s.untried s.loud s.chunk s.sectors s.size refl e.pairs e.begun e.copies e.marks in
+    let now : w ≡ u = same_books w u s.number s.live s.untried s.loud s.overflow s.chunk s.sectors s.size refl e.pairs e.begun e.copies e.marks in
     subst (LiveHolds o rs) (sym now) (record {
       text = record { some = t.some; allowed = t.allowed; whole = e.only.len ∙ t.whole; inside = t.inside; apart = t.apart };
       stored = e.stored;
@@ -183,7 +183,7 @@ module _ (o : List ℕ) (rs : List Flight) (count a : ℕ) (v w : SnapBooks) (h 
   after = record v { store = w.store; pairs = v.pairs ++ new; begun = drop count v.begun; copies = drop count v.copies; marks = v.marks ++ map mark_of first }
 
   after_is : w ≡ after
-  after_is = (let s = e.same in same_books w after s.number s.live s.untried s.loud s.chunk s.sectors s.size refl (e.pairs ∙ ap (λ x. v.pairs ++ x) front_begun) e.begun e.copies e.marks)
+  after_is = (let s = e.same in same_books w after s.number s.live s.untried s.loud s.overflow s.chunk s.sectors s.size refl (e.pairs ∙ ap (λ x. v.pairs ++ x) front_begun) e.begun e.copies e.marks)
 
   after_holds : LiveHolds o rs after
   after_holds = (let t = h.text in record {

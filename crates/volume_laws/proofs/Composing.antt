@@ -1,13 +1,17 @@
 -- Steps one after another: the parts of an event that does several things.
 use Rattle.std.proofs.Common.{◌≡◌, inl, inr, ℕ, Bool, true, List, [], ◌∷◌, ◌++◌, map, refl, sym, ◌∙◌, ap, subst}
-use Rattle.std.specs.Prelude.{◌||◌, ◌==◌}
+use Rattle.std.specs.Prelude.{◌||◌, ◌==◌, if◌then◌else◌}
 use Rattle.std.specs.List.{All}
 use Rattle.std.proofs.lemmas.Bool.{cases_Bool}
 use Rattle.std.proofs.lemmas.List.Folds.{list_any-append}
 use Rattle.std.proofs.lemmas.List.Elements.{All-set}
 use Rattle.plain.specs.declared.request.Request.{Request}
-use Rattle.plain.specs.Plain.{Plain, Entry, Invalid, is_in, spoiled, spoiled_entry}
-use Rattle.plain.specs.Legal.{Spoils}
+use Rattle.plain.specs.declared.request.Dev.{Dev}
+use Rattle.plain.specs.declared.request.Dev.TheVariants.{Origin, Snap}
+use Rattle.plain.specs.declared.request.Op.{Op}
+use Rattle.plain.specs.declared.request.Op.TheVariants.{Read, Write}
+use Rattle.plain.specs.Plain.{Plain, Entry, Invalid, is_in, spoiled, spoiled_entry, overflow_under, did_overflow}
+use Rattle.plain.specs.Legal.{Spoils, is_shut}
 use Rattle.volume_laws.specs.Books.{SnapBooks, Books}
 use Rattle.volume_laws.specs.Whole.{IsLoud, plain_of}
 use Rattle.volume_laws.specs.Steps.{ChangesSnap, SpoilsOne}
@@ -23,7 +27,7 @@ entry_twice xs ys e = elim (cases_Bool (is_in xs e.number)) [
       rw none (rw both refl))
 ]
   where
-    again : (ys : List ℕ) (n : ℕ) → spoiled_entry ys (record { number = n; saved = Invalid }) ≡ record { number = n; saved = Invalid }
+    again : (ys : List ℕ) (n : ℕ) → spoiled_entry ys (record { number = n; saved = Invalid; overflow = e.overflow }) ≡ record { number = n; saved = Invalid; overflow = e.overflow }
     again ys n = elim (cases_Bool (is_in ys n)) [ inl one ↦ rw one refl | inr none ↦ rw none refl ]
 
 entries_twice : (xs ys : List ℕ) (es : List Entry) → map (spoiled_entry ys) (map (spoiled_entry xs) es) ≡ map (spoiled_entry (xs ++ ys)) es
@@ -47,11 +51,25 @@ silent_is v w h = record { holds = h.holds; step = h.step }
 pub silent_then : (v u w : Books) → IsSilent v u → IsSilent u w → (IsLoud v → IsLoud u) → IsSilent v w
 silent_then v u w one two loud = record { holds = two.holds; step = λ l. Spoils_then [] [] (plain_of v) (plain_of u) (plain_of w) (one.step l) (two.step (loud l)) }
 
+-- a spoil changes nothing of which snapshots take writes
+overflow_spoiled : (which : List ℕ) (number : ℕ) (es : List Entry) → overflow_under number (map (spoiled_entry which) es) ≡ overflow_under number es
+overflow_spoiled which number [] = refl
+overflow_spoiled which number (e ∷ es) = elim (cases_Bool (is_in which e.number)) [
+  | inl one ↦ rw one (ap (λ x. if e.number == number then e.overflow else x) (overflow_spoiled which number es))
+  | inr none ↦ rw none (ap (λ x. if e.number == number then e.overflow else x) (overflow_spoiled which number es))
+]
+
+shut_spoiled : (which : List ℕ) (dev : Dev) (op : Op) (es : List Entry) → is_shut dev op (map (spoiled_entry which) es) ≡ is_shut dev op es
+shut_spoiled which Origin op es = refl
+shut_spoiled which (Snap number) Read es = refl
+shut_spoiled which (Snap number) (Write bytes) es = ap did_overflow (overflow_spoiled which number es)
+
 -- snapshots are spoiled, and then a request is accepted
 pub accept_then : (which : List ℕ) (number : ℕ) (request : Request) (v u w : Books) → IsSpoil which v u → IsAccepted [] number request u w → (IsLoud v → IsLoud u) → IsAccepted which number request v w
 accept_then which number request v u w one two loud = record {
   holds = two.holds;
   step = λ l. (let a = one.step l in let b = (two.step (loud l)).becomes in record {
+    writable = sym (shut_spoiled which request.dev request.op (plain_of v).saved) ∙ sym (ap (λ (p : Plain). is_shut request.dev request.op p.saved) a) ∙ (two.step (loud l)).writable;
     becomes = b ∙ ap (λ (p : Plain). plain p.origin p.begun (spoiled [] p).saved (p.requests ++ record { number = number; request = request } ∷ [])) a
         ∙ ap (λ x. plain (plain_of v).origin (plain_of v).begun x ((plain_of v).requests ++ record { number = number; request = request } ∷ [])) (none_more (map (spoiled_entry which) (plain_of v).saved));
   });

@@ -50,7 +50,7 @@ copy_read o rs k p q v w h e =
     let old = copy_holds o rs v h k p e.copy.within e.copy.was in
     let s = e.same in
     let now : w ≡ record v { copies = set v.copies k q } =
-    same_books w (record v { copies = set v.copies k q }) s.number s.live s.untried s.loud s.chunk s.sectors s.size e.store.store e.store.pairs e.store.begun e.copy.copies e.marks in
+    same_books w (record v { copies = set v.copies k q }) s.number s.live s.untried s.loud s.overflow s.chunk s.sectors s.size e.store.store e.store.pairs e.store.begun e.copy.copies e.marks in
     subst (LiveHolds o rs) (sym now) (goes_on o rs v h k p q e.copy.was e.copy.pair (record {
       room = e.room ∙ old.room ∙ ap (λ (x : Pair). 512 * count_of v.chunk v.sectors x.old) (sym e.copy.pair);
       read = λ _. e.read ∙ ap (λ (x : Pair). sectors_at o (v.chunk * x.old) (count_of v.chunk v.sectors x.old)) (sym e.copy.pair);
@@ -113,7 +113,7 @@ copy_write o rs k p q v w h e =
     let inside = inside_at o rs v h k p e.copy.within e.copy.was in
     let s = e.same in
     let u : SnapBooks = record v { store = w.store; copies = set v.copies k q } in
-    let now : w ≡ u = same_books w u s.number s.live s.untried s.loud s.chunk s.sectors s.size refl e.pairs e.begun e.copy.copies e.marks in
+    let now : w ≡ u = same_books w u s.number s.live s.untried s.loud s.overflow s.chunk s.sectors s.size refl e.pairs e.begun e.copy.copies e.marks in
     subst (LiveHolds o rs) (sym now)
     (goes_on o rs (record v { store = w.store }) (place_written o rs v w.store h k p e.copy.within e.copy.was (λ is. read_ne_written (sym e.was_read ∙ is)) e.only) k p q e.copy.was e.copy.pair (record {
       room = ap length e.buffer ∙ old.room ∙ ap (λ (x : Pair). 512 * count_of v.chunk v.sectors x.old) (sym e.copy.pair);

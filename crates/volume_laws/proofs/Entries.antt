@@ -1,5 +1,5 @@
 -- Snapshots by their numbers, as the plain machine sees them.
-use Rattle.std.proofs.Common.{◌≡◌, ◌≢◌, ℕ, zero, suc, ◌<◌, List, [], ◌∷◌, Some, length, get_or, set, map, refl, sym, ◌∙◌, ap, subst, arith, eq-eqb, ne_eqb}
+use Rattle.std.proofs.Common.{◌≡◌, ◌≢◌, ℕ, zero, suc, ◌<◌, false, List, [], ◌∷◌, Some, length, get_or, set, map, refl, sym, ◌∙◌, ap, subst, arith, eq-eqb, ne_eqb}
 use Rattle.std.specs.List.{remove}
 use Rattle.std.specs.Prelude.{AllPairs}
 use Rattle.std.proofs.lemmas.List.{length-map, get_or-map}
@@ -12,7 +12,10 @@ use Rattle.plain.specs.declared.request.Reply.TheVariants.{Refused}
 use Rattle.plain.specs.declared.request.Failure.TheVariants.{Invalid as IsInvalid, Io}
 use Rattle.plain.specs.declared.request.Request.{Request}
 use Rattle.sector.specs.declared.range.Range.{Range}
-use Rattle.plain.specs.Plain.{Plain, Entry, Saved, saved_under, with_saved, without_saved}
+use Rattle.plain.specs.declared.request.Overflowing.{Overflowing}
+use Rattle.plain.specs.declared.request.Overflowing.TheVariants.{Did}
+use Rattle.plain.specs.Plain.{Plain, Entry, Saved, saved_under, with_saved, without_saved, overflow_under, did_overflow, marked_in}
+use Rattle.plain.specs.Legal.{is_shut}
 use Rattle.plain.specs.Serves.{Serves, SameArrays, IsShowing, IsSpoilt}
 use Rattle.pending.specs.Kinds.{kind_at}
 use Rattle.pending.specs.declared.flights.Kind.TheVariants.{OriginRead, OriginWrite, SnapRead, SnapWrite}
@@ -34,16 +37,33 @@ saved_at o (v ∷ snaps) (suc j) s all within is =
     rw (ne_eqb v.number s.number (first_differs v s snaps j all (omega (arith, within)) is))
     (saved_at o snaps j s (AllPairs-tail (λ m n. m ≢ n) v.number (map number_of snaps) all) (omega (arith, within)) is)
 
-abbrev pub as_entry : ℕ → Saved → Entry
-as_entry number saved = record { number = number; saved = saved }
+-- what a write of it does that finds its store full
+pub overflow_at : (o : List ℕ) (snaps : List SnapBooks) (j : ℕ) (s : SnapBooks) → AllPairs (λ m n. m ≢ n) (map number_of snaps) → j < length snaps → s ≡ get_or snaps j s → overflow_under s.number (map (entry_of o) snaps) ≡ s.overflow
+overflow_at o [] j s all within is = absurd (omega (arith, within))
+overflow_at o (v ∷ snaps) zero s all within is = rw (eq-eqb v.number s.number (ap number_of (sym is))) (ap (λ (x : SnapBooks). x.overflow) (sym is))
+overflow_at o (v ∷ snaps) (suc j) s all within is =
+    rw (ne_eqb v.number s.number (first_differs v s snaps j all (omega (arith, within)) is))
+    (overflow_at o snaps j s (AllPairs-tail (λ m n. m ≢ n) v.number (map number_of snaps) all) (omega (arith, within)) is)
+
+abbrev pub as_entry : ℕ → Overflowing → Saved → Entry
+as_entry number overflow saved = record { number = number; saved = saved; overflow = overflow }
 
 pub with_saved_at : (o : List ℕ) (snaps : List SnapBooks) (j : ℕ) (s : SnapBooks) (saved : Saved) → AllPairs (λ m n. m ≢ n) (map number_of snaps) → j < length snaps → s ≡ get_or snaps j s
-    → with_saved s.number saved (map (entry_of o) snaps) ≡ set (map (entry_of o) snaps) j (as_entry s.number saved)
+    → with_saved s.number saved (map (entry_of o) snaps) ≡ set (map (entry_of o) snaps) j (as_entry s.number s.overflow saved)
 with_saved_at o [] j s saved all within is = absurd (omega (arith, within))
-with_saved_at o (v ∷ snaps) zero s saved all within is = rw (eq-eqb v.number s.number (ap number_of (sym is))) refl
+with_saved_at o (v ∷ snaps) zero s saved all within is = rw (eq-eqb v.number s.number (ap number_of (sym is))) (ap (λ (x : SnapBooks). as_entry x.number x.overflow saved ∷ map (entry_of o) snaps) (sym is))
 with_saved_at o (v ∷ snaps) (suc j) s saved all within is =
     rw (ne_eqb v.number s.number (first_differs v s snaps j all (omega (arith, within)) is))
     (ap (λ es. entry_of o v ∷ es) (with_saved_at o snaps j s saved (AllPairs-tail (λ m n. m ≢ n) v.number (map number_of snaps) all) (omega (arith, within)) is))
+
+-- its store overflowed
+pub marked_at : (o : List ℕ) (snaps : List SnapBooks) (j : ℕ) (s : SnapBooks) → AllPairs (λ m n. m ≢ n) (map number_of snaps) → j < length snaps → s ≡ get_or snaps j s
+    → marked_in s.number (map (entry_of o) snaps) ≡ set (map (entry_of o) snaps) j (entry_of o (record s { overflow = Did }))
+marked_at o [] j s all within is = absurd (omega (arith, within))
+marked_at o (v ∷ snaps) zero s all within is = rw (eq-eqb v.number s.number (ap number_of (sym is))) (ap (λ (x : SnapBooks). entry_of o (record x { overflow = Did }) ∷ map (entry_of o) snaps) (sym is))
+marked_at o (v ∷ snaps) (suc j) s all within is =
+    rw (ne_eqb v.number s.number (first_differs v s snaps j all (omega (arith, within)) is))
+    (ap (λ es. entry_of o v ∷ es) (marked_at o snaps j s (AllPairs-tail (λ m n. m ≢ n) v.number (map number_of snaps) all) (omega (arith, within)) is))
 
 pub without_saved_at : (o : List ℕ) (snaps : List SnapBooks) (j : ℕ) (s : SnapBooks) → AllPairs (λ m n. m ≢ n) (map number_of snaps) → j < length snaps → s ≡ get_or snaps j s
     → map (entry_of o) (remove snaps j) ≡ without_saved s.number (map (entry_of o) snaps)
@@ -77,6 +97,19 @@ snap_write_is AtOrigin Read n e = cc
 snap_write_is AtOrigin (Write b) n e = cc
 snap_write_is (Snap m) Read n e = cc
 snap_write_is (Snap m) (Write b) n e = let same : m ≡ n = cc in ap Snap same
+
+-- a request that is no write of a snapshot is never shut out, and a write of snapshot s while s did not overflow
+pub origin_open : (dev : Dev) (op : Op) (es : List Entry) → dev ≡ AtOrigin → is_shut dev op es ≡ false
+origin_open dev op es is = ap (λ d. is_shut d op es) is
+
+pub read_open : (dev : Dev) (op : Op) (es : List Entry) (n : ℕ) → kind_at dev op ≡ SnapRead n → is_shut dev op es ≡ false
+read_open dev op es n kind = (let (dev_is, op_is) = snap_read_is dev op n kind in ap (λ d. is_shut d op es) dev_is ∙ ap (λ x. is_shut (Snap n) x es) op_is)
+
+pub write_open : (dev : Dev) (op : Op) (es : List Entry) (n : ℕ) → kind_at dev op ≡ SnapWrite n → did_overflow (overflow_under n es) ≡ false → is_shut dev op es ≡ false
+write_open AtOrigin Read es n kind writable = refl
+write_open AtOrigin (Write b) es n kind writable = refl
+write_open (Snap m) Read es n kind writable = refl
+write_open (Snap m) (Write b) es n kind writable = (let same : m ≡ n = cc in ap (λ x. did_overflow (overflow_under x es)) same ∙ writable)
 
 -- a request that is served as another with its device and operation
 pub serves_as : (old new : Plain) (reply : Reply) (request : Request) (dev : Dev) (op : Op) → request.dev ≡ dev → request.op ≡ op → Serves old dev op request.range reply new → Serves old request.dev request.op request.range reply new

@@ -97,10 +97,10 @@ module _ (number k : ℕ) (r : Flight) (v w : Books) (h : Holds v) (e : OnlyTake
     refused_at dead = found_holds (RefusedHolds s.number) number k r v w e.out (here.spoilt dead).routes
 
     shows_live : s.live ≡ true → saved_under s.number (map (entry_of v.origin) v.snaps) ≡ Some (Live (picture s.chunk v.origin s.store))
-    shows_live live = saved_at v.origin v.snaps j s h.numbers within was ∙ ap (λ b. Some (shown s.number b (picture s.chunk v.origin s.store)).saved) live
+    shows_live live = saved_at v.origin v.snaps j s h.numbers within was ∙ ap (λ b. Some (shown s.number s.overflow b (picture s.chunk v.origin s.store)).saved) live
 
     shows_dead : s.live ≡ false → saved_under s.number (map (entry_of v.origin) v.snaps) ≡ Some Invalid
-    shows_dead dead = saved_at v.origin v.snaps j s h.numbers within was ∙ ap (λ b. Some (shown s.number b (picture s.chunk v.origin s.store)).saved) dead
+    shows_dead dead = saved_at v.origin v.snaps j s h.numbers within was ∙ ap (λ b. Some (shown s.number s.overflow b (picture s.chunk v.origin s.store)).saved) dead
 
     origin_ne_refused : Origin ≢ Refused
     origin_ne_refused c = cc

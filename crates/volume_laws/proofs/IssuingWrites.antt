@@ -48,7 +48,7 @@ disk_write_over o o' rs s first count h e published = record {
 }
 
 pub disk_write_shown : (o o' : List ℕ) (rs : List Flight) (s : SnapBooks) (first count : ℕ) → SnapHolds o rs s → s.loud ≡ true → WritesDisk first count o o' → IsSavedOver first count s → entry_of o' s ≡ entry_of o s
-disk_write_shown o o' rs s first count h loud e published = same_entry o o' s s refl refl (λ live. disk_write_picture o o' rs s (h.alive live) first count e (λ j lt. published j lt live) loud)
+disk_write_shown o o' rs s first count h loud e published = same_entry o o' s s refl refl refl (λ live. disk_write_picture o o' rs s (h.alive live) first count e (λ j lt. published j lt live) loud)
 
 -- and one that lies inside one chunk of it
 pub disk_write_snap : (o o' : List ℕ) (rs : List Flight) (s : SnapBooks) (first count : ℕ) → SnapHolds o rs s → WritesDisk first count o o' → (s.live ≡ true → first + count ≤ s.chunk * (first / s.chunk) + s.chunk) → IsSaved first s → SnapHolds o' rs s
@@ -180,10 +180,11 @@ module _ (number k : ℕ) (r : Flight) (bytes : List ℕ) (j place : ℕ) (s s' 
       (let i = request_is.inside in let f = h.whole in let b = begins in omega (arith, i, f, b))
       ∙ ap (λ x. with_sectors (picture s.chunk v.origin s.store) x bytes) begins
 
-  entry_now : IsLoud v → entry_of v.origin s' ≡ as_entry s.number (Live (with_sectors (picture s.chunk v.origin s.store) r.request.range.first bytes))
-  entry_now loud = ap (λ n. shown n s'.live (picture s'.chunk v.origin s'.store)) e.store.same.number
-      ∙ ap (λ b. shown s.number b (picture s'.chunk v.origin s'.store)) (e.store.same.live ∙ live)
-      ∙ ap (shown s.number true) (array_now loud)
+  entry_now : IsLoud v → entry_of v.origin s' ≡ as_entry s.number s.overflow (Live (with_sectors (picture s.chunk v.origin s.store) r.request.range.first bytes))
+  entry_now loud = ap (λ n. shown n s'.overflow s'.live (picture s'.chunk v.origin s'.store)) e.store.same.number
+      ∙ ap (λ b. shown s.number s'.overflow b (picture s'.chunk v.origin s'.store)) (e.store.same.live ∙ live)
+      ∙ ap (λ x. shown s.number x true (picture s'.chunk v.origin s'.store)) e.store.same.overflow
+      ∙ ap (shown s.number s.overflow true) (array_now loud)
 
   pub snap_write_event : IsReply number IsWritten v w
   snap_write_event = record {
@@ -194,7 +195,7 @@ module _ (number k : ℕ) (r : Flight) (bytes : List ℕ) (j place : ℕ) (s s' 
       gone = gone number k r v w e.out;
       served = serves_as (plain_of v) (plain_of w) IsWritten r.request (Snap s.number) (Write bytes) (snap_write_is r.request.dev r.request.op s.number kind) e.op (
         picture s.chunk v.origin s.store,
-        saved_at v.origin v.snaps j s h.numbers e.within e.was ∙ ap (λ b. Some (shown s.number b (picture s.chunk v.origin s.store)).saved) live,
+        saved_at v.origin v.snaps j s h.numbers e.within e.was ∙ ap (λ b. Some (shown s.number s.overflow b (picture s.chunk v.origin s.store)).saved) live,
         record {
           origin = ap (λ (x : Books). origin_of x.origin x.merge) now_is;
           begun = ap (λ (x : Books). begun_of x.merge) now_is;

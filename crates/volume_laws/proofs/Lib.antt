@@ -21,6 +21,7 @@ pub mod Entries
 pub mod Issuing
 pub mod IssuingWrites
 pub mod Composing
+pub mod Overflowing
 pub mod Submitting
 pub mod Attaching
 pub mod Showing

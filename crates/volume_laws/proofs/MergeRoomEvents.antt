@@ -13,12 +13,13 @@ use Rattle.pending.specs.declared.copies.Mark.{Mark}
 use Rattle.pending.specs.declared.flights.Flight.{Flight}
 use Rattle.volume_laws.specs.Books.{SnapBooks}
 use Rattle.volume_laws.specs.Held.{LiveHolds}
-use Rattle.volume_laws.specs.Steps.{ReadsCopy, WritesCopy, ZeroesArea, Commits, Unmarks, StartsCopy, WritesPlace, SpoilsSnap, TriesMark, CopyGoesOn, mark_of}
+use Rattle.volume_laws.specs.Steps.{ReadsCopy, WritesCopy, ZeroesArea, Commits, Unmarks, StartsCopy, WritesPlace, Overflows, SpoilsSnap, TriesMark, CopyGoesOn, mark_of}
 use Rattle.volume_laws.specs.MergeRooms.{RoomSnap, IsCopyNumbered, IsMarkNumbered, IsMerging, KeepsBack, KeepBack, SameRoom, CommitsRoom, PublishesRoom, is_among, unpublished}
 use Rattle.volume_laws.proofs.Lists.{Any-remove, All-remove, All-from_list_any}
 use Rattle.volume_laws.proofs.Pairs.{some_ne_none}
 use Rattle.volume_laws.proofs.Keeping.{placed_behind, placed_more, named_by, any_set, any_more, any_after, any_split}
 use Rattle.volume_laws.proofs.MergeSaved.{KeepsSaved, copy_read_saved, copy_write_saved, zero_saved, start_saved, commit_saved, unmark_saved, place_saved, dead_saved}
+use Rattle.volume_laws.proofs.Overflowing.{overflow_saved}
 use Rattle.volume_laws.proofs.MergeRooms.{KeepsRoom, room_kept}
 
 -- an event that leaves what is kept back, and each copy and mark with its number
@@ -57,6 +58,11 @@ zero_room a s s' e same = same_room s s' same (zero_saved a s.books s'.books e) 
 
 pub place_room : (c place off : ℕ) (bytes : List ℕ) (s s' : RoomSnap) → WritesPlace c place off bytes s.books s'.books → SameRoom s s' → KeepsRoom s s'
 place_room c place off bytes s s' e same = same_room s s' same (place_saved c place off bytes s.books s'.books e) (same_copies s.books s'.books e.copies) (same_marks s.books s'.books e.pairs e.marks)
+
+-- its store overflowed
+pub overflow_room : (s s' : RoomSnap) → Overflows s.books s'.books → SameRoom s s' → KeepsRoom s s'
+overflow_room s s' e same = same_room s s' same (overflow_saved s.books s'.books e) (same_copies s.books s'.books (ap (λ (x : SnapBooks). x.copies) e.becomes))
+    (same_marks s.books s'.books (ap (λ (x : SnapBooks). x.pairs) e.becomes) (ap (λ (x : SnapBooks). x.marks) e.becomes))
 
 -- a request starts a copy
 pub start_room : (p : ChunkCopy) (s s' : RoomSnap) → StartsCopy p s.books s'.books → SameRoom s s' → KeepsRoom s s'

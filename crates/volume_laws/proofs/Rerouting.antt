@@ -125,6 +125,6 @@ tried_event k s s' v w h e t =
         };
       });
       step = λ _. silent_step (plain_of v) (plain_of w) (one_plain k s s' v w e
-          (ap (λ n. shown n s'.live (picture s'.chunk v.origin s'.store)) t.number ∙ ap (λ b. shown s.number b (picture s'.chunk v.origin s'.store)) t.live
-          ∙ sym (ap (λ b. shown s.number b (picture s.chunk v.origin s.store)) t.was)));
+          (ap (λ n. shown n s'.overflow s'.live (picture s'.chunk v.origin s'.store)) t.number ∙ ap (λ b. shown s.number s'.overflow b (picture s'.chunk v.origin s'.store)) t.live
+          ∙ ap (λ x. shown s.number x false (picture s'.chunk v.origin s'.store)) t.overflow ∙ sym (ap (λ b. shown s.number s.overflow b (picture s.chunk v.origin s.store)) t.was)));
     }

@@ -95,7 +95,8 @@ module _ (k : ℕ) (s s' : SnapBooks) (v w : Books) (h : Holds v) (e : SpoilsOne
       (λ j d lt ne. other_entry j d (omega (arith, length-map v.snaps (entry_of v.origin))) ne))
     where
       spoilt_entry : spoiled_entry which (entry_of v.origin s) ≡ entry_of v.origin s'
-      spoilt_entry = rw (alone_in s.number) (sym (ap (λ b. shown s'.number b (picture s'.chunk v.origin s'.store)) e.spoils.live ∙ ap (λ n. shown n false (picture s'.chunk v.origin s'.store)) e.spoils.number))
+      spoilt_entry = rw (alone_in s.number) (sym (ap (λ b. shown s'.number s'.overflow b (picture s'.chunk v.origin s'.store)) e.spoils.live ∙ ap (λ n. shown n s'.overflow false (picture s'.chunk v.origin s'.store)) e.spoils.number
+          ∙ ap (λ x. shown s.number x false (picture s'.chunk v.origin s'.store)) e.spoils.overflow))
 
       other_entry : (j : ℕ) (d : Entry) → j < length v.snaps → j ≢ k → spoiled_entry which (get_or (map (entry_of v.origin) v.snaps) j d) ≡ get_or (map (entry_of v.origin) v.snaps) j d
       other_entry j d within ne =

@@ -15,7 +15,7 @@ pub start : (o : List ℕ) (rs : List Flight) (p : ChunkCopy) (v w : SnapBooks) 
 start o rs p v w h e =
     let s = e.same in
     let u : SnapBooks = record v { begun = v.begun ++ p.pair ∷ []; copies = v.copies ++ p ∷ [] } in
-    let now : w ≡ u = same_books w u s.number s.live s.untried s.loud s.chunk s.sectors s.size e.store e.pairs e.begun e.copies e.marks in
+    let now : w ≡ u = same_books w u s.number s.live s.untried s.loud s.overflow s.chunk s.sectors s.size e.store e.pairs e.begun e.copies e.marks in
     subst (LiveHolds o rs) (sym now) (record {
       text = e.text;
       stored = h.stored;

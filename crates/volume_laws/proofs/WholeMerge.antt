@@ -250,7 +250,7 @@ begin_event o n l vs k s loud buffer sized louder h within is live none =
       },
       record {
         array = picture s.chunk o s.store;
-        found = saved_at o vs k s h.numbers within is ∙ ap (λ b. Some (shown s.number b (picture s.chunk o s.store)).saved) live;
+        found = saved_at o vs k s h.numbers within is ∙ ap (λ b. Some (shown s.number s.overflow b (picture s.chunk o s.store)).saved) live;
         alone = refl;
         becomes = ap (λ x. plain (picture s.chunk o s.store) (Some s.number) x []) (without_saved_at o vs k s h.numbers within is);
       },

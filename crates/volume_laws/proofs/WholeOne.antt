@@ -7,6 +7,7 @@ use Rattle.std.proofs.lemmas.List.{map-set, length-map, get_or-map}
 use Rattle.std.proofs.lemmas.List.Elements.{All-set}
 use Rattle.std.proofs.Math.Seq.{map-set_same}
 use Rattle.model.specs.Picture.{picture}
+use Rattle.plain.specs.declared.request.Overflowing.{Overflowing}
 use Rattle.plain.specs.Plain.{Plain, Entry, Live, Invalid, spoiled_entry}
 use Rattle.plain.specs.Legal.{Spoils}
 use Rattle.pending.specs.Kinds.{in_flight}
@@ -81,25 +82,25 @@ one_plain k s s' v w e same =
     (map-set (entry_of v.origin) v.snaps k s' ∙ set_same (map (entry_of v.origin) v.snaps) k (entry_of v.origin s') (omega (arith, e.within, length-map v.snaps (entry_of v.origin)))
     (same ∙ ap (entry_of v.origin) e.was ∙ sym (get_or-map (entry_of v.origin) v.snaps k s (entry_of v.origin s') e.within)))
 
-abbrev pub shown : ℕ → Bool → List ℕ → Entry
-shown number live array = record { number = number; saved = if live then Live array else Invalid }
+abbrev pub shown : ℕ → Overflowing → Bool → List ℕ → Entry
+shown number overflow live array = record { number = number; saved = if live then Live array else Invalid; overflow = overflow }
 
-entry_as : (b : Bool) (number : ℕ) (a a' : List ℕ) → (b ≡ true → a' ≡ a) → shown number b a' ≡ shown number b a
-entry_as true number a a' same = ap (shown number true) (same refl)
-entry_as false number a a' same = refl
+entry_as : (b : Bool) (number : ℕ) (overflow : Overflowing) (a a' : List ℕ) → (b ≡ true → a' ≡ a) → shown number overflow b a' ≡ shown number overflow b a
+entry_as true number overflow a a' same = ap (shown number overflow true) (same refl)
+entry_as false number overflow a a' same = refl
 
 -- a snapshot shows the same where its picture is the same
-pub same_entry : (o o' : List ℕ) (s s' : SnapBooks) → s'.number ≡ s.number → s'.live ≡ s.live → (s.live ≡ true → picture s'.chunk o' s'.store ≡ picture s.chunk o s.store) → entry_of o' s' ≡ entry_of o s
-same_entry o o' s s' number live same =
-    ap (λ n. shown n s'.live (picture s'.chunk o' s'.store)) number ∙ ap (λ b. shown s.number b (picture s'.chunk o' s'.store)) live
-    ∙ entry_as s.live s.number (picture s.chunk o s.store) (picture s'.chunk o' s'.store) same
+pub same_entry : (o o' : List ℕ) (s s' : SnapBooks) → s'.number ≡ s.number → s'.live ≡ s.live → s'.overflow ≡ s.overflow → (s.live ≡ true → picture s'.chunk o' s'.store ≡ picture s.chunk o s.store) → entry_of o' s' ≡ entry_of o s
+same_entry o o' s s' number live overflow same =
+    ap (λ n. shown n s'.overflow s'.live (picture s'.chunk o' s'.store)) number ∙ ap (λ b. shown s.number s'.overflow b (picture s'.chunk o' s'.store)) live
+    ∙ ap (λ x. shown s.number x s.live (picture s'.chunk o' s'.store)) overflow ∙ entry_as s.live s.number s.overflow (picture s.chunk o s.store) (picture s'.chunk o' s'.store) same
 
 -- a live snapshot stays live, and shows the same
 pub one_silent : (k : ℕ) (s s' : SnapBooks) (v w : Books) → Holds v → ChangesSnap k s s' v w → IsSame s s' → s.live ≡ true → LiveHolds v.origin v.requests s'
     → (s.loud ≡ true → picture s'.chunk v.origin s'.store ≡ picture s.chunk v.origin s.store) → IsSilent v w
 one_silent k s s' v w h e same live one shows = record {
   holds = one_holds k s s' v w h e same.number (live_snap v.origin v.requests s' (same.live ∙ live) one);
-  step = λ loud. silent_step (plain_of v) (plain_of w) (one_plain k s s' v w e (same_entry v.origin v.origin s s' same.number same.live (λ _. shows (snap_loud v k s loud e.within e.was))));
+  step = λ loud. silent_step (plain_of v) (plain_of w) (one_plain k s s' v w e (same_entry v.origin v.origin s s' same.number same.live same.overflow (λ _. shows (snap_loud v k s loud e.within e.was))));
 }
 
 -- the array over an unchanged store

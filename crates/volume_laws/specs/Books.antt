@@ -2,17 +2,19 @@
 -- What a volume keeps, as plain records: the bytes of its devices, and what it has in memory. This project's own.
 use Rattle.std.specs.Prelude.{ℕ, Bool, List, [], ◌++◌, Option, Some, None}
 use Rattle.sector.specs.declared.pair.Pair.{Pair}
+use Rattle.plain.specs.declared.request.Overflowing.{Overflowing}
 use Rattle.pending.specs.declared.copies.ChunkCopy.{ChunkCopy}
 use Rattle.pending.specs.declared.copies.Mark.{Mark}
 use Rattle.pending.specs.declared.flights.Flight.{Flight}
 
 -- A snapshot that is not being merged. `loud`: a write to its store that answers Ok is done. `untried`: it is spoiled, and
--- its store's header was not yet marked invalid.
+-- its store's header was not yet marked invalid. `overflow`: what a write of it does that finds its store full.
 pub record SnapBooks : Type 0 where
   pub number : ℕ
   pub live : Bool
   pub untried : Bool
   pub loud : Bool
+  pub overflow : Overflowing
   -- sectors of a chunk, of the origin, and of the store
   pub chunk : ℕ
   pub sectors : ℕ

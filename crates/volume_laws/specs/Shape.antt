@@ -2,12 +2,15 @@
 -- What callers see of a volume: its devices, each snapshot's state, and the requests in flight.
 use Rattle.std.specs.Prelude.{ℕ, Bool, List, Option, Some, None, map, if◌then◌else◌}
 use Rattle.model.specs.Picture.{picture}
+use Rattle.plain.specs.declared.request.Overflowing.{Overflowing}
 use Rattle.plain.specs.Plain.{Plain, Entry, Live, Invalid, InFlight}
 
--- a snapshot: its number, whether it is live, the sectors of its chunks, and its store's device
+-- a snapshot: its number, whether it is live, what a write of it does that finds its store full, the sectors of its chunks,
+-- and its store's device
 pub record SnapShape (B : Type 0) : Type 0 where
   pub number : ℕ
   pub live : Bool
+  pub overflow : Overflowing
   pub chunk : ℕ
   pub store : B
 
@@ -32,7 +35,7 @@ shown_begun None = None
 shown_begun (Some m) = Some m.number
 
 abbrev pub shown_entry : {B : Type 0} → (B → List ℕ) → List ℕ → SnapShape B → Entry
-shown_entry contents origin s = record { number = s.number; saved = if s.live then Live (picture s.chunk origin (contents s.store)) else Invalid }
+shown_entry contents origin s = record { number = s.number; saved = if s.live then Live (picture s.chunk origin (contents s.store)) else Invalid; overflow = s.overflow }
 
 -- the plain machine that the devices' own bytes stand for
 abbrev pub plain_shown : {B : Type 0} → (B → List ℕ) → Shape B → Plain

@@ -8,6 +8,8 @@ use Rattle.model.specs.Pairs.{pairs_of}
 use Rattle.pending.specs.Copies.{count_of}
 use Rattle.pending.specs.Routes.{refused_of}
 use Rattle.plain.specs.declared.request.Op.TheVariants.{Write}
+use Rattle.plain.specs.declared.request.Overflowing.TheVariants.{May, Did}
+use Rattle.plain.specs.Plain.{did_overflow}
 use Rattle.pending.specs.declared.copies.ChunkCopy.{ChunkCopy}
 use Rattle.pending.specs.declared.copies.Mark.{Mark}
 use Rattle.pending.specs.declared.copies.Stage.TheVariants.{Waiting, Read, Written}
@@ -23,6 +25,7 @@ pub record IsSame (v w : SnapBooks) : Type 0 where
   pub live : w.live ≡ v.live
   pub untried : w.untried ≡ v.untried
   pub loud : w.loud ≡ v.loud
+  pub overflow : w.overflow ≡ v.overflow
   pub chunk : w.chunk ≡ v.chunk
   pub sectors : w.sectors ≡ v.sectors
   pub size : w.size ≡ v.size
@@ -125,6 +128,7 @@ pub record SpoilsSnap (v w : SnapBooks) : Type 0 where
   pub number : w.number ≡ v.number
   pub was : v.live ≡ true
   pub live : w.live ≡ false
+  pub overflow : w.overflow ≡ v.overflow
   pub chunk : w.chunk ≡ v.chunk
   pub pairs : w.pairs ≡ v.pairs
   pub copies : w.copies ≡ []
@@ -135,9 +139,16 @@ pub record TriesMark (v w : SnapBooks) : Type 0 where
   pub number : w.number ≡ v.number
   pub was : v.live ≡ false
   pub live : w.live ≡ false
+  pub overflow : w.overflow ≡ v.overflow
   pub tried : w.untried ≡ false
   pub copies : w.copies ≡ v.copies
   pub marks : w.marks ≡ v.marks
+
+-- a write finds the full store of a live snapshot that may overflow: that it did is all that changes
+pub record Overflows (v w : SnapBooks) : Type 0 where
+  pub was : v.live ≡ true
+  pub may : v.overflow ≡ May
+  pub becomes : w ≡ record v { overflow = Did }
 
 -- a write of `count` sectors of the origin disk, from sector `first` on
 pub record WritesDisk (first count : ℕ) (old new : List ℕ) : Type 0 where
@@ -219,9 +230,10 @@ abbrev pub FitsMerge : Flight → Option MergeBooks → Type 0
 FitsMerge f None = UnmergedHolds f
 FitsMerge f (Some m) = MergeRouteHolds m.number m.chunk m.pairs (listed m) (taken m) f
 
--- a new snapshot over an origin disk: live, with the pairs that its store holds
+-- a new snapshot over an origin disk: live, not overflowed, with the pairs that its store holds
 pub record IsNewSnap (origin : List ℕ) (s : SnapBooks) : Type 0 where
   pub live : s.live ≡ true
+  pub strict : did_overflow s.overflow ≡ false
   pub tried : s.untried ≡ false
   pub begun : s.begun ≡ []
   pub copies : s.copies ≡ []

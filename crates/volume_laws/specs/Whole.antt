@@ -20,9 +20,9 @@ abbrev pub begun_of : Option MergeBooks → Option ℕ
 begun_of None = None
 begun_of (Some m) = Some m.number
 
--- a snapshot's array: its picture
+-- a snapshot's array: its picture; and what a write of it does that finds its store full
 abbrev pub entry_of : List ℕ → SnapBooks → Entry
-entry_of origin v = record { number = v.number; saved = if v.live then Live (picture v.chunk origin v.store) else Invalid }
+entry_of origin v = record { number = v.number; saved = if v.live then Live (picture v.chunk origin v.store) else Invalid; overflow = v.overflow }
 
 abbrev pub plain_of : Books → Plain
 plain_of v = record {

@@ -8,7 +8,7 @@ use Rattle.devices.proofs.attaching.meet.Goals as goal
 pub returns-in-Ok : goal.returns-in-Ok
 returns-in-Ok c = record {
   done = λ sound.
-      met_ok c.args.name c.args.chunk c.args.i c.args.v (table_of c.args.held.now) c.remove-stack.result c.index_mut.result.now c.attach.new.self c.remove-stack.new.self.items
+      met_ok c.args.name c.args.chunk c.args.overflow c.args.i c.args.v (table_of c.args.held.now) c.remove-stack.result c.index_mut.result.now c.attach.new.self c.remove-stack.new.self.items
       c.requires.stack c.remove-stack.ensures.value c.requires.volume c.index_mut.ensures.value c.remove-stack.ensures.items
       (let h = both_here (table_of c.args.held.now) c.args.v c.args.i c.index_mut.result.now c.remove-stack.result sound c.requires.volume c.index_mut.ensures.value c.requires.stack c.remove-stack.ensures.value in
       c.in-Ok.ensures.ok h.0 h.1 h.2);
@@ -16,14 +16,14 @@ returns-in-Ok c = record {
       busy_ok c.args.i c.args.v (table_of c.args.held.now) _ c.remove-stack.result c.index_mut.result.now
       c.requires.stack c.remove-stack.ensures.value c.requires.volume c.index_mut.ensures.value c.in-Ok.ensures.still;
   named = λ none room named.
-      attached_named (table_of c.args.held.now) c.args.name c.args.i c.args.v c.remove-stack.result c.index_mut.result.now c.attach.new.self c.remove-stack.new.self.items
+      attached_named (table_of c.args.held.now) c.args.name c.args.overflow c.args.i c.args.v c.remove-stack.result c.index_mut.result.now c.attach.new.self c.remove-stack.new.self.items
       none room c.requires.stack c.remove-stack.ensures.value c.requires.volume c.index_mut.ensures.value c.remove-stack.ensures.items c.in-Ok.ensures.named named;
 }
 
 pub returns-in-Err : goal.returns-in-Err
 returns-in-Err c = record {
   done = λ sound.
-      met_err c.args.name c.args.chunk c.args.i c.args.v (table_of c.args.held.now) c.remove-stack.result c.in-Err.stack c.index_mut.result.now _ _ c.in-Err.refusal
+      met_err c.args.name c.args.chunk c.args.overflow c.args.i c.args.v (table_of c.args.held.now) c.remove-stack.result c.in-Err.stack c.index_mut.result.now _ _ c.in-Err.refusal
       c.requires.stack c.remove-stack.ensures.value c.requires.volume c.index_mut.ensures.value
       (placed c.args.held.now.stacks.items c.remove-stack.new.self.items c.put_stack_back.new.stacks.items c.args.i c.in-Err.stack c.requires.stack c.remove-stack.ensures.items c.put_stack_back.ensures)
       (put_back c.args.held.now.volumes.items c.args.v c.index_mut.result.now c.attach.new.self c.index_mut.ensures.value c.in-Err.ensures.same)

@@ -6,7 +6,7 @@ pub returns-then-not-is_live : goal.returns-then-not-is_live
 returns-then-not-is_live g c = λ loud d.
     let s = c.snap-snap.result.now in
     let spoilt : s.live ≡ false = first_of (search rules, grind (arith, not_live), search (rules, not_live)) in
-    spoilt_here g.B.Block.contents g.B.Block.layers c.args.volume.now c.args.k s c.requires (c.snap-snap.ensures.value s) c.number-number.result (sym c.number-number.ensures) spoilt d
+    rw c.overflow-overflow.ensures (spoilt_here g.B.Block.contents g.B.Block.layers c.args.volume.now c.args.k s c.requires (c.snap-snap.ensures.value s) c.number-number.result (sym c.number-number.ensures) spoilt d)
 
 pub whole-requires : goal.whole-requires
 whole-requires g c =
@@ -18,4 +18,4 @@ pub returns : goal.returns
 returns g c = λ loud d.
     let s = c.snap-snap.result.now in
     let live : s.live ≡ true = first_of (search rules, grind (arith, is_live_too), search (rules, is_live_too)) in
-    live_here g.B.Block.contents g.B.Block.layers c.args.volume.now c.args.k s c.requires (c.snap-snap.ensures.value s) live c.number-number.result (sym c.number-number.ensures) c.snap-snap.ensures.first c.in_ok-array.array (c.in_ok-array.ensures loud) d
+    rw c.overflow-overflow.ensures (live_here g.B.Block.contents g.B.Block.layers c.args.volume.now c.args.k s c.requires (c.snap-snap.ensures.value s) live c.number-number.result (sym c.number-number.ensures) c.snap-snap.ensures.first c.in_ok-array.array (c.in_ok-array.ensures loud) d)

@@ -1,13 +1,12 @@
 -- The place is that of a snapshot.
 use Rattle.std.proofs.Common.{sym, ◌∙◌, arith}
-use Rattle.post.proofs.Shown.{live_shown, shown_at, spoiled_shown}
+use Rattle.post.proofs.Shown.{shown_at, spoiled_shown}
 use Rattle.post.proofs.usages.snap_usage.Goals as goal
 
 pub returns-then-is_live-clause-is : goal.returns-then-is_live-clause-is
 returns-then-is_live-clause-is g c =
     let s = c.snap-snap.result.now in
-    c.in_use.ensures.is
-    ∙ live_shown s c.usage.result (sym c.if-is_live.true ∙ c.is_live.ensures) c.usage.ensures.allocated c.usage.ensures.total c.usage.ensures.metadata
+    c.live_usage.ensures.is
     ∙ shown_at c.args.volume.now.snaps c.args.k s (omega (arith, c.if-k-len.false, c.len.ensures.len)) (c.snap-snap.ensures.value s)
 
 pub returns-else-is_live-clause-is : goal.returns-else-is_live-clause-is

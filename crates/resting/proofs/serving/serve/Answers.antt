@@ -1,7 +1,6 @@
 -- The piece was answered, or starved.
 use Rattle.std.proofs.Common.{Some, ◌∙◌}
 use Rattle.plain.specs.declared.request.Reply.TheVariants.{Refused}
-use Rattle.plain.specs.declared.request.Failure.TheVariants.{Invalid}
 use Rattle.resting.proofs.Settled.{keeps_more}
 use Rattle.resting.proofs.Seen.{devices_kept, piece_kept}
 use Rattle.resting.proofs.Refusing.{room_quiet}
@@ -29,24 +28,24 @@ returns-in-Err-clause-starved g c =
 pub returns-in-Err-clause-piece : goal.returns-in-Err-clause-piece
 returns-in-Err-clause-piece g c = piece_kept g.B.Block.size c.args.volume.now c.enter.new.volume c.in-Err.ensures.kept
 
-pub returns-clause-kept : goal.returns-clause-kept
-returns-clause-kept g c =
+pub returns-in-Ok-clause-kept : goal.returns-in-Ok-clause-kept
+returns-in-Ok-clause-kept g c =
     devices_kept g.B.Block.size g.B.Block.layers c.args.volume.now c.settle.new.volume
     (keeps_more g.B.Block.size c.args.volume.now c.enter.new.volume c.settle.new.volume c.in-Ok.ensures.kept c.settle.ensures.kept) (c.settle.ensures.run.loud ∙ c.in-Ok.ensures.loud)
 
-pub returns-clause-between : goal.returns-clause-between
-returns-clause-between g c = between_after g.B.Block.contents g.B.Block.layers g.B.Block.size c.args.volume.now c.settle.new.volume c.requires.between c.settle.ensures.quiet (returns-clause-kept g c)
+pub returns-in-Ok-clause-between : goal.returns-in-Ok-clause-between
+returns-in-Ok-clause-between g c = between_after g.B.Block.contents g.B.Block.layers g.B.Block.size c.args.volume.now c.settle.new.volume c.requires.between c.settle.ensures.quiet (returns-in-Ok-clause-kept g c)
 
-pub returns-clause-settled : goal.returns-clause-settled
-returns-clause-settled g c = settles_again g.B.Block.contents g.B.Block.layers g.B.Block.size c.args.volume.now c.settle.new.volume c.settle.ensures.quiet (returns-clause-kept g c)
+pub returns-in-Ok-clause-settled : goal.returns-in-Ok-clause-settled
+returns-in-Ok-clause-settled g c = settles_again g.B.Block.contents g.B.Block.layers g.B.Block.size c.args.volume.now c.settle.new.volume c.settle.ensures.quiet (returns-in-Ok-clause-kept g c)
 
-pub returns-clause-piece : goal.returns-clause-piece
-returns-clause-piece g c = piece_kept g.B.Block.size c.args.volume.now c.settle.new.volume (keeps_more g.B.Block.size c.args.volume.now c.enter.new.volume c.settle.new.volume c.in-Ok.ensures.kept c.settle.ensures.kept)
+pub returns-in-Ok-clause-piece : goal.returns-in-Ok-clause-piece
+returns-in-Ok-clause-piece g c = piece_kept g.B.Block.size c.args.volume.now c.settle.new.volume (keeps_more g.B.Block.size c.args.volume.now c.enter.new.volume c.settle.new.volume c.in-Ok.ensures.kept c.settle.ensures.kept)
 
-pub returns-clause-answer : goal.returns-clause-answer
-returns-clause-answer g c = λ settled.
+pub returns-in-Ok-clause-answer : goal.returns-in-Ok-clause-answer
+returns-in-Ok-clause-answer g c = λ settled.
     let ok = c.in-Ok.ensures.ok in
     let loud = loud_in_all g.B.Block.contents g.B.Block.layers g.B.Block.size c.args.volume.now settled in
     let quiet = c.is_quiet.ensures.value ∙ c.requires.between.quiet in
-    served_did g.B.Block.contents g.B.Block.layers g.B.Block.size c.args.request ok.0 (Refused Invalid) c.settle.result c.args.volume.now c.enter.new.volume c.settle.new.volume c.requires.can
+    served_did g.B.Block.contents g.B.Block.layers g.B.Block.size c.args.request ok.0 (Refused c.in-Ok.failure) c.settle.result c.args.volume.now c.enter.new.volume c.settle.new.volume c.requires.can
     (c.is_quiet.ensures.between quiet loud) (c.is_quiet.ensures.under quiet loud) ok.1 (c.settle.ensures.run.reaches (c.in-Ok.ensures.loud ∙ loud)) (c.settle.ensures.none (Some c.settle.result))

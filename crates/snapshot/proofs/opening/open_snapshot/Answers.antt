@@ -27,7 +27,7 @@ pub returns-in-Ok-prepare_all-clause-opened : goal.returns-in-Ok-prepare_all-cla
 returns-in-Ok-prepare_all-clause-opened g c =
     let e = c.in-Ok-prepare_all.ensures in
     let given = c.prepare_all.new.store.given in
-    opened_is g.B.Block.contents g.B.Block.layers c.args.number c.args.chunk c.args.sectors (g.B.Block.size c.args.store.device) c.args.store.device c.prepare_all.new.store.device c.in-Ok.store.state c.prepare_all.new.store.state
+    opened_is g.B.Block.contents g.B.Block.layers c.args.number c.args.chunk c.args.sectors (g.B.Block.size c.args.store.device) c.args.overflow c.args.store.device c.prepare_all.new.store.device c.in-Ok.store.state c.prepare_all.new.store.state
     c.prepare_all.new.store.places.next (committed c.prepare_all.new.store.exceptions) c.over.result c.over.ensures.fields e.state
     (subst (λ (ps : List Pair). IsOpenedAs c.args.chunk c.args.sectors (g.B.Block.size c.args.store.device) (g.B.Block.contents c.args.store.device) c.in-Ok.store.state ps) (sym (ap committed e.exceptions)) c.in-Ok.ensures.opened)
     (subst (λ (ps : List Pair). IsNextPlace c.prepare_all.new.store.state.chunk (map new_of ps) c.prepare_all.new.store.places.next)

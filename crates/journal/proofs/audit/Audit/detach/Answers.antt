@@ -1,6 +1,6 @@
 use Rattle.std.proofs.Common.{sym, ap, ◌∙◌, arith, map}
 use Rattle.std.proofs.lemmas.Bool.{ltb-false}
-use Rattle.journal.specs.Noted.{live_count}
+use Rattle.journal.proofs.Mays.{kept_same}
 use Rattle.pending.specs.Kinds.{in_flight}
 use Rattle.volume.specs.Volumed.{Volumed}
 use Rattle.journal.specs.declared.entry.Entry.TheVariants.{Detached}
@@ -10,11 +10,11 @@ use Rattle.journal.proofs.audit.Audit.detach.Goals as goal
 
 pub invariant_of-self : goal.invariant_of-self
 invariant_of-self g c =
-    rw (c.push_reserved.ensures.items, c.remove.ensures.items)
+    rw (c.push_reserved.ensures.items, c.remove.ensures.items, c.remove-in-Ok.ensures.items)
     (record {
       audit = detached_keeps g.B.Block.contents g.B.Block.layers c.args.number c.self.inside.volume c.detach.new.self _ _ _ c.self.inside.loud _ _ c.self.invariant.audit
-          (omega (arith, ltb-false 65_536 _ (sym c.is_full.ensures ∙ c.if-is_full.false), c.len.ensures, c.len-2.ensures, ap live_count c.as_slice.ensures.value)) c.push_reserved.ensures.capacity c.in-Some.place (sym c.place_in-place.ensures ∙ c.in-Some.is)
+          (omega (arith, ltb-false 65_536 _ (sym c.is_full.ensures ∙ c.if-is_full.false), c.len.ensures, c.len-2.ensures, kept_same _ _ _ _ c.as_slice.ensures.value c.as_slice-2.ensures.value)) c.push_reserved.ensures.capacity c.in-Some.place (sym c.place_in-place.ensures ∙ c.in-Some.is)
           c.in-Ok.ensures.loud c.in-Ok.store c.in-Ok.ensures.taken c.in-Ok.ensures.plain;
       bounded = entry_bounds _ _ c.self.inside.loud _ _ _ _ c.self.invariant.bounded (ap (λ (x : Volumed _). x.requests) c.in-Ok.ensures.taken.becomes) (λ on. on)
-          (long_kept g.B.Block.contents g.B.Block.layers g.B.Block.size g.met.B.Block.whole c.self.inside.volume c.detach.new.self (ap (λ (x : Volumed _). g.B.Block.size x.origin) c.in-Ok.ensures.taken.becomes)) (ap (λ (x : Volumed _). map in_flight x.flights) c.in-Ok.ensures.taken.becomes) (Detached c.args.number) _ _ tt;
+          (long_kept g.B.Block.contents g.B.Block.layers g.B.Block.size g.met.B.Block.whole c.self.inside.volume c.detach.new.self (ap (λ (x : Volumed _). g.B.Block.size x.origin) c.in-Ok.ensures.taken.becomes)) (ap (λ (x : Volumed _). map in_flight x.flights) c.in-Ok.ensures.taken.becomes) (Detached c.args.number) _ _ _ tt;
     })

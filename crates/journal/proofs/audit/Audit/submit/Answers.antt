@@ -1,13 +1,14 @@
-use Rattle.std.proofs.Common.{refl, sym, ap, ◌∙◌, arith, map}
-use Rattle.std.proofs.lemmas.Bool.{ltb-false}
+use Rattle.std.proofs.Common.{length, refl, sym, ap, ◌∙◌, arith, map}
+use Rattle.std.proofs.lemmas.Bool.{MatchBool-at_false, MatchBool-at_true, ltb-false}
 use Rattle.pending.specs.Kinds.{room_of}
 use Rattle.volume.specs.Volumed.{plain_of}
 use Rattle.journal.specs.Books.{AuditShape}
-use Rattle.journal.specs.Noted.{live_count}
+use Rattle.journal.proofs.Mays.{kept_same}
 use Rattle.journal.specs.Seats.{seated}
 use Rattle.volume.proofs.Declines.{refused_declined, refused_loud}
 use Rattle.journal.proofs.Bounds.{admitted_asked, long_kept, refused_given, spoilt_bounds, submitted_bounds}
 use Rattle.journal.proofs.Keeping.{submitted_keeps, spoilt_keeps, declined_spoils}
+use Rattle.journal.proofs.Marks.{mark_noted, marked_bounds, marked_keeps, none_noted}
 use Rattle.journal.proofs.Receipts.{saved_count, saved_same, snaps_same, noted_all, only_spoils, refused_requests}
 use Rattle.journal.proofs.audit.Audit.submit.Goals as goal
 
@@ -19,6 +20,10 @@ pub note_spoils-requires-in-Err-clause-lives : goal.note_spoils-requires-in-Err-
 note_spoils-requires-in-Err-clause-lives g c =
     c.self.invariant.audit.counted.lives ∙ saved_count g.B.Block.contents g.B.Block.layers c.self.inside.volume ∙ sym (snaps_same c.self.inside.volume c.submit.new.self c.in-Err.ensures.kept.numbers)
 
+pub note_mark-requires-clause-lives : goal.note_mark-requires-clause-lives
+note_mark-requires-clause-lives g c =
+    ap length c.as_slice-lives.ensures.value ∙ c.self.invariant.audit.counted.lives ∙ saved_count g.B.Block.contents g.B.Block.layers c.self.inside.volume ∙ sym (snaps_same c.self.inside.volume c.submit.new.self c.in-Err.ensures.kept.numbers)
+
 pub invariant_of-self-in-Ok-submit : goal.invariant_of-self-in-Ok-submit
 invariant_of-self-in-Ok-submit g c =
     let ok = c.in-Ok-submit.ensures.ok in
@@ -29,7 +34,7 @@ invariant_of-self-in-Ok-submit g c =
           ok.loud (saved_same g.B.Block.contents g.B.Block.layers c.self.inside.volume c.submit.new.self c.in-Ok-submit.ensures.kept.numbers) ok.flown (λ loud. (_, ok.legal loud))
           (noted_all g.B.Block.contents g.B.Block.layers c.submit.new.self _ _ _ _ c.note_spoils.ensures.noted) c.note_spoils.ensures.capacity
           (record { same = held.2 ∙ sym held.1; entry_room = held.3 ∙ ap room_of (sym held.1); receipt_room = held.4 ∙ ap room_of (sym held.1); seat = omega (arith, held.0, c.requires.seat) }) refl held.1
-          (omega (arith, ltb-false 65_536 _ (sym c.is_full.ensures ∙ c.if-is_full.false), c.len.ensures, c.len-2.ensures, ap live_count c.as_slice.ensures.value));
+          (omega (arith, ltb-false 65_536 _ (sym c.is_full.ensures ∙ c.if-is_full.false), c.len.ensures, c.len-2.ensures, kept_same _ _ _ _ c.as_slice.ensures.value c.as_slice-2.ensures.value));
       bounded = submitted_bounds _ _ c.self.inside.loud _ _ _ _ c.in-Ok-submit.number c.args.request c.note_spoils.ensures.noted.which _ _ _ c.self.invariant.bounded ok.given ok.next
           (long_kept g.B.Block.contents g.B.Block.layers g.B.Block.size g.met.B.Block.whole c.self.inside.volume c.submit.new.self (ap g.B.Block.size ok.origin)) ok.flown (admitted_asked g.B.Block.contents g.B.Block.layers g.B.Block.size g.met.B.Block.whole c.args.request c.self.inside.volume c.in-Ok-submit.ensures.admitted c.requires.bytes) c.note_spoils.ensures.noted.entries_are;
     })
@@ -37,27 +42,56 @@ invariant_of-self-in-Ok-submit g c =
 pub invariant_of-self-in-Err-submit : goal.invariant_of-self-in-Err-submit
 invariant_of-self-in-Err-submit g c =
     let refused = c.in-Err.ensures.refused in
+    let other = MatchBool-at_false _ _ c.if-is_overflow.false c.is_overflow.ensures in
     rw c.reserve.ensures.items
     (record {
       audit = spoilt_keeps _ _ c.self.inside.loud (plain_of g.B.Block.contents g.B.Block.layers c.self.inside.volume) (plain_of g.B.Block.contents g.B.Block.layers c.submit.new.self) _ _ _ _ c.self.invariant.audit
           (refused_loud g.B.Block.contents g.B.Block.layers g.B.Block.size c.self.inside.volume c.submit.new.self c.args.request c.in-Err.refusal refused)
           (refused_requests g.B.Block.contents g.B.Block.layers g.B.Block.size c.args.request c.in-Err.refusal c.self.inside.volume c.submit.new.self refused)
           (saved_same g.B.Block.contents g.B.Block.layers c.self.inside.volume c.submit.new.self c.in-Err.ensures.kept.numbers)
-          (λ loud. declined_spoils c.args.request c.in-Err.refusal _ _ (refused_declined g.B.Block.contents g.B.Block.layers g.B.Block.size c.self.inside.volume c.submit.new.self c.args.request c.in-Err.refusal refused loud))
+          (λ loud. declined_spoils c.args.request c.in-Err.refusal _ _ other (refused_declined g.B.Block.contents g.B.Block.layers g.B.Block.size c.self.inside.volume c.submit.new.self c.args.request c.in-Err.refusal refused loud))
           (noted_all g.B.Block.contents g.B.Block.layers c.submit.new.self _ _ _ _ c.note_spoils-in-Err.ensures.noted) c.note_spoils-in-Err.ensures.capacity;
       bounded = spoilt_bounds _ _ c.self.inside.loud _ _ _ _ c.self.invariant.bounded (refused_given g.B.Block.contents g.B.Block.layers g.B.Block.size c.args.request c.in-Err.refusal _ _ refused) (λ on. on)
           (long_kept g.B.Block.contents g.B.Block.layers g.B.Block.size g.met.B.Block.whole c.self.inside.volume c.submit.new.self (ap g.B.Block.size c.in-Err.ensures.untouched.origin)) (refused_requests g.B.Block.contents g.B.Block.layers g.B.Block.size c.args.request c.in-Err.refusal c.self.inside.volume c.submit.new.self refused) c.note_spoils-in-Err.ensures.noted.which _ _ _ c.note_spoils-in-Err.ensures.noted.entries_are;
     })
 
-pub returns-in-Err-clause-starved : goal.returns-in-Err-clause-starved
-returns-in-Err-clause-starved g c = λ other replied. rw (← c.self.view_is) (c.in-Err.ensures.starved other replied)
+pub invariant_of-self-then-is_overflow : goal.invariant_of-self-then-is_overflow
+invariant_of-self-then-is_overflow g c =
+    let refused = c.in-Err.ensures.refused in
+    let overflow = MatchBool-at_true _ _ c.if-is_overflow.true c.is_overflow.ensures in
+    let held = c.in-Ok-hold.ensures in
+    let requests = refused_requests g.B.Block.contents g.B.Block.layers g.B.Block.size c.args.request c.in-Err.refusal c.self.inside.volume c.submit.new.self refused in
+    let noted = rw (c.as_slice-lives.ensures.value, held.1) at c.note_mark.ensures.noted in
+    rw c.reserve.ensures.items
+    (record {
+      audit = marked_keeps _ _ c.self.inside.loud (plain_of g.B.Block.contents g.B.Block.layers c.self.inside.volume) (plain_of g.B.Block.contents g.B.Block.layers c.submit.new.self) _ c.self.invariant.audit
+          (refused_loud g.B.Block.contents g.B.Block.layers g.B.Block.size c.self.inside.volume c.submit.new.self c.args.request c.in-Err.refusal refused) requests
+          (saved_same g.B.Block.contents g.B.Block.layers c.self.inside.volume c.submit.new.self c.in-Err.ensures.kept.numbers) c.args.request c.in-Err.refusal _ _ _ overflow
+          (λ loud. refused_declined g.B.Block.contents g.B.Block.layers g.B.Block.size c.self.inside.volume c.submit.new.self c.args.request c.in-Err.refusal refused loud) c.note_mark.ensures.capacity noted;
+      bounded = marked_bounds _ _ c.self.inside.loud _ _ _ c.args.request.dev (plain_of g.B.Block.contents g.B.Block.layers c.submit.new.self).saved _ _ _ c.self.invariant.bounded (refused_given g.B.Block.contents g.B.Block.layers g.B.Block.size c.args.request c.in-Err.refusal _ _ refused)
+          (long_kept g.B.Block.contents g.B.Block.layers g.B.Block.size g.met.B.Block.whole c.self.inside.volume c.submit.new.self (ap g.B.Block.size c.in-Err.ensures.untouched.origin)) requests noted;
+    })
 
-pub returns-in-Err-clause-loud : goal.returns-in-Err-clause-loud
-returns-in-Err-clause-loud g c =
+pub returns-else-is_overflow-clause-starved : goal.returns-else-is_overflow-clause-starved
+returns-else-is_overflow-clause-starved g c = λ other apart replied. rw (← c.self.view_is) (c.in-Err.ensures.starved other apart replied)
+
+pub returns-else-is_overflow-clause-declined : goal.returns-else-is_overflow-clause-declined
+returns-else-is_overflow-clause-declined g c = λ failure is apart number replied. rw (← c.self.view_is) (c.in-Err.ensures.declined failure is apart number replied)
+
+pub returns-then-is_overflow-clause-declined : goal.returns-then-is_overflow-clause-declined
+returns-then-is_overflow-clause-declined g c = λ failure is apart number replied. rw (← c.self.view_is) (c.in-Err.ensures.declined failure is apart number replied)
+
+pub returns-else-is_overflow-clause-loud : goal.returns-else-is_overflow-clause-loud
+returns-else-is_overflow-clause-loud g c =
     rw (← c.self.view_is) (refused_loud g.B.Block.contents g.B.Block.layers g.B.Block.size c.self.inside.volume c.submit.new.self c.args.request c.in-Err.refusal c.in-Err.ensures.refused)
 
-pub returns-in-Err-clause-spoils : goal.returns-in-Err-clause-spoils
-returns-in-Err-clause-spoils g c = (
-  only_spoils _ _ _ _ _ _ _ _ c.note_spoils-in-Err.ensures.noted (ap (λ (a : AuditShape _). a.entries) c.self.view_is) refl,
-  ap (map seated) c.reserve.ensures.items ∙ ap (λ (a : AuditShape _). a.held) c.self.view_is,
-)
+pub returns-else-is_overflow-clause-noted : goal.returns-else-is_overflow-clause-noted
+returns-else-is_overflow-clause-noted g c =
+    none_noted c.args.request c.in-Err.refusal _ _ (ap (map seated) c.reserve.ensures.items ∙ ap (λ (a : AuditShape _). a.held) c.self.view_is)
+    (only_spoils _ _ _ _ _ _ _ _ c.note_spoils-in-Err.ensures.noted (ap (λ (a : AuditShape _). a.entries) c.self.view_is) refl)
+
+pub returns-then-is_overflow-clause-noted : goal.returns-then-is_overflow-clause-noted
+returns-then-is_overflow-clause-noted g c =
+    let overflow = MatchBool-at_true _ _ c.if-is_overflow.true c.is_overflow.ensures in
+    let noted = rw (c.as_slice-lives.ensures.value, c.in-Ok-hold.ensures.1) at c.note_mark.ensures.noted in
+    mark_noted c.args.request c.in-Err.refusal _ _ (plain_of g.B.Block.contents g.B.Block.layers c.submit.new.self).saved c.self.inside.lives.items _ _ _ _ overflow (ap (map seated) c.reserve.ensures.items ∙ ap (λ (a : AuditShape _). a.held) c.self.view_is) noted (ap (λ (a : AuditShape _). a.entries) c.self.view_is) refl

@@ -11,7 +11,7 @@ overflow_sub-self g c =
 
 pub invariant_of-self : goal.invariant_of-self
 invariant_of-self g c =
-    rw c.count_live.ensures.count (left_have c.self.inside.volume c.detach.new.self c.args.number c.in-Ok.store c.self.inside.places c.count_live-live.result c.in-Ok.ensures.taken c.count_live-live.ensures.count (omega (arith, c.if-self-gt-MAX_ENTRIES.false)) c.self.invariant)
+    rw c.count_live.ensures.count (left_have c.self.inside.volume c.detach.new.self c.args.number c.in-Ok.store c.self.inside.places c.count_live-live.result c.in-Ok.ensures.taken c.count_live-live.ensures.count (omega (arith, c.if-self-count_may-gt-MAX_ENTRIES.false, c.count_may.ensures.count)) c.self.invariant)
 
 pub returns-in-Ok-clause-goes_on : goal.returns-in-Ok-clause-goes_on
 returns-in-Ok-clause-goes_on g c =

@@ -7,7 +7,7 @@ use Rattle.journaled.proofs.journaled.Journaled.step.Goals.{in-Ok, in-Err}
 
 pub invariant_of-self : goal.invariant_of-self
 invariant_of-self g c = elim c.match-step.branch [
-  | in-Ok w ↦ stepped_have c.self.inside.volume c.step.new.self g.B.Block.fault_count c.args.event w.in-Ok.outcome c.self.inside.places w.in-Ok.ensures.flown w.in-Ok.ensures.cause c.self.invariant
+  | in-Ok w ↦ stepped_have c.self.inside.volume c.step.new.self g.B.Block.fault_count c.args.event w.in-Ok.outcome c.self.inside.places w.in-Ok.ensures.flown w.in-Ok.ensures.cause w.in-Ok.ensures.overflows c.self.invariant
   | in-Err w ↦ rw w.in-Err.ensures.same c.self.invariant
 ]
 

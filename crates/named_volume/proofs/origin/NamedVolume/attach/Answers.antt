@@ -24,9 +24,9 @@ returns-after-self-clause-ok c =
     let unmerged : (merged_inside c.attach.new.self).merge ≡ (merged_inside c.self.inside.volume).merge = ap (λ (o : Option (Merging Stack)). merge_by o) (alone.1 ∙ sym alone.0) in
     let none : is_some (merging_with c.self.inside.merging c.self.inside.volume) ≡ false = begun_too _ c.self.inside.volume c.self.invariant.begun ∙ c.self.invariant.begun ∙ ap (λ (o : Option (Merging Stack)). is_some o) alone.0 in
     rw (merging_as_before c.self.inside.merging c.self.inside.volume c.attach.new.self unmerged) (
-    met c.args.name c.args.chunk here _ c.push_reserved.new.self.items (settled_in c.attach.new.self) c.attach.new.self.attached c.in-Ok-attach.field-0 c.if-self.self none
+    met c.args.name c.args.chunk c.args.overflow here _ c.push_reserved.new.self.items (settled_in c.attach.new.self) c.attach.new.self.attached c.in-Ok-attach.field-0 c.if-self.self none
     c.in-Ok-attach.ensures.number (c.in-Ok-attach.ensures.exact (c.look.ensures c.in-Ok-attach.ensures.quiet.0 (c.self.invariant.loud sound)) loud)
-    (c.push_reserved.ensures.items ∙ ap (λ names. names ++ (record { snapshot = c.args.name; store = here.names }) ∷ []) c.reserve.ensures.items) c.in-Ok-attach.ensures.taken.attached both)))))
+    (c.push_reserved.ensures.items ∙ ap (λ names. names ++ (record { snapshot = c.args.name; store = here.names; overflow = c.args.overflow }) ∷ []) c.reserve.ensures.items) c.in-Ok-attach.ensures.taken.attached both)))))
 
 pub returns-in-Err-attach-clause-err : goal.returns-in-Err-attach-clause-err
 returns-in-Err-attach-clause-err c =
@@ -34,7 +34,7 @@ returns-in-Err-attach-clause-err c =
       | inl starved ↦ absurd (no_both (is_starved c.in-Err-attach.refusal) starved.0 other)
       | inr why ↦
           unmet c.args.chunk _ _ _ c.into_parts-names.result.0.items c.into_parts-names.result.1 c.into_parts-names.result.2 c.in-Err-attach.store c.args.stack c.of_parts.result c.self.inside.volume.events c.in-Err-attach.refusal
-          why c.in-Err-attach.ensures.unread c.into_parts-names.ensures c.of_parts.ensures c.args.name _
+          why c.in-Err-attach.ensures.unread c.into_parts-names.ensures c.of_parts.ensures c.args.name c.args.overflow _
           (begun_too _ c.self.inside.volume c.self.invariant.begun ∙ c.self.invariant.begun) c.in-Err-attach.ensures.stale
           (λ fresh. c.in-Err-attach.ensures.back other fresh (c.look.ensures quiet (c.self.invariant.loud sound)) (subst (λ (s : Stacked). is_loud s.device.layers ≡ true) c.into_parts-names.ensures loud))
     ])

@@ -29,7 +29,7 @@ pub returns-clause-parted : goal.returns-clause-parted
 returns-clause-parted c =
     let out = c.in-Ok.ensures.taken in
     let quiet = c.in-Ok.ensures.quiet in
-    let names : Names = record { snapshot = c.in-Some.field-0.snapshot; store = c.in-Some.field-0.store.items } in
+    let names : Names = record { snapshot = c.in-Some.field-0.snapshot; store = c.in-Some.field-0.store.items; overflow = c.in-Some.field-0.overflow } in
     let was : c.self.inside.merging ≡ Some names = sym c.take.ensures.value ∙ (rw (← c.take-2.view_is) (rw c.in-Some.is refl)) in
     let merging = ap (λ (o : Option Names). merging_with o c.self.inside.volume) was in
     rw (← c.self.view_is) (λ sound.
@@ -40,7 +40,7 @@ returns-clause-parted c =
 pub returns-clause-named : goal.returns-clause-named
 returns-clause-named c =
     let out = c.in-Ok.ensures.taken in
-    let names : Names = record { snapshot = c.in-Some.field-0.snapshot; store = c.in-Some.field-0.store.items } in
+    let names : Names = record { snapshot = c.in-Some.field-0.snapshot; store = c.in-Some.field-0.store.items; overflow = c.in-Some.field-0.overflow } in
     let was : c.self.inside.merging ≡ Some names = sym c.take.ensures.value ∙ (rw (← c.take-2.view_is) (rw c.in-Some.is refl)) in
     rw (← c.self.view_is) (record {
       origin = refl;

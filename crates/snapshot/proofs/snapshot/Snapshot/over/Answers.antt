@@ -1,10 +1,16 @@
 -- A new snapshot has the pairs that its store's bytes hold, and nothing under way.
-use Rattle.std.proofs.Common.{◌≡◌, ◌*◌, ◌∙◌, ap, length, sym, refl, []}
+use Rattle.std.proofs.Common.{◌≡◌, ◌*◌, ◌∙◌, ap, length, sym, refl, [], Bool, true, false}
+use Rattle.plain.specs.Plain.{did_overflow, overflow_of}
 use Rattle.store.specs.Held.{committed, pending, pairs_pending}
 use Rattle.store.specs.Loading.{is_begun}
 use Rattle.snapshot.proofs.Stores.{store_holds, store_alone, none_pending}
 use Rattle.snapshot.proofs.Steps.{in_step}
 use Rattle.snapshot.proofs.snapshot.Snapshot.over.Goals as goal
+
+-- no write of a new one found its store full
+new_strict : (overflow : Bool) → did_overflow (overflow_of overflow) ≡ false
+new_strict true = refl
+new_strict false = refl
 
 pub returns-clause-new : goal.returns-clause-new
 returns-clause-new g c = λ origin fits.
@@ -14,6 +20,7 @@ returns-clause-new g c = λ origin fits.
     let begun : pairs_pending s.exceptions ≡ [] = none_pending (pending s.exceptions) c.requires.idle in
     record {
       live = refl;
+      strict = ap did_overflow c.overflowing.ensures ∙ new_strict c.args.overflow;
       tried = refl;
       begun = begun;
       copies = c.new.ensures.items;

@@ -57,7 +57,7 @@ returns-in-Ok-clause-fields g c =
     let s = c.self.inside.store in
     let t = c.write_area.new.self in
     let e = c.in-Ok.ensures in
-    let v : Kept g.row.B.Denot = record { number = c.self.inside.number; live = c.self.inside.live; untried = c.self.inside.untried; stale = c.self.inside.stale; device = s.device; state = s.state; next = s.places.next; pairs = committed s.exceptions; begun = pairs_pending s.exceptions; copies = c.self.inside.copies.items; marks = c.self.inside.marks.items; room = c.self.inside.room; kept_back = c.self.inside.kept_back; spare = is_some c.self.inside.spare; merging = c.self.inside.merging } in
+    let v : Kept g.row.B.Denot = record { number = c.self.inside.number; live = c.self.inside.live; untried = c.self.inside.untried; stale = c.self.inside.stale; overflow = c.self.inside.overflow; device = s.device; state = s.state; next = s.places.next; pairs = committed s.exceptions; begun = pairs_pending s.exceptions; copies = c.self.inside.copies.items; marks = c.self.inside.marks.items; room = c.self.inside.room; kept_back = c.self.inside.kept_back; spare = is_some c.self.inside.spare; merging = c.self.inside.merging } in
     rw (← c.self.view_is, c.write_area.ensures.places)
     (commit_fields c.args.count t.device _ t.state v (pending s.exceptions) _ _ _ _ _ refl e.state e.committed (pairs_dropped c.args.count (pending s.exceptions) (pending t.exceptions) e.pending) c.mark_first.ensures.copies c.mark_first.ensures.marks c.mark_first.ensures.spare)
 
@@ -69,7 +69,7 @@ returns-in-Ok-clause-commits g c =
     let like = like_commit s.state t.state c.args.count e.state in
     let alive : c.self.inside.live ≡ true = ap (λ v. v.live) c.self.view_is ∙ c.requires.live in
     let few : c.args.count ≤ length c.self.inside.copies.items = omega (arith, ap (λ v. length v.copies) c.self.view_is) in
-    let v : Kept g.row.B.Denot = record { number = c.self.inside.number; live = c.self.inside.live; untried = c.self.inside.untried; stale = c.self.inside.stale; device = s.device; state = s.state; next = s.places.next; pairs = committed s.exceptions; begun = pairs_pending s.exceptions; copies = c.self.inside.copies.items; marks = c.self.inside.marks.items; room = c.self.inside.room; kept_back = c.self.inside.kept_back; spare = is_some c.self.inside.spare; merging = c.self.inside.merging } in
+    let v : Kept g.row.B.Denot = record { number = c.self.inside.number; live = c.self.inside.live; untried = c.self.inside.untried; stale = c.self.inside.stale; overflow = c.self.inside.overflow; device = s.device; state = s.state; next = s.places.next; pairs = committed s.exceptions; begun = pairs_pending s.exceptions; copies = c.self.inside.copies.items; marks = c.self.inside.marks.items; room = c.self.inside.room; kept_back = c.self.inside.kept_back; spare = is_some c.self.inside.spare; merging = c.self.inside.merging } in
     let w : Kept g.row.B.Denot = record v { device = t.device; state = t.state; next = t.places.next; pairs = committed t.exceptions; begun = pairs_pending t.exceptions; copies = c.mark_first.new.copies.items; marks = c.mark_first.new.marks.items; spare = is_some c.mark_first.new.spare } in
     rw (← c.self.view_is)
     (commits_at g.B.Block.contents g.B.Block.layers c.args.count v w t.device t.state

@@ -1,4 +1,4 @@
-use Rattle.std.proofs.Common.{rules, ◌≡◌, ◌<◌, Some, None, true, false, sym, ap, ◌∙◌, length, get_or}
+use Rattle.std.proofs.Common.{rules, ◌≡◌, ◌<◌, None, true, false, sym, ap, ◌∙◌, length}
 use Rattle.volume.specs.Stopped.{is_merge_next}
 use Rattle.volume.proofs.Taken.{merge_taken, snap_taken}
 use Rattle.volume.proofs.stopping.Stopped.take.Goals as goal

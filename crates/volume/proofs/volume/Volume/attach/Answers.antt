@@ -3,6 +3,7 @@ use Rattle.std.proofs.Common.{◌≡◌, ◌*◌, ◌+◌, ◌<◌, ◌≤◌, �
 use Rattle.std.specs.Prelude.{Option, Some, None}
 use Rattle.std.specs.List.{All}
 use Rattle.std.specs.Option.{is_some}
+use Rattle.plain.specs.Plain.{overflow_of}
 use Rattle.volume_laws.specs.Steps.{IsNewSnap}
 use Rattle.cow_header.specs.HeaderText.{found_in}
 use Rattle.sector.specs.Bytes.{sector_at}
@@ -44,7 +45,7 @@ invariant_of-self-in-Ok-open_snapshot g c =
     let number : s.number ≡ v.attached + 1 = ap (λ (x : Kept g.row.B.Denot). x.number) o.fields in
     let new : IsNewSnap (g.B.Block.contents v.origin) (snap_books g.B.Block.contents g.B.Block.layers s) = c.in-Ok-open_snapshot.ensures.new (g.B.Block.contents v.origin) (g.met.B.Block.whole v.origin ∙ ap (λ n. 512 * n) (sym c.sectors.ensures)) in
     let origin : s.state.origin ≡ g.B.Block.size v.origin = ap (λ (x : Kept g.row.B.Denot). x.state.origin) o.fields ∙ opened_origin c.args.chunk c.sectors.result (g.B.Block.size c.args.store.device) (g.B.Block.contents c.args.store.device) o.loaded s.pairs o.opened ∙ c.sectors.ensures in
-    let sized : s.state.size ≡ g.B.Block.size c.args.store.device = size_opened g.B.Block.contents g.B.Block.layers (v.attached + 1) c.args.chunk c.sectors.result (g.B.Block.size c.args.store.device) c.args.store.device s o in
+    let sized : s.state.size ≡ g.B.Block.size c.args.store.device = size_opened g.B.Block.contents g.B.Block.layers (v.attached + 1) c.args.chunk c.sectors.result (g.B.Block.size c.args.store.device) c.args.overflow c.args.store.device s o in
     let small : s.state.size ≤ 16777216 = omega (arith, sized, g.met.B.Block.small c.args.store.device) in
     let wanted : IsWanted (wanted_of v.snaps) s.state.chunk = subst (λ (w : Option ℕ). IsWanted w s.state.chunk) (c.wanted.ensures ∙ ap wanted_of c.reserve.ensures.items) c.in-Ok-open_snapshot.ensures.wanted in
     let idle : numbers_in s ≡ [] = ap (λ (x : Kept g.row.B.Denot). numbers_in x) o.fields in
@@ -63,7 +64,7 @@ returns-in-Ok-open_snapshot-clause-taken g c = λ _ loud.
     let new : IsNewSnap (g.B.Block.contents v.origin) (snap_books g.B.Block.contents g.B.Block.layers s) = c.in-Ok-open_snapshot.ensures.new (g.B.Block.contents v.origin) (g.met.B.Block.whole v.origin ∙ ap (λ n. 512 * n) (sym c.sectors.ensures)) in
     let shows = c.in-Ok-open_snapshot.ensures.shown loud (g.B.Block.contents v.origin) in
     let pushed = c.push_reserved.ensures.items ∙ ap (λ (x : List (Kept g.row.B.Denot)). x ++ s ∷ []) c.reserve.ensures.items in
-    rw (← c.self.view_is) (plain_taken_as g.B.Block.contents g.B.Block.layers g.B.Block.size v s none alone c.self.invariant number new (shown_array (g.B.Block.contents v.origin) (g.B.Block.contents c.args.store.device)) c.push_reserved.new.self.items pushed shows)
+    rw (← c.self.view_is) (plain_taken_as g.B.Block.contents g.B.Block.layers g.B.Block.size v s none alone c.self.invariant number new (shown_array (g.B.Block.contents v.origin) (g.B.Block.contents c.args.store.device)) (overflow_of c.args.overflow) c.push_reserved.new.self.items (ap (λ (x : Kept g.row.B.Denot). x.overflow) c.in-Ok-open_snapshot.ensures.opened.fields) pushed shows)
 
 pub returns-in-Err-open_snapshot-clause-refused : goal.returns-in-Err-open_snapshot-clause-refused
 returns-in-Err-open_snapshot-clause-refused g c =
@@ -90,6 +91,7 @@ returns-in-Ok-open_snapshot-clause-gained g c =
       live = ap (λ (x : Kept g.row.B.Denot). x.live) o.fields;
       stale = ap (λ (x : Kept g.row.B.Denot). x.stale) o.fields;
       untried = ap (λ (x : Kept g.row.B.Denot). x.untried) o.fields;
+      overflow_is = ap (λ (x : Kept g.row.B.Denot). x.overflow) o.fields;
       copies = ap (λ (x : Kept g.row.B.Denot). x.copies) o.fields;
       marks = ap (λ (x : Kept g.row.B.Denot). x.marks) o.fields;
       sizes = c.in-Ok-open_snapshot.ensures.size;
@@ -109,7 +111,7 @@ returns-in-Ok-open_snapshot-clause-exact g c = λ _ loud.
     let taken = taking_none c.args.store.stale (is_some v.merge) (is_quiet_of v) (length v.snaps) v.attached c.args.chunk none in
     let alone : v.merge ≡ None = none_begun v.merge taken.2 in
     let few : c.self.inside.attached ≤ 4294967295 = omega (arith, c.self.ranges) in
-    let goes = admitted c.args.store.stale (is_some v.merge) (is_quiet_of v) (length v.snaps) v.attached c.args.chunk (store_of g.B.Block.contents g.B.Block.layers c.args.store) (volume_in g.B.Block.contents g.B.Block.layers v) few refl (count_in g.B.Block.contents g.B.Block.layers v) none in
+    let goes = admitted c.args.store.stale (is_some v.merge) (is_quiet_of v) (length v.snaps) v.attached c.args.chunk (overflow_of c.args.overflow) (store_of g.B.Block.contents g.B.Block.layers c.args.store) (volume_in g.B.Block.contents g.B.Block.layers v) few refl (count_in g.B.Block.contents g.B.Block.layers v) none in
     let size : c.sectors.result ≡ g.B.Block.size v.origin = c.sectors.ensures in
     let sectors = g.B.Block.size v.origin in
     let wanted : c.wanted.result ≡ wanted_of v.snaps = c.wanted.ensures ∙ ap wanted_of c.reserve.ensures.items in
@@ -120,11 +122,11 @@ returns-in-Ok-open_snapshot-clause-exact g c = λ _ loud.
     let number : s.number ≡ v.attached + 1 = ap (λ (x : Kept g.row.B.Denot). x.number) o.fields in
     let new : IsNewSnap (g.B.Block.contents v.origin) (snap_books g.B.Block.contents g.B.Block.layers s) = e.new (g.B.Block.contents v.origin) (g.met.B.Block.whole v.origin ∙ ap (λ n. 512 * n) (sym c.sectors.ensures)) in
     let pushed = c.push_reserved.ensures.items ∙ ap (λ (x : List (Kept g.row.B.Denot)). x ++ s ∷ []) c.reserve.ensures.items in
-    let unzeroed : s.state.zeroed ≡ false = unzeroed_of g.B.Block.contents g.B.Block.layers (v.attached + 1) c.args.chunk c.sectors.result (g.B.Block.size c.args.store.device) c.args.store.device s o in
+    let unzeroed : s.state.zeroed ≡ false = unzeroed_of g.B.Block.contents g.B.Block.layers (v.attached + 1) c.args.chunk c.sectors.result (g.B.Block.size c.args.store.device) c.args.overflow c.args.store.device s o in
     let here = resting g.B.Block.contents g.B.Block.layers (g.B.Block.size v.origin) (g.B.Block.size c.args.store.device) c.args.chunk (g.B.Block.contents v.origin) (device_of g.B.Block.contents g.B.Block.layers c.args.store.device) (volume_in g.B.Block.contents g.B.Block.layers v).snaps s
     (g.met.B.Block.small v.origin) (g.met.B.Block.small c.args.store.device) (is_chunk-some c.args.chunk goes.0) (g.met.B.Block.whole c.args.store.device) opens (e.loud ∙ loud) new o.next unzeroed in
-    rw (← c.self.view_is) (attached_is g.B.Block.contents g.B.Block.layers v (v.attached + 1) (g.B.Block.size v.origin) c.args.chunk c.args.store s c.push_reserved.new.self.items (g.met.B.Block.whole v.origin) goes.2 opens number
-    (ap (λ (x : Kept g.row.B.Denot). x.live) o.fields) (ap (λ (x : Kept g.row.B.Denot). x.stale) o.fields) here pushed)
+    rw (← c.self.view_is) (attached_is g.B.Block.contents g.B.Block.layers v (v.attached + 1) (g.B.Block.size v.origin) c.args.chunk c.args.overflow c.args.store s c.push_reserved.new.self.items (g.met.B.Block.whole v.origin) goes.2 opens number
+    (ap (λ (x : Kept g.row.B.Denot). x.live) o.fields) (ap (λ (x : Kept g.row.B.Denot). x.overflow) o.fields) (ap (λ (x : Kept g.row.B.Denot). x.stale) o.fields) here pushed)
 
 pub returns-in-Err-open_snapshot-clause-back : goal.returns-in-Err-open_snapshot-clause-back
 returns-in-Err-open_snapshot-clause-back g c = λ some _ quiet _ loud.
@@ -134,11 +136,11 @@ returns-in-Err-open_snapshot-clause-back g c = λ some _ quiet _ loud.
     let taken = taking_none c.args.store.stale (is_some v.merge) (is_quiet_of v) (length v.snaps) v.attached c.args.chunk none in
     let alone : v.merge ≡ None = none_begun v.merge taken.2 in
     let few : c.self.inside.attached ≤ 4294967295 = omega (arith, c.self.ranges) in
-    let goes = admitted c.args.store.stale (is_some v.merge) (is_quiet_of v) (length v.snaps) v.attached c.args.chunk (store_of g.B.Block.contents g.B.Block.layers c.args.store) (volume_in g.B.Block.contents g.B.Block.layers v) few refl (count_in g.B.Block.contents g.B.Block.layers v) none in
+    let goes = admitted c.args.store.stale (is_some v.merge) (is_quiet_of v) (length v.snaps) v.attached c.args.chunk (overflow_of c.args.overflow) (store_of g.B.Block.contents g.B.Block.layers c.args.store) (volume_in g.B.Block.contents g.B.Block.layers v) few refl (count_in g.B.Block.contents g.B.Block.layers v) none in
     let wanted : c.wanted.result ≡ wanted_of v.snaps = c.wanted.ensures ∙ ap wanted_of c.reserve.ensures.items in
     let fits : AreSized c.wanted.result (volume_in g.B.Block.contents g.B.Block.layers v).snaps = subst (λ (w : Option ℕ). AreSized w (volume_in g.B.Block.contents g.B.Block.layers v).snaps) (sym wanted) (sized g.B.Block.contents g.B.Block.layers v.copies (g.B.Block.size v.origin) v.snaps (subst (λ (n : ℕ). All (IsAttached v.copies (g.B.Block.size v.origin) n) v.snaps) (piece_alone v.merge v.snaps alone) c.self.invariant.snaps)) in
     let opens = e.given_back some loud (volume_in g.B.Block.contents g.B.Block.layers v).snaps fits in
-    rw (← c.self.view_is) (back_is g.B.Block.contents g.B.Block.layers v (v.attached + 1) c.sectors.result c.args.chunk c.args.store c.in-Err-open_snapshot.refused.1 c.in-Err-open_snapshot.refused.0 (g.met.B.Block.whole v.origin ∙ ap (λ n. 512 * n) (sym c.sectors.ensures)) goes.2 opens (e.stale ∙ goes.1))
+    rw (← c.self.view_is) (back_is g.B.Block.contents g.B.Block.layers v (v.attached + 1) c.sectors.result c.args.chunk c.args.overflow c.args.store c.in-Err-open_snapshot.refused.1 c.in-Err-open_snapshot.refused.0 (g.met.B.Block.whole v.origin ∙ ap (λ n. 512 * n) (sym c.sectors.ensures)) goes.2 opens (e.stale ∙ goes.1))
 
 pub returns-in-Some-clause-back : goal.returns-in-Some-clause-back
 returns-in-Some-clause-back g c = λ _ alone quiet _ _.
@@ -147,7 +149,7 @@ returns-in-Some-clause-back g c = λ _ alone quiet _ _.
     let why : attach_refusal c.args.store.stale c.args.chunk v ≡ Some c.in-Some.refusal = ap (attach_refusal c.args.store.stale c.args.chunk) c.self.view_is ∙ sym c.in-Some.ensures in
     let begun : is_some v.merge ≡ false = ap (λ (x : Volumed g.row.B.Denot). is_some x.merge) c.self.view_is ∙ ap is_some alone in
     let calm : is_quiet_of v ≡ true = ap is_quiet_of c.self.view_is ∙ quiet in
-    rw (← c.self.view_is) (refused_before c.args.store.stale (is_some v.merge) (is_quiet_of v) (length v.snaps) v.attached c.args.chunk (store_of g.B.Block.contents g.B.Block.layers c.args.store) (volume_in g.B.Block.contents g.B.Block.layers v) c.in-Some.refusal few begun calm refl (count_in g.B.Block.contents g.B.Block.layers v) why)
+    rw (← c.self.view_is) (refused_before c.args.store.stale (is_some v.merge) (is_quiet_of v) (length v.snaps) v.attached c.args.chunk (overflow_of c.args.overflow) (store_of g.B.Block.contents g.B.Block.layers c.args.store) (volume_in g.B.Block.contents g.B.Block.layers v) c.in-Some.refusal few begun calm refl (count_in g.B.Block.contents g.B.Block.layers v) why)
 
 pub overflow_add-number : goal.overflow_add-number
 overflow_add-number g c =

@@ -17,6 +17,12 @@ use Rattle.store.specs.Operations.{IsOneOperation}
 use Rattle.volume.proofs.ExactIssues.{origin_read_exact, origin_write_exact}
 use Rattle.volume.proofs.volume.Volume.issue_disk.Goals as goal
 
+pub remove-flight-requires : goal.remove-flight-requires
+remove-flight-requires g c =
+    let found : position (λ (f : Flight). nat_eq f.number c.args.number) c.self.inside.flights.items ≡ Some c.args.place = ap (λ (x : Volumed _). position (λ (f : Flight). nat_eq f.number c.args.number) x.flights) c.self.view_is ∙ c.requires.found in
+    let within = position_within (λ (f : Flight). nat_eq f.number c.args.number) c.self.inside.flights.items c.args.place found in
+    omega (arith, within)
+
 pub read-requires-clause-some : goal.read-requires-clause-some
 read-requires-clause-some g c =
     let v = c.self.inside in

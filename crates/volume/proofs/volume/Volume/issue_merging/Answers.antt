@@ -21,6 +21,12 @@ use Rattle.volume.proofs.MergingIssues.{is_begun, read_placed, write_placed, lie
 use Rattle.volume.proofs.ExactIssues.{merging_read_exact, merging_write_exact}
 use Rattle.volume.proofs.volume.Volume.issue_merging.Goals as goal
 
+pub remove-flight-requires : goal.remove-flight-requires
+remove-flight-requires g c =
+    let found : position (λ (f : Flight). nat_eq f.number c.args.number) c.self.inside.flights.items ≡ Some c.args.place = ap (λ (x : Volumed _). position (λ (f : Flight). nat_eq f.number c.args.number) x.flights) c.self.view_is ∙ c.requires.found in
+    let within = position_within (λ (f : Flight). nat_eq f.number c.args.number) c.self.inside.flights.items c.args.place found in
+    omega (arith, within)
+
 pub unreachable-requires : goal.unreachable-requires
 unreachable-requires g c =
     let v = c.self.inside in

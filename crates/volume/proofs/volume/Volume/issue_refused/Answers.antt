@@ -1,12 +1,19 @@
 -- A request of a spoiled snapshot is answered.
-use Rattle.std.proofs.Common.{◌≡◌, ◌∙◌, ap, Some, get_or, nat_eq}
+use Rattle.std.proofs.Common.{◌≡◌, arith, ◌∙◌, ap, Some, get_or, nat_eq}
 use Rattle.std.specs.List.{position}
 use Rattle.pending.specs.declared.flights.Flight.{Flight}
 use Rattle.pending.specs.declared.flights.Route.TheVariants.{Refused}
 use Rattle.volume.specs.Volumed.{Volumed}
+use Rattle.snapshots.proofs.Finds.{position_within}
 use Rattle.volume.proofs.StoreIssues.{refused_good}
 use Rattle.volume.proofs.ExactIssues.{refused_exact}
 use Rattle.volume.proofs.volume.Volume.issue_refused.Goals as goal
+
+pub remove-requires : goal.remove-requires
+remove-requires g c =
+    let found : position (λ (f : Flight). nat_eq f.number c.args.number) c.self.inside.flights.items ≡ Some c.args.place = ap (λ (x : Volumed _). position (λ (f : Flight). nat_eq f.number c.args.number) x.flights) c.self.view_is ∙ c.requires.found in
+    let within = position_within (λ (f : Flight). nat_eq f.number c.args.number) c.self.inside.flights.items c.args.place found in
+    omega (arith, within)
 
 pub invariant_of-self : goal.invariant_of-self
 invariant_of-self g c =

@@ -14,6 +14,10 @@ returns-in-Some-clause-stops g c =
     let step : IsMergeInStep g.B.Block.contents g.B.Block.layers g.B.Block.size v.merge = subst (IsMergeInStep g.B.Block.contents g.B.Block.layers g.B.Block.size) (sym c.in-Some.is) c.look_at_store.ensures.in_step in
     rw (← c.self.view_is) (still_now g.B.Block.contents g.B.Block.layers g.B.Block.size g.met.B.Block.whole v c.self.invariant steps step)
 
+pub returns-in-Some-clause-in_step : goal.returns-in-Some-clause-in_step
+returns-in-Some-clause-in_step g c =
+    rw (← c.self.view_is) (subst (All (IsInStep g.B.Block.contents g.B.Block.layers g.B.Block.size)) c.as_slice.ensures.value c.look_at_each.ensures.in_step)
+
 pub returns-in-None-clause-in_step : goal.returns-in-None-clause-in_step
 returns-in-None-clause-in_step g c =
     rw (← c.self.view_is) (subst (All (IsInStep g.B.Block.contents g.B.Block.layers g.B.Block.size)) c.as_slice.ensures.value c.look_at_each.ensures.in_step)

@@ -1,5 +1,5 @@
 -- The snapshot that is found is live, and its store's bytes say its pairs.
-use Rattle.std.proofs.Common.{◌≡◌, ℕ, List, Some, true, false, refl, sym, ◌∙◌, ap, subst}
+use Rattle.std.proofs.Common.{◌≡◌, arith, ℕ, List, Some, true, false, refl, sym, ◌∙◌, ap, subst}
 use Rattle.std.specs.Prelude.{◌==◌}
 use Rattle.sector.specs.Bytes.{sectors_at}
 use Rattle.plain.specs.Serves.{Shows}
@@ -14,6 +14,11 @@ use Rattle.volume.proofs.MovedLists.{IsFirst, first_position}
 use Rattle.volume.proofs.Named.{found_within}
 use Rattle.volume.proofs.Peeked.{places_inside, pairs_stored, shown_snap, snap_loud, live_refusal, spoilt_refusal}
 use Rattle.volume.proofs.volume.Volume.peek.Goals as goal
+
+pub index-snap-requires : goal.index-snap-requires
+index-snap-requires g c =
+    let below = found_within c.in-Snap.number c.as_slice.result.now c.in-Some.k c.in-Some.ensures in
+    omega (arith, below, c.as_slice.ensures.len)
 
 pub peek_pieces-requires-clause-places : goal.peek_pieces-requires-clause-places
 peek_pieces-requires-clause-places g c =

@@ -1,5 +1,5 @@
 -- Without a merge the disk's bytes are shown, and beside one the picture over the merging store, whose bytes say its pairs.
-use Rattle.std.proofs.Common.{◌≡◌, ℕ, List, Option, Some, true, sym, ◌∙◌, ap}
+use Rattle.std.proofs.Common.{ℕ, List, Option, sym, ◌∙◌, ap}
 use Rattle.sector.specs.Bytes.{sectors_at}
 use Rattle.merge.specs.Merging.{Merging}
 use Rattle.volume.specs.Peeking.{is_loud_merging}

@@ -1,5 +1,5 @@
 -- Room for the copy is made first; then it is started, and the write is the last in flight.
-use Rattle.std.proofs.Common.{◌≡◌, ◌+◌, ◌<◌, ◌≤◌, ◌++◌, ◌∷◌, [], inl, inr, ℕ, true, List, Some, None, length, get_or, set, refl, sym, ◌∙◌, ap, subst, arith, nat_eq}
+use Rattle.std.proofs.Common.{◌≡◌, ◌+◌, ◌<◌, ◌≤◌, ◌++◌, ◌∷◌, [], inl, ℕ, false, true, List, Some, None, length, get_or, set, refl, sym, ◌∙◌, ap, subst, arith, nat_eq}
 use Rattle.std.specs.Prelude.{◌&&◌, sum_by, count_by}
 use Rattle.std.proofs.lemmas.List.{get_or-set_same}
 use Rattle.pending.specs.declared.flights.Flight.{Flight}
@@ -9,10 +9,11 @@ use Rattle.snapshots.specs.Numbers.{count_in}
 use Rattle.snapshots.specs.Finding.{place_of_snap}
 use Rattle.snapshots.proofs.Finds.{position_within}
 use Rattle.snapshots.specs.Starting.{lacks, starts, HasRoomFor, IsSavedIn}
-use Rattle.volume.specs.Submitting.{dev_refusal, IsAsked, IsAcceptedAs, IsFoundFull}
+use Rattle.plain.specs.Plain.{did_overflow}
+use Rattle.volume.specs.Submitting.{dev_refusal, shut_at, IsAsked, IsAcceptedAs}
 use Rattle.volume.proofs.Finishes.{back, begins_all}
-use Rattle.volume.proofs.Named.{IsNamed, dev_of_write, is_named}
-use Rattle.volume.proofs.SnapWrites.{one_roomed, roomy_whole, within_roomy, held_done, full_done}
+use Rattle.volume.proofs.Named.{IsNamed, dev_of_write, found_open, is_named}
+use Rattle.volume.proofs.SnapWrites.{IsRefusedFull, IsWriteRefused, one_roomed, roomy_whole, within_roomy, held_done, refused_done}
 use Rattle.volume.proofs.volume.Volume.start_and_enter.Goals as goal
 
 pub index_mut-requires : goal.index_mut-requires
@@ -86,8 +87,8 @@ index_mut-requires-2 g c =
     let within = named.within in
     omega (arith, ok, within)
 
-pub save_in-given-requires-clause-begins : goal.save_in-given-requires-clause-begins
-save_in-given-requires-clause-begins g c =
+pub save_or_mark-requires-clause-begins : goal.save_or_mark-requires-clause-begins
+save_or_mark-requires-clause-begins g c =
     let v : Volumed g.row.B.Denot = record { origin = c.self.inside.origin; snaps = c.self.inside.snaps.items; merge = c.self.inside.merge; flights = c.self.inside.flights.items; requests = c.self.inside.requests; copies = c.self.inside.copies; attached = c.self.inside.attached } in
     let s : Kept g.row.B.Denot = c.index_mut.result.now in
     let place : Some c.args.k ≡ place_of_snap c.args.id c.self.inside.snaps.items = c.requires.place ∙ sym (ap (λ (x : Volumed g.row.B.Denot). place_of_snap c.args.id x.snaps) c.self.view_is) in
@@ -100,8 +101,8 @@ save_in-given-requires-clause-begins g c =
     let all = begins_all g.B.Block.contents g.B.Block.layers g.B.Block.size v c.self.invariant (set c.self.inside.snaps.items c.args.k c.take_room.new.snap) roomy c.args.request.range.first c.args.request.range.count asked.some asked.inside in
     subst (λ (x : Kept g.row.B.Denot). c.args.request.range.first < x.state.origin) (sym c.index_mut-2.ensures.value) (all c.args.k c.index_mut-2.result.now within)
 
-pub save_in-given-requires-clause-room : goal.save_in-given-requires-clause-room
-save_in-given-requires-clause-room g c =
+pub save_or_mark-requires-clause-room : goal.save_or_mark-requires-clause-room
+save_or_mark-requires-clause-room g c =
     let v : Volumed g.row.B.Denot = record { origin = c.self.inside.origin; snaps = c.self.inside.snaps.items; merge = c.self.inside.merge; flights = c.self.inside.flights.items; requests = c.self.inside.requests; copies = c.self.inside.copies; attached = c.self.inside.attached } in
     let s : Kept g.row.B.Denot = c.index_mut.result.now in
     let place : Some c.args.k ≡ place_of_snap c.args.id c.self.inside.snaps.items = c.requires.place ∙ sym (ap (λ (x : Volumed g.row.B.Denot). place_of_snap c.args.id x.snaps) c.self.view_is) in
@@ -113,8 +114,8 @@ save_in-given-requires-clause-room g c =
     let asked : IsAsked (g.B.Block.size c.self.inside.origin) (piece_with c.self.inside.merge c.self.inside.snaps.items) c.args.request = subst (λ (x : Volumed g.row.B.Denot). IsAsked (g.B.Block.size x.origin) (piece_with x.merge x.snaps) c.args.request) (sym c.self.view_is) c.requires.asked in
     subst (λ (x : Kept g.row.B.Denot). HasRoomFor c.args.request.range.first x c.in-Ok.room) (sym now2) c.in-Ok.ensures.ok
 
-pub invariant_of-self-then-given-self : goal.invariant_of-self-then-given-self
-invariant_of-self-then-given-self g c =
+pub save_or_mark-requires-clause-lacking : goal.save_or_mark-requires-clause-lacking
+save_or_mark-requires-clause-lacking g c =
     let v : Volumed g.row.B.Denot = record { origin = c.self.inside.origin; snaps = c.self.inside.snaps.items; merge = c.self.inside.merge; flights = c.self.inside.flights.items; requests = c.self.inside.requests; copies = c.self.inside.copies; attached = c.self.inside.attached } in
     let s : Kept g.row.B.Denot = c.index_mut.result.now in
     let place : Some c.args.k ≡ place_of_snap c.args.id c.self.inside.snaps.items = c.requires.place ∙ sym (ap (λ (x : Volumed g.row.B.Denot). place_of_snap c.args.id x.snaps) c.self.view_is) in
@@ -123,21 +124,46 @@ invariant_of-self-then-given-self g c =
     let roomy = one_roomed g.B.Block.contents g.B.Block.layers g.B.Block.size v c.self.invariant c.args.id c.args.k s named c.take_room.new.snap c.take_room.ensures.same in
     let within = within_roomy g.B.Block.contents g.B.Block.layers g.B.Block.size v c.self.invariant c.args.id c.args.k s named c.take_room.new.snap c.take_room.ensures.same in
     let now2 : c.index_mut-2.result.now ≡ c.take_room.new.snap = c.index_mut-2.ensures.value ∙ get_or-set_same c.self.inside.snaps.items c.args.k c.take_room.new.snap c.index_mut-2.result.now named.within in
-    let asked : IsAsked (g.B.Block.size c.self.inside.origin) (piece_with c.self.inside.merge c.self.inside.snaps.items) c.args.request = subst (λ (x : Volumed g.row.B.Denot). IsAsked (g.B.Block.size x.origin) (piece_with x.merge x.snaps) c.args.request) (sym c.self.view_is) c.requires.asked in
-    let slice = c.as_mut_slice.ensures.value ∙ c.reserve.ensures.items in
-    let gs = c.save_in-given.new.flights in
-    let t = c.save_in-given.new.snap in
-    let m = c.save_in-given.result in
-    let saved : IsSavedIn g.B.Block.contents g.B.Block.layers c.args.request.range.first c.take_room.new.snap t c.self.inside.copies m c.self.inside.flights.items gs =
-    subst (λ (x : Kept g.row.B.Denot). IsSavedIn g.B.Block.contents g.B.Block.layers c.args.request.range.first x t c.self.inside.copies m c.self.inside.flights.items gs) now2
-    (subst (λ (x : List Flight). IsSavedIn g.B.Block.contents g.B.Block.layers c.args.request.range.first c.index_mut-2.result.now t c.self.inside.copies m x gs) slice c.save_in-given.ensures.saved) in
-    let back_flights = back c.reserve.new.self.len gs c.reserve.new.self.items (c.save_in-given.auto.flights ∙ c.as_mut_slice.ensures.len) in
     let lacking : lacks c.args.request.range.first s ≡ true = subst (λ (x : Volumed g.row.B.Denot). (y : Kept g.row.B.Denot) → y ≡ get_or x.snaps c.args.k y → lacks c.args.request.range.first y ≡ true) (sym c.self.view_is) c.requires.lacking s c.index_mut.ensures.value in
-    let done = full_done g.B.Block.contents g.B.Block.layers g.B.Block.size v c.self.invariant c.args.id c.args.k s named c.take_room.new.snap c.take_room.ensures.same t m gs c.args.request.range.first saved lacking c.if-given-self.true (sym place) in
+    subst (λ (x : Kept g.row.B.Denot). lacks c.args.request.range.first x ≡ true) (sym now2) (ap (lacks c.args.request.range.first) c.take_room.ensures.same ∙ lacking)
+
+pub save_or_mark-requires-clause-writable : goal.save_or_mark-requires-clause-writable
+save_or_mark-requires-clause-writable g c =
+    let v : Volumed g.row.B.Denot = record { origin = c.self.inside.origin; snaps = c.self.inside.snaps.items; merge = c.self.inside.merge; flights = c.self.inside.flights.items; requests = c.self.inside.requests; copies = c.self.inside.copies; attached = c.self.inside.attached } in
+    let s : Kept g.row.B.Denot = c.index_mut.result.now in
+    let place : Some c.args.k ≡ place_of_snap c.args.id c.self.inside.snaps.items = c.requires.place ∙ sym (ap (λ (x : Volumed g.row.B.Denot). place_of_snap c.args.id x.snaps) c.self.view_is) in
+    let free : dev_refusal c.args.request.dev c.self.inside.merge c.self.inside.snaps.items ≡ None = ap (λ (x : Volumed g.row.B.Denot). dev_refusal c.args.request.dev x.merge x.snaps) c.self.view_is ∙ c.requires.found in
+    let named : IsNamed v c.args.id c.args.k s = is_named v c.self.inside.snaps.items c.args.request.dev c.args.id c.args.k s refl c.index_mut.ensures.value free (dev_of_write c.args.request c.args.id c.requires.kind) place in
+    let roomy = one_roomed g.B.Block.contents g.B.Block.layers g.B.Block.size v c.self.invariant c.args.id c.args.k s named c.take_room.new.snap c.take_room.ensures.same in
+    let within = within_roomy g.B.Block.contents g.B.Block.layers g.B.Block.size v c.self.invariant c.args.id c.args.k s named c.take_room.new.snap c.take_room.ensures.same in
+    let now2 : c.index_mut-2.result.now ≡ c.take_room.new.snap = c.index_mut-2.ensures.value ∙ get_or-set_same c.self.inside.snaps.items c.args.k c.take_room.new.snap c.index_mut-2.result.now named.within in
+    let writable : shut_at c.self.inside.snaps.items (place_of_snap c.args.id c.self.inside.snaps.items) ≡ None = ap (λ (x : Volumed g.row.B.Denot). shut_at x.snaps (place_of_snap c.args.id x.snaps)) c.self.view_is ∙ c.requires.writable in
+    let did : did_overflow s.overflow ≡ false = ap (λ (x : Kept g.row.B.Denot). did_overflow x.overflow) named.is ∙ found_open c.self.inside.snaps.items c.args.id c.args.k s writable place in
+    subst (λ (x : Kept g.row.B.Denot). did_overflow x.overflow ≡ false) (sym now2) (ap (λ (x : Kept g.row.B.Denot). did_overflow x.overflow) c.take_room.ensures.same ∙ did)
+
+pub invariant_of-self-in-Err-save_or_mark : goal.invariant_of-self-in-Err-save_or_mark
+invariant_of-self-in-Err-save_or_mark g c =
+    let v : Volumed g.row.B.Denot = record { origin = c.self.inside.origin; snaps = c.self.inside.snaps.items; merge = c.self.inside.merge; flights = c.self.inside.flights.items; requests = c.self.inside.requests; copies = c.self.inside.copies; attached = c.self.inside.attached } in
+    let s : Kept g.row.B.Denot = c.index_mut.result.now in
+    let place : Some c.args.k ≡ place_of_snap c.args.id c.self.inside.snaps.items = c.requires.place ∙ sym (ap (λ (x : Volumed g.row.B.Denot). place_of_snap c.args.id x.snaps) c.self.view_is) in
+    let free : dev_refusal c.args.request.dev c.self.inside.merge c.self.inside.snaps.items ≡ None = ap (λ (x : Volumed g.row.B.Denot). dev_refusal c.args.request.dev x.merge x.snaps) c.self.view_is ∙ c.requires.found in
+    let named : IsNamed v c.args.id c.args.k s = is_named v c.self.inside.snaps.items c.args.request.dev c.args.id c.args.k s refl c.index_mut.ensures.value free (dev_of_write c.args.request c.args.id c.requires.kind) place in
+    let roomy = one_roomed g.B.Block.contents g.B.Block.layers g.B.Block.size v c.self.invariant c.args.id c.args.k s named c.take_room.new.snap c.take_room.ensures.same in
+    let within = within_roomy g.B.Block.contents g.B.Block.layers g.B.Block.size v c.self.invariant c.args.id c.args.k s named c.take_room.new.snap c.take_room.ensures.same in
+    let now2 : c.index_mut-2.result.now ≡ c.take_room.new.snap = c.index_mut-2.ensures.value ∙ get_or-set_same c.self.inside.snaps.items c.args.k c.take_room.new.snap c.index_mut-2.result.now named.within in
+    let slice = c.as_mut_slice.ensures.value ∙ c.reserve.ensures.items in
+    let gs = c.save_or_mark.new.flights in
+    let t = c.save_or_mark.new.snap in
+    let why : IsRefusedFull g.B.Block.contents g.B.Block.layers c.args.request.range.first c.in-Err-save_or_mark.refusal c.take_room.new.snap t c.self.inside.copies c.self.inside.flights.items gs =
+    subst (λ (x : Kept g.row.B.Denot). IsRefusedFull g.B.Block.contents g.B.Block.layers c.args.request.range.first c.in-Err-save_or_mark.refusal x t c.self.inside.copies c.self.inside.flights.items gs) now2
+    (subst (λ (x : List Flight). IsRefusedFull g.B.Block.contents g.B.Block.layers c.args.request.range.first c.in-Err-save_or_mark.refusal c.index_mut-2.result.now t c.self.inside.copies x gs) slice c.in-Err-save_or_mark.ensures.err) in
+    let back_flights = back c.reserve.new.self.len gs c.reserve.new.self.items (c.save_or_mark.auto.flights ∙ c.as_mut_slice.ensures.len) in
+    let lacking : lacks c.args.request.range.first s ≡ true = subst (λ (x : Volumed g.row.B.Denot). (y : Kept g.row.B.Denot) → y ≡ get_or x.snaps c.args.k y → lacks c.args.request.range.first y ≡ true) (sym c.self.view_is) c.requires.lacking s c.index_mut.ensures.value in
+    let done = refused_done g.B.Block.contents g.B.Block.layers g.B.Block.size v c.self.invariant c.args.id c.args.k s named c.take_room.new.snap c.take_room.ensures.same t gs c.in-Err-save_or_mark.refusal c.args.request.range.first why lacking (sym place) in
     rw (back_flights) done.0
 
-pub returns-then-given-self-clause-err : goal.returns-then-given-self-clause-err
-returns-then-given-self-clause-err g c =
+pub returns-in-Err-save_or_mark-clause-err : goal.returns-in-Err-save_or_mark-clause-err
+returns-in-Err-save_or_mark-clause-err g c =
     let v : Volumed g.row.B.Denot = record { origin = c.self.inside.origin; snaps = c.self.inside.snaps.items; merge = c.self.inside.merge; flights = c.self.inside.flights.items; requests = c.self.inside.requests; copies = c.self.inside.copies; attached = c.self.inside.attached } in
     let s : Kept g.row.B.Denot = c.index_mut.result.now in
     let place : Some c.args.k ≡ place_of_snap c.args.id c.self.inside.snaps.items = c.requires.place ∙ sym (ap (λ (x : Volumed g.row.B.Denot). place_of_snap c.args.id x.snaps) c.self.view_is) in
@@ -146,18 +172,16 @@ returns-then-given-self-clause-err g c =
     let roomy = one_roomed g.B.Block.contents g.B.Block.layers g.B.Block.size v c.self.invariant c.args.id c.args.k s named c.take_room.new.snap c.take_room.ensures.same in
     let within = within_roomy g.B.Block.contents g.B.Block.layers g.B.Block.size v c.self.invariant c.args.id c.args.k s named c.take_room.new.snap c.take_room.ensures.same in
     let now2 : c.index_mut-2.result.now ≡ c.take_room.new.snap = c.index_mut-2.ensures.value ∙ get_or-set_same c.self.inside.snaps.items c.args.k c.take_room.new.snap c.index_mut-2.result.now named.within in
-    let asked : IsAsked (g.B.Block.size c.self.inside.origin) (piece_with c.self.inside.merge c.self.inside.snaps.items) c.args.request = subst (λ (x : Volumed g.row.B.Denot). IsAsked (g.B.Block.size x.origin) (piece_with x.merge x.snaps) c.args.request) (sym c.self.view_is) c.requires.asked in
     let slice = c.as_mut_slice.ensures.value ∙ c.reserve.ensures.items in
-    let gs = c.save_in-given.new.flights in
-    let t = c.save_in-given.new.snap in
-    let m = c.save_in-given.result in
-    let saved : IsSavedIn g.B.Block.contents g.B.Block.layers c.args.request.range.first c.take_room.new.snap t c.self.inside.copies m c.self.inside.flights.items gs =
-    subst (λ (x : Kept g.row.B.Denot). IsSavedIn g.B.Block.contents g.B.Block.layers c.args.request.range.first x t c.self.inside.copies m c.self.inside.flights.items gs) now2
-    (subst (λ (x : List Flight). IsSavedIn g.B.Block.contents g.B.Block.layers c.args.request.range.first c.index_mut-2.result.now t c.self.inside.copies m x gs) slice c.save_in-given.ensures.saved) in
-    let back_flights = back c.reserve.new.self.len gs c.reserve.new.self.items (c.save_in-given.auto.flights ∙ c.as_mut_slice.ensures.len) in
+    let gs = c.save_or_mark.new.flights in
+    let t = c.save_or_mark.new.snap in
+    let why : IsRefusedFull g.B.Block.contents g.B.Block.layers c.args.request.range.first c.in-Err-save_or_mark.refusal c.take_room.new.snap t c.self.inside.copies c.self.inside.flights.items gs =
+    subst (λ (x : Kept g.row.B.Denot). IsRefusedFull g.B.Block.contents g.B.Block.layers c.args.request.range.first c.in-Err-save_or_mark.refusal x t c.self.inside.copies c.self.inside.flights.items gs) now2
+    (subst (λ (x : List Flight). IsRefusedFull g.B.Block.contents g.B.Block.layers c.args.request.range.first c.in-Err-save_or_mark.refusal c.index_mut-2.result.now t c.self.inside.copies x gs) slice c.in-Err-save_or_mark.ensures.err) in
+    let back_flights = back c.reserve.new.self.len gs c.reserve.new.self.items (c.save_or_mark.auto.flights ∙ c.as_mut_slice.ensures.len) in
     let lacking : lacks c.args.request.range.first s ≡ true = subst (λ (x : Volumed g.row.B.Denot). (y : Kept g.row.B.Denot) → y ≡ get_or x.snaps c.args.k y → lacks c.args.request.range.first y ≡ true) (sym c.self.view_is) c.requires.lacking s c.index_mut.ensures.value in
-    let done = full_done g.B.Block.contents g.B.Block.layers g.B.Block.size v c.self.invariant c.args.id c.args.k s named c.take_room.new.snap c.take_room.ensures.same t m gs c.args.request.range.first saved lacking c.if-given-self.true (sym place) in
-    rw (← c.self.view_is) (inr (refl, subst (λ (fs : List Flight). IsFoundFull g.B.Block.contents g.B.Block.layers c.args.id c.args.request.range.first v (record v { snaps = set (set c.self.inside.snaps.items c.args.k c.take_room.new.snap) c.args.k t; flights = fs })) (sym back_flights) done.1))
+    let done = refused_done g.B.Block.contents g.B.Block.layers g.B.Block.size v c.self.invariant c.args.id c.args.k s named c.take_room.new.snap c.take_room.ensures.same t gs c.in-Err-save_or_mark.refusal c.args.request.range.first why lacking (sym place) in
+    rw (← c.self.view_is) (subst (λ (fs : List Flight). IsWriteRefused g.B.Block.contents g.B.Block.layers c.args.id c.args.request.range.first c.in-Err-save_or_mark.refusal v (record v { snaps = set (set c.self.inside.snaps.items c.args.k c.take_room.new.snap) c.args.k t; flights = fs })) (sym back_flights) done.1)
 
 pub invariant_of-self-2 : goal.invariant_of-self-2
 invariant_of-self-2 g c =
@@ -171,19 +195,21 @@ invariant_of-self-2 g c =
     let now2 : c.index_mut-2.result.now ≡ c.take_room.new.snap = c.index_mut-2.ensures.value ∙ get_or-set_same c.self.inside.snaps.items c.args.k c.take_room.new.snap c.index_mut-2.result.now named.within in
     let asked : IsAsked (g.B.Block.size c.self.inside.origin) (piece_with c.self.inside.merge c.self.inside.snaps.items) c.args.request = subst (λ (x : Volumed g.row.B.Denot). IsAsked (g.B.Block.size x.origin) (piece_with x.merge x.snaps) c.args.request) (sym c.self.view_is) c.requires.asked in
     let slice = c.as_mut_slice.ensures.value ∙ c.reserve.ensures.items in
-    let gs = c.save_in-given.new.flights in
-    let t = c.save_in-given.new.snap in
-    let m = c.save_in-given.result in
+    let gs = c.save_or_mark.new.flights in
+    let t = c.save_or_mark.new.snap in
+    let m = c.in-Ok-save_or_mark.given in
     let saved : IsSavedIn g.B.Block.contents g.B.Block.layers c.args.request.range.first c.take_room.new.snap t c.self.inside.copies m c.self.inside.flights.items gs =
     subst (λ (x : Kept g.row.B.Denot). IsSavedIn g.B.Block.contents g.B.Block.layers c.args.request.range.first x t c.self.inside.copies m c.self.inside.flights.items gs) now2
-    (subst (λ (x : List Flight). IsSavedIn g.B.Block.contents g.B.Block.layers c.args.request.range.first c.index_mut-2.result.now t c.self.inside.copies m x gs) slice c.save_in-given.ensures.saved) in
-    let back_flights = back c.reserve.new.self.len gs c.reserve.new.self.items (c.save_in-given.auto.flights ∙ c.as_mut_slice.ensures.len) in
+    (subst (λ (x : List Flight). IsSavedIn g.B.Block.contents g.B.Block.layers c.args.request.range.first c.index_mut-2.result.now t c.self.inside.copies m x gs) slice c.in-Ok-save_or_mark.ensures.ok.1) in
+    let back_flights = back c.reserve.new.self.len gs c.reserve.new.self.items (c.save_or_mark.auto.flights ∙ c.as_mut_slice.ensures.len) in
+    let writable : shut_at c.self.inside.snaps.items (place_of_snap c.args.id c.self.inside.snaps.items) ≡ None = ap (λ (x : Volumed g.row.B.Denot). shut_at x.snaps (place_of_snap c.args.id x.snaps)) c.self.view_is ∙ c.requires.writable in
+    let did : did_overflow s.overflow ≡ false = ap (λ (x : Kept g.row.B.Denot). did_overflow x.overflow) named.is ∙ found_open c.self.inside.snaps.items c.args.id c.args.k s writable place in
     let f : Flight = c.in-Ok-new.flight in
     let few : sum_by count_in c.self.inside.snaps.items + count_by (λ x. nat_eq x.number c.args.id && starts c.args.request.range.first x) c.self.inside.snaps.items ≤ 256 =
     subst (λ (x : Volumed g.row.B.Denot). sum_by count_in x.snaps + count_by (λ y. nat_eq y.number c.args.id && starts c.args.request.range.first y) x.snaps ≤ 256) (sym c.self.view_is) c.requires.few in
     let space : length c.self.inside.flights.items < 64 = omega (arith, c.requires.room, ap (λ (x : Volumed g.row.B.Denot). length x.flights) c.self.view_is) in
     let done = held_done g.B.Block.contents g.B.Block.layers g.B.Block.size v c.self.invariant c.args.id c.args.k s named c.take_room.new.snap c.take_room.ensures.same t m gs f c.args.request c.in-Ok-new.ensures.request c.in-Ok-new.ensures.number c.in-Ok-new.ensures.route space asked
-    c.in-Ok-new.ensures.room c.requires.kind few saved c.if-given-self.false in
+    c.in-Ok-new.ensures.room c.requires.kind did few saved c.in-Ok-save_or_mark.ensures.ok.0 in
     let pushed = c.push_reserved.ensures.items ∙ ap (λ fs. fs ++ f ∷ []) back_flights in
     rw (pushed) done.0
 
@@ -199,19 +225,21 @@ returns-clause-ok g c =
     let now2 : c.index_mut-2.result.now ≡ c.take_room.new.snap = c.index_mut-2.ensures.value ∙ get_or-set_same c.self.inside.snaps.items c.args.k c.take_room.new.snap c.index_mut-2.result.now named.within in
     let asked : IsAsked (g.B.Block.size c.self.inside.origin) (piece_with c.self.inside.merge c.self.inside.snaps.items) c.args.request = subst (λ (x : Volumed g.row.B.Denot). IsAsked (g.B.Block.size x.origin) (piece_with x.merge x.snaps) c.args.request) (sym c.self.view_is) c.requires.asked in
     let slice = c.as_mut_slice.ensures.value ∙ c.reserve.ensures.items in
-    let gs = c.save_in-given.new.flights in
-    let t = c.save_in-given.new.snap in
-    let m = c.save_in-given.result in
+    let gs = c.save_or_mark.new.flights in
+    let t = c.save_or_mark.new.snap in
+    let m = c.in-Ok-save_or_mark.given in
     let saved : IsSavedIn g.B.Block.contents g.B.Block.layers c.args.request.range.first c.take_room.new.snap t c.self.inside.copies m c.self.inside.flights.items gs =
     subst (λ (x : Kept g.row.B.Denot). IsSavedIn g.B.Block.contents g.B.Block.layers c.args.request.range.first x t c.self.inside.copies m c.self.inside.flights.items gs) now2
-    (subst (λ (x : List Flight). IsSavedIn g.B.Block.contents g.B.Block.layers c.args.request.range.first c.index_mut-2.result.now t c.self.inside.copies m x gs) slice c.save_in-given.ensures.saved) in
-    let back_flights = back c.reserve.new.self.len gs c.reserve.new.self.items (c.save_in-given.auto.flights ∙ c.as_mut_slice.ensures.len) in
+    (subst (λ (x : List Flight). IsSavedIn g.B.Block.contents g.B.Block.layers c.args.request.range.first c.index_mut-2.result.now t c.self.inside.copies m x gs) slice c.in-Ok-save_or_mark.ensures.ok.1) in
+    let back_flights = back c.reserve.new.self.len gs c.reserve.new.self.items (c.save_or_mark.auto.flights ∙ c.as_mut_slice.ensures.len) in
+    let writable : shut_at c.self.inside.snaps.items (place_of_snap c.args.id c.self.inside.snaps.items) ≡ None = ap (λ (x : Volumed g.row.B.Denot). shut_at x.snaps (place_of_snap c.args.id x.snaps)) c.self.view_is ∙ c.requires.writable in
+    let did : did_overflow s.overflow ≡ false = ap (λ (x : Kept g.row.B.Denot). did_overflow x.overflow) named.is ∙ found_open c.self.inside.snaps.items c.args.id c.args.k s writable place in
     let f : Flight = c.in-Ok-new.flight in
     let few : sum_by count_in c.self.inside.snaps.items + count_by (λ x. nat_eq x.number c.args.id && starts c.args.request.range.first x) c.self.inside.snaps.items ≤ 256 =
     subst (λ (x : Volumed g.row.B.Denot). sum_by count_in x.snaps + count_by (λ y. nat_eq y.number c.args.id && starts c.args.request.range.first y) x.snaps ≤ 256) (sym c.self.view_is) c.requires.few in
     let space : length c.self.inside.flights.items < 64 = omega (arith, c.requires.room, ap (λ (x : Volumed g.row.B.Denot). length x.flights) c.self.view_is) in
     let done = held_done g.B.Block.contents g.B.Block.layers g.B.Block.size v c.self.invariant c.args.id c.args.k s named c.take_room.new.snap c.take_room.ensures.same t m gs f c.args.request c.in-Ok-new.ensures.request c.in-Ok-new.ensures.number c.in-Ok-new.ensures.route space asked
-    c.in-Ok-new.ensures.room c.requires.kind few saved c.if-given-self.false in
+    c.in-Ok-new.ensures.room c.requires.kind did few saved c.in-Ok-save_or_mark.ensures.ok.0 in
     let pushed = c.push_reserved.ensures.items ∙ ap (λ fs. fs ++ f ∷ []) back_flights in
     rw (← c.self.view_is)
     (subst (λ (fs : List Flight). IsAcceptedAs g.B.Block.contents g.B.Block.layers c.args.request (c.self.inside.requests + 1) v (record v { snaps = set (set c.self.inside.snaps.items c.args.k c.take_room.new.snap) c.args.k t; copies = m; flights = fs; requests = c.self.inside.requests + 1 })) (sym pushed)

@@ -1,5 +1,5 @@
 -- The merging store, or that of the snapshot that is found.
-use Rattle.std.proofs.Common.{◌≡◌, inl, ℕ, nat_eq, sym, ◌∙◌, ap, arith}
+use Rattle.std.proofs.Common.{◌≡◌, inl, nat_eq, sym, ◌∙◌, ap, arith}
 use Rattle.snapshot.specs.Kept.{Kept}
 use Rattle.snapshots.proofs.Finds.{position_within}
 use Rattle.snapshots.specs.Finding.{place_of_snap}

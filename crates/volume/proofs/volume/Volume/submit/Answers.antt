@@ -1,11 +1,11 @@
 -- A request that no limit, range or missing snapshot refuses is taken by its kind.
-use Rattle.std.proofs.Common.{◌≡◌, inl, refl, sym, ap, subst, arith}
+use Rattle.std.proofs.Common.{◌≡◌, ◌∙◌, inl, refl, sym, ap, subst, arith}
 use Rattle.volume.specs.Volumed.{Volumed}
-use Rattle.volume.specs.Submitting.{starting}
+use Rattle.volume.specs.Submitting.{starting, shut_refusal}
 use Rattle.volume.proofs.Admits.{admitted}
 use Rattle.volume.specs.Whole.{IsWhole}
 use Rattle.volume.proofs.Accepts.{if_ok, if_err}
-use Rattle.volume.proofs.Refusals.{invalid_declined, others_unseen, same_refused, starved_refused, write_refused}
+use Rattle.volume.proofs.Refusals.{failure_declined, others_unseen, same_refused, starved_refused, write_refused}
 use Rattle.volume.proofs.Keeping.{keeps_all, keeps_same, keeps_refused, of_both}
 use Rattle.volume.proofs.volume.Volume.submit.Goals as goal
 
@@ -119,14 +119,19 @@ submit_snap_write-requires-clause-few g c =
     let kind = ap (λ k. starting k c.args.request.range.first c.args.self.now.merge c.args.self.now.snaps) c.in-SnapWrite.ensures in
     omega (arith, a.few, kind)
 
+pub submit_snap_write-requires-clause-writable : goal.submit_snap_write-requires-clause-writable
+submit_snap_write-requires-clause-writable g c =
+    let a = admitted g.B.Block.size c.args.request c.args.self.now (sym c.in-None.ensures) in
+    ap (λ k. shut_refusal k c.args.self.now.snaps) c.in-SnapWrite.ensures ∙ a.writable
+
 pub returns-in-Some-clause-declined : goal.returns-in-Some-clause-declined
 returns-in-Some-clause-declined g c =
     let whole : IsWhole g.B.Block.contents g.B.Block.layers g.B.Block.size c.args.self.now = subst (IsWhole g.B.Block.contents g.B.Block.layers g.B.Block.size) c.self.view_is c.self.invariant in
-    invalid_declined g.B.Block.contents g.B.Block.layers g.B.Block.size c.args.self.now c.args.self.now whole c.args.request c.in-Some.refusal (inl (sym c.in-Some.ensures, refl))
+    failure_declined g.B.Block.contents g.B.Block.layers g.B.Block.size c.args.self.now c.args.self.now whole c.args.request c.in-Some.refusal (inl (sym c.in-Some.ensures, refl))
 
 pub returns-in-Some-clause-starved : goal.returns-in-Some-clause-starved
 returns-in-Some-clause-starved g c =
-    λ other replied. refl
+    λ other unmarked replied. refl
 
 pub returns-in-OriginRead-clause-exact : goal.returns-in-OriginRead-clause-exact
 returns-in-OriginRead-clause-exact g c =
@@ -135,7 +140,7 @@ returns-in-OriginRead-clause-exact g c =
 pub returns-in-OriginRead-clause-declined : goal.returns-in-OriginRead-clause-declined
 returns-in-OriginRead-clause-declined g c =
     let whole : IsWhole g.B.Block.contents g.B.Block.layers g.B.Block.size c.args.self.now = subst (IsWhole g.B.Block.contents g.B.Block.layers g.B.Block.size) c.self.view_is c.self.invariant in
-    if_err c.submit_origin_read.result _ _ (λ e r. invalid_declined g.B.Block.contents g.B.Block.layers g.B.Block.size c.args.self.now c.submit_origin_read.new.self whole c.args.request e (same_refused g.B.Block.contents g.B.Block.layers g.B.Block.size c.args.request e c.args.self.now c.submit_origin_read.new.self (sym c.in-None.ensures) r)) c.submit_origin_read.ensures.err
+    if_err c.submit_origin_read.result _ _ (λ e r. failure_declined g.B.Block.contents g.B.Block.layers g.B.Block.size c.args.self.now c.submit_origin_read.new.self whole c.args.request e (same_refused g.B.Block.contents g.B.Block.layers g.B.Block.size c.args.request e c.args.self.now c.submit_origin_read.new.self (sym c.in-None.ensures) r)) c.submit_origin_read.ensures.err
 
 pub returns-in-OriginRead-clause-starved : goal.returns-in-OriginRead-clause-starved
 returns-in-OriginRead-clause-starved g c =
@@ -149,7 +154,7 @@ returns-in-OriginWrite-clause-exact g c =
 pub returns-in-OriginWrite-clause-declined : goal.returns-in-OriginWrite-clause-declined
 returns-in-OriginWrite-clause-declined g c =
     let whole : IsWhole g.B.Block.contents g.B.Block.layers g.B.Block.size c.args.self.now = subst (IsWhole g.B.Block.contents g.B.Block.layers g.B.Block.size) c.self.view_is c.self.invariant in
-    if_err c.submit_origin_write.result _ _ (λ e r. invalid_declined g.B.Block.contents g.B.Block.layers g.B.Block.size c.args.self.now c.submit_origin_write.new.self whole c.args.request e (starved_refused g.B.Block.contents g.B.Block.layers g.B.Block.size c.args.request e c.args.self.now c.submit_origin_write.new.self (sym c.in-None.ensures) r)) c.submit_origin_write.ensures.err
+    if_err c.submit_origin_write.result _ _ (λ e r. failure_declined g.B.Block.contents g.B.Block.layers g.B.Block.size c.args.self.now c.submit_origin_write.new.self whole c.args.request e (starved_refused g.B.Block.contents g.B.Block.layers g.B.Block.size c.args.request e c.args.self.now c.submit_origin_write.new.self (sym c.in-None.ensures) r)) c.submit_origin_write.ensures.err
 
 pub returns-in-OriginWrite-clause-starved : goal.returns-in-OriginWrite-clause-starved
 returns-in-OriginWrite-clause-starved g c =
@@ -163,7 +168,7 @@ returns-in-SnapRead-clause-exact g c =
 pub returns-in-SnapRead-clause-declined : goal.returns-in-SnapRead-clause-declined
 returns-in-SnapRead-clause-declined g c =
     let whole : IsWhole g.B.Block.contents g.B.Block.layers g.B.Block.size c.args.self.now = subst (IsWhole g.B.Block.contents g.B.Block.layers g.B.Block.size) c.self.view_is c.self.invariant in
-    if_err c.submit_snap_read.result _ _ (λ e r. invalid_declined g.B.Block.contents g.B.Block.layers g.B.Block.size c.args.self.now c.submit_snap_read.new.self whole c.args.request e (same_refused g.B.Block.contents g.B.Block.layers g.B.Block.size c.args.request e c.args.self.now c.submit_snap_read.new.self (sym c.in-None.ensures) r)) c.submit_snap_read.ensures.err
+    if_err c.submit_snap_read.result _ _ (λ e r. failure_declined g.B.Block.contents g.B.Block.layers g.B.Block.size c.args.self.now c.submit_snap_read.new.self whole c.args.request e (same_refused g.B.Block.contents g.B.Block.layers g.B.Block.size c.args.request e c.args.self.now c.submit_snap_read.new.self (sym c.in-None.ensures) r)) c.submit_snap_read.ensures.err
 
 pub returns-in-SnapRead-clause-starved : goal.returns-in-SnapRead-clause-starved
 returns-in-SnapRead-clause-starved g c =
@@ -177,7 +182,7 @@ returns-in-SnapWrite-clause-exact g c =
 pub returns-in-SnapWrite-clause-declined : goal.returns-in-SnapWrite-clause-declined
 returns-in-SnapWrite-clause-declined g c =
     let whole : IsWhole g.B.Block.contents g.B.Block.layers g.B.Block.size c.args.self.now = subst (IsWhole g.B.Block.contents g.B.Block.layers g.B.Block.size) c.self.view_is c.self.invariant in
-    if_err c.submit_snap_write.result _ _ (λ e r. invalid_declined g.B.Block.contents g.B.Block.layers g.B.Block.size c.args.self.now c.submit_snap_write.new.self whole c.args.request e (write_refused g.B.Block.contents g.B.Block.layers g.B.Block.size c.args.request e c.args.self.now c.submit_snap_write.new.self (sym c.in-None.ensures) c.in-SnapWrite.id (sym c.in-SnapWrite.ensures) r)) c.submit_snap_write.ensures.err
+    if_err c.submit_snap_write.result _ _ (λ e r. failure_declined g.B.Block.contents g.B.Block.layers g.B.Block.size c.args.self.now c.submit_snap_write.new.self whole c.args.request e (write_refused g.B.Block.contents g.B.Block.layers g.B.Block.size c.args.request e c.args.self.now c.submit_snap_write.new.self (sym c.in-None.ensures) c.in-SnapWrite.id (sym c.in-SnapWrite.ensures) r)) c.submit_snap_write.ensures.err
 
 pub returns-in-SnapWrite-clause-starved : goal.returns-in-SnapWrite-clause-starved
 returns-in-SnapWrite-clause-starved g c =

@@ -5,6 +5,7 @@ use Rattle.pending.specs.declared.flights.Kind.TheVariants.{SnapWrite}
 use Rattle.pending.specs.Kinds.{kind_of, room_of}
 use Rattle.pending.specs.Routes.{read_route_of}
 use Rattle.plain.specs.declared.request.Request.{Request}
+use Rattle.plain.specs.Plain.{did_overflow}
 use Rattle.volume_laws.specs.Published.{is_published}
 use Rattle.snapshot.specs.Kept.{Kept}
 use Rattle.volume.specs.Volumed.{Volumed, piece_with}
@@ -13,7 +14,7 @@ use Rattle.volume.specs.Whole.{IsWhole}
 use Rattle.snapshots.specs.Finding.{place_of_snap}
 use Rattle.snapshots.specs.Starting.{lacks}
 use Rattle.volume.specs.Submitting.{IsAsked}
-use Rattle.volume.proofs.Named.{dev_of_write, found_some, found_within, is_named, index_same, snap_write_placed_goes, snap_write_held_goes}
+use Rattle.volume.proofs.Named.{dev_of_write, found_open, found_some, found_within, is_named, index_same, snap_write_placed_goes, snap_write_held_goes}
 use Rattle.volume.proofs.Accepts.{if_ok, entered_accepted}
 use Rattle.volume.proofs.Submitted.{snap_placed_submitted, snap_waits_submitted}
 use Rattle.volume.proofs.volume.Volume.submit_snap_write.Goals as goal
@@ -36,7 +37,8 @@ enter-requires-clause-goes g c = λ f h number same route room.
     let named = is_named c.args.self.now c.self.inside.snaps.items c.args.request.dev c.args.id c.in-Some.k s (ap (λ (x : Volumed g.row.B.Denot). x.snaps) c.self.view_is) c.index-snap.ensures c.requires.found (dev_of_write c.args.request c.args.id c.requires.kind) place in
     let chunk : c.own_chunk-chunk.result ≡ f.request.range.first / s.state.chunk = c.own_chunk-chunk.ensures ∙ ap (λ (r : Request). r.range.first / s.state.chunk) (sym same) in
     let published = sym (ap (is_published s.pairs s.marks) chunk) ∙ sym c.if-is_published.ensures in
-    snap_write_placed_goes g.B.Block.contents g.B.Block.layers g.B.Block.size c.args.self.now h f number asked (room ∙ ap room_of (sym same)) c.args.id c.in-Some.k s named (ap kind_of same ∙ c.requires.kind) published
+    let did = ap (λ (x : Kept g.row.B.Denot). did_overflow x.overflow) named.is ∙ found_open c.args.self.now.snaps c.args.id c.in-Some.k s c.requires.writable (place ∙ ap (λ (x : Volumed g.row.B.Denot). place_of_snap c.args.id x.snaps) c.self.view_is) in
+    snap_write_placed_goes g.B.Block.contents g.B.Block.layers g.B.Block.size c.args.self.now h f number asked (room ∙ ap room_of (sym same)) c.args.id c.in-Some.k s named (ap kind_of same ∙ c.requires.kind) did published
     (route ∙ c.read_route-route.ensures ∙ ap read_route_of c.place_of.ensures ∙ ap (λ (n : ℕ). read_route_of (place_of s.pairs n)) chunk)
 
 pub enter-requires-2-clause-goes : goal.enter-requires-2-clause-goes
@@ -48,7 +50,8 @@ enter-requires-2-clause-goes g c = λ f h number same route room.
     let chunk : c.own_chunk-chunk.result ≡ f.request.range.first / s.state.chunk = c.own_chunk-chunk.ensures ∙ ap (λ (r : Request). r.range.first / s.state.chunk) (sym same) in
     let published = sym (ap (is_published s.pairs s.marks) chunk) ∙ sym c.if-is_published.ensures in
     let has = ap (λ (r : Request). lacks r.range.first s) same ∙ sym c.if-is_lacking.ensures in
-    snap_write_held_goes g.B.Block.contents g.B.Block.layers g.B.Block.size c.args.self.now h f number asked (room ∙ ap room_of (sym same)) c.args.id c.in-Some.k s named (ap kind_of same ∙ c.requires.kind) published has route
+    let did = ap (λ (x : Kept g.row.B.Denot). did_overflow x.overflow) named.is ∙ found_open c.args.self.now.snaps c.args.id c.in-Some.k s c.requires.writable (place ∙ ap (λ (x : Volumed g.row.B.Denot). place_of_snap c.args.id x.snaps) c.self.view_is) in
+    snap_write_held_goes g.B.Block.contents g.B.Block.layers g.B.Block.size c.args.self.now h f number asked (room ∙ ap room_of (sym same)) c.args.id c.in-Some.k s named (ap kind_of same ∙ c.requires.kind) did published has route
 
 pub returns-then-is_published-clause-ok : goal.returns-then-is_published-clause-ok
 returns-then-is_published-clause-ok g c =
@@ -58,9 +61,10 @@ returns-then-is_published-clause-ok g c =
     let published = sym (ap (is_published s.pairs s.marks) c.own_chunk-chunk.ensures) ∙ sym c.if-is_published.ensures in
     let whole : IsWhole g.B.Block.contents g.B.Block.layers g.B.Block.size c.args.self.now = subst (IsWhole g.B.Block.contents g.B.Block.layers g.B.Block.size) c.self.view_is c.self.invariant in
     let route = c.read_route-route.ensures ∙ ap read_route_of c.place_of.ensures ∙ ap (λ (n : ℕ). read_route_of (place_of s.pairs n)) c.own_chunk-chunk.ensures in
+    let did = ap (λ (x : Kept g.row.B.Denot). did_overflow x.overflow) named.is ∙ found_open c.args.self.now.snaps c.args.id c.in-Some.k s c.requires.writable (place ∙ ap (λ (x : Volumed g.row.B.Denot). place_of_snap c.args.id x.snaps) c.self.view_is) in
     if_ok c.enter.result _ _
     (λ number e. entered_accepted g.B.Block.contents g.B.Block.layers c.args.request c.read_route-route.result number c.args.self.now c.enter.new.self (SnapWrite c.args.id) c.requires.kind refl refl e
-    (snap_placed_submitted g.B.Block.contents g.B.Block.layers g.B.Block.size c.args.self.now whole c.args.request c.read_route-route.result number c.enter.new.self e c.args.id c.in-Some.k s named c.requires.kind published route)) c.enter.ensures.ok
+    (snap_placed_submitted g.B.Block.contents g.B.Block.layers g.B.Block.size c.args.self.now whole c.args.request c.read_route-route.result number c.enter.new.self e c.args.id c.in-Some.k s named c.requires.kind did (sym c.if-is_lacking.ensures) published route)) c.enter.ensures.ok
 
 pub returns-clause-ok : goal.returns-clause-ok
 returns-clause-ok g c =
@@ -69,9 +73,10 @@ returns-clause-ok g c =
     let named = is_named c.args.self.now c.self.inside.snaps.items c.args.request.dev c.args.id c.in-Some.k s (ap (λ (x : Volumed g.row.B.Denot). x.snaps) c.self.view_is) c.index-snap.ensures c.requires.found (dev_of_write c.args.request c.args.id c.requires.kind) place in
     let published = sym (ap (is_published s.pairs s.marks) c.own_chunk-chunk.ensures) ∙ sym c.if-is_published.ensures in
     let whole : IsWhole g.B.Block.contents g.B.Block.layers g.B.Block.size c.args.self.now = subst (IsWhole g.B.Block.contents g.B.Block.layers g.B.Block.size) c.self.view_is c.self.invariant in
+    let did = ap (λ (x : Kept g.row.B.Denot). did_overflow x.overflow) named.is ∙ found_open c.args.self.now.snaps c.args.id c.in-Some.k s c.requires.writable (place ∙ ap (λ (x : Volumed g.row.B.Denot). place_of_snap c.args.id x.snaps) c.self.view_is) in
     if_ok c.enter-2.result _ _
     (λ number e. entered_accepted g.B.Block.contents g.B.Block.layers c.args.request Held number c.args.self.now c.enter-2.new.self (SnapWrite c.args.id) c.requires.kind refl refl e
-    (snap_waits_submitted g.B.Block.contents g.B.Block.layers g.B.Block.size c.args.self.now whole c.args.request Held number c.enter-2.new.self e c.args.id c.in-Some.k s named c.requires.kind published (sym c.if-is_lacking.ensures) refl)) c.enter-2.ensures.ok
+    (snap_waits_submitted g.B.Block.contents g.B.Block.layers g.B.Block.size c.args.self.now whole c.args.request Held number c.enter-2.new.self e c.args.id c.in-Some.k s named c.requires.kind did published (sym c.if-is_lacking.ensures) refl)) c.enter-2.ensures.ok
 
 pub start_and_enter-requires-clause-lacking : goal.start_and_enter-requires-clause-lacking
 start_and_enter-requires-clause-lacking g c = λ (s : Kept g.row.B.Denot) is.

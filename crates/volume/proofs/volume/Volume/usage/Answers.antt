@@ -1,5 +1,5 @@
 -- The numbers of the merging store, or of that of the snapshot that is found.
-use Rattle.std.proofs.Common.{◌≡◌, inl, ℕ, Some, None, nat_eq, sym, ◌∙◌, ap, arith}
+use Rattle.std.proofs.Common.{◌≡◌, inl, Some, None, nat_eq, sym, ◌∙◌, ap, arith}
 use Rattle.std.specs.Prelude.{Option}
 use Rattle.chunk_alloc.specs.declared.usage.Usage.{Usage}
 use Rattle.snapshot.specs.Kept.{Kept}
