@@ -38,6 +38,12 @@ pub enum Asked<'a> {
         origin: &'a str,
         cow: &'a str,
     },
+    /// The bytes in which the snapshot and its origin differ.
+    Differ {
+        origin: &'a str,
+        cow: &'a str,
+        form: Form,
+    },
     /// The snapshot's array.
     Export {
         origin: &'a str,
@@ -86,6 +92,7 @@ pub fn words_ask<'a>(alloc: Global, words: &'a [String]) -> Result<Asked<'a>, Wr
         "show" => show(&words),
         "map" => map(&words),
         "check" => check(&words),
+        "diff" => differ(&words),
         "export" => export(&words),
         "rollback" => export(&words),
         "merge" => merge(&words),
@@ -98,6 +105,7 @@ pub fn words_ask<'a>(alloc: Global, words: &'a [String]) -> Result<Asked<'a>, Wr
 fn takes(command: &str, option: &str) -> bool {
     match (command, option) {
         ("show", "--json") => true,
+        ("diff", "--json") => true,
         ("map", "--raw") => true,
         ("export", "--salvage") => true,
         ("export", "--behind") => true,
@@ -128,6 +136,14 @@ fn check<'a>(words: &Words<'a>) -> Result<Asked<'a>, Wrong<'a>> {
     let cow = words.name(2, "COW")?;
     words.are_so_many(3)?;
     Ok(Asked::Check { origin, cow })
+}
+
+fn differ<'a>(words: &Words<'a>) -> Result<Asked<'a>, Wrong<'a>> {
+    let origin = words.name(1, "ORIGIN")?;
+    let cow = words.name(2, "COW")?;
+    words.are_so_many(3)?;
+    let form = words.form();
+    Ok(Asked::Differ { origin, cow, form })
 }
 
 fn export<'a>(words: &Words<'a>) -> Result<Asked<'a>, Wrong<'a>> {

@@ -10,6 +10,7 @@ pub const HELP: &[u8] =
 usage: lochknife show COW [--json]
        lochknife map COW [--raw]
        lochknife check ORIGIN COW
+       lochknife diff ORIGIN COW [--json]
        lochknife export ORIGIN COW OUT [--salvage [--chunk N] [--behind]]
        lochknife rollback ORIGIN COW OUT
        lochknife merge ORIGIN COW [--dry-run]
@@ -19,6 +20,7 @@ usage: lochknife show COW [--json]
   show      the header's numbers, how many pairs, where they end, the numbers of the status line
   map       the pairs in runs: OLD NEW COUNT; with --raw each slot: AREA SLOT OLD NEW
   check     as show, for this origin, and every fault of the pairs
+  diff      the bytes in which snapshot and origin differ, neighbours joined: differs START LENGTH
   export    the array that the snapshot shows, into a new file OUT
   rollback  the same file: what the origin holds after the whole merge
   merge     takes the copies back into ORIGIN itself, and its pairs away from COW; stopped at any moment, run it again

@@ -10,4 +10,5 @@ mod showing;
 
 pub use exporting::{Stopped, export, export_fresh, export_pairs};
 pub use ranging::show_range;
+pub use running::{Run, run_at};
 pub use showing::show_chunk;

@@ -1,10 +1,11 @@
 -- What is printed of a store as one JSON object on a line. The keys are those of the lines; a status has three numbers.
-use Rattle.std.specs.Prelude.{ℕ, ◌%◌, List, [], ◌++◌, codes, decimal, length, Option, Some, None}
+use Rattle.std.specs.Prelude.{ℕ, ◌*◌, ◌%◌, List, [], ◌++◌, codes, decimal, flat_map, length, Option, Some, None}
 use Rattle.cow_map.specs.Usage.{allocated_by, metadata_by}
 use Rattle.cow_map.specs.declared.map.CowMap.{CowMap}
 use Rattle.cow_map.specs.declared.found.Reason.{Reason}
 use Rattle.cow_map.specs.declared.found.Told.{Told}
 use Rattle.cow_map.specs.declared.found.Told.TheVariants.{Fresh, Refused, Written}
+use Rattle.cow_kept.specs.declared.span.Span.{Span}
 use Rattle.cow_words.specs.declared.showing.Numbers.{Numbers}
 use Rattle.cow_words.specs.Reasons.{reason_text, refused_name}
 use Rattle.cow_words.specs.Shows.{slots_by}
@@ -52,3 +53,10 @@ front_text sectors = codes "{\"sectors\":" ++ decimal sectors
 -- the object of a store of so many sectors
 abbrev pub json_text : ℕ → Option Numbers → Told → List ℕ
 json_text sectors numbers told = front_text sectors ++ (header_members numbers ++ (told_members (slots_by numbers) told ++ codes "}\n"))
+
+-- an object a span, each on a line of its own: the byte where it begins, and how many bytes it has
+abbrev pub span_object : Span → List ℕ
+span_object span = codes "{\"start\":" ++ (decimal (512 * span.first) ++ (member_text (codes "length") (512 * span.count) ++ codes "}\n"))
+
+abbrev pub spans_objects : List Span → List ℕ
+spans_objects spans = flat_map span_object spans

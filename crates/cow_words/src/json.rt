@@ -1,10 +1,11 @@
 // What a store holds, as one JSON object.
-ghost use Rattle.std.specs.Prelude.{◌≡◌, ℕ, ◌<◌, ◌++◌, OnOk, decimal};
-ghost use Rattle.cow_words.specs.Json.{member_text, header_members, name_member, reason_member, place_members, status_members, usage_members, quoted_text, told_members, front_text, json_text};
+ghost use Rattle.std.specs.Prelude.{◌≡◌, ℕ, ◌*◌, ◌<◌, ◌++◌, OnOk, decimal};
+ghost use Rattle.cow_words.specs.Json.{member_text, header_members, name_member, reason_member, place_members, status_members, usage_members, quoted_text, told_members, front_text, json_text, span_object, spans_objects};
 
 use crate::reasons::{push_reason, refused_as};
 use crate::showing::{Numbers, slots_of};
 use crate::text::push_number;
+use cow_kept::Span;
 use cow_map::{CowMap, Reason, Told};
 use std::alloc::AllocError;
 
@@ -132,5 +133,25 @@ pub fn push_json(
     push_front(text, sectors)?;
     push_header(text, numbers)?;
     push_members(text, slots_of(numbers), told)?;
+    text.extend_from_slice(b"}\n")
+}
+
+/// Adds an object for each span, one a line: the byte where it begins, and how many bytes it has.
+pub fn push_spans_json(text: &mut Vec<u8>, spans: &[Span]) -> Result<(), AllocError>
+    ensures { OnOk result (text.new.items ≡ text.old.items ++ spans_objects spans.now) }
+{
+    for span in spans {
+        push_span_json(text, *span)?;
+    }
+    Ok(())
+}
+
+/// Adds the object of a span.
+fn push_span_json(text: &mut Vec<u8>, span: Span) -> Result<(), AllocError>
+    ensures { OnOk result (text.new.items ≡ text.old.items ++ span_object span) }
+{
+    text.extend_from_slice(b"{\"start\":")?;
+    push_number(text, 512 * span.first)?;
+    push_member(text, b"length", 512 * span.count)?;
     text.extend_from_slice(b"}\n")
 }

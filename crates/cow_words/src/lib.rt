@@ -9,7 +9,7 @@ mod salvage;
 mod showing;
 mod text;
 
-pub use json::push_json;
+pub use json::{push_json, push_spans_json};
 pub use listing::{push_listed, push_runs, push_slots};
 pub use reasons::push_faults;
 pub use salvage::{push_behind, push_skipped, push_spans};

@@ -1,14 +1,18 @@
 -- What is printed of what is seen of a store, and the exit status.
-use Rattle.std.specs.Prelude.{ℕ, ◌*◌, Bool, true, false, List, [], ◌++◌, Option}
+use Rattle.std.specs.Prelude.{ℕ, ◌*◌, Bool, true, false, List, [], ◌++◌, Option, codes}
 use Rattle.sector.specs.declared.pair.Pair.{Pair}
 use Rattle.cow_map.specs.declared.fault.Fault.{Fault}
 use Rattle.cow_map.specs.declared.found.Told.{Told}
 use Rattle.cow_map.specs.declared.found.Told.TheVariants.{Fresh, Refused, Written}
 use Rattle.cow_map.specs.declared.reading.Listed.{Listed}
 use Rattle.cow_map.specs.declared.reading.Listed.TheVariants.{Ends, Lacks}
-use Rattle.cow_words.specs.Json.{json_text}
+use Rattle.cow_asked.specs.declared.asked.Form.{Form}
+use Rattle.cow_asked.specs.declared.asked.Form.TheVariants.{Lines, Json}
+use Rattle.cow_kept.specs.declared.span.Span.{Span}
+use Rattle.cow_words.specs.Json.{json_text, spans_objects}
 use Rattle.cow_words.specs.Lines.{runs_text, slots_text, listed_text}
 use Rattle.cow_words.specs.Reasons.{faults_text}
+use Rattle.cow_words.specs.Salvage.{spans_text}
 use Rattle.cow_words.specs.Shows.{show_text, told_text, slots_by}
 use Rattle.cow_words.specs.declared.showing.Numbers.{Numbers}
 use Rattle.lochknife.specs.declared.looking.Seen.{Seen}
@@ -56,3 +60,8 @@ lacks_text (Lacks area) = listed_text (Lacks area)
 -- what `check` prints after what `show` prints, of a store whose pairs are refused
 abbrev pub check_text : Option Numbers → List Fault → Listed → List ℕ
 check_text numbers faults listed = faults_text (slots_by numbers) faults ++ lacks_text listed
+
+-- what `diff` prints of the spans in which a snapshot and its origin differ
+abbrev pub differing_by : Form → List Span → List ℕ
+differing_by Lines spans = spans_text (codes "differs") spans
+differing_by Json spans = spans_objects spans

@@ -11,6 +11,7 @@ ghost use Rattle.std.specs.Prelude.{◌≡◌, MatchResult, MatchBool};
 mod answers;
 mod array;
 mod commands;
+mod differing;
 mod files;
 mod input;
 mod looking;
@@ -26,6 +27,7 @@ mod watched;
 mod writing;
 
 use crate::commands::{check, map, printed, raw_map, show};
+use crate::differing::diff;
 use crate::merging::{Words, merge};
 use crate::rolling::export;
 use crate::salvaging::{Salvage, salvage_array};
@@ -44,6 +46,7 @@ fn done<'a>(rt: &'a HostRuntime, asked: Asked<'a>) -> Result<bool, Trouble<'a>> 
         Asked::Map { cow } => map(rt, cow),
         Asked::RawMap { cow } => raw_map(rt, cow),
         Asked::Check { origin, cow } => check(rt, origin, cow),
+        Asked::Differ { origin, cow, form } => diff(rt, origin, cow, form),
         Asked::Export { origin, cow, out } => export(rt, origin, cow, out),
         Asked::Salvage {
             origin,

@@ -1,0 +1,103 @@
+// In which bytes a snapshot and its origin differ.
+ghost use Rattle.std.specs.Prelude.{◌≡◌, ℕ, ◌*◌, ◌≤◌, List, length, true, IfOk, Some};
+ghost use Rattle.cow_map.specs.Maps.{IsToldOf};
+ghost use Rattle.cow_diff.specs.Differences.{AreDifferences};
+ghost use Rattle.lochknife.specs.Answers.{differing_by, is_good as is_good_by};
+ghost use Rattle.lochknife.specs.Arrays.{array_of};
+
+use crate::answers::{object, shown};
+use crate::commands::{printed, seen_in};
+use crate::input::Input;
+use crate::looking::{Seen, is_good};
+use crate::rolling::{size_of, why_stopped};
+use crate::trouble::{Trouble, held};
+use cow_asked::Form;
+use cow_diff::{Undone, differences};
+use cow_kept::Span;
+use cow_map::Told;
+use cow_shown::Stopped;
+use cow_words::{push_spans, push_spans_json};
+use image::Image;
+use std::alloc::{AllocError, Global};
+
+/// The sectors in which the array of a snapshot, of whose store this was told, and its origin of so many sectors differ: of a
+/// fresh store, and of one that is refused, none.
+pub fn found<O: Image, C: Image>(
+    alloc: Global,
+    origin: &mut O,
+    cow: &mut C,
+    told: &Told,
+    size: u64,
+) -> Result<Vec<Span>, Undone>
+    requires { size ≤ 68_719_476_736 }
+    ensures { IfOk result (λ spans. (o : List ℕ) → (b : List ℕ) → O.bytes origin.old ≡ Some o → C.bytes cow.old ≡ Some b → length o ≡ 512 * size → IsToldOf size b told.now → is_good_by told.now ≡ true → AreDifferences (array_of told.now o b) o size spans.items) }
+{
+    match told {
+        Told::Fresh => Ok(Vec::new(alloc)),
+        Told::Refused(_) => Ok(Vec::new(alloc)),
+        Told::Written(map) => differences(alloc, origin, cow, map, size),
+    }
+}
+
+/// The text of the ranges in which they differ.
+fn differing(alloc: Global, spans: &[Span], form: Form) -> Result<Vec<u8>, AllocError>
+    ensures { IfOk result (λ text. text.items ≡ differing_by form spans.now) }
+{
+    let mut text = Vec::new(alloc);
+    match form {
+        Form::Lines => push_spans(&mut text, b"differs", spans)?,
+        Form::Json => push_spans_json(&mut text, spans)?,
+    }
+    Ok(text)
+}
+
+/// Prints in which bytes a snapshot and its origin differ, or why its store is refused.
+pub fn diff<'a>(
+    rt: &'a HostRuntime,
+    origin: &'a str,
+    cow: &'a str,
+    form: Form,
+) -> Result<bool, Trouble<'a>> {
+    let mut origin = Input::open(rt, origin)?;
+    let mut cow = Input::open(rt, cow)?;
+    origin.is_apart(&cow)?;
+    let size = size_of(&mut origin)?;
+    let seen = seen_in(rt, &mut cow, size)?;
+    if let Told::Refused(_) = seen.told {
+        return refused(rt, &cow, &seen, form);
+    }
+    origin.hush();
+    let found = found(rt.alloc(), &mut origin, &mut cow, &seen.told, size);
+    let spans = match found {
+        Ok(spans) => spans,
+        Err(undone) => return Err(why_stopped(&origin, &cow, stopped(undone), cow.name)),
+    };
+    cow.is_unchanged()?;
+    origin.is_unchanged()?;
+    let text = held(cow.name, differing(rt.alloc(), spans.as_slice(), form))?;
+    printed(rt, text.as_slice())?;
+    Ok(true)
+}
+
+/// Prints why a store is refused.
+fn refused<'a>(
+    rt: &HostRuntime,
+    cow: &Input<'a>,
+    seen: &Seen,
+    form: Form,
+) -> Result<bool, Trouble<'a>> {
+    let text = match form {
+        Form::Lines => held(cow.name, shown(rt.alloc(), seen))?,
+        Form::Json => held(cow.name, object(rt.alloc(), seen))?,
+    };
+    printed(rt, text.as_slice())?;
+    Ok(is_good(&seen.told))
+}
+
+/// Why a comparison stopped, in the words of an export.
+fn stopped(undone: Undone) -> Stopped {
+    match undone {
+        Undone::Unreadable(error) => Stopped::Unreadable(error),
+        Undone::NoMemory => Stopped::NoMemory,
+    }
+}
