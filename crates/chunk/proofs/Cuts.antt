@@ -33,7 +33,7 @@ part_first chunk s n some is =
     span_same _ _ _ _ _ _ (omega (arith, chunk_begins chunk s.first)) (omega (arith, chunk_begins chunk s.first, next_border chunk s.first some)) refl
 
 -- the count of the chunks, where there are sectors
-touched_some : (chunk : ℕ) (s : Span) → 0 < s.count → touched chunk s ≡ (s.first + s.count - 1) / chunk - s.first / chunk + 1
+pub touched_some : (chunk : ℕ) (s : Span) → 0 < s.count → touched chunk s ≡ (s.first + s.count - 1) / chunk - s.first / chunk + 1
 touched_some chunk s full = grind (arith, tests)
 
 -- the pieces from a chunk on

@@ -4,3 +4,5 @@ pub mod Cuts
 pub mod Whole
 pub mod PiecePlaces
 pub mod Runs
+pub mod Wider
+pub mod Over

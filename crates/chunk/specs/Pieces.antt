@@ -23,6 +23,10 @@ part_in chunk span c =
 abbrev pub touched : ℕ → Span → ℕ
 touched chunk span = if span.count == 0 then 0 else (span.first + span.count - 1) / chunk - span.first / chunk + 1
 
+-- the chunks of this size that so many sectors touch from this one on, in order
+abbrev pub chunks_over : ℕ → ℕ → ℕ → List ℕ
+chunks_over chunk first count = range_with_len (first / chunk) (touched chunk (record { first = first; count = count; size = first + count }))
+
 -- one piece for each chunk that the span touches, in order
 unfoldable pub pieces_of : ℕ → Span → List Span
 pieces_of chunk span = map (part_in chunk span) (range_with_len (span.first / chunk) (touched chunk span))

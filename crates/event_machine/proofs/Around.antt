@@ -1,15 +1,18 @@
 -- Which event is due first where one snapshot has a copy, a mark or a spoil, those before it are idle, and those after it
 -- have copies that wait at most.
+use Rattle.std.specs.List.{list_any}
 use Rattle.std.proofs.Common.{◌≡◌, ℕ, true, false, List, [], ◌∷◌, ◌++◌, Option, Some, None, refl, ap}
 use Rattle.plain.specs.declared.event.Event.TheVariants.{Issue, CopyRead, CopyWrite, ZeroNext, WriteArea, Publish, WriteInvalid}
 use Rattle.plain.specs.declared.request.Reply.{Reply}
+use Rattle.pending.specs.declared.copies.Stage.{Stage}
 use Rattle.pending.specs.declared.copies.Stage.TheVariants.{Waiting, Read}
 use Rattle.pending.specs.Due.{first_by, least}
 use Rattle.settled.specs.Devices.{Device}
 use Rattle.event_machine.specs.Held.{Held, Going, MergeHeld, Moving, number_of, is_untried}
 use Rattle.event_machine.specs.Due.{can_commit, can_zero, copy_at, publishable_in, is_issuable, number_of_going, least_in, chosen, due, is_front_written}
 use Rattle.settled.proofs.Each.{Each, each_weaker}
-use Rattle.event_machine.proofs.Lists.{here_by, none_by, nowhere_by, only_least, here_least, nowhere_least, none_least}
+use Rattle.event_machine.specs.Stepping.{is_copy}
+use Rattle.event_machine.proofs.Lists.{here_by, none_by, nowhere_by, only_least, first_least, nowhere_least, none_least, Above}
 
 -- a volume
 abbrev pub at_with : Option MergeHeld → Device → List Held → List Going → Option Reply → ℕ → Moving
@@ -40,10 +43,19 @@ idle_waits h idle = rw idle.copies refl
 pub idle_later : (h : Held) → IsIdle h → IsLater h
 idle_later h idle = record { tried = idle.tried; marks = idle.marks; front = rw idle.copies refl; read = rw idle.copies refl }
 
-later_commits : (h : Held) → IsLater h → can_commit h ≡ false
+-- A snapshot before the one that has copy n: it has no copy of that number, and one that waits comes after it.
+pub record IsBefore (n : ℕ) (h : Held) : Type 0 where
+  pub later : IsLater h
+  pub above : Above n (copy_at Waiting h)
+  pub apart : (stage : Stage) → list_any (is_copy stage n) h.copies ≡ false
+
+pub idle_before : (n : ℕ) (h : Held) → IsIdle h → IsBefore n h
+idle_before n h idle = record { later = idle_later h idle; above = rw idle.copies tt; apart = λ stage. rw idle.copies refl }
+
+pub later_commits : (h : Held) → IsLater h → can_commit h ≡ false
 later_commits h later = rw later.front refl
 
-later_zeroes : (h : Held) → IsLater h → can_zero h ≡ false
+pub later_zeroes : (h : Held) → IsLater h → can_zero h ≡ false
 later_zeroes h later = rw later.front refl
 
 later_publishes : (rs : List Going) (h : Held) → IsLater h → publishable_in rs h ≡ None
@@ -72,12 +84,9 @@ chosen_issue a b c d e f g n pa pb pc pd pe pf pg = rw (pa, pb, pc, pd, pe, pf, 
 pub due_invalid : (origin : Device) (done rest : List Held) (h : Held) (rs : List Going) (a : Option Reply) (k : ℕ) → Each (λ d. d.untried ≡ false) done → h.untried ≡ true → due (at origin (done ++ h ∷ rest) rs a k) ≡ Some (WriteInvalid h.snap.number)
 due_invalid origin done rest h rs a k before is = rw (here_by is_untried number_of done rest h before is) refl
 
-module _ (origin : Device) (done rest : List Held) (h : Held) (rs : List Going) (a : Option Reply) (k : ℕ) (before : Each IsIdle done) (later : Each IsLater rest) where
-  befores : Each IsLater done
-  befores = each_weaker IsIdle IsLater done idle_later before
-
+module _ (origin : Device) (done rest : List Held) (h : Held) (rs : List Going) (a : Option Reply) (k : ℕ) (befores : Each IsLater done) (later : Each IsLater rest) where
   no_mark : h.untried ≡ false → first_by is_untried number_of (done ++ h ∷ rest) ≡ None
-  no_mark is = nowhere_by is_untried number_of done rest h (each_weaker IsIdle (λ d. is_untried d ≡ false) done (λ d i. i.tried) before) is (each_weaker IsLater (λ d. is_untried d ≡ false) rest (λ d i. i.tried) later)
+  no_mark is = nowhere_by is_untried number_of done rest h (each_weaker IsLater (λ d. is_untried d ≡ false) done (λ d i. i.tried) befores) is (each_weaker IsLater (λ d. is_untried d ≡ false) rest (λ d i. i.tried) later)
 
   no_publish : publishable_in rs h ≡ None → least_in (publishable_in rs) (done ++ h ∷ rest) ≡ None
   no_publish is = nowhere_least (publishable_in rs) done rest h (each_weaker IsLater (λ d. publishable_in rs d ≡ None) done (later_publishes rs) befores) is (each_weaker IsLater (λ d. publishable_in rs d ≡ None) rest (later_publishes rs) later)
@@ -111,10 +120,10 @@ module _ (origin : Device) (done rest : List Held) (h : Held) (rs : List Going) 
       chosen_write _ _ _ _ _ _ _ n (no_mark tried) (no_publish unmarked) (no_area (rw front refl)) (no_zeros (rw front refl))
       (only_least (copy_at Read) n done rest h (each_weaker IsLater (λ d. copy_at Read d ≡ None) done (λ d i. i.read) befores) is (each_weaker IsLater (λ d. copy_at Read d ≡ None) rest (λ d i. i.read) later))
 
-  pub due_read : (n : ℕ) → IsLater h → copy_at Waiting h ≡ Some n → least (Some n) (least_in (copy_at Waiting) rest) ≡ Some n → due (at origin (done ++ h ∷ rest) rs a k) ≡ Some (CopyRead n)
-  due_read n here is low =
+  pub due_read : (n : ℕ) → Each (λ d. Above n (copy_at Waiting d)) done → IsLater h → copy_at Waiting h ≡ Some n → least (Some n) (least_in (copy_at Waiting) rest) ≡ Some n → due (at origin (done ++ h ∷ rest) rs a k) ≡ Some (CopyRead n)
+  due_read n above here is low =
       chosen_read _ _ _ _ _ _ _ n (no_mark here.tried) (no_publish (later_publishes rs h here)) (no_area (later_commits h here)) (no_zeros (later_zeroes h here)) (no_write here.read)
-      (here_least (copy_at Waiting) n done rest h (each_weaker IsIdle (λ d. copy_at Waiting d ≡ None) done idle_waits before) is low)
+      (first_least (copy_at Waiting) n done rest h above is low)
 
 -- where all snapshots are idle, a request that goes somewhere, or nothing
 module _ (origin : Device) (snaps : List Held) (rs : List Going) (a : Option Reply) (k : ℕ) (idle : Each IsIdle snaps) where

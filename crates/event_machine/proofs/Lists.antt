@@ -1,5 +1,5 @@
 -- The first element of a list that passes a test, where those before it do not.
-use Rattle.std.proofs.Common.{◌≡◌, ℕ, Bool, true, false, List, [], ◌∷◌, ◌++◌, Option, Some, None, refl, ap, ◌∙◌, eq-eqb}
+use Rattle.std.proofs.Common.{◌≡◌, ℕ, ◌<◌, Bool, true, false, List, [], ◌∷◌, ◌++◌, Option, Some, None, min, refl, ap, ◌∙◌, eq-eqb, arith}
 use Rattle.std.specs.Prelude.{◌==◌, ◌&&◌}
 use Rattle.std.proofs.lemmas.Bool.{cond-true, cond-false}
 use Rattle.pending.specs.Due.{first_by, least}
@@ -39,6 +39,15 @@ module _ {X : Type 0} (test : X → Bool) where
   here_with y [] rest x all pass = cond-true _ _ _ pass
   here_with y (d ∷ done) rest x all pass = cond-false _ _ _ all.0 ∙ ap (λ xs. d ∷ xs) (here_with y done rest x all.1 pass)
 
+-- a number above m, if there is one
+abbrev pub Above : ℕ → Option ℕ → Type 0
+Above m None = Unit {0}
+Above m (Some n) = m < n
+
+above_least : (n : ℕ) (o : Option ℕ) → Above n o → least o (Some n) ≡ Some n
+above_least n None above = refl
+above_least n (Some k) above = let same : min k n ≡ n = omega arith in ap Some same
+
 -- the least number
 module _ (f : Held → Option ℕ) where
   abbrev pub HasNone : Held → Type 0
@@ -54,6 +63,11 @@ module _ (f : Held → Option ℕ) where
 
   pub here_least : (n : ℕ) (done rest : List Held) (h : Held) → Each HasNone done → f h ≡ Some n → least (Some n) (least_in f rest) ≡ Some n → least_in f (done ++ h ∷ rest) ≡ Some n
   here_least n done rest h all is low = skip_least done (h ∷ rest) all ∙ ap (λ o. least o (least_in f rest)) is ∙ low
+
+  -- those before it have none, or a greater one
+  pub first_least : (n : ℕ) (done rest : List Held) (h : Held) → Each (λ d. Above n (f d)) done → f h ≡ Some n → least (Some n) (least_in f rest) ≡ Some n → least_in f (done ++ h ∷ rest) ≡ Some n
+  first_least n [] rest h all is low = ap (λ o. least o (least_in f rest)) is ∙ low
+  first_least n (d ∷ done) rest h all is low = ap (least (f d)) (first_least n done rest h all.1 is low) ∙ above_least n (f d) all.0
 
   pub only_least : (n : ℕ) (done rest : List Held) (h : Held) → Each HasNone done → f h ≡ Some n → Each HasNone rest → least_in f (done ++ h ∷ rest) ≡ Some n
   only_least n done rest h all is later = here_least n done rest h all is (ap (least (Some n)) (none_least rest later))

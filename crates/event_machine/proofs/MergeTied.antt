@@ -6,6 +6,7 @@ use Rattle.sector.specs.declared.pair.Pair.{Pair}
 use Rattle.plain.specs.declared.request.Reply.{Reply}
 use Rattle.pending.specs.declared.flights.Flight.{Flight}
 use Rattle.pending.specs.declared.flights.Route.{Route}
+use Rattle.pending.specs.Copies.{count_of}
 use Rattle.pending.specs.Kinds.{kind_of}
 use Rattle.pending.specs.Routes.{write_route_of, again_route_of}
 use Rattle.volume_laws.specs.Published.{is_clear as is_clear_in}
@@ -13,14 +14,14 @@ use Rattle.volume_laws.specs.Again.{merged_place as place_in_books, new_route, a
 use Rattle.volume_laws.specs.Waits.{is_grouped as grouped_in_books}
 use Rattle.volume_laws.specs.MergeDue.{is_none, last_of, due_or, can_group as groups, can_read_area as reads_area, can_read as reads, can_write as writes, can_release as releases, is_readable as readable, is_writable as writable, is_copied as all_copied, merge_due as due_in_books, due_with}
 use Rattle.volume_laws.specs.Due.{books_of, due_of}
-use Rattle.settled.specs.Devices.{Device}
+use Rattle.settled.specs.Devices.{Device, sectors_of}
 use Rattle.event_machine.specs.Held.{Going, MergeHeld, group_in}
 use Rattle.event_machine.specs.Again.{again, is_grouped, merged_place, write_route}
 use Rattle.event_machine.specs.MergeDue.{in_area, is_free, can_group, can_read_area, can_read, can_write, can_release, is_readable, is_writable, is_using, is_writing, is_copied, merge_due, due_all}
 use Rattle.event_machine.specs.Seen.{Seen, going_of, held_of, due_in, NeedsAsSeen}
 use Rattle.event_machine.specs.MergeSeen.{MergeSeen, merge_held_of, held_in, books_in, merging_as, IsFilledAsSeen}
 use Rattle.settled.proofs.Each.{Each}
-use Rattle.event_machine.proofs.Tied.{any_map, clear_seen, due_tied, seen_alike}
+use Rattle.event_machine.proofs.Tied.{any_map, clear_seen, clear_over_seen, due_tied, seen_alike}
 
 module _ (s : MergeSeen) where
   abbrev held : MergeHeld
@@ -62,17 +63,17 @@ module _ (s : MergeSeen) where
       readable_same None = refl
       readable_same (Some q) = ap not (any_map going_of (is_writing q.new) fs)
 
-  pub write_same : (snaps : List Seen) → can_write (map held_of snaps) held ≡ writes (map (λ (x : Seen). x.due.books) snaps) s.due.books
+  pub write_same : (snaps : List Seen) → can_write s.due.books.sectors (map held_of snaps) held ≡ writes (map (λ (x : Seen). x.due.books) snaps) s.due.books
   write_same snaps = writable_same s.due.books.reading
     where
-      writable_same : (pairs : List Pair) → is_writable (map held_of snaps) s.due.books.chunk pairs ≡ writable (map (λ (x : Seen). x.due.books) snaps) s.due.books.chunk pairs
+      writable_same : (pairs : List Pair) → is_writable (map held_of snaps) s.due.books.chunk s.due.books.sectors pairs ≡ writable (map (λ (x : Seen). x.due.books) snaps) s.due.books.chunk s.due.books.sectors pairs
       writable_same [] = refl
-      writable_same (q ∷ pairs) = clear_seen (s.due.books.chunk * q.old) snaps
+      writable_same (q ∷ pairs) = clear_over_seen (s.due.books.chunk * q.old) (count_of s.due.books.chunk s.due.books.sectors q.old) snaps
 
   pub release_same : (fs : List Flight) → can_release (map going_of fs) held ≡ releases fs s.due.books
   release_same fs = ap (λ b. not (is_none s.due.books.released) && not b) (any_map going_of (is_using s.due.books.released) fs)
 
-  pub merge_due_tied : (snaps : List Seen) (fs : List Flight) → IsFilledAsSeen s → merge_due (map held_of snaps) (map going_of fs) (Some held) ≡ due_in_books (map (λ (x : Seen). x.due.books) snaps) fs s.due
+  pub merge_due_tied : (snaps : List Seen) (fs : List Flight) → IsFilledAsSeen s → merge_due s.due.books.sectors (map held_of snaps) (map going_of fs) (Some held) ≡ due_in_books (map (λ (x : Seen). x.due.books) snaps) fs s.due
   merge_due_tied snaps fs filled = rw (
     release_same fs,
     copied_same,
@@ -83,10 +84,10 @@ module _ (s : MergeSeen) where
   ) refl
 
   -- of the whole volume
-  pub due_all_tied : (origin : Device) (snaps : List Seen) (fs : List Flight) (a : Option Reply) (k : ℕ) → Each NeedsAsSeen snaps → IsFilledAsSeen s → due_all (merging_as s origin snaps fs a k) ≡ due_with (map due_in snaps) fs s.due
-  due_all_tied origin snaps fs a k needs filled =
-      ap (λ o. due_or o (merge_due (map held_of snaps) (map going_of fs) (Some held))) (due_tied origin snaps fs a k needs)
-      ∙ ap (due_or (due_of (map due_in snaps) fs)) (merge_due_tied snaps fs filled ∙ ap (λ bs. due_in_books bs fs s.due) (books_same snaps))
+  pub due_all_tied : (origin : Device) (snaps : List Seen) (fs : List Flight) (a : Option Reply) (k : ℕ) → Each NeedsAsSeen snaps → IsFilledAsSeen s → sectors_of origin ≡ s.due.books.sectors → due_all (merging_as s origin snaps fs a k) ≡ due_with (map due_in snaps) fs s.due
+  due_all_tied origin snaps fs a k needs filled sectors =
+      ap (λ o. due_or o (merge_due (sectors_of origin) (map held_of snaps) (map going_of fs) (Some held))) (due_tied origin snaps fs a k needs)
+      ∙ ap (due_or (due_of (map due_in snaps) fs)) (ap (λ n. merge_due n (map held_of snaps) (map going_of fs) (Some held)) sectors ∙ merge_due_tied snaps fs filled ∙ ap (λ bs. due_in_books bs fs s.due) (books_same snaps))
     where
       books_same : (xs : List Seen) → map (λ (x : Seen). x.due.books) xs ≡ map books_of (map due_in xs)
       books_same [] = refl

@@ -12,12 +12,12 @@ use Rattle.pending.specs.declared.copies.Stage.TheVariants.{Waiting, Read}
 use Rattle.pending.specs.declared.copies.ChunkCopy.{ChunkCopy}
 use Rattle.pending.specs.declared.flights.Flight.{Flight}
 use Rattle.volume_laws.specs.Due.{DueSnap, snap_number, is_untried as untried_in, can_commit as commits, can_zero as zeroes, copy_of, publishable_of, least_of, due_of}
-use Rattle.volume_laws.specs.Published.{is_saved as is_saved_in, is_clear as is_clear_in}
+use Rattle.volume_laws.specs.Published.{is_saved as is_saved_in, is_clear as is_clear_in, is_saved_over as is_saved_over_in, is_clear_over as is_clear_over_in}
 use Rattle.volume_laws.specs.Again.{placed_of, again_of}
 use Rattle.settled.specs.Devices.{Device}
 use Rattle.event_machine.specs.Held.{Held, Going, number_of, is_untried}
 use Rattle.event_machine.specs.Due.{is_front_written, can_commit, can_zero, is_at, number_of_copying, copy_at, is_reading, is_publishable, publishable_in, is_issuable, number_of_going, least_in, chosen, due}
-use Rattle.event_machine.specs.Again.{again, placed, refused, is_saved, is_clear}
+use Rattle.event_machine.specs.Again.{again, placed, refused, is_saved, is_clear, is_saved_over, is_clear_over}
 use Rattle.event_machine.specs.Seen.{Seen, copying_of, going_of, held_of, due_in, moving_of, NeedsAsSeen}
 use Rattle.settled.proofs.Each.{Each}
 use Rattle.event_machine.proofs.Around.{at}
@@ -120,6 +120,16 @@ untried_seen (s ∷ snaps) = ap (λ b. s.due.books.untried || b) (untried_seen s
 
 pub clear_seen : (first : ℕ) (snaps : List Seen) → is_clear (map held_of snaps) first ≡ is_clear_in (map (λ s. s.due.books) snaps) first
 clear_seen first snaps = ap (λ b. b && not (list_any is_untried (map held_of snaps))) (saved_seen first snaps) ∙ ap (λ b. list_all (is_saved_in first) (map (λ s. s.due.books) snaps) && not b) (untried_seen snaps)
+
+-- and so many sectors of a merged chunk
+saved_over_seen : (first count : ℕ) (snaps : List Seen) → list_all (is_saved_over first count) (map held_of snaps) ≡ list_all (is_saved_over_in first count) (map (λ s. s.due.books) snaps)
+saved_over_seen first count [] = refl
+saved_over_seen first count (s ∷ snaps) = ap (λ b. is_saved_over_in first count s.due.books && b) (saved_over_seen first count snaps)
+
+pub clear_over_seen : (first count : ℕ) (snaps : List Seen) → is_clear_over (map held_of snaps) first count ≡ is_clear_over_in (map (λ s. s.due.books) snaps) first count
+clear_over_seen first count snaps =
+    ap (λ b. b && not (list_any is_untried (map held_of snaps))) (saved_over_seen first count snaps)
+    ∙ ap (λ b. list_all (is_saved_over_in first count) (map (λ s. s.due.books) snaps) && not b) (untried_seen snaps)
 
 pub again_seen : (snaps : List Seen) (fs : List Flight) → map (again None (map held_of snaps)) (map going_of fs) ≡ map going_of (map (again_of None (is_clear_in (map (λ s. s.due.books) snaps))) fs)
 again_seen snaps fs = seen_alike (again None (map held_of snaps)) (again_of None (is_clear_in (map (λ s. s.due.books) snaps))) fs

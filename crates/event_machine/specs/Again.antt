@@ -1,7 +1,10 @@
 -- How requests are routed, and those in flight routed again, as `pending` has it.
 use Rattle.std.specs.Prelude.{◌&&◌, ◌||◌, not, ℕ, ◌/◌, Bool, false, List, [], ◌∷◌, Option, Some, None, map}
 use Rattle.std.specs.List.{list_any, list_all}
+use Rattle.std.specs.Option.{is_some, unwrap_or}
+use Rattle.chunk.specs.Pieces.{chunks_over}
 use Rattle.model.specs.Picture.{place_of}
+use Rattle.pending.specs.Due.{first_by}
 use Rattle.pending.specs.Kinds.{kind_of}
 use Rattle.pending.specs.Routes.{write_route_of, again_route_of, placed_route_of, refused_route_of}
 use Rattle.pending.specs.declared.flights.Route.{Route}
@@ -16,6 +19,22 @@ is_saved first h = not h.snap.live || is_published h.pairs h.marks (first / h.sn
 -- an origin write may go to the origin disk
 abbrev pub is_clear : List Held → ℕ → Bool
 is_clear snaps first = list_all (is_saved first) snaps && not (list_any is_untried snaps)
+
+-- the first chunk that a snapshot has not published, of those that so many sectors touch from this one on
+abbrev pub unpublished_in : ℕ → ℕ → Held → Option ℕ
+unpublished_in first count h = first_by (λ c. not (is_published h.pairs h.marks c)) (λ c. c) (chunks_over h.snap.chunk first count)
+
+-- and the one that these sectors begin in, where all are published
+abbrev pub next_over : ℕ → ℕ → Held → ℕ
+next_over first count h = unwrap_or (unpublished_in first count h) (first / h.snap.chunk)
+
+-- each chunk that touches these sectors is published in a snapshot, if that is live
+abbrev pub is_saved_over : ℕ → ℕ → Held → Bool
+is_saved_over first count h = not h.snap.live || not (is_some (unpublished_in first count h))
+
+-- a merged chunk of so many sectors may be written to the origin disk
+abbrev pub is_clear_over : List Held → ℕ → ℕ → Bool
+is_clear_over snaps first count = list_all (is_saved_over first count) snaps && not (list_any is_untried snaps)
 
 -- whether the chunk of the origin's sector `first` is in the present group, and its place on the merging store
 abbrev pub is_grouped : Option MergeHeld → ℕ → Bool

@@ -5,10 +5,12 @@ use Rattle.std.specs.List.{list_any}
 use Rattle.sector.specs.declared.pair.Pair.{Pair}
 use Rattle.plain.specs.declared.event.Event.{Event}
 use Rattle.plain.specs.declared.event.Event.TheVariants.{MergeGroup, MergeAreaRead, MergeRead, MergeWrite, MergeFlush, MergeCommit, MergeRelease}
+use Rattle.pending.specs.Copies.{count_of}
 use Rattle.pending.specs.Kinds.{kind_of}
-use Rattle.volume_laws.specs.MergeDue.{is_none, last_of, goes_to, writes_to, one_of, due_or}
+use Rattle.volume_laws.specs.MergeDue.{is_none, last_of, next_pair, goes_to, writes_to, one_of, due_or}
+use Rattle.settled.specs.Devices.{sectors_of}
 use Rattle.event_machine.specs.Held.{Held, Going, MergeHeld, Moving, group_in}
-use Rattle.event_machine.specs.Again.{is_clear}
+use Rattle.event_machine.specs.Again.{is_clear_over}
 use Rattle.event_machine.specs.Due.{due}
 
 -- the pairs that stand in the area they are taken from
@@ -41,13 +43,18 @@ is_readable rs (Some q) = not (list_any (is_writing q.new) rs)
 abbrev pub can_read : List Going → MergeHeld → Bool
 can_read rs m = is_none m.reading && is_readable rs (last_of m.waiting)
 
--- MergeWrite: a chunk is in the buffer, each live snapshot has published it, and no invalid mark is untried
-abbrev pub is_writable : List Held → ℕ → List Pair → Bool
-is_writable snaps chunk [] = false
-is_writable snaps chunk (q ∷ pairs) = is_clear snaps (chunk * q.old)
+-- the pair whose chunk is copied next: the one in the buffer, or the last that waits
+abbrev pub next_of : MergeHeld → Option Pair
+next_of m = next_pair m.reading m.waiting
 
-abbrev pub can_write : List Held → MergeHeld → Bool
-can_write snaps m = is_writable snaps m.merge.chunk m.reading
+-- MergeWrite: a chunk is in the buffer, each live snapshot has published all chunks that it touches, on an origin of so many
+-- sectors, and no invalid mark is untried
+abbrev pub is_writable : List Held → ℕ → ℕ → List Pair → Bool
+is_writable snaps chunk sectors [] = false
+is_writable snaps chunk sectors (q ∷ pairs) = is_clear_over snaps (chunk * q.old) (count_of chunk sectors q.old)
+
+abbrev pub can_write : ℕ → List Held → MergeHeld → Bool
+can_write sectors snaps m = is_writable snaps m.merge.chunk sectors m.reading
 
 -- MergeFlush: all chunks are copied, and the origin was not flushed since. MergeCommit: it was.
 abbrev pub is_copied : MergeHeld → Bool
@@ -63,21 +70,21 @@ can_commit_group m = is_copied m && m.flushed
 abbrev pub can_release : List Going → MergeHeld → Bool
 can_release rs m = not (is_none m.released) && not (list_any (is_using m.released) rs)
 
--- the event of a merge that is due first
-abbrev pub merge_due : List Held → List Going → Option MergeHeld → Option Event
-merge_due snaps rs None = None
-merge_due snaps rs (Some m) =
+-- the event of a merge that is due first, on an origin of so many sectors
+abbrev pub merge_due : ℕ → List Held → List Going → Option MergeHeld → Option Event
+merge_due sectors snaps rs None = None
+merge_due sectors snaps rs (Some m) =
     one_of (can_release rs m) MergeRelease
     (one_of (can_commit_group m) MergeCommit
     (one_of (can_flush m) MergeFlush
-    (one_of (can_write snaps m) MergeWrite
+    (one_of (can_write sectors snaps m) MergeWrite
     (one_of (can_read rs m) MergeRead
     (one_of (can_read_area m) MergeAreaRead
     (one_of (can_group m) MergeGroup None))))))
 
 -- of the whole volume
 abbrev pub due_all : Moving → Option Event
-due_all v = due_or (due v) (merge_due v.snaps v.requests v.merge)
+due_all v = due_or (due v) (merge_due (sectors_of v.origin) v.snaps v.requests v.merge)
 
 -- no pair is left, and no group is formed
 abbrev pub is_finished : MergeHeld → Bool

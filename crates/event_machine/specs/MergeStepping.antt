@@ -7,16 +7,16 @@ use Rattle.sector.specs.declared.pair.Pair.{Pair}
 use Rattle.device.specs.declared.operation.Operation.{Operation}
 use Rattle.device.specs.declared.operation.Operation.TheVariants.{Reads, Writes, Flushes}
 use Rattle.plain.specs.declared.event.Event.{Event}
-use Rattle.plain.specs.declared.event.Event.TheVariants.{MergeGroup, MergeAreaRead, MergeRead, MergeWrite, MergeFlush, MergeCommit, MergeRelease}
+use Rattle.plain.specs.declared.event.Event.TheVariants.{Publish, MergeGroup, MergeAreaRead, MergeRead, MergeWrite, MergeFlush, MergeCommit, MergeRelease}
 use Rattle.model.specs.Places.{area_place}
 use Rattle.pending.specs.Copies.{count_of}
 use Rattle.volume_laws.specs.MergeDue.{last_of}
 use Rattle.settled.specs.Devices.{sectors_of, answers, met, written_by}
 use Rattle.settled.specs.Merges.{Merge, last_run, without_slots}
 use Rattle.event_machine.specs.Held.{MergeHeld, Moving, on_device, with_merge}
-use Rattle.event_machine.specs.Again.{rerouted}
-use Rattle.event_machine.specs.MergeDue.{in_area, can_group, can_read_area, can_read, can_write, can_flush, can_commit_group, can_release}
-use Rattle.event_machine.specs.Stepping.{for_some, stepped}
+use Rattle.event_machine.specs.Again.{next_over, rerouted}
+use Rattle.event_machine.specs.MergeDue.{in_area, next_of, can_group, can_read_area, can_read, can_write, can_flush, can_commit_group, can_release}
+use Rattle.event_machine.specs.Stepping.{for_some, first_that, publishes, stepped}
 use Rattle.event_machine.specs.Submitting.{start_copies}
 
 -- no group is formed any more; the pairs that are not committed away stay
@@ -31,10 +31,15 @@ end_group m v = rerouted (with_merge (without_group m) v)
 abbrev pub stop : MergeHeld → Moving → Moving
 stop m v = end_group (record m { merge = record m.merge { failed = true } }) v
 
--- the copies of the next pair's chunk are started in all other snapshots
+-- For the pair that is copied next: in each other snapshot the copy of the first chunk is started that it has not published,
+-- of those that the pair's chunk touches.
 abbrev pub start_next : ℕ → Option Pair → Moving → Moving
 start_next chunk None v = v
-start_next chunk (Some q) v = start_copies (chunk * q.old) v
+start_next chunk (Some q) v = start_copies (next_over (chunk * q.old) (count_of chunk (sectors_of v.origin) q.old)) v
+
+-- the same for the merge as it stands; nothing where it has no pair to copy
+abbrev pub start_waiting : Moving → Moving
+start_waiting v = for_some v.merge (λ m. start_next m.merge.chunk (next_of m) v) v
 
 -- the last run of pairs of the area is the group
 abbrev pub form_group : MergeHeld → Moving → Moving
@@ -109,13 +114,19 @@ read_area m v =
 abbrev pub on_merge : (MergeHeld → Bool) → (MergeHeld → Moving → Moving) → Moving → Moving
 on_merge test f v = for_some v.merge (λ m. if test m then f m v else v) v
 
+-- A mark is taken away, and the copies are started that the merge waits for then: its next pair's chunk may touch several of
+-- a snapshot, which are copied one after the other.
+abbrev pub publish_all : ℕ → Moving → Moving
+publish_all n v = for_some (first_that (publishes v.requests n) v.snaps) (λ h. start_waiting (stepped (Publish n) v)) v
+
 -- an event that is due, of the merge, a snapshot or a request; any other changes nothing
 abbrev pub stepped_all : Event → Moving → Moving
 stepped_all MergeGroup v = on_merge can_group form_group v
 stepped_all MergeAreaRead v = on_merge can_read_area read_area v
 stepped_all MergeRead v = on_merge (can_read v.requests) (λ m. read_chunk (last_of m.waiting) m) v
-stepped_all MergeWrite v = on_merge (can_write v.snaps) (λ m. write_chunk m.reading m) v
+stepped_all MergeWrite v = on_merge (can_write (sectors_of v.origin) v.snaps) (λ m. write_chunk m.reading m) v
 stepped_all MergeFlush v = on_merge can_flush flush_origin v
 stepped_all MergeCommit v = on_merge can_commit_group commit_group v
 stepped_all MergeRelease v = on_merge (can_release v.requests) end_group v
+stepped_all (Publish n) v = publish_all n v
 stepped_all event v = stepped event v

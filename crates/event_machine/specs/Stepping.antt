@@ -170,11 +170,14 @@ on_copy stage n f v =
 abbrev pub on_snap : (Held → Bool) → ((Held → Bool) → Held → Moving → Moving) → Moving → Moving
 on_snap test f v = for_some (first_that test v.snaps) (λ h. f test h v) v
 
+-- whether a snapshot has the mark of this number, and it can be published beside these requests
+abbrev pub publishes : List Going → ℕ → Held → Bool
+publishes rs n h = list_any (λ m. (m.number == n) && is_publishable rs h m) h.marks
+
 -- an event of a snapshot or a request that is due; any other changes nothing
 abbrev pub stepped : Event → Moving → Moving
 stepped (WriteInvalid n) v = on_snap (λ h. (h.snap.number == n) && h.untried) mark_invalid v
-stepped (Publish n) v =
-    on_snap (λ h. list_any (λ m. (m.number == n) && is_publishable v.requests h m) h.marks) (λ test h. publish test (λ m. m.number == n) h) v
+stepped (Publish n) v = on_snap (publishes v.requests n) (λ test h. publish test (λ m. m.number == n) h) v
 stepped (WriteArea n) v = on_snap (λ h. (h.snap.number == n) && can_commit h) (λ test h. commit (batch_of h) test h) v
 stepped (ZeroNext n) v = on_snap (λ h. (h.snap.number == n) && can_zero h) zero_next v
 stepped (CopyWrite n) v = on_copy Read n write_copy v

@@ -36,26 +36,26 @@ with_copy number c h = record h {
 abbrev pub needs_none : ℕ → Held → Bool
 needs_none c h = not h.snap.live || is_some (place_of h.pairs c) || list_any (λ p. p.pair.old == c) h.copies
 
--- A copy of the chunk of the origin's sector `first` is started in each live snapshot that lacks it, under the number after
+-- A copy of the chunk that is wanted of a snapshot is started in each live one that lacks it, under the number after
 -- `started`, and so on; a snapshot whose store is full is spoiled.
-abbrev pub started_all : ℕ → ℕ → List Held → List Held
-started_all first started [] = []
-started_all first started (h ∷ snaps) =
-    if needs_none (first / h.snap.chunk) h then h ∷ started_all first started snaps
-    else (if is_filled h then spoiled h ∷ started_all first started snaps
-    else with_copy (started + 1) (first / h.snap.chunk) h ∷ started_all first (started + 1) snaps)
+abbrev pub started_all : (Held → ℕ) → ℕ → List Held → List Held
+started_all at started [] = []
+started_all at started (h ∷ snaps) =
+    if needs_none (at h) h then h ∷ started_all at started snaps
+    else (if is_filled h then spoiled h ∷ started_all at started snaps
+    else with_copy (started + 1) (at h) h ∷ started_all at (started + 1) snaps)
 
 -- how many copies were started then
-abbrev pub started_by : ℕ → ℕ → List Held → ℕ
-started_by first started [] = started
-started_by first started (h ∷ snaps) =
-    if needs_none (first / h.snap.chunk) h || is_filled h then started_by first started snaps else started_by first (started + 1) snaps
+abbrev pub started_by : (Held → ℕ) → ℕ → List Held → ℕ
+started_by at started [] = started
+started_by at started (h ∷ snaps) =
+    if needs_none (at h) h || is_filled h then started_by at started snaps else started_by at (started + 1) snaps
 
 -- the requests in flight: those of the snapshots that are spoiled are refused
-abbrev pub refused_by : ℕ → List Held → List Going → List Going
-refused_by first [] requests = requests
-refused_by first (h ∷ snaps) requests =
-    if needs_none (first / h.snap.chunk) h || not (is_filled h) then refused_by first snaps requests else refused_by first snaps (map (refused h.snap.number) requests)
+abbrev pub refused_by : (Held → ℕ) → List Held → List Going → List Going
+refused_by at [] requests = requests
+refused_by at (h ∷ snaps) requests =
+    if needs_none (at h) h || not (is_filled h) then refused_by at snaps requests else refused_by at snaps (map (refused h.snap.number) requests)
 
 -- a request that is accepted
 abbrev pub accepted : ℕ → Request → Route → Moving → Moving
@@ -65,16 +65,20 @@ accepted number request route v = record v { requests = v.requests ++ (record { 
 abbrev pub declined : Failure → Moving → Moving
 declined failure v = record v { replied = Some (Declined failure) }
 
--- the copies of the chunk of the origin's sector `first` are started in all snapshots that lack it
-abbrev pub start_copies : ℕ → Moving → Moving
-start_copies first v =
-    record v { snaps = started_all first v.started v.snaps; requests = refused_by first v.snaps v.requests; started = started_by first v.started v.snaps }
+-- the copies of the chunks that are wanted are started in all snapshots that lack them
+abbrev pub start_copies : (Held → ℕ) → Moving → Moving
+start_copies at v =
+    record v { snaps = started_all at v.started v.snaps; requests = refused_by at v.snaps v.requests; started = started_by at v.started v.snaps }
+
+-- the chunk of the origin's sector `first` in a snapshot
+abbrev pub chunk_at : ℕ → Held → ℕ
+chunk_at first h = first / h.snap.chunk
 
 -- a write of the origin starts copies, but where its chunk is in the merge's group, or has a place on the merging store
 abbrev pub write_origin : ℕ → Request → Moving → Moving
 write_origin number request v =
     let first : ℕ = request.range.first in
-    let w : Moving = if is_grouped v.merge first || is_some (merged_place v.merge first) then v else start_copies first v in
+    let w : Moving = if is_grouped v.merge first || is_some (merged_place v.merge first) then v else start_copies (chunk_at first) v in
     accepted number request (write_route w.merge w.snaps first) w
 
 abbrev pub read_snap : ℕ → Request → Held → Moving → Moving

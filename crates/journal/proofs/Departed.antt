@@ -133,7 +133,7 @@ module _ {B : Type 0} (contents : B → List ℕ) (layers : B → List Layer) (n
 
     fewer_begun : IsMergeBegun number w w' → length w'.snaps ≡ length (remove w.snaps k)
     fewer_begun begun =
-        ap (λ (x : Volumed B). length x.snaps) begun.becomes ∙ length-map (remove w.snaps begun.place) (kept_for number (length begun.snap.pairs)) ∙ ap (λ j. length (remove w.snaps j)) (same_place k begun.place (sym found ∙ begun.found))
+        ap (λ (x : Volumed B). length x.snaps) begun.becomes ∙ length-map (remove w.snaps begun.place) (kept_for number (length begun.snap.pairs) begun.snap.state.chunk) ∙ ap (λ j. length (remove w.snaps j)) (same_place k begun.place (sym found ∙ begun.found))
 
     pub detached_keeps : loud ≡ (loud' && more) → (store : StoreDev B) → IsWithout number w w' store → (loud ≡ true → IsDetached p number q) → IsAudit loud' told q (left_books (Detached number))
     detached_keeps both store taken detached =

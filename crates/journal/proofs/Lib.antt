@@ -11,3 +11,4 @@ pub mod Changes
 pub mod Beginning
 pub mod Bounds
 pub mod Cut
+pub mod Undone

@@ -6,3 +6,4 @@ pub mod Marked
 pub mod Inside
 pub mod Books
 pub mod Journaled
+pub mod Undone

@@ -30,7 +30,7 @@ use Rattle.merge_beside.specs.Keeping.{kept_for, kept_back, unkept}
 use Rattle.volume_laws.proofs.Lists.{map-remove}
 use Rattle.volume.specs.Attached.{IsGained}
 use Rattle.volume.specs.Beginning.{IsMergeBegun, IsNotBegun, SameButKept}
-use Rattle.volume.specs.Causes.{HasCause, HasDone, HasFailed, HasReplied, lives_of, lives_saved}
+use Rattle.volume.specs.Causes.{HasCause, HasDone, HasFailed, HasReplied, is_lost, lives_of, lives_saved}
 use Rattle.volume.specs.Finishing.{IsTakenOut}
 use Rattle.volume.specs.Flying.{IsFlown}
 use Rattle.volume.specs.Leaving.{IsWithout}
@@ -90,14 +90,14 @@ lost_first : (a b : Bool) → (if a then false else b) ≡ true → b ≡ true
 lost_first true b e = absurd (false≢true e)
 lost_first false b e = e
 
-overflown_fewer : {B : Type 0} (first : ℕ) (snaps : List (Kept B)) → IsFewer (map (λ s. if overflows first s then false else s.live) snaps) (map (λ s. s.live) snaps)
-overflown_fewer first [] k e = e
-overflown_fewer first (s ∷ snaps) zero e = lost_first (overflows first s) s.live e
-overflown_fewer first (s ∷ snaps) (suc k) e = overflown_fewer first snaps k e
+lost_fewer : {B : Type 0} (lost : Kept B → Bool) (snaps : List (Kept B)) → IsFewer (map (λ s. if lost s then false else s.live) snaps) (map (λ s. s.live) snaps)
+lost_fewer lost [] k e = e
+lost_fewer lost (s ∷ snaps) zero e = lost_first (lost s) s.live e
+lost_fewer lost (s ∷ snaps) (suc k) e = lost_fewer lost snaps k e
 
-saved_fewer : {B : Type 0} (chunk : ℕ) (pair : Option Pair) (snaps : List (Kept B)) → IsFewer (lives_saved chunk pair snaps) (map (λ s. s.live) snaps)
-saved_fewer chunk None snaps k e = e
-saved_fewer chunk (Some q) snaps k e = overflown_fewer (chunk * q.old) snaps k e
+saved_fewer : {B : Type 0} (chunk sectors : ℕ) (pair : Option Pair) (snaps : List (Kept B)) → IsFewer (lives_saved chunk sectors pair snaps) (map (λ s. s.live) snaps)
+saved_fewer chunk sectors None snaps k e = e
+saved_fewer chunk sectors (Some q) snaps k e = lost_fewer (is_lost chunk sectors q) snaps k e
 
 -- A change that nobody sees of a snapshot keeps what is live, and what may overflow.
 record IsAlike {B : Type 0} (f : Kept B → Kept B) : Type 0 where
@@ -118,8 +118,8 @@ unroomed_alike = record { live = λ s. refl; overflow = λ s. refl }
 unkept_alike : {B : Type 0} → IsAlike {B = B} unkept
 unkept_alike = record { live = λ s. refl; overflow = λ s. refl }
 
-kept_alike : {B : Type 0} (number count : ℕ) → IsAlike {B = B} (kept_for number count)
-kept_alike number count = record { live = λ s. either_live (s.live && not (s.number == number)) count s; overflow = λ s. either_overflow (s.live && not (s.number == number)) count s }
+kept_alike : {B : Type 0} (number count chunk : ℕ) → IsAlike {B = B} (kept_for number count chunk)
+kept_alike number count chunk = record { live = λ s. either_live (s.live && not (s.number == number)) _ s; overflow = λ s. either_overflow (s.live && not (s.number == number)) _ s }
   where
     either_live : {B : Type 0} (b : Bool) (count : ℕ) (s : Kept B) → (if b then kept_back count s else s).live ≡ s.live
     either_live true count s = refl
@@ -169,20 +169,21 @@ module _ {B : Type 0} (v w : Volumed B) where
   set_mays : (place : ℕ) → mays_of w ≡ set (mays_of v) place false → IsFewer (mays_of w) (mays_of v)
   set_mays place is = then_fewer (mays_of w) (set (mays_of v) place false) (mays_of v) is (set_fewer (mays_of v) place)
 
-  saved_lives : (chunk : ℕ) (pair : Option Pair) → lives_of w ≡ lives_saved chunk pair v.snaps → IsFewer (lives_of w) (lives_of v)
-  saved_lives chunk pair is = then_fewer (lives_of w) (lives_saved chunk pair v.snaps) (lives_of v) is (saved_fewer chunk pair v.snaps)
+  saved_lives : (chunk sectors : ℕ) (pair : Option Pair) → lives_of w ≡ lives_saved chunk sectors pair v.snaps → IsFewer (lives_of w) (lives_of v)
+  saved_lives chunk sectors pair is = then_fewer (lives_of w) (lives_saved chunk sectors pair v.snaps) (lives_of v) is (saved_fewer chunk sectors pair v.snaps)
 
   module _ (faults : B → ℕ) where
     done_lives : (event : Event) → HasDone faults event v w → IsFewer (lives_of w) (lives_of v)
     done_lives (ZeroNext number) (inl is) = same_lives is.lives
     done_lives (ZeroNext number) (inr is) = set_lives is.place is.lives
-    done_lives MergeGroup is = saved_lives _ _ is.lives
-    done_lives MergeWrite is = saved_lives _ _ is.lives
+    done_lives MergeGroup is = saved_lives _ _ _ is.lives
+    done_lives MergeWrite is = saved_lives _ _ _ is.lives
     done_lives (Issue number) is = same_lives is.lives
     done_lives (CopyRead number) is = same_lives is.lives
     done_lives (CopyWrite number) is = same_lives is.lives
     done_lives (WriteArea number) is = same_lives is.lives
-    done_lives (Publish number) is = same_lives is.lives
+    done_lives (Publish number) (inl is) = same_lives is.lives
+    done_lives (Publish number) (inr is) = set_lives is.place is.lives
     done_lives (WriteInvalid number) is = same_lives is.lives
     done_lives MergeAreaRead is = same_lives is.lives
     done_lives MergeRead is = same_lives is.lives
@@ -227,7 +228,7 @@ module _ {B : Type 0} (v w : Volumed B) where
   accepted_lives : (kind : Kind) (first : ℕ) (merge : Option (Merging B)) (snaps : List (Kept B)) → IsFewer (lives_after kind first merge snaps) (map (λ s. s.live) snaps)
   accepted_lives OriginRead first merge snaps k e = e
   accepted_lives OriginWrite first merge snaps k e =
-      either_fewer _ (map (λ s. s.live) snaps) (map (λ s. if overflows first s then false else s.live) snaps) (map (λ s. s.live) snaps) (λ j d. d) (overflown_fewer first snaps) k e
+      either_fewer _ (map (λ s. s.live) snaps) (map (λ s. if overflows first s then false else s.live) snaps) (map (λ s. s.live) snaps) (λ j d. d) (lost_fewer (overflows first) snaps) k e
   accepted_lives (SnapRead number) first merge snaps k e = e
   accepted_lives (SnapWrite number) first merge snaps k e = e
 
@@ -324,9 +325,10 @@ module _ {B : Type 0} (v w : Volumed B) where
   begun_have number places is h =
       let e = ap (λ (x : Volumed B). length x.flights) is.becomes in
       let count : ℕ = length is.snap.pairs in
+      let chunk : ℕ = is.snap.state.chunk in
       let left : List (Kept B) = remove v.snaps is.place in
-      let lives = ap lives_of is.becomes ∙ alike_lives (kept_for number count) (kept_alike number count) left ∙ map-remove (λ (s : Kept B). s.live) v.snaps is.place in
-      let mays = ap mays_of is.becomes ∙ alike_mays (kept_for number count) (kept_alike number count) left ∙ map-remove (λ (s : Kept B). may_overflow s.overflow) v.snaps is.place in
+      let lives = ap lives_of is.becomes ∙ alike_lives (kept_for number count chunk) (kept_alike number count chunk) left ∙ map-remove (λ (s : Kept B). s.live) v.snaps is.place in
+      let mays = ap mays_of is.becomes ∙ alike_mays (kept_for number count chunk) (kept_alike number count chunk) left ∙ map-remove (λ (s : Kept B). may_overflow s.overflow) v.snaps is.place in
       fewer_have places places (omega (arith, e)) (left_lives is.place lives mays) (omega arith) h.few h
 
   unbegun_have : (number : ℕ) (refusal : Refusal) (places : ℕ) → IsNotBegun number refusal v w → HasPlaces v places → HasPlaces w places

@@ -2,7 +2,7 @@
 use Rattle.std.proofs.Common.{◌∙◌, ap, sym, subst, inl, inr}
 use Rattle.std.specs.Prelude.{◌≡◌, ◌==◌, ◌||◌, ℕ, List, Bool, true, false, None, Some, not, nat_le, length, is_some, if◌then◌else◌}
 use Rattle.sector.specs.declared.refusal.Refusal.{Refusal}
-use Rattle.sector.specs.declared.refusal.Refusal.TheVariants.{JournalFull, NoMemory, ChunkMismatch, Stale, MergeInProgress, NotQuiet, TooMany, BadChunk}
+use Rattle.sector.specs.declared.refusal.Refusal.TheVariants.{JournalFull, NoMemory, Stale, MergeInProgress, NotQuiet, TooMany, BadChunk}
 use Rattle.chunk.specs.Sizes.{is_chunk}
 use Rattle.store.specs.Opening.{IsRefused}
 use Rattle.volume.specs.Leaving.{is_quiet_of}
@@ -22,9 +22,6 @@ not_full stale chunk origin size bytes v e why full = elim why [
   | inl first ↦ pick stale (is_some v.merge) (is_quiet_of v) (nat_le 8 (length v.snaps) || (v.attached == 4_294_967_295)) (is_chunk chunk) (first ∙ ap Some full)
   | inr later ↦ elim later.1 [
     | inl memory ↦ (let differ : NoMemory ≡ JournalFull = sym memory ∙ full in cc)
-    | inr load ↦ elim load [
-      | inl refused ↦ subst (IsRefused chunk origin size bytes) full refused
-      | inr other ↦ (let differ : ChunkMismatch ≡ JournalFull = sym other.0 ∙ full in cc)
-    ]
+    | inr refused ↦ subst (IsRefused chunk origin size bytes) full refused
   ]
 ]

@@ -16,7 +16,7 @@ ghost use Rattle.volume_laws.specs.MergeDue.{has_group};
 ghost use Rattle.volume_laws.specs.Waits.{IsQuiet};
 ghost use Rattle.snapshots.specs.Finding.{place_of_snap};
 ghost use Rattle.snapshots.specs.Numbers.{number_of_snap};
-ghost use Rattle.volume.specs.Asking.{HasNone, HoldsOf, IsMergeStill, merging_number, merging_usage};
+ghost use Rattle.volume.specs.Asking.{HasNone, HoldsOf, IsMergeStill, merging_chunk_of, merging_number, merging_usage};
 ghost use Rattle.volume.specs.EventKinds.{is_of_merge};
 ghost use Rattle.volume.specs.Leaving.{has_group_in, is_quiet_of, usage_of};
 ghost use Rattle.volume.specs.Moved.{moving_of};
@@ -48,10 +48,11 @@ impl<B: Layered> Journaled<B> {
         self.volume.len()
     }
 
-    /// The sectors of a piece. A request lies inside one piece.
+    /// The sectors of a piece: of the least chunk of the snapshots, the one that is being merged among them. A request lies
+    /// inside one piece.
     pub fn piece(&self) -> u32
         ensures piece { result ≡ piece_with self.now.merge self.now.snaps }
-        ensures same { All (λ s. s.state.chunk ≡ result) self.now.snaps }
+        ensures within { All (λ s. (is_chunk s.state.chunk ≡ true) × (result ≤ s.state.chunk)) self.now.snaps }
         ensures allowed { is_chunk result ≡ true }
     {
         self.volume.piece()
@@ -75,6 +76,13 @@ impl<B: Layered> Journaled<B> {
         ensures fine { (m : Merging B) → self.now.merge ≡ Some m → (is_chunk m.state.chunk ≡ true) × (m.state.origin ≡ B.size self.now.origin) }
     {
         self.volume.merging()
+    }
+
+    /// The sectors of the chunks of the snapshot that is being merged, if one is.
+    pub fn merging_chunk(&self) -> Option<u32>
+        ensures { result ≡ merging_chunk_of self.now.merge }
+    {
+        self.volume.merging_chunk()
     }
 
     /// Whether a merge is begun that stopped at a fault, and was not resumed.

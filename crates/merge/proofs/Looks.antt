@@ -7,11 +7,12 @@ use Rattle.pending.specs.declared.flights.Flight.{Flight}
 use Rattle.store.specs.Grouping.{shifted, run_at}
 use Rattle.store.specs.declared.state.State.{State}
 use Rattle.volume_laws.specs.MergeDue.{is_none, last_of, is_readable, is_writable}
+use Rattle.volume_laws.specs.MergeWaits.{next_pairs}
 use Rattle.merge.specs.declared.group.Group.{Group}
 use Rattle.merge.specs.declared.group.Progress.{Progress}
 use Rattle.merge.specs.declared.group.Progress.TheVariants.{Open, Full, Flushed, Committed}
 use Rattle.merge.specs.Due.{has_group_of, next_of, last_in, read_at_progress, next_read_of, full_at, full_of, flush_at, can_flush_of, commit_at, can_commit_of, release_at, can_release_of}
-use Rattle.merge.specs.Lists.{total, is_flushed, group_pairs, waiting_of, reading_at, reading_of, copied_at, copied_of, released_at, released_of}
+use Rattle.merge.specs.Lists.{total, is_flushed, group_pairs, waiting_of, reading_at, reading_of, first_or, next_of_group, copied_at, copied_of, released_at, released_of}
 use Rattle.merge.specs.Held.{IsGroupOf}
 use Rattle.merge.specs.Merging.{Merging, flushed_of}
 use Rattle.merge.specs.Looks.{LooksAgree, option_pairs}
@@ -85,6 +86,26 @@ pub full_is : (group : Option Group) → reading_of group ≡ option_pairs (full
 full_is None = refl
 full_is (Some g) = full_at_is g.progress g
 
+-- the pair that is copied next: the one in the buffer
+pub turn_full : (group : Option Group) (q : Pair) → full_of group ≡ Some q → next_of_group group ≡ Some q
+turn_full group q is = ap (λ (qs : List Pair). first_or qs (last_of (waiting_of group))) (full_is group ∙ ap option_pairs is)
+
+-- or else the last that waits
+pub turn_next : (group : Option Group) → full_of group ≡ None → next_of_group group ≡ next_of group
+turn_next group none = ap (λ (qs : List Pair). first_or qs (last_of (waiting_of group))) (full_is group ∙ ap option_pairs none) ∙ sym (next_is group)
+
+-- it is the books' one
+turn_pairs : (full last : Option Pair) → option_pairs (first_or (option_pairs full) last) ≡ next_pairs (option_pairs full) last
+turn_pairs None None = refl
+turn_pairs None (Some q) = refl
+turn_pairs (Some q) last = refl
+
+pub turn_is : (group : Option Group) → option_pairs (next_of_group group) ≡ next_pairs (reading_of group) (last_of (waiting_of group))
+turn_is group =
+    let last : Option Pair = last_of (waiting_of group) in
+    let full = full_is group in
+    ap (λ (qs : List Pair). option_pairs (first_or qs last)) full ∙ turn_pairs (full_of group) last ∙ ap (λ (qs : List Pair). next_pairs qs last) (sym full)
+
 -- all chunks are copied, and the origin disk is to be flushed, or is flushed
 abbrev copied_all : Progress → Group → Bool
 copied_all p g = (is_none (run_at g.first 0 g.waiting) && is_none (reading_at p g)) && not (is_none (copied_at p g))
@@ -150,7 +171,7 @@ looks_agree contents loud m is =
       area = and_four (not m.failed) (not (has_group_of m.group)) (s.filled == 0) (nat_lt 0 s.current) ∙ ap (λ (b : Bool). ((not m.failed && not b) && (s.filled == 0)) && nat_lt 0 s.current) here;
       next = next_is m.group;
       read = λ rs. read_is s m.pairs m.group rs is;
-      write = λ snaps. ap (is_writable snaps s.chunk) (full_is m.group);
+      write = λ snaps. ap (is_writable snaps s.chunk s.origin) (full_is m.group);
       flush = flush_is s m.pairs m.group is;
       commit = commit_is s m.pairs m.group is;
       release = release_is s m.pairs m.group is;

@@ -5,6 +5,7 @@ use Rattle.std.specs.Prelude.{◌==◌, ℕ, ◌+◌, ◌-◌, Bool, true, false
 use Rattle.std.specs.List.{list_any}
 use Rattle.sector.specs.declared.pair.Pair.{Pair}
 use Rattle.store.specs.Grouping.{shifted, run_at}
+use Rattle.volume_laws.specs.MergeDue.{last_of}
 use Rattle.merge.specs.declared.group.Group.{Group}
 use Rattle.merge.specs.declared.group.Progress.{Progress}
 use Rattle.merge.specs.declared.group.Progress.TheVariants.{Open, Full, Flushed, Committed}
@@ -75,6 +76,14 @@ released_of (Some g) = released_at g.progress g
 -- all pairs of the present group, if there is one
 abbrev pub group_pairs : Option Group → List Pair
 group_pairs group = waiting_of group ++ (reading_of group ++ (copied_of group ++ released_of group))
+
+-- the pair that is copied next: the one whose chunk is in the buffer, or else the last that waits
+abbrev pub first_or : List Pair → Option Pair → Option Pair
+first_or [] last = last
+first_or (q ∷ pairs) last = Some q
+
+abbrev pub next_of_group : Option Group → Option Pair
+next_of_group group = first_or (reading_of group) (last_of (waiting_of group))
 
 -- whether one of these pairs has its copy at a place of the store
 abbrev pub has_place : List Pair → ℕ → Bool

@@ -20,7 +20,7 @@ pub record LooksAgree {B : Type 0} (contents : B → List ℕ) (loud : Bool) (m 
   pub area : can_read_area_of m ≡ can_read_area (due_of contents loud m)
   pub next : next_of m.group ≡ last_of (waiting_of m.group)
   pub read : (rs : List Flight) → can_read rs (books_of contents loud m) ≡ is_readable rs (next_read_of m.group)
-  pub write : (snaps : List SnapBooks) → can_write snaps (books_of contents loud m) ≡ is_writable snaps m.state.chunk (option_pairs (full_of m.group))
+  pub write : (snaps : List SnapBooks) → can_write snaps (books_of contents loud m) ≡ is_writable snaps m.state.chunk m.state.origin (option_pairs (full_of m.group))
   pub flush : can_flush_of m.group ≡ can_flush (due_of contents loud m)
   pub commit : can_commit_of m.group ≡ can_commit_group (due_of contents loud m)
   pub release : can_release_of m.group ≡ not (is_none (released_of m.group))

@@ -1,7 +1,7 @@
 // Looks at how far a merge is, and at which of its events may be due.
 ghost use Rattle.std.specs.Prelude.{◌≡◌, Bool, false, true};
 ghost use Rattle.volume_laws.specs.Again.{has_chunk};
-ghost use Rattle.merge.specs.Lists.{group_pairs, has_place as has_place_in};
+ghost use Rattle.merge.specs.Lists.{group_pairs, has_place as has_place_in, next_of_group};
 ghost use Rattle.merge.specs.Looks.{LooksAgree};
 ghost use Rattle.merge.specs.Due.{has_group_of, is_finished_of, can_group_of, can_read_area_of, next_of, next_read_of, full_of, can_flush_of, can_commit_of, can_release_of};
 
@@ -71,7 +71,7 @@ impl<B: Block> Merge<B> {
         }
     }
 
-    /// The pair of the present group whose chunk is copied next, if one waits.
+    /// The last pair of the present group that waits, if one does: its chunk is read next.
     pub fn next(&self) -> Option<Pair>
         ensures { result ≡ next_of self.now.group }
     {
@@ -98,6 +98,16 @@ impl<B: Block> Merge<B> {
         match self.group {
             Some(group) => in_buffer(group),
             None => None,
+        }
+    }
+
+    /// The pair that is copied next: the one whose chunk is in the buffer, or else the last that waits.
+    pub fn next_pair(&self) -> Option<Pair>
+        ensures { result ≡ next_of_group self.now.group }
+    {
+        match self.full() {
+            Some(pair) => Some(pair),
+            None => self.next(),
         }
     }
 

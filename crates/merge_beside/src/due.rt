@@ -1,6 +1,6 @@
 // Which event of a merge is due, by the merge, the snapshots and the requests in flight.
-ghost use Rattle.std.specs.Prelude.{◌≡◌, ◌*◌, ◌^◌, ◌<◌, Some, map, true};
-ghost use Rattle.std.specs.List.{All, list_any};
+ghost use Rattle.std.specs.Prelude.{◌≡◌, ◌*◌, ◌<◌, Some, map, true};
+ghost use Rattle.std.specs.List.{list_any};
 ghost use Rattle.sector.specs.declared.pair.Pair.{Pair};
 ghost use Rattle.pending.specs.declared.flights.Kind.TheVariants.{OriginRead, OriginWrite};
 ghost use Rattle.volume_laws.specs.MergeDue.{can_commit_group, can_flush, can_group, can_read, can_read_area, can_release, can_write, goes_to, is_using, is_writing, merge_due as due_of_merge};
@@ -9,13 +9,14 @@ ghost use Rattle.merge.specs.Due.{full_of};
 ghost use Rattle.merge.specs.Lists.{group_pairs};
 ghost use Rattle.merge.specs.Merging.{books_of as merging_books, due_of as merging_due};
 
+use crate::saving_next::{count_of, first_of};
 use device::Block;
 use merge::Merge;
 use pending::{Flight, Kind, Route, request_kind};
 use plain::Event;
 use sector::Chunk;
 use snapshot::Snapshot;
-use snapshots::is_clear;
+use snapshots::is_clear_over;
 
 /// Whether an origin request with this route goes to a place of the present group.
 fn is_routed_there<B: Block>(merge: &Merge<B>, route: Route) -> bool
@@ -116,15 +117,15 @@ pub fn is_flush_due<B: Block>(merge: &Merge<B>) -> bool
     merge.can_flush()
 }
 
-/// Whether MergeWrite is due: a chunk is in the buffer, each live snapshot has published it, and no invalid mark is untried.
+/// Whether MergeWrite is due: a chunk is in the buffer, each live snapshot has published each of its own chunks that it
+/// touches, and no invalid mark is untried.
 pub fn is_write_due<B: Block>(merge: &Merge<B>, snaps: &[Snapshot<B>]) -> bool
-    requires some { All (λ s. 0 < s.state.chunk) snaps.now }
-    requires begins { (q : Pair) → full_of merge.now.group ≡ Some q → merge.now.state.chunk * q.old < 2 ^ 64 }
+    requires begins { (q : Pair) → full_of merge.now.group ≡ Some q → merge.now.state.chunk * q.old < merge.now.state.origin }
     ensures { result ≡ can_write (map (books_of B.contents B.layers) snaps.now) (merging_books B.contents true merge.now) }
 {
     let _ = merge.has_group();
     match merge.full() {
-        Some(pair) => is_clear(snaps, merge.chunk() as u64 * pair.old),
+        Some(pair) => is_clear_over(snaps, first_of(merge, pair), count_of(merge, pair)),
         None => false,
     }
 }
@@ -163,8 +164,7 @@ pub fn merge_due<B: Block>(
     snaps: &[Snapshot<B>],
     flights: &[Flight],
 ) -> Option<Event>
-    requires some { All (λ s. 0 < s.state.chunk) snaps.now }
-    requires begins { (q : Pair) → full_of merge.now.group ≡ Some q → merge.now.state.chunk * q.old < 2 ^ 64 }
+    requires begins { (q : Pair) → full_of merge.now.group ≡ Some q → merge.now.state.chunk * q.old < merge.now.state.origin }
     ensures { result ≡ due_of_merge (map (books_of B.contents B.layers) snaps.now) flights.now (merging_due B.contents true merge.now) }
 {
     if is_release_due(merge, flights) {

@@ -16,4 +16,4 @@ pub use due::{
 };
 pub use keeping::{keep_back_all, let_go_all};
 pub use routing::{is_merged_at, merged_route, place_at, route_again};
-pub use saving_next::save_waiting;
+pub use saving_next::{save_next_pair, save_waiting};

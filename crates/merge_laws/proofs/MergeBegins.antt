@@ -4,6 +4,7 @@ use Rattle.std.specs.Prelude.{◌==◌, Option, Some, None}
 use Rattle.std.specs.List.{All}
 use Rattle.std.proofs.lemmas.Bool.{cases_Bool, cond-true, cond-false}
 use Rattle.std.proofs.lemmas.Nat.{mod_below, div-add-mod'}
+use Rattle.chunk.specs.Sizes.{is_chunk}
 use Rattle.model.specs.Pairs.{pairs_of}
 use Rattle.plain.specs.Plain.{Live}
 use Rattle.settled.specs.Snaps.{Snap, Volume, shown}
@@ -47,12 +48,11 @@ named_has P number (t ∷ snaps) s all is = elim (cases_Bool (t.number == number
 ]
 
 -- the merge is under way
-pub begins_well : (sectors number chunk : ℕ) (v : Volume) (s : Snap) → length v.origin.bytes ≡ 512 * sectors → All (IsWell sectors) v.snaps → All (λ s. s.chunk ≡ chunk) v.snaps → snap_named number v.snaps ≡ Some s → s.live ≡ true → IsMerging sectors (begun_by number v s)
-begins_well sectors number chunk v s whole well chunks named live =
-    let HasChunk : Snap → Type 0 = λ (t : Snap). t.chunk ≡ chunk in
+pub begins_well : (sectors number : ℕ) (v : Volume) (s : Snap) → length v.origin.bytes ≡ 512 * sectors → All (IsWell sectors) v.snaps → All (λ s. is_chunk s.chunk ≡ true) v.snaps → snap_named number v.snaps ≡ Some s → s.live ≡ true → IsMerging sectors (begun_by number v s)
+begins_well sectors number v s whole well chunks named live =
+    let HasChunk : Snap → Type 0 = λ (t : Snap). is_chunk t.chunk ≡ true in
     let wells : Each (IsWell sectors) v.snaps = each_from (IsWell sectors) v.snaps well in
     let same : Each HasChunk v.snaps = each_from HasChunk v.snaps chunks in
-    let own : s.chunk ≡ chunk = named_has HasChunk number v.snaps s same named in
     let (size, order) = named_has (IsWell sectors) number v.snaps s wells named live in
     let pos = order.some in
     let parts = div-add-mod' (length (pairs_of s.chunk s.store.bytes)) (32 * s.chunk) in
@@ -61,5 +61,6 @@ begins_well sectors number chunk v s whole well chunks named live =
       whole = whole;
       merge = record { some = order.some; size = size; whole = order.whole; pairs = order.pairs; low = omega arith; high = omega arith };
       snaps = all_from (IsWell sectors) (detached number v.snaps) (each_detached (IsWell sectors) number v.snaps wells);
-      chunks = subst (λ (n : ℕ). All (λ t. t.chunk ≡ n) (detached number v.snaps)) (sym own) (all_from HasChunk (detached number v.snaps) (each_detached HasChunk number v.snaps same));
+      allowed = named_has HasChunk number v.snaps s same named;
+      chunks = all_from HasChunk (detached number v.snaps) (each_detached HasChunk number v.snaps same);
     }

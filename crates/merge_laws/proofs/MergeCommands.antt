@@ -1,5 +1,5 @@
 -- Writes of many sectors of the origin while a merge is begun: the pieces that were done stand in what it shows.
-use Rattle.std.proofs.Common.{◌≡◌, ◌⊎◌, inl, inr, ℕ, ◌+◌, ◌*◌, ◌-◌, ◌/◌, ◌<◌, ◌≤◌, false, List, [], ◌∷◌, ◌++◌, length, take, drop, arith, rules, refl, ap, ◌∙◌, sym, subst, min, length-take, length-drop}
+use Rattle.std.proofs.Common.{◌≡◌, ◌⊎◌, inl, inr, ℕ, ◌+◌, ◌*◌, ◌-◌, ◌/◌, ◌≤◌, true, false, List, [], ◌∷◌, ◌++◌, length, take, drop, arith, rules, refl, ap, ◌∙◌, sym, subst, length-take, length-drop}
 use Rattle.std.proofs.lemmas.Bool.{cases_Bool, cond-true, cond-false}
 use Rattle.std.proofs.lemmas.List.{places, same_lists, take-append-drop, length-take-le}
 use Rattle.sector.specs.Bytes.{with_sectors}
@@ -10,15 +10,17 @@ use Rattle.plain.specs.declared.request.Reply.{Reply}
 use Rattle.plain.specs.declared.request.Reply.TheVariants.{Written, Refused}
 use Rattle.plain.specs.declared.request.Failure.TheVariants.{Io}
 use Rattle.model.proofs.Pictures.{length-picture}
+use Rattle.chunk.specs.Sizes.{is_chunk}
+use Rattle.chunk.proofs.Limits.{is_chunk-some}
+use Rattle.chunk.proofs.Wider.{wider}
 use Rattle.chunk.proofs.PiecePlaces.{join_le, piece_high}
-use Rattle.settled.specs.Snaps.{Snap}
-use Rattle.settled.specs.Commands.{piece_of}
 use Rattle.settled.specs.Shown.{ShowTheSame}
 use Rattle.settled.specs.Merges.{Merging, Replied, go_on, write_part, write_parts, written_through, least_chunk}
 use Rattle.settled.specs.MergeShown.{IsMerging, shown_through}
 use Rattle.settled.proofs.Each.{Each, each_from}
-use Rattle.merge_laws.proofs.MergeSaves.{show_same, show_then}
-use Rattle.merge_laws.proofs.MergeServes.{WritesThrough, writes_through}
+use Rattle.settled.proofs.Chunks.{IsWide, HasChunks}
+use Rattle.merge_laws.proofs.MergeSaves.{show_same, show_then, HasLeast, has_least, one_wider}
+use Rattle.merge_laws.proofs.MergeServes.{WritesThrough, writes_through, part_keeps}
 
 -- nothing written, and two writes side by side
 wrote_none : (a : List ℕ) (first : ℕ) → with_sectors a first [] ≡ a
@@ -40,7 +42,7 @@ pub record WritesRange (sectors first count : ℕ) (bytes : List ℕ) (m : Mergi
   pub reply : ((r.reply ≡ Written) × (done ≡ count)) ⊎ (r.reply ≡ Refused Io)
   pub snaps : ShowTheSame m.volume.origin.bytes r.state.volume.origin.bytes m.volume.snaps r.state.volume.snaps
 
-module _ (sectors chunk : ℕ) (pos : 0 < chunk) where
+module _ (sectors chunk : ℕ) (allowed : is_chunk chunk ≡ true) where
   -- the first piece was refused
   range_refused : (first b : ℕ) (p : Span) (pieces : List Span) (bytes : List ℕ) (m : Merging) (w : WritesThrough sectors first (take (512 * p.count) bytes) m (write_part Origin p (take (512 * p.count) bytes) m)) → first ≤ b → w.wrote ≡ false →
       WritesRange sectors first (b - first) bytes m (write_parts Origin (p ∷ pieces) bytes m)
@@ -58,8 +60,8 @@ module _ (sectors chunk : ℕ) (pos : 0 < chunk) where
         snaps = w.snaps;
       })
 
-  pub range_written : (a b : ℕ) (pieces : List Span) (bytes : List ℕ) (m : Merging) → IsMerging sectors m → m.merge.chunk ≡ chunk → Join a b pieces → Each (IsInOneChunk chunk) pieces → b ≤ sectors → length bytes ≡ 512 * (b - a) → a ≤ b → WritesRange sectors a (b - a) bytes m (write_parts Origin pieces bytes m)
-  range_written a b [] bytes m is same join one inside len le = record {
+  pub range_written : (a b : ℕ) (pieces : List Span) (bytes : List ℕ) (m : Merging) → IsMerging sectors m → chunk ≤ m.merge.chunk → Each (HasChunks chunk) m.volume.snaps → Join a b pieces → Each (IsInOneChunk chunk) pieces → b ≤ sectors → length bytes ≡ 512 * (b - a) → a ≤ b → WritesRange sectors a (b - a) bytes m (write_parts Origin pieces bytes m)
+  range_written a b [] bytes m is wide each join one inside len le = record {
     holds = is;
     chunk = refl;
     done = 0;
@@ -68,20 +70,20 @@ module _ (sectors chunk : ℕ) (pos : 0 < chunk) where
     reply = inl (refl, omega arith);
     snaps = show_same m.volume.origin.bytes m.volume.snaps;
   }
-  range_written a b (p ∷ pieces) bytes m is same join one inside len le =
+  range_written a b (p ∷ pieces) bytes m is wide each join one inside len le =
       let start : p.first ≡ a = join.0 in
       let end = join_le (a + p.count) b pieces join.1 in
       let front : length (take (512 * p.count) bytes) ≡ 512 * p.count = simp length-take (omega arith) in
       let back : length (drop (512 * p.count) bytes) ≡ 512 * (b - (a + p.count)) = simp length-drop (omega arith) in
-      let high : p.first + p.count ≤ chunk * (p.first / chunk) + chunk = piece_high chunk p.first p.count pos one.0.some one.0.one in
-      let fits : p.first + p.count ≤ m.merge.chunk * (p.first / m.merge.chunk) + m.merge.chunk = subst (λ (n : ℕ). p.first + p.count ≤ n * (p.first / n) + n) (sym same) high in
+      let high : p.first + p.count ≤ chunk * (p.first / chunk) + chunk = piece_high chunk p.first p.count (is_chunk-some chunk allowed) one.0.some one.0.one in
+      let fits : p.first + p.count ≤ m.merge.chunk * (p.first / m.merge.chunk) + m.merge.chunk = wider chunk m.merge.chunk p.first p.count allowed is.allowed wide high in
       let here : Replied = write_part Origin p (take (512 * p.count) bytes) m in
       let rest : Replied = write_parts Origin pieces (drop (512 * p.count) bytes) here.state in
-      let w : WritesThrough sectors a (take (512 * p.count) bytes) m here = subst (λ (n : ℕ). WritesThrough sectors n (take (512 * p.count) bytes) m here) start (writes_through sectors p m is one.0.some (omega arith) fits (take (512 * p.count) bytes) front) in
+      let w : WritesThrough sectors a (take (512 * p.count) bytes) m here = subst (λ (n : ℕ). WritesThrough sectors n (take (512 * p.count) bytes) m here) start (writes_through sectors p m is one.0.some (omega arith) fits (one_wider chunk p.first p.count m.volume.snaps allowed high each) (take (512 * p.count) bytes) front) in
       elim (cases_Bool w.wrote) [
         | inr lost ↦ range_refused a b p pieces bytes m w le lost
         | inl wrote ↦ (let written : here.reply ≡ Written = w.reply ∙ cond-true _ _ _ wrote in
-            let more : WritesRange sectors (a + p.count) (b - (a + p.count)) (drop (512 * p.count) bytes) here.state rest = range_written (a + p.count) b pieces (drop (512 * p.count) bytes) here.state w.holds (w.chunk ∙ same) join.1 one.1 inside back end in
+            let more : WritesRange sectors (a + p.count) (b - (a + p.count)) (drop (512 * p.count) bytes) here.state rest = range_written (a + p.count) b pieces (drop (512 * p.count) bytes) here.state w.holds (subst (λ (n : ℕ). chunk ≤ n) (sym w.chunk) wide) (part_keeps (IsWide chunk) p (take (512 * p.count) bytes) m each) join.1 one.1 inside back end in
             let most = more.most in
             let whole = is.whole in
             let room = length-picture m.merge.chunk m.volume.origin.bytes m.merge.store.bytes in
@@ -99,19 +101,14 @@ module _ (sectors chunk : ℕ) (pos : 0 < chunk) where
             }))
       ]
 
--- requests go by the one size of all chunks
-pub least_is : (chunk : ℕ) (snaps : List Snap) → chunk ≤ 1024 → Each (λ (s : Snap). s.chunk ≡ chunk) snaps → min chunk (piece_of snaps) ≡ chunk
-least_is chunk [] small all = omega arith
-least_is chunk (s ∷ snaps) small all = let h = least_is chunk snaps small all.1 in let e = all.0 in omega arith
-
 -- a whole write of the origin
-pub command_written : (sectors : ℕ) (span : Span) (bytes : List ℕ) (m : Merging) → IsMerging sectors m → m.merge.chunk ≤ 1024 → span.first + span.count ≤ sectors → length bytes ≡ 512 * span.count → WritesRange sectors span.first span.count bytes m (written_through Origin span bytes m)
+pub command_written : (sectors : ℕ) (span : Span) (bytes : List ℕ) (m : Merging) → IsMerging sectors m → span.first + span.count ≤ sectors → length bytes ≡ 512 * span.count → WritesRange sectors span.first span.count bytes m (written_through Origin span bytes m)
 unfolding written_through
-command_written sectors span bytes m is small inside len =
-    let chunk : ℕ = m.merge.chunk in
-    let least : least_chunk m ≡ m.merge.chunk = least_is m.merge.chunk m.volume.snaps small (each_from (λ (s : Snap). s.chunk ≡ m.merge.chunk) m.volume.snaps is.chunks) in
-    let cut = cut_pieces chunk span (pieces_of chunk span) refl is.merge.some in
+command_written sectors span bytes m is inside len =
+    let chunk : ℕ = least_chunk m in
+    let fits : HasLeast m = has_least sectors m is in
+    let pieces : List Span = pieces_of chunk span in
+    let cut = cut_pieces chunk span pieces refl (is_chunk-some chunk fits.allowed) in
     let all : span.first + span.count - span.first ≡ span.count = omega arith in
-    subst (λ (n : ℕ). WritesRange sectors span.first span.count bytes m (write_parts Origin (pieces_of n span) bytes m)) (sym least)
-    (subst (λ (n : ℕ). WritesRange sectors span.first n bytes m (write_parts Origin (pieces_of chunk span) bytes m)) all
-    (range_written sectors chunk is.merge.some span.first (span.first + span.count) (pieces_of chunk span) bytes m is refl cut.join (each_from (IsInOneChunk chunk) (pieces_of chunk span) cut.inside) inside (omega arith) (omega arith)))
+    subst (λ (n : ℕ). WritesRange sectors span.first n bytes m (write_parts Origin (pieces_of (least_chunk m) span) bytes m)) all
+    (range_written sectors chunk fits.allowed span.first (span.first + span.count) pieces bytes m is fits.merge fits.snaps cut.join (each_from (IsInOneChunk chunk) pieces cut.inside) inside (omega arith) (omega arith))

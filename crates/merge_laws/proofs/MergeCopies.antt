@@ -1,18 +1,17 @@
 -- The chunk of one pair, and then those of a group, are copied to the origin disk: nobody sees it, and what was copied stands
 -- there.
-use Rattle.std.proofs.Common.{◌≡◌, ◌≢◌, inl, inr, ℕ, ◌+◌, ◌*◌, ◌/◌, ◌<◌, ◌≤◌, Bool, true, false, List, ◌∷◌, ◌++◌, length, arith, refl, ap, ◌∙◌, sym, subst, length-take, length-drop}
+use Rattle.std.proofs.Common.{◌≡◌, ◌≢◌, inl, inr, ℕ, ◌+◌, ◌*◌, ◌<◌, ◌≤◌, Bool, true, false, List, ◌∷◌, ◌++◌, length, arith, refl, ap, ◌∙◌, sym, subst, length-take, length-drop}
 use Rattle.std.specs.Prelude.{if◌then◌else◌, Some, None, AllPairs}
 use Rattle.std.specs.List.{All}
 use Rattle.std.proofs.lemmas.Bool.{cases_Bool, cond-true, cond-false, true≢false}
 use Rattle.std.proofs.lemmas.List.Elements.{All-head}
-use Rattle.std.proofs.lemmas.Nat.{div-mul-add}
 use Rattle.sector.specs.Bytes.{sectors_at, with_sectors}
 use Rattle.sector.specs.declared.pair.Pair.{Pair}
 use Rattle.sector.proofs.Sectors.{length-with_sectors, sectors_at-with_same, byte_outside}
+use Rattle.chunk.specs.Sizes.{is_chunk}
+use Rattle.chunk.proofs.Limits.{is_chunk-some}
 use Rattle.device.specs.declared.operation.Operation.{Operation}
 use Rattle.device.specs.declared.operation.Operation.TheVariants.{Reads, Writes}
-use Rattle.plain.specs.declared.request.Dev.TheVariants.{Origin}
-use Rattle.plain.specs.declared.request.Op.TheVariants.{Write}
 use Rattle.model.specs.Pairs.{pairs_of, IsApart, IsInside, AreWellFormed}
 use Rattle.model.specs.Picture.{place_of, picture, IsCopied}
 use Rattle.model.proofs.Pictures.{front_copied}
@@ -25,21 +24,20 @@ use Rattle.volume_laws.proofs.Lists.{All-back, AllPairs-back, AllPairs-head}
 use Rattle.volume_laws.proofs.Pairs.{place_of-middle}
 use Rattle.settled.specs.Devices.{Device, answers, met, written_by}
 use Rattle.settled.specs.Snaps.{Snap}
-use Rattle.settled.specs.Pieces.{save_all}
 use Rattle.settled.specs.Shown.{ShowTheSame}
-use Rattle.settled.specs.Merges.{Merge, Merging, pairs_in, stopped, with_store, with_origin, saved_first, write_disk, sectors_in, copy_back}
+use Rattle.settled.specs.Merges.{Merge, Merging, pairs_in, stopped, with_store, with_origin, saved_rounds, saved_over, write_disk, sectors_in, copy_back}
 use Rattle.settled.specs.MergeShown.{IsWell, IsUnderWay, IsMerging, IsUnseen}
-use Rattle.settled.proofs.Each.{each_from, all_from, each_weaker}
-use Rattle.merge_laws.proofs.MergeSaves.{IsInOne, all_well, all_shown}
-use Rattle.settled.proofs.SavedBytes.{save_all_bytes}
-use Rattle.settled.proofs.Chunks.{answer_keeps}
+use Rattle.settled.proofs.Each.{Each, each_from, all_from, each_weaker}
+use Rattle.settled.proofs.Rounds.{rounds_bytes, rounds_keep}
+use Rattle.settled.proofs.RoundSaves.{rounds_well}
+use Rattle.merge_laws.proofs.MergeSaves.{rounds_shown_over}
 
--- what a copy back does: the other snapshots save the chunk, and it is written to the origin disk or not
+-- what a copy back does: the other snapshots save what the chunk touches, and it is written to the origin disk or not
 pub record CopiesBack (p : Pair) (m after : Merging) : Type 0 where
   pub chunk : after.merge.chunk ≡ m.merge.chunk
   pub current : after.merge.current ≡ m.merge.current
   pub store : after.merge.store.bytes ≡ m.merge.store.bytes
-  pub snaps : after.volume.snaps ≡ (save_all (m.merge.chunk * p.old) m.volume.origin m.volume.snaps).snaps
+  pub snaps : after.volume.snaps ≡ (saved_rounds (m.merge.chunk * p.old) (sectors_in p m) (sectors_in p m) m.volume).snaps
   pub wrote : Bool
   pub disk : after.volume.origin.bytes ≡ (if wrote then with_sectors m.volume.origin.bytes (m.merge.chunk * p.old) (sectors_at m.merge.store.bytes (m.merge.chunk * p.new) (sectors_in p m)) else m.volume.origin.bytes)
   pub done : after.merge.failed ≡ false → wrote ≡ true
@@ -47,8 +45,9 @@ pub record CopiesBack (p : Pair) (m after : Merging) : Type 0 where
 module _ (p : Pair) (m : Merging) where
   pub copies_back : CopiesBack p m (copy_back p m)
   copies_back =
-      let saved : Merging = saved_first (m.merge.chunk * p.old) m in
-      let disk : Device = (save_all (m.merge.chunk * p.old) m.volume.origin m.volume.snaps).origin in
+      let saved : Merging = saved_over (m.merge.chunk * p.old) (sectors_in p m) m in
+      let disk : Device = saved.volume.origin in
+      let same : disk.bytes ≡ m.volume.origin.bytes = rounds_bytes (m.merge.chunk * p.old) (sectors_in p m) (sectors_in p m) m.volume in
       let bytes : List ℕ = sectors_at m.merge.store.bytes (m.merge.chunk * p.new) (sectors_in p m) in
       let reads : Operation = Reads (m.merge.chunk * p.new) (sectors_in p m) in
       let writes : Operation = Writes (m.merge.chunk * p.old) (sectors_in p m) in
@@ -57,13 +56,13 @@ module _ (p : Pair) (m : Merging) where
       let written : Merging = with_origin read (written_by disk writes (with_sectors disk.bytes (m.merge.chunk * p.old) bytes)) in
       elim (cases_Bool (answers m.merge.store reads)) [
         | inr failed ↦ (let is : copy_back p m ≡ stopped read = cond-false _ _ _ failed in
-            subst (CopiesBack p m) (sym is) (record { chunk = refl; current = refl; store = refl; snaps = refl; wrote = false; disk = save_all_bytes (m.merge.chunk * p.old) m.volume.origin m.volume.snaps; done = λ no. absurd (true≢false no) }))
+            subst (CopiesBack p m) (sym is) (record { chunk = refl; current = refl; store = refl; snaps = refl; wrote = false; disk = same; done = λ no. absurd (true≢false no) }))
         | inl ok ↦ (let goes : copy_back p m ≡ write_disk (m.merge.chunk * p.old) (sectors_in p m) bytes read = cond-true _ _ _ ok in
             elim (cases_Bool (answers disk writes)) [
               | inl wrote ↦ (let is : copy_back p m ≡ written = goes ∙ cond-true _ _ _ wrote in
-                  subst (CopiesBack p m) (sym is) (record { chunk = refl; current = refl; store = refl; snaps = refl; wrote = answers disk writes; disk = ap over (save_all_bytes (m.merge.chunk * p.old) m.volume.origin m.volume.snaps); done = λ _. wrote }))
+                  subst (CopiesBack p m) (sym is) (record { chunk = refl; current = refl; store = refl; snaps = refl; wrote = answers disk writes; disk = ap over same; done = λ _. wrote }))
               | inr lost ↦ (let is : copy_back p m ≡ stopped written = goes ∙ cond-false _ _ _ lost in
-                  subst (CopiesBack p m) (sym is) (record { chunk = refl; current = refl; store = refl; snaps = refl; wrote = answers disk writes; disk = ap over (save_all_bytes (m.merge.chunk * p.old) m.volume.origin m.volume.snaps); done = λ no. absurd (true≢false no) }))
+                  subst (CopiesBack p m) (sym is) (record { chunk = refl; current = refl; store = refl; snaps = refl; wrote = answers disk writes; disk = ap over same; done = λ no. absurd (true≢false no) }))
             ])
       ]
 
@@ -166,15 +165,14 @@ module _ (sectors : ℕ) (front back : List Pair) (p : Pair) (m after : Merging)
   pair_disk : after.volume.origin.bytes ≡ (if copy.wrote then disk_back m.merge.chunk sectors m.volume.origin.bytes m.merge.store.bytes p else m.volume.origin.bytes)
   pair_disk = copy.disk ∙ ap (λ n. if copy.wrote then with_sectors m.volume.origin.bytes (m.merge.chunk * p.old) (sectors_at m.merge.store.bytes (m.merge.chunk * p.new) n) else m.volume.origin.bytes) count_is
 
-  pair_one : (s : Snap) → s.chunk ≡ m.merge.chunk → IsInOne (m.merge.chunk * p.old) (count_of m.merge.chunk sectors p.old) s
-  pair_one s same = subst (λ (n : ℕ). m.merge.chunk * p.old + count_of m.merge.chunk sectors p.old ≤ n * ((m.merge.chunk * p.old) / n) + n) (sym same) (fits m.merge.chunk p.old (count_of m.merge.chunk sectors p.old) is.merge.some (omega arith))
-    where
-      fits : (n c count : ℕ) → 0 < n → count ≤ n → n * c + count ≤ n * ((n * c) / n) + n
-      fits n c count pos few =
-          let e : n * c ≡ c * n + 0 = grind arith in
-          let q : (n * c) / n ≡ c = ap (λ x. x / n) e ∙ div-mul-add c n 0 pos in
-          let h : n * ((n * c) / n) ≡ n * c = ap (λ x. n * x) q in
-          omega arith
+  pair_snaps : after.volume.snaps ≡ (saved_rounds (m.merge.chunk * p.old) (count_of m.merge.chunk sectors p.old) (count_of m.merge.chunk sectors p.old) m.volume).snaps
+  pair_snaps = copy.snaps ∙ ap (λ n. (saved_rounds (m.merge.chunk * p.old) n n m.volume).snaps) count_is
+
+  chunks_each : Each (λ (s : Snap). is_chunk s.chunk ≡ true) m.volume.snaps
+  chunks_each = each_from (λ (s : Snap). is_chunk s.chunk ≡ true) m.volume.snaps is.chunks
+
+  pub pair_sizes : Each (λ (s : Snap). 0 < s.chunk) m.volume.snaps
+  pair_sizes = each_weaker (λ (s : Snap). is_chunk s.chunk ≡ true) (λ s. 0 < s.chunk) m.volume.snaps (λ s h. is_chunk-some s.chunk h) chunks_each
 
   pub pair_holds : IsMerging sectors after
   pair_holds =
@@ -183,15 +181,16 @@ module _ (sectors : ℕ) (front back : List Pair) (p : Pair) (m after : Merging)
       let len = back_length m.merge.chunk sectors is.merge.size m.volume.origin.bytes m.merge.store.bytes p is.merge.some is.whole is.merge.whole pair_inside in
       let back = back_whole m.merge.chunk sectors is.merge.size m.volume.origin.bytes m.merge.store.bytes p is.merge.some is.whole is.merge.whole pair_inside in
       let first : ℕ = m.merge.chunk * p.old in
-      let bytes : List ℕ = sectors_at m.merge.store.bytes (m.merge.chunk * p.new) (count_of m.merge.chunk sectors p.old) in
-      let saved : List Snap = (save_all first m.volume.origin m.volume.snaps).snaps in
-      let HasChunk : Snap → Type 0 = λ (s : Snap). s.chunk ≡ m.merge.chunk in
-      let chunks : All HasChunk saved = all_from HasChunk saved (answer_keeps m.merge.chunk Origin (Write bytes) (record { first = first; count = count_of m.merge.chunk sectors p.old; size = sectors }) m.volume (each_from HasChunk m.volume.snaps is.chunks)) in
+      let n : ℕ = count_of m.merge.chunk sectors p.old in
+      let saved : List Snap = (saved_rounds first n n m.volume).snaps in
+      let IsSize : ℕ → Type 0 = λ (x : ℕ). is_chunk x ≡ true in
+      let HasSize : Snap → Type 0 = λ (s : Snap). is_chunk s.chunk ≡ true in
       record {
         whole = ap length pair_disk ∙ either (λ b. length b ≡ 512 * sectors) (disk_back m.merge.chunk sectors m.volume.origin.bytes m.merge.store.bytes p) m.volume.origin.bytes copy.wrote (back ∙ is.whole) is.whole;
         merge = still_under_way sectors m.merge after.merge copy.chunk copy.current copy.store is.merge;
-        snaps = subst (All (IsWell sectors)) (sym copy.snaps) (all_from (IsWell sectors) saved (all_well sectors first (count_of m.merge.chunk sectors p.old) bytes some inside len m.volume.origin m.volume.snaps is.whole (each_from (IsWell sectors) m.volume.snaps is.snaps)));
-        chunks = subst (λ (n : ℕ). All (λ s. s.chunk ≡ n) after.volume.snaps) (sym copy.chunk) (subst (All HasChunk) (sym copy.snaps) chunks);
+        snaps = subst (All (IsWell sectors)) (sym pair_snaps) (all_from (IsWell sectors) saved (rounds_well sectors first n some inside n m.volume is.whole pair_sizes (each_from (IsWell sectors) m.volume.snaps is.snaps)));
+        allowed = ap is_chunk copy.chunk ∙ is.allowed;
+        chunks = subst (All HasSize) (sym pair_snaps) (all_from HasSize saved (rounds_keep first n IsSize n m.volume chunks_each));
       }
 
   pub pair_unseen : IsUnseen sectors m after
@@ -208,9 +207,8 @@ module _ (sectors : ℕ) (front back : List Pair) (p : Pair) (m after : Merging)
         origin = ap (λ n. picture n after.volume.origin.bytes after.merge.store.bytes) copy.chunk ∙ ap (picture m.merge.chunk after.volume.origin.bytes) copy.store
             ∙ ap (λ b. picture m.merge.chunk b m.merge.store.bytes) pair_disk
             ∙ either (λ b. picture m.merge.chunk b m.merge.store.bytes ≡ picture m.merge.chunk m.volume.origin.bytes m.merge.store.bytes) (disk_back m.merge.chunk sectors m.volume.origin.bytes m.merge.store.bytes p) m.volume.origin.bytes copy.wrote same refl;
-        snaps = subst (ShowTheSame m.volume.origin.bytes after.volume.origin.bytes m.volume.snaps) (sym copy.snaps)
-            (all_shown sectors first (count_of m.merge.chunk sectors p.old) bytes some inside len m.volume.origin m.volume.snaps after.volume.origin.bytes is.whole (each_from (IsWell sectors) m.volume.snaps is.snaps)
-            (each_weaker (λ (s : Snap). s.chunk ≡ m.merge.chunk) (IsInOne first (count_of m.merge.chunk sectors p.old)) m.volume.snaps (λ s e. pair_one s e) (each_from (λ s. s.chunk ≡ m.merge.chunk) m.volume.snaps is.chunks)) copy.wrote pair_disk);
+        snaps = subst (ShowTheSame m.volume.origin.bytes after.volume.origin.bytes m.volume.snaps) (sym pair_snaps)
+            (rounds_shown_over sectors first (count_of m.merge.chunk sectors p.old) some inside m.volume bytes after.volume.origin.bytes is.whole len pair_sizes (each_from (IsWell sectors) m.volume.snaps is.snaps) copy.wrote pair_disk);
       }
 
   -- where it did not fail, the chunk stands on the origin disk

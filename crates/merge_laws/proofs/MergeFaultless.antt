@@ -1,5 +1,5 @@
 -- A merge whose origin and store have no layers does not fail, whatever the other snapshots' stores do.
-use Rattle.std.proofs.Common.{◌≡◌, inl, inr, ℕ, zero, suc, ◌+◌, ◌*◌, ◌-◌, ◌/◌, true, false, List, [], ◌∷◌, length, ap, ◌∙◌, sym, subst}
+use Rattle.std.proofs.Common.{◌≡◌, inl, inr, ℕ, zero, suc, ◌+◌, ◌*◌, ◌-◌, true, false, List, [], ◌∷◌, length, ap, ◌∙◌, sym, subst}
 use Rattle.std.specs.Prelude.{◌==◌, nat_lt, not, ◌||◌}
 use Rattle.std.proofs.lemmas.Bool.{cases_Bool, cond-true, cond-false}
 use Rattle.sector.specs.Bytes.{sectors_at, with_sectors}
@@ -9,10 +9,10 @@ use Rattle.device.specs.declared.operation.Operation.TheVariants.{Reads, Writes,
 use Rattle.device.specs.Layers.{fate, is_answered, layers_after}
 use Rattle.model.specs.Places.{area_place}
 use Rattle.settled.specs.Devices.{Device, answers, met, written_by}
-use Rattle.settled.specs.Snaps.{Snap}
+use Rattle.settled.specs.Snaps.{Snap, Volume}
 use Rattle.settled.specs.Saving.{Saving, is_full, has_chunk, save}
-use Rattle.settled.specs.Pieces.{save_all}
-use Rattle.settled.specs.Merges.{Merging, pairs_in, going, with_store, with_origin, saved_first, sectors_in, copy_back, copy_all, in_area, group_of, kept_in, flush, clear_slots, merge_group, read_before, merge_step, merge_steps, merge_all}
+use Rattle.settled.specs.Pieces.{save_at}
+use Rattle.settled.specs.Merges.{Merging, pairs_in, going, with_store, with_origin, next_over, saved_round, saved_rounds, saved_over, sectors_in, copy_back, copy_all, in_area, group_of, kept_in, flush, clear_slots, merge_group, read_before, merge_step, merge_steps, merge_all}
 use Rattle.settled.proofs.Saves.{saves_nothing, saves_full, saves_copy, chunk_read}
 
 -- without layers above the origin and the store, and not failed
@@ -36,19 +36,23 @@ save_layers c origin s none = elim (cases_Bool (not s.live || has_chunk c s)) [
   ]
 ]
 
-save_all_layers : (first : ℕ) (origin : Device) (snaps : List Snap) → origin.layers ≡ [] → (save_all first origin snaps).origin.layers ≡ []
-save_all_layers first origin [] none = none
-save_all_layers first origin (s ∷ snaps) none = save_all_layers first (save (first / s.chunk) origin s).origin snaps (save_layers (first / s.chunk) origin s none)
+save_at_layers : (wanted : Snap → ℕ) (origin : Device) (snaps : List Snap) → origin.layers ≡ [] → (save_at wanted origin snaps).origin.layers ≡ []
+save_at_layers wanted origin [] none = none
+save_at_layers wanted origin (s ∷ snaps) none = save_at_layers wanted (save (wanted s) origin s).origin snaps (save_layers (wanted s) origin s none)
+
+rounds_layers : (first count n : ℕ) (v : Volume) → v.origin.layers ≡ [] → (saved_rounds first count n v).origin.layers ≡ []
+rounds_layers first count zero v none = none
+rounds_layers first count (suc n) v none = rounds_layers first count n (saved_round first count v) (save_at_layers (next_over first count) v.origin v.snaps none)
 
 copy_sound : (p : Pair) (m : Merging) → IsSound m → IsSound (copy_back p m)
 copy_sound p m is =
-    let saved : Merging = saved_first (m.merge.chunk * p.old) m in
-    let disk : Device = (save_all (m.merge.chunk * p.old) m.volume.origin m.volume.snaps).origin in
+    let saved : Merging = saved_over (m.merge.chunk * p.old) (sectors_in p m) m in
+    let disk : Device = saved.volume.origin in
     let bytes : List ℕ = sectors_at m.merge.store.bytes (m.merge.chunk * p.new) (sectors_in p m) in
     let reads : Operation = Reads (m.merge.chunk * p.new) (sectors_in p m) in
     let writes : Operation = Writes (m.merge.chunk * p.old) (sectors_in p m) in
     let written : Merging = with_origin (with_store saved (met m.merge.store reads)) (written_by disk writes (with_sectors disk.bytes (m.merge.chunk * p.old) bytes)) in
-    let none : disk.layers ≡ [] = save_all_layers (m.merge.chunk * p.old) m.volume.origin m.volume.snaps is.origin in
+    let none : disk.layers ≡ [] = rounds_layers (m.merge.chunk * p.old) (sectors_in p m) (sectors_in p m) m.volume is.origin in
     let done : copy_back p m ≡ written = cond-true _ _ _ (answers_all m.merge.store reads is.store) ∙ cond-true _ _ _ (answers_all disk writes none) in
     subst IsSound (sym done) (record { origin = none_after disk writes none; store = none_after m.merge.store reads is.store; fine = is.fine })
 

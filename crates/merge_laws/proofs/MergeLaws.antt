@@ -1,7 +1,8 @@
 -- What commands of a merge leave: the whole merge, a resume, a finish, and requests of the other snapshots.
-use Rattle.std.proofs.Common.{◌≡◌, ℕ, ◌<◌, false, [], length, refl, ap, ◌∙◌, sym}
+use Rattle.std.proofs.Common.{◌≡◌, ℕ, ◌<◌, true, false, List, [], length, refl, ap, ◌∙◌, sym}
 use Rattle.std.specs.Prelude.{nat_lt, Some, None}
 use Rattle.std.proofs.lemmas.Bool.{cond-true, cond-false, lt-ltb}
+use Rattle.chunk.specs.Sizes.{is_chunk}
 use Rattle.chunk.specs.Pieces.{Span}
 use Rattle.model.specs.Picture.{picture}
 use Rattle.plain.specs.declared.request.Dev.{Dev}
@@ -12,9 +13,12 @@ use Rattle.volume_laws.proofs.Attaching.{picture_none}
 use Rattle.settled.specs.Snaps.{Snap, Volume}
 use Rattle.settled.specs.Pieces.{write_snap, read_snap}
 use Rattle.settled.specs.Requests.{answered_by}
-use Rattle.settled.specs.Merges.{Merging, merged_of, pairs_in, snap_named, merge_all, merged, resumed, Finished, finished, Replied, beside}
+use Rattle.settled.specs.Merges.{Merging, merged_of, pairs_in, snap_named, least_chunk, merge_all, merged, resumed, Finished, finished, Replied, beside}
 use Rattle.settled.specs.MergeShown.{IsMerging, IsUnseen, origin_shown, shown_through}
 use Rattle.merge_laws.specs.Undone.{IsVolume, IsAsked, Spares}
+use Rattle.settled.proofs.Each.{each_from, all_from}
+use Rattle.settled.proofs.Chunks.{HasChunks, wide_allowed}
+use Rattle.merge_laws.proofs.MergeSaves.{HasLeast, has_least}
 use Rattle.merge_laws.proofs.MergeBegins.{unmerged}
 use Rattle.merge_laws.proofs.MergeShows.{unseen_still}
 use Rattle.merge_laws.proofs.MergeEnds.{merge_unseen}
@@ -45,8 +49,10 @@ pub finish_waits : (m : Merging) → 0 < length (pairs_in m.merge) → finished 
 finish_waits m some = cond-true _ _ _ (lt-ltb _ _ some)
 
 -- a volume whose origin is merged into, without the merge
-pub volume_well : (sectors : ℕ) (m : Merging) → IsMerging sectors m → IsVolume sectors m.merge.chunk m.volume
-volume_well sectors m is = record { whole = is.whole; snaps = is.snaps; chunks = is.chunks }
+pub volume_well : (sectors : ℕ) (m : Merging) → IsMerging sectors m → IsVolume sectors (least_chunk m) m.volume
+volume_well sectors m is =
+    let fits : HasLeast m = has_least sectors m is in
+    record { whole = is.whole; snaps = is.snaps; allowed = fits.allowed; chunks = all_from (HasChunks (least_chunk m)) m.volume.snaps fits.snaps }
 
 pub snap_bytes : (n : ℕ) (op : Op) (piece : Span) (v : Volume) → (answered_by (ToSnap n) op piece v).volume.origin.bytes ≡ v.origin.bytes
 snap_bytes n Read piece v = one_bytes n (read_snap piece) (λ origin s. (is_read piece origin s).bytes) v.origin v.snaps
@@ -60,13 +66,15 @@ pub record SnapServed (sectors : ℕ) (dev : Dev) (op : Op) (m : Merging) (r : R
   pub origin : shown_through r.state ≡ shown_through m
   pub others : (number : ℕ) (t : Snap) → Spares number dev op → snap_named number r.state.volume.snaps ≡ Some t → WasShown number m.volume.origin.bytes r.state.volume.origin.bytes m.volume.snaps t
 
-pub snap_served : (sectors n : ℕ) (op : Op) (piece : Span) (m : Merging) → IsMerging sectors m → IsAsked sectors m.merge.chunk (record { dev = ToSnap n; op = op; piece = piece }) → SnapServed sectors (ToSnap n) op m (beside m.merge (answered_by (ToSnap n) op piece m.volume))
+pub snap_served : (sectors n : ℕ) (op : Op) (piece : Span) (m : Merging) → IsMerging sectors m → IsAsked sectors (least_chunk m) (record { dev = ToSnap n; op = op; piece = piece }) → SnapServed sectors (ToSnap n) op m (beside m.merge (answered_by (ToSnap n) op piece m.volume))
 snap_served sectors n op piece m is fit =
     let well = volume_well sectors m is in
-    let after = answer_well sectors m.merge.chunk (record { dev = ToSnap n; op = op; piece = piece }) m.volume well fit in
+    let left : List Snap = (answered_by (ToSnap n) op piece m.volume).volume.snaps in
+    let HasSize : Snap → Type 0 = λ (s : Snap). is_chunk s.chunk ≡ true in
+    let after = answer_well sectors (least_chunk m) (record { dev = ToSnap n; op = op; piece = piece }) m.volume well fit in
     record {
-      holds = record { whole = after.whole; merge = is.merge; snaps = after.snaps; chunks = after.chunks };
+      holds = record { whole = after.whole; merge = is.merge; snaps = after.snaps; allowed = is.allowed; chunks = all_from HasSize left (wide_allowed (least_chunk m) left (each_from (HasChunks (least_chunk m)) left after.chunks)) };
       merge = refl;
       origin = ap (λ b. picture m.merge.chunk b m.merge.store.bytes) (snap_bytes n op piece m.volume);
-      others = λ number t spares named. one_shows sectors m.merge.chunk number piece m.volume well fit.some fit.inside fit.one (ToSnap n) op fit.bytes spares t named;
+      others = λ number t spares named. one_shows sectors (least_chunk m) number piece m.volume well fit.some fit.inside fit.one (ToSnap n) op fit.bytes spares t named;
     }

@@ -1,26 +1,27 @@
--- A chunk of the origin is saved in snapshots that are in order, and then written or not: they show what they showed, while
+-- Chunks of the origin are saved in snapshots that are in order, and then written or not: they show what they showed, while
 -- they are live, and stay in order.
-use Rattle.std.proofs.Common.{◌≡◌, inl, inr, ℕ, ◌+◌, ◌*◌, ◌/◌, ◌<◌, ◌≤◌, Bool, true, false, List, [], ◌∷◌, length, arith, refl, ap, ◌∙◌, sym, subst}
+use Rattle.std.proofs.Common.{◌≡◌, inl, inr, ℕ, zero, suc, ◌+◌, ◌*◌, ◌/◌, ◌<◌, ◌≤◌, Bool, true, false, List, [], ◌∷◌, length, arith, refl, ap, ◌∙◌, sym, subst}
 use Rattle.std.specs.Prelude.{if◌then◌else◌}
 use Rattle.std.proofs.lemmas.Bool.{cases_Bool, cond-true, cond-false}
 use Rattle.sector.specs.Bytes.{with_sectors}
 use Rattle.model.specs.Picture.{picture}
 use Rattle.plain.specs.Plain.{Live, Invalid}
-use Rattle.settled.specs.Saves.{Saving as Stored, saved}
-use Rattle.settled.specs.Order.{IsInOrder}
-use Rattle.settled.proofs.Saved.{AfterSaving, IsSavedTo}
-use Rattle.settled.proofs.Laws.{saving_law}
-use Rattle.settled.proofs.Writes.{picture-saved}
+use Rattle.settled.proofs.Writes.{picture-saved, picture-over}
+use Rattle.chunk.specs.Sizes.{is_chunk}
 use Rattle.chunk.proofs.PiecePlaces.{piece_low}
+use Rattle.chunk.proofs.Wider.{wider}
 use Rattle.settled.specs.Devices.{Device}
-use Rattle.settled.specs.Snaps.{Snap, shown}
+use Rattle.settled.specs.Snaps.{Snap, Volume, shown}
 use Rattle.settled.specs.Saving.{save}
 use Rattle.settled.specs.Pieces.{save_all}
 use Rattle.settled.specs.Shown.{ShowTheSame}
-use Rattle.settled.specs.MergeShown.{IsWell}
-use Rattle.settled.proofs.Each.{Each}
-use Rattle.settled.proofs.Chunks.{save_chunk}
-use Rattle.settled.proofs.LiveSaves.{live_saved}
+use Rattle.settled.specs.Commands.{piece_of}
+use Rattle.settled.specs.Merges.{Merging, least_chunk, next_over, saved_round, saved_rounds}
+use Rattle.settled.specs.MergeShown.{IsWell, IsMerging}
+use Rattle.settled.proofs.Each.{Each, each_from, each_weaker}
+use Rattle.settled.proofs.Chunks.{save_chunk, at_keep, HasChunks, least_allowed, piece_allowed, piece_least}
+use Rattle.settled.proofs.Rounds.{rounds_bytes, rounds_keep}
+use Rattle.settled.proofs.RoundSaves.{chunk_saved, WantsInside, at_well, at_shown, HasSize, wants_all, HasOver, all_over}
 use Rattle.settled.proofs.SavedBytes.{save_bytes}
 
 -- what shows an array is live
@@ -53,32 +54,19 @@ abbrev pub IsInOne : ℕ → ℕ → Snap → Type 0
 IsInOne first count s = first + count ≤ s.chunk * (first / s.chunk) + s.chunk
 
 module _ (sectors first count : ℕ) (bytes : List ℕ) (some : 0 < count) (inside : first + count ≤ sectors) (len : length bytes ≡ 512 * count) where
-  -- a snapshot that is live afterwards was saved
-  saved_to : (origin : Device) (s : Snap) → length origin.bytes ≡ 512 * sectors → IsWell sectors s → (save (first / s.chunk) origin s).snap.live ≡ true →
-      (s.live ≡ true) × ((size : ℕ) × IsSavedTo s.chunk sectors size (first / s.chunk) origin.bytes s.store.bytes (save (first / s.chunk) origin s).snap.store.bytes × (0 < s.chunk))
-  saved_to origin s whole well live =
-      let c : ℕ = first / s.chunk in
-      let t : Snap = (save c origin s).snap in
-      let both = live_saved c origin s live in
-      let (size, order) = well both.0 in
-      let low : s.chunk * c ≤ first = piece_low s.chunk first in
-      let law : AfterSaving s.chunk sectors size c origin.bytes s.store.bytes (saved s.chunk origin.bytes s.store.bytes c) = saving_law s.chunk sectors size c origin.bytes s.store.bytes whole order (omega arith) in
-      let alive : (saved s.chunk origin.bytes s.store.bytes c).live ≡ true = sym (ap (λ (x : Stored). x.live) both.1) ∙ live in
-      (both.0, (size, subst (IsSavedTo s.chunk sectors size c origin.bytes s.store.bytes) (sym (ap (λ (x : Stored). x.store) both.1)) (law.1 alive), order.some))
+  -- the chunk of the first sector begins inside the origin
+  abbrev first_of : Snap → ℕ
+  first_of s = first / s.chunk
 
-  pub one_well : (origin : Device) (s : Snap) → length origin.bytes ≡ 512 * sectors → IsWell sectors s → IsWell sectors (save (first / s.chunk) origin s).snap
-  one_well origin s whole well live =
-      let (on, kept) = saved_to origin s whole well live in
-      let (size, done, pos) = kept in
-      let t : Snap = (save (first / s.chunk) origin s).snap in
-      (size, subst (λ (n : ℕ). IsInOrder n sectors size t.store.bytes) (sym (save_chunk (first / s.chunk) origin s)) done.order)
+  begins_inside : (s : Snap) → s.chunk * (first / s.chunk) < sectors
+  begins_inside s = let low = piece_low s.chunk first in omega arith
 
   one_shown : (origin : Device) (s : Snap) (after : List ℕ) → length origin.bytes ≡ 512 * sectors → IsWell sectors s → IsInOne first count s → (wrote : Bool) → after ≡ (if wrote then with_sectors origin.bytes first bytes else origin.bytes) →
       (save (first / s.chunk) origin s).snap.live ≡ true → shown after (save (first / s.chunk) origin s).snap ≡ shown origin.bytes s
   one_shown origin s after whole well one wrote is live =
       let c : ℕ = first / s.chunk in
       let t : Snap = (save c origin s).snap in
-      let (on, kept) = saved_to origin s whole well live in
+      let (on, kept) = chunk_saved sectors c origin s whole (begins_inside s) well live in
       let (size, done, pos) = kept in
       let low : s.chunk * c ≤ first = piece_low s.chunk first in
       let chunk : t.chunk ≡ s.chunk = save_chunk c origin s in
@@ -93,11 +81,11 @@ module _ (sectors first count : ℕ) (bytes : List ℕ) (some : 0 < count) (insi
 
   -- all of them
   pub all_well : (origin : Device) (snaps : List Snap) → length origin.bytes ≡ 512 * sectors → Each (IsWell sectors) snaps → Each (IsWell sectors) (save_all first origin snaps).snaps
-  all_well origin [] whole well = tt
-  all_well origin (s ∷ snaps) whole well = (
-    one_well origin s whole well.0,
-    all_well (save (first / s.chunk) origin s).origin snaps (ap length (save_bytes (first / s.chunk) origin s) ∙ whole) well.1,
-  )
+  all_well origin snaps whole well = at_well sectors first_of origin snaps whole (each_all snaps) well
+    where
+      each_all : (xs : List Snap) → Each (WantsInside sectors first_of) xs
+      each_all [] = tt
+      each_all (x ∷ xs) = (begins_inside x, each_all xs)
 
   pub all_shown : (origin : Device) (snaps : List Snap) (after : List ℕ) → length origin.bytes ≡ 512 * sectors → Each (IsWell sectors) snaps → Each (IsInOne first count) snaps → (wrote : Bool) → after ≡ (if wrote then with_sectors origin.bytes first bytes else origin.bytes) →
       ShowTheSame origin.bytes after snaps (save_all first origin snaps).snaps
@@ -109,3 +97,56 @@ module _ (sectors first count : ℕ) (bytes : List ℕ) (some : 0 < count) (insi
         subst (λ (b : List ℕ). ShowTheSame b after snaps (save_all first next snaps).snaps) same
             (all_shown next snaps after (ap length same ∙ whole) well.1 one.1 wrote (is ∙ ap (λ b. if wrote then with_sectors b first bytes else b) (sym same))),
       )
+
+-- Rounds, and then a write over all chunks that they saved.
+module _ (sectors first count : ℕ) (some : 0 < count) (inside : first + count ≤ sectors) where
+  abbrev HasSome : Snap → Type 0
+  HasSome s = HasSize sectors first count some inside s
+
+  pub rounds_shown : (n : ℕ) (v : Volume) → length v.origin.bytes ≡ 512 * sectors → Each HasSome v.snaps → Each (IsWell sectors) v.snaps → ShowTheSame v.origin.bytes v.origin.bytes v.snaps (saved_rounds first count n v).snaps
+  rounds_shown zero v whole pos well = show_same v.origin.bytes v.snaps
+  rounds_shown (suc n) v whole pos well =
+      let next : Volume = saved_round first count v in
+      let wants : Each (WantsInside sectors (next_over first count)) v.snaps = wants_all sectors first count some inside v.snaps pos in
+      let bytes : next.origin.bytes ≡ v.origin.bytes = rounds_bytes first count 1 v in
+      let more : ShowTheSame next.origin.bytes next.origin.bytes next.snaps (saved_rounds first count n next).snaps = rounds_shown n next (ap length bytes ∙ whole) (at_keep (λ n. 0 < n) (next_over first count) v.origin v.snaps pos)
+      (at_well sectors (next_over first count) v.origin v.snaps whole wants well) in
+      show_then v.origin.bytes v.origin.bytes v.origin.bytes v.snaps next.snaps (saved_rounds first count n next).snaps (at_shown sectors (next_over first count) v.origin v.snaps whole wants well)
+      (subst (λ (b : List ℕ). ShowTheSame b b next.snaps (saved_rounds first count n next).snaps) bytes more)
+
+  pub over_shown : (disk bytes after : List ℕ) (snaps : List Snap) → length disk ≡ 512 * sectors → length bytes ≡ 512 * count → Each HasSome snaps → Each (HasOver sectors first count some inside) snaps → (wrote : Bool) → after ≡ (if wrote then with_sectors disk first bytes else disk) → ShowTheSame disk after snaps snaps
+  over_shown disk bytes after [] whole len pos over wrote is = tt
+  over_shown disk bytes after (s ∷ snaps) whole len pos over wrote is = (
+    λ live. cond-true _ _ _ live ∙ ap Live (ap (λ b. picture s.chunk b s.store.bytes) is ∙ by_answer wrote (picture-over s.chunk first count disk s.store.bytes bytes pos.0 (over.0 live) len (omega arith))) ∙ sym (cond-true _ _ _ live),
+    over_shown disk bytes after snaps whole len pos.1 over.1 wrote is,
+  )
+    where
+      by_answer : (b : Bool) → picture s.chunk (with_sectors disk first bytes) s.store.bytes ≡ picture s.chunk disk s.store.bytes → picture s.chunk (if b then with_sectors disk first bytes else disk) s.store.bytes ≡ picture s.chunk disk s.store.bytes
+      by_answer true same = same
+      by_answer false same = refl
+
+  pub rounds_shown_over : (v : Volume) (bytes after : List ℕ) → length v.origin.bytes ≡ 512 * sectors → length bytes ≡ 512 * count → Each HasSome v.snaps → Each (IsWell sectors) v.snaps → (wrote : Bool) → after ≡ (if wrote then with_sectors v.origin.bytes first bytes else v.origin.bytes) →
+      ShowTheSame v.origin.bytes after v.snaps (saved_rounds first count count v).snaps
+  rounds_shown_over v bytes after whole len pos well wrote is =
+      let ss : List Snap = (saved_rounds first count count v).snaps in
+      show_then v.origin.bytes v.origin.bytes after v.snaps ss ss (rounds_shown count v whole pos well)
+      (over_shown v.origin.bytes bytes after ss whole len (rounds_keep first count (λ n. 0 < n) count v pos) (all_over sectors first count some inside v whole pos well) wrote is)
+
+-- The least chunk size of a volume with a merge is one that is allowed, and no chunk is less.
+pub record HasLeast (m : Merging) : Type 0 where
+  pub allowed : is_chunk (least_chunk m) ≡ true
+  pub merge : least_chunk m ≤ m.merge.chunk
+  pub snaps : Each (HasChunks (least_chunk m)) m.volume.snaps
+
+pub has_least : (sectors : ℕ) (m : Merging) → IsMerging sectors m → HasLeast m
+has_least sectors m is =
+    let each : Each (λ (s : Snap). is_chunk s.chunk ≡ true) m.volume.snaps = each_from (λ (s : Snap). is_chunk s.chunk ≡ true) m.volume.snaps is.chunks in
+    record {
+      allowed = least_allowed m.merge.chunk (piece_of m.volume.snaps) is.allowed (piece_allowed m.volume.snaps each);
+      merge = omega arith;
+      snaps = piece_least (least_chunk m) m.volume.snaps (omega arith) each;
+    }
+
+-- a piece that lies in one chunk of that size lies in one of each snapshot
+pub one_wider : (chunk first count : ℕ) (snaps : List Snap) → is_chunk chunk ≡ true → first + count ≤ chunk * (first / chunk) + chunk → Each (HasChunks chunk) snaps → Each (IsInOne first count) snaps
+one_wider chunk first count snaps allowed one all = each_weaker (HasChunks chunk) (IsInOne first count) snaps (λ s w. wider chunk s.chunk first count allowed w.0 w.1 one) all

@@ -6,6 +6,7 @@ use Rattle.sector.specs.declared.pair.Pair.{Pair}
 use Rattle.sector.proofs.Sectors.{length-with_sectors, byte_outside}
 use Rattle.device.specs.declared.operation.Operation.{Operation}
 use Rattle.device.specs.declared.operation.Operation.TheVariants.{Reads, Writes}
+use Rattle.chunk.specs.Sizes.{is_chunk}
 use Rattle.chunk.specs.Pieces.{Span}
 use Rattle.plain.specs.declared.request.Dev.TheVariants.{Origin}
 use Rattle.plain.specs.declared.request.Op.TheVariants.{Write}
@@ -25,8 +26,8 @@ use Rattle.settled.specs.Pieces.{save_all}
 use Rattle.settled.specs.Shown.{ShowTheSame}
 use Rattle.settled.specs.Merges.{Merge, Merging, pairs_in, with_store, with_origin, Replied, sector_in, write_at, read_at, place_in, write_part, read_part}
 use Rattle.settled.specs.MergeShown.{IsWell, IsMerging, IsUnseen, shown_through}
-use Rattle.settled.proofs.Each.{each_from, all_from, each_weaker}
-use Rattle.settled.proofs.Chunks.{answer_keeps}
+use Rattle.settled.proofs.Each.{Each, each_from, all_from}
+use Rattle.settled.proofs.Chunks.{OfChunks, chunks_keep}
 use Rattle.settled.proofs.SavedBytes.{save_all_bytes}
 use Rattle.merge_laws.proofs.MergeSaves.{IsInOne, all_well, all_shown, show_same}
 use Rattle.merge_laws.proofs.MergeShows.{unseen_still}
@@ -135,6 +136,7 @@ module _ (sectors n : ℕ) (piece : Span) (m : Merging) (is : IsMerging sectors 
               high = omega arith;
             };
             snaps = is.snaps;
+            allowed = is.allowed;
             chunks = is.chunks;
           };
           chunk = refl;
@@ -158,8 +160,8 @@ module _ (sectors : ℕ) (piece : Span) (m : Merging) (is : IsMerging sectors m)
             (shown_plain m.merge.chunk piece.first piece.count m.volume.origin.bytes m.merge.store.bytes is.merge.some none (omega arith) (omega arith));
       }
 
-  pub writes_disk : (bytes : List ℕ) → length bytes ≡ 512 * piece.count → WritesThrough sectors piece.first bytes m (write_at None piece bytes m)
-  writes_disk bytes len =
+  pub writes_disk : Each (IsInOne piece.first piece.count) m.volume.snaps → (bytes : List ℕ) → length bytes ≡ 512 * piece.count → WritesThrough sectors piece.first bytes m (write_at None piece bytes m)
+  writes_disk each bytes len =
       let whole = is.whole in
       let fits : 512 * piece.first + length bytes ≤ length m.volume.origin.bytes = omega arith in
       let r : Replied = write_at None piece bytes m in
@@ -169,7 +171,7 @@ module _ (sectors : ℕ) (piece : Span) (m : Merging) (is : IsMerging sectors m)
       let new : List ℕ = with_sectors m.volume.origin.bytes piece.first bytes in
       let disk : r.state.volume.origin.bytes ≡ (if wrote then new else m.volume.origin.bytes) = ap (λ b. if wrote then with_sectors b piece.first bytes else b) same in
       let kept : length new ≡ length m.volume.origin.bytes = length-with_sectors m.volume.origin.bytes piece.first bytes fits in
-      let HasChunk : Snap → Type 0 = λ (s : Snap). s.chunk ≡ m.merge.chunk in
+      let HasSize : Snap → Type 0 = λ (s : Snap). is_chunk s.chunk ≡ true in
       let changed : WritesDisk piece.first piece.count m.volume.origin.bytes new = record { len = kept; rest = λ i out. byte_outside m.volume.origin.bytes piece.first bytes i fits (elim out [ inl lo ↦ inl lo | inr hi ↦ inr (omega arith) ]) } in
       let shows : picture m.merge.chunk new m.merge.store.bytes ≡ with_sectors (shown_through m) piece.first bytes =
       picture_disk m.merge.chunk piece.first piece.count m.volume.origin.bytes new m.merge.store.bytes bytes (pairs_in m.merge) is.merge.some refl none one len (omega arith) changed refl in
@@ -178,23 +180,23 @@ module _ (sectors : ℕ) (piece : Span) (m : Merging) (is : IsMerging sectors m)
           whole = ap length disk ∙ either (λ b. length b ≡ 512 * sectors) new m.volume.origin.bytes wrote (kept ∙ whole) whole;
           merge = is.merge;
           snaps = all_from (IsWell sectors) all.snaps (all_well sectors piece.first piece.count bytes some inside len m.volume.origin m.volume.snaps whole (each_from (IsWell sectors) m.volume.snaps is.snaps));
-          chunks = all_from HasChunk all.snaps (answer_keeps m.merge.chunk Origin (Write bytes) piece m.volume (each_from HasChunk m.volume.snaps is.chunks));
+          allowed = is.allowed;
+          chunks = all_from HasSize all.snaps (chunks_keep (λ n. is_chunk n ≡ true) Origin (Write bytes) piece m.volume (each_from HasSize m.volume.snaps is.chunks));
         };
         chunk = refl;
         wrote = wrote;
         reply = refl;
         origin = ap (λ b. picture m.merge.chunk b m.merge.store.bytes) disk ∙ either_is (λ b. picture m.merge.chunk b m.merge.store.bytes) new m.volume.origin.bytes (with_sectors (shown_through m) piece.first bytes) wrote shows;
-        snaps = all_shown sectors piece.first piece.count bytes some inside len m.volume.origin m.volume.snaps r.state.volume.origin.bytes whole (each_from (IsWell sectors) m.volume.snaps is.snaps)
-            (each_weaker HasChunk (IsInOne piece.first piece.count) m.volume.snaps (λ s e. subst (λ (n : ℕ). piece.first + piece.count ≤ n * (piece.first / n) + n) (sym e) one) (each_from HasChunk m.volume.snaps is.chunks)) wrote disk;
+        snaps = all_shown sectors piece.first piece.count bytes some inside len m.volume.origin m.volume.snaps r.state.volume.origin.bytes whole (each_from (IsWell sectors) m.volume.snaps is.snaps) each wrote disk;
       }
 
--- a piece of the origin inside one chunk of the merging store
+-- a piece of the origin inside one chunk of the merging store, and of each snapshot where it is written
 module _ (sectors : ℕ) (piece : Span) (m : Merging) (is : IsMerging sectors m) (some : 0 < piece.count) (inside : piece.first + piece.count ≤ sectors) (one : piece.first + piece.count ≤ m.merge.chunk * (piece.first / m.merge.chunk) + m.merge.chunk) where
-  pub writes_through : (bytes : List ℕ) → length bytes ≡ 512 * piece.count → WritesThrough sectors piece.first bytes m (write_part Origin piece bytes m)
-  writes_through bytes len = by_place (place_in piece.first m.merge) refl
+  pub writes_through : Each (IsInOne piece.first piece.count) m.volume.snaps → (bytes : List ℕ) → length bytes ≡ 512 * piece.count → WritesThrough sectors piece.first bytes m (write_part Origin piece bytes m)
+  writes_through each bytes len = by_place (place_in piece.first m.merge) refl
     where
       by_place : (o : Option ℕ) → place_in piece.first m.merge ≡ o → WritesThrough sectors piece.first bytes m (write_at o piece bytes m)
-      by_place None none = writes_disk sectors piece m is some inside one none bytes len
+      by_place None none = writes_disk sectors piece m is some inside one none each bytes len
       by_place (Some n) named = writes_copy sectors n piece m is some inside one named bytes len
 
   pub reads_through : ReadsThrough sectors piece.first piece.count m (read_part Origin piece m)
@@ -203,3 +205,11 @@ module _ (sectors : ℕ) (piece : Span) (m : Merging) (is : IsMerging sectors m)
       by_place : (o : Option ℕ) → place_in piece.first m.merge ≡ o → ReadsThrough sectors piece.first piece.count m (read_at o piece m)
       by_place None none = reads_disk sectors piece m is some inside one none
       by_place (Some n) named = reads_copy sectors n piece m is some inside one named
+
+-- a write keeps the sizes of chunks
+pub part_keeps : (P : ℕ → Type 0) (piece : Span) (bytes : List ℕ) (m : Merging) → Each (OfChunks P) m.volume.snaps → Each (OfChunks P) (write_part Origin piece bytes m).state.volume.snaps
+part_keeps P piece bytes m each = by_place (place_in piece.first m.merge)
+  where
+    by_place : (o : Option ℕ) → Each (OfChunks P) (write_at o piece bytes m).state.volume.snaps
+    by_place None = chunks_keep P Origin (Write bytes) piece m.volume each
+    by_place (Some n) = each

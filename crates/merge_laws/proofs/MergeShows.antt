@@ -1,5 +1,5 @@
 -- A group, the read of an area, and the whole merge: nobody sees them, whatever fails.
-use Rattle.std.proofs.Common.{◌≡◌, inl, inr, ℕ, ◌+◌, ◌*◌, ◌/◌, ◌<◌, ◌≤◌, false, List, [], ◌∷◌, ◌++◌, length, take, arith, refl, ap, ◌∙◌, sym, subst, length-append, append_assoc}
+use Rattle.std.proofs.Common.{◌≡◌, inl, inr, ℕ, ◌+◌, ◌*◌, ◌/◌, ◌<◌, ◌≤◌, true, false, List, [], ◌∷◌, ◌++◌, length, take, arith, refl, ap, ◌∙◌, sym, subst, length-append, append_assoc}
 use Rattle.std.specs.Prelude.{AllPairs}
 use Rattle.std.specs.List.{All}
 use Rattle.std.proofs.lemmas.Bool.{cases_Bool, cond-true, cond-false, true≢false}
@@ -8,6 +8,7 @@ use Rattle.std.proofs.lemmas.Nat.{mul-le}
 use Rattle.sector.specs.declared.pair.Pair.{Pair}
 use Rattle.device.specs.declared.operation.Operation.{Operation}
 use Rattle.device.specs.declared.operation.Operation.TheVariants.{Writes, Flushes}
+use Rattle.chunk.specs.Sizes.{is_chunk}
 use Rattle.model.specs.Places.{area_place, ChangesOnly}
 use Rattle.model.specs.Pairs.{pairs_of, IsApart, AreWellFormed}
 use Rattle.model.specs.Picture.{picture, IsCopied}
@@ -40,7 +41,8 @@ unseen_by sectors m after is disk snaps chunk under same = record {
     whole = ap length disk ∙ is.whole;
     merge = under;
     snaps = subst (All (IsWell sectors)) (sym snaps) is.snaps;
-    chunks = subst (λ (n : ℕ). All (λ s. s.chunk ≡ n) after.volume.snaps) (sym chunk) (subst (All (λ s. s.chunk ≡ m.merge.chunk)) (sym snaps) is.chunks);
+    allowed = ap is_chunk chunk ∙ is.allowed;
+    chunks = subst (All (λ s. is_chunk s.chunk ≡ true)) (sym snaps) is.chunks;
   };
   chunk = chunk;
   origin = ap (λ n. picture n after.volume.origin.bytes after.merge.store.bytes) chunk ∙ ap (λ b. picture m.merge.chunk b after.merge.store.bytes) disk ∙ same;

@@ -7,6 +7,7 @@ use Rattle.std.proofs.lemmas.Bool.{cond-true}
 use Rattle.sector.specs.Bytes.{with_sectors}
 use Rattle.device.specs.declared.operation.Operation.TheVariants.{Writes}
 use Rattle.sector.specs.declared.range.Range.{Range}
+use Rattle.chunk.specs.Sizes.{is_chunk}
 use Rattle.chunk.specs.Pieces.{Span}
 use Rattle.plain.specs.Plain.{Live}
 use Rattle.plain.specs.declared.request.Dev.{Dev}
@@ -28,10 +29,10 @@ use Rattle.event_machine.specs.Requests.{IsInChunk}
 use Rattle.settled.specs.MergeShown.{IsWell, origin_shown, shown_through}
 use Rattle.merge_laws.specs.Undone.{IsVolume, Asked, asked, IsAsked, Spares}
 use Rattle.settled.specs.Merges.{snap_named, begun, merge_all}
-use Rattle.settled.proofs.Each.{Each, each_from, all_from, each_weaker}
-use Rattle.settled.proofs.Chunks.{answer_keeps}
+use Rattle.settled.proofs.Each.{Each, each_from, all_from}
+use Rattle.settled.proofs.Chunks.{HasChunks, answer_keeps, wide_allowed}
 use Rattle.settled.proofs.SavedBytes.{save_all_bytes}
-use Rattle.merge_laws.proofs.MergeSaves.{IsInOne, all_shown, shown_live}
+use Rattle.merge_laws.proofs.MergeSaves.{IsInOne, all_shown, shown_live, one_wider}
 use Rattle.merge_laws.proofs.MergeBegins.{unmerged, begun_by, begins, begin_shows, begins_well}
 use Rattle.merge_laws.proofs.MergeEnds.{merge_leaves}
 use Rattle.settled.proofs.Named.{WasShown, all_named, one_named, one_bytes, write_number, write_bytes, is_read}
@@ -59,16 +60,15 @@ each_well : (sectors : ℕ) (held : List Held) → Each (IsResting sectors) held
 each_well sectors [] all = tt
 each_well sectors (h ∷ held) all = (λ on. (all.0.live on).order, each_well sectors held all.1)
 
-each_in_chunk : (range : Range) (chunk : ℕ) (snaps : List Snap) → range.first + range.count ≤ chunk * (range.first / chunk) + chunk → Each (λ s. s.chunk ≡ chunk) snaps → Each (IsInChunk range) (map at_rest snaps)
-each_in_chunk range chunk [] one all = tt
-each_in_chunk range chunk (s ∷ snaps) one all = (subst (λ (n : ℕ). range.first + range.count ≤ n * (range.first / n) + n) (sym all.0) one, each_in_chunk range chunk snaps one all.1)
+each_in_chunk : (range : Range) (snaps : List Snap) → Each (IsInOne range.first range.count) snaps → Each (IsInChunk range) (map at_rest snaps)
+each_in_chunk range [] all = tt
+each_in_chunk range (s ∷ snaps) all = (all.0, each_in_chunk range snaps all.1)
 
 -- a request leaves a volume that is well
 pub answer_well : (sectors chunk : ℕ) (a : Asked) (v : Volume) → IsVolume sectors chunk v → IsAsked sectors chunk a → IsVolume sectors chunk (answered_by a.dev a.op a.piece v).volume
 answer_well sectors chunk a v is fit =
     let range : Range = record { first = a.piece.first; count = a.piece.count; size = a.piece.size; inside = fit.sized } in
-    let HasChunk : Snap → Type 0 = λ (s : Snap). s.chunk ≡ chunk in
-    let chunks : Each HasChunk v.snaps = each_from HasChunk v.snaps is.chunks in
+    let chunks : Each (HasChunks chunk) v.snaps = each_from (HasChunks chunk) v.snaps is.chunks in
     let rest : IsAtRest sectors (volume_at_rest v) = record {
       whole = is.whole;
       snaps = all_from (IsResting sectors) (map at_rest v.snaps) (each_rests sectors v.snaps (each_from (IsWell sectors) v.snaps is.snaps));
@@ -77,7 +77,7 @@ answer_well sectors chunk a v is fit =
     } in
     let made : List Snap → Answered = λ (ss : List Snap). answered_by a.dev a.op a.piece (record { origin = v.origin; snaps = ss }) in
     let settles : SettlesTo sectors _ (made (map (λ (h : Held). h.snap) (map at_rest v.snaps))) = request_settles sectors 0 (record { dev = a.dev; op = a.op; range = range }) (volume_at_rest v) rest
-    (record { some = fit.some; inside = fit.inside; bytes = fit.bytes; chunks = all_from (IsInChunk range) (map at_rest v.snaps) (each_in_chunk range chunk v.snaps fit.one chunks) }) in
+    (record { some = fit.some; inside = fit.inside; bytes = fit.bytes; chunks = all_from (IsInChunk range) (map at_rest v.snaps) (each_in_chunk range v.snaps (one_wider chunk range.first range.count v.snaps is.allowed fit.one chunks)) }) in
     let same : made (map (λ (h : Held). h.snap) (map at_rest v.snaps)) ≡ answered_by a.dev a.op a.piece v = ap made (snaps_of v.snaps) in
     let after : Volume = (answered_by a.dev a.op a.piece v).volume in
     let origin : settles.last.origin ≡ after.origin = settles.origin ∙ ap (λ (x : Answered). x.volume.origin) same in
@@ -85,7 +85,8 @@ answer_well sectors chunk a v is fit =
     record {
       whole = sym (ap (λ (d : Device). length d.bytes) origin) ∙ settles.rest.whole;
       snaps = all_from (IsWell sectors) after.snaps (subst (Each (IsWell sectors)) snaps (each_well sectors settles.last.snaps (each_from (IsResting sectors) settles.last.snaps settles.rest.snaps)));
-      chunks = all_from HasChunk after.snaps (answer_keeps chunk a.dev a.op a.piece v chunks);
+      allowed = is.allowed;
+      chunks = all_from (HasChunks chunk) after.snaps (answer_keeps chunk a.dev a.op a.piece v chunks);
     }
 
 -- What the snapshot of a number shows after a request that spares it, it showed before.
@@ -97,10 +98,9 @@ module _ (sectors chunk number : ℕ) (piece : Span) (v : Volume) (is : IsVolume
       let after : List ℕ = (write_origin piece bytes v).volume.origin.bytes in
       let disk : (write_origin piece bytes v).volume.origin.bytes ≡ (if wrote then with_sectors v.origin.bytes piece.first bytes else v.origin.bytes) =
       ap (λ b. if wrote then with_sectors b piece.first bytes else b) (save_all_bytes piece.first v.origin v.snaps) in
-      let HasChunk : Snap → Type 0 = λ (s : Snap). s.chunk ≡ chunk in
       all_named number piece.first v.origin v.snaps v.origin.bytes after t
       (all_shown sectors piece.first piece.count bytes some inside len v.origin v.snaps after is.whole (each_from (IsWell sectors) v.snaps is.snaps)
-      (each_weaker HasChunk (IsInOne piece.first piece.count) v.snaps (λ s e. subst (λ (n : ℕ). piece.first + piece.count ≤ n * (piece.first / n) + n) (sym e) one) (each_from HasChunk v.snaps is.chunks)) wrote disk) named
+      (one_wider chunk piece.first piece.count v.snaps is.allowed one (each_from (HasChunks chunk) v.snaps is.chunks)) wrote disk) named
 
   pub one_shows : (dev : Dev) (op : Op) → FitsRange op piece.count → Spares number dev op → (t : Snap) → snap_named number (answered_by dev op piece v).volume.snaps ≡ Some t → WasShown number v.origin.bytes (answered_by dev op piece v).volume.origin.bytes v.snaps t
   one_shows Origin Read fits spares t named = record { was = t; named = named; same = λ live. refl }
@@ -155,4 +155,4 @@ module _ (sectors chunk number : ℕ) (requests : List Asked) (v : Volume) (s t 
   undo_leaves fine =
       let w : Volume = asked requests v in
       let same : shown_through (begun_by number w t) ≡ v.origin.bytes = sym (ap origin_shown (begins number w t named live)) ∙ undo_shows in
-      merge_leaves sectors (begun_by number w t) (begins_well sectors number chunk w t kept.0.whole kept.0.snaps kept.0.chunks named live) fine ∙ same
+      merge_leaves sectors (begun_by number w t) (begins_well sectors number w t kept.0.whole kept.0.snaps (all_from (λ (x : Snap). is_chunk x.chunk ≡ true) w.snaps (wide_allowed chunk w.snaps (each_from (HasChunks chunk) w.snaps kept.0.chunks))) named live) fine ∙ same

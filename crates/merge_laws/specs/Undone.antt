@@ -1,7 +1,8 @@
 -- Requests of a volume between two moments, none of them a write of one snapshot: a merge of that snapshot undoes the writes
 -- of the origin among them.
-use Rattle.std.specs.Prelude.{◌≡◌, ◌==◌, ℕ, ◌+◌, ◌*◌, ◌/◌, ◌<◌, ◌≤◌, false, List, [], ◌∷◌, length}
+use Rattle.std.specs.Prelude.{◌≡◌, ◌==◌, ℕ, ◌+◌, ◌*◌, ◌/◌, ◌<◌, ◌≤◌, true, false, List, [], ◌∷◌, length}
 use Rattle.std.specs.List.{All}
+use Rattle.chunk.specs.Sizes.{is_chunk}
 use Rattle.chunk.specs.Pieces.{Span}
 use Rattle.plain.specs.declared.request.Dev.{Dev}
 use Rattle.plain.specs.declared.request.Dev.TheVariants.{Origin, Snap as ToSnap}
@@ -11,11 +12,12 @@ use Rattle.settled.specs.Snaps.{Volume}
 use Rattle.settled.specs.Requests.{answered_by, FitsRange}
 use Rattle.settled.specs.MergeShown.{IsWell}
 
--- a volume of so many sectors, whose snapshots have chunks of so many
+-- a volume of so many sectors, whose snapshots have chunks of sizes that are allowed, none of them less than this one
 pub record IsVolume (sectors chunk : ℕ) (v : Volume) : Type 0 where
   pub whole : length v.origin.bytes ≡ 512 * sectors
   pub snaps : All (IsWell sectors) v.snaps
-  pub chunks : All (λ s. s.chunk ≡ chunk) v.snaps
+  pub allowed : is_chunk chunk ≡ true
+  pub chunks : All (λ s. (is_chunk s.chunk ≡ true) × (chunk ≤ s.chunk)) v.snaps
 
 -- a request of one piece
 pub record Asked : Type 0 where

@@ -77,7 +77,7 @@ module _ (sectors : ℕ) (a : Option Reply) (ps : List Pair) where
       let steps : copied_back back next ≡ copied_back (q ∷ back) m = ap (copied_back back) (sym (cond-false _ _ _ fine)) in
       subst (λ (v : Moving). Parts sectors a ps v to (copied_back (q ∷ back) m)) begins
       (subst (Parts sectors a ps (now_waiting sectors a ps (turned back [] ++ q ∷ []) cs m snaps k) to) steps
-      (elim (copies_one sectors a ps (turned back []) cs q m snaps k is.whole fine same rest inside.old) [
+      (elim (copies_one sectors a ps (turned back []) cs q m snaps k is fine same rest inside.old) [
         | inl lost ↦ subst (Parts sectors a ps (now_waiting sectors a ps (turned back [] ++ q ∷ []) cs m snaps k) to) (sym (lost_back back next lost.0)) (inl lost)
         | inr done ↦ parts_after sectors a ps _ _ to (copied_back back next) done.1.goes (copies_settle front back (q ∷ cs) next done.1.snaps done.1.started holds done.0 pairs done.1.same done.1.rest)
       ]))

@@ -11,7 +11,7 @@ use Rattle.plain.specs.declared.event.Event.TheVariants.{MergeGroup, MergeAreaRe
 use Rattle.plain.specs.declared.request.Reply.{Reply}
 use Rattle.model.specs.Places.{area_place}
 use Rattle.volume_laws.specs.MergeDue.{one_of, due_or}
-use Rattle.settled.specs.Devices.{answers, met}
+use Rattle.settled.specs.Devices.{sectors_of, answers, met}
 use Rattle.settled.specs.Snaps.{Snap, Volume}
 use Rattle.settled.specs.Merges.{Merge, Merged, Merging, merged_of as in_one, pairs_in, with_store, in_area, read_before, merge_step, merge_steps, merge_all, merged}
 use Rattle.settled.specs.MergeShown.{IsMerging}
@@ -76,12 +76,12 @@ module _ (sectors : ℕ) (a : Option Reply) where
   ]
 
 -- nothing is due where the merge failed, or where no pair and no area is left
-nothing_due : (snaps : List Held) (g : Merge) (ps : List Pair) → g.failed ≡ true → merge_due snaps [] (Some (ungrouped g ps)) ≡ None
-nothing_due snaps g ps failed =
+nothing_due : (sectors : ℕ) (snaps : List Held) (g : Merge) (ps : List Pair) → g.failed ≡ true → merge_due sectors snaps [] (Some (ungrouped g ps)) ≡ None
+nothing_due sectors snaps g ps failed =
     ap (λ b. one_of ((not b && true) && ((length (drop (g.current * (32 * g.chunk)) ps) == 0) && nat_lt 0 g.current)) MergeAreaRead (one_of ((not b && true) && nat_lt 0 (length (drop (g.current * (32 * g.chunk)) ps))) MergeGroup None)) failed
 
-nothing_left : (snaps : List Held) (g : Merge) (ps : List Pair) → length (drop (g.current * (32 * g.chunk)) ps) ≡ 0 → g.current ≡ 0 → merge_due snaps [] (Some (ungrouped g ps)) ≡ None
-nothing_left snaps g ps none first =
+nothing_left : (sectors : ℕ) (snaps : List Held) (g : Merge) (ps : List Pair) → length (drop (g.current * (32 * g.chunk)) ps) ≡ 0 → g.current ≡ 0 → merge_due sectors snaps [] (Some (ungrouped g ps)) ≡ None
+nothing_left sectors snaps g ps none first =
     ap (λ n. one_of ((not g.failed && true) && ((n == 0) && nat_lt 0 g.current)) MergeAreaRead (one_of ((not g.failed && true) && nat_lt 0 n) MergeGroup None)) none
     ∙ ap (λ c. one_of ((not g.failed && true) && ((0 == 0) && nat_lt 0 c)) MergeAreaRead (one_of ((not g.failed && true) && nat_lt 0 0) MergeGroup None)) first
     ∙ at_first (not g.failed)
@@ -92,18 +92,18 @@ nothing_left snaps g ps none first =
 
 module _ (sectors : ℕ) (m : Merging) (is : IsMerging sectors m) where
   -- once the whole merge is done nothing more is due
-  ends_quiet : (snaps : List Held) → merge_due snaps [] (Some (ungrouped (merge_all m).merge (pairs_in (merge_all m).merge))) ≡ None
-  ends_quiet snaps =
+  ends_quiet : (n : ℕ) (snaps : List Held) → merge_due n snaps [] (Some (ungrouped (merge_all m).merge (pairs_in (merge_all m).merge))) ≡ None
+  ends_quiet n snaps =
       let g : Merge = (merge_all m).merge in
       elim (cases_Bool g.failed) [
-        | inl failed ↦ nothing_due snaps g (pairs_in g) failed
+        | inl failed ↦ nothing_due n snaps g (pairs_in g) failed
         | inr fine ↦ (let holds = (merge_unseen sectors m is).holds in
             let none : length (pairs_in g) ≡ 0 = ap length (merge_ends sectors m is fine) in
             let low = holds.merge.low in
             let pos = holds.merge.some in
             let at : g.current * (32 * g.chunk) ≡ 0 = omega arith in
             let area : length (drop (g.current * (32 * g.chunk)) (pairs_in g)) ≡ length (pairs_in g) - g.current * (32 * g.chunk) = length-drop (g.current * (32 * g.chunk)) (pairs_in g) in
-            nothing_left snaps g (pairs_in g) (omega arith) (first_area g.current (32 * g.chunk) (omega arith) at))
+            nothing_left n snaps g (pairs_in g) (omega arith) (first_area g.current (32 * g.chunk) (omega arith) at))
       ]
     where
       first_area : (a w : ℕ) → 0 < w → a * w ≡ 0 → a ≡ 0
@@ -118,7 +118,7 @@ module _ (sectors : ℕ) (m : Merging) (is : IsMerging sectors m) where
       let after : Merging = merge_all m in
       let done : MergesTo sectors a m snaps k after = steps_settle sectors a (length (pairs_in m.merge) + m.merge.current) m is snaps k same rest in
       let last : Moving = free_at a after done.snaps done.started in
-      let quiet : due_all last ≡ None = merge_first after.volume.origin done.snaps a done.started (ungrouped after.merge (pairs_in after.merge)) None (each_weaker (IsResting sectors) IsIdle done.snaps (resting_idle sectors) done.rest) (ends_quiet done.snaps) in
+      let quiet : due_all last ≡ None = merge_first after.volume.origin done.snaps a done.started (ungrouped after.merge (pairs_in after.merge)) None (each_weaker (IsResting sectors) IsIdle done.snaps (resting_idle sectors) done.rest) (ends_quiet (sectors_of after.volume.origin) done.snaps) in
       let there = all_there (free_at a m snaps k) last done.goes quiet in
       record {
         fuel = there.0;

@@ -33,10 +33,10 @@ use Rattle.event_machine.specs.MergeSettles.{part_of, SettlesToReplied}
 use Rattle.event_machine.specs.Requests.{IsInChunk, IsFit}
 use Rattle.event_machine.specs.Rest.{IsResting}
 use Rattle.event_machine.specs.Stepping.{write_reply}
-use Rattle.event_machine.specs.Submitting.{start_copies, accepted, submitted}
+use Rattle.event_machine.specs.Submitting.{start_copies, accepted, submitted, chunk_at}
 use Rattle.event_machine.proofs.Around.{at_with, IsIdle, due_request}
 use Rattle.settled.proofs.Each.{Each, each_weaker, each_from, all_from}
-use Rattle.settling.proofs.Goes.{Goes, settled_there}
+use Rattle.settling.proofs.Goes.{no_start, Goes, settled_there}
 use Rattle.settling.proofs.Issued.{issued, answered_here, Serves}
 use Rattle.settling.proofs.Primed.{resting_idle}
 use Rattle.settling.proofs.ReadsSettle.{goes_to, read_request, origin_read_serves, snap_read_serves}
@@ -46,7 +46,7 @@ use Rattle.settling.proofs.WritesSettle.{write_request, origin_write_serves}
 use Rattle.merge_laws.proofs.MergeServes.{over_pairs}
 
 -- a volume goes on to one at rest with a merge
-replied_there : (sectors : ℕ) (u : Moving) (h : MergeHeld) (origin : Device) (snaps : List Held) (reply : Reply) (k : ℕ) (answer : Replied) → Goes u (at_with (Some h) origin snaps [] (Some reply) k) → length origin.bytes ≡ 512 * sectors → Each (IsResting sectors) snaps → IsMergeResting h →
+replied_there : (sectors : ℕ) (u : Moving) (h : MergeHeld) (origin : Device) (snaps : List Held) (reply : Reply) (k : ℕ) (answer : Replied) → Goes no_start u (at_with (Some h) origin snaps [] (Some reply) k) → length origin.bytes ≡ 512 * sectors → Each (IsResting sectors) snaps → IsMergeResting h →
     record { volume = record { origin = origin; snaps = map snap_of snaps }; merge = h.merge } ≡ answer.state → reply ≡ answer.reply → SettlesToReplied sectors u answer
 replied_there sectors u h origin snaps reply k answer goes whole rest free is same =
     let last : Moving = at_with (Some h) origin snaps [] (Some reply) k in
@@ -124,7 +124,7 @@ module _ (sectors number : ℕ) (h : MergeHeld) (origin : Device) (snaps : List 
           let store : Device = written_by h.merge.store op new in
           let reply : Reply = write_reply h.merge.store first range.count in
           let r : Going = record { number = number; request = write_request range bytes; route = Store n } in
-          let starts : Bool → Moving = λ (b : Bool). let w : Moving = if b then here else start_copies range.first here in accepted number (write_request range bytes) (write_route w.merge w.snaps range.first) w in
+          let starts : Bool → Moving = λ (b : Bool). let w : Moving = if b then here else start_copies (chunk_at range.first) here in accepted number (write_request range bytes) (write_route w.merge w.snaps range.first) w in
           let begun : submitted number (write_request range bytes) here ≡ at_with (Some h) origin snaps (r ∷ []) a k =
           ap (λ b. starts (b || is_some place)) (no_group range.first) ∙ ap (λ o. starts (is_some o)) placed
           ∙ ap (λ b. accepted number (write_request range bytes) (write_route_of b place (is_clear snaps range.first)) here) (no_group range.first)

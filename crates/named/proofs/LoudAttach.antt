@@ -6,7 +6,7 @@ use Rattle.sector.specs.declared.refusal.Refusal.{Refusal}
 use Rattle.device.specs.declared.operation.Operation.{Operation}
 use Rattle.device.specs.declared.operation.Operation.TheVariants.{Reads, Writes, Flushes}
 use Rattle.device.specs.Layers.{Layer, Flaky, Dusty, Broken, Counted, Fused, Window, layer_after, layer_fate, layers_after, passed_on, fate, is_answered, is_passed, is_loud, is_loud_layer}
-use Rattle.sector.specs.declared.refusal.Refusal.TheVariants.{TooMany, BadChunk, StoreTooSmall, Damaged, Stale, ChunkMismatch}
+use Rattle.sector.specs.declared.refusal.Refusal.TheVariants.{TooMany, BadChunk, StoreTooSmall, Damaged, Stale}
 use Rattle.chunk.specs.Sizes.{is_chunk}
 use Rattle.model.specs.Places.{area_place}
 use Rattle.model.specs.Pairs.{pairs_of}
@@ -18,10 +18,10 @@ use Rattle.cow_header.specs.declared.found.Found.TheVariants.{Fresh, Header}
 use Rattle.plain.specs.declared.request.Overflowing.{Overflowing}
 use Rattle.plain.specs.Plain.{overflow_of}
 use Rattle.settled.specs.Devices.{Device, sectors_of, answers, met, written_by}
-use Rattle.settled.specs.Snaps.{Snap, Volume as Settled}
+use Rattle.settled.specs.Snaps.{Volume as Settled}
 use Rattle.named.specs.State.{Stacked, Volume}
 use Rattle.named.specs.Snapshots.{store_of, kept_out, attached_to}
-use Rattle.settled.specs.Attaching.{Tried, read_on, write_on, done, read_areas, last_area, has_tail, is_wanted, make, clear, load, load_as, open_store, Store, Attached, refused_attach, taken_by, attached}
+use Rattle.settled.specs.Attaching.{Tried, read_on, write_on, done, read_areas, last_area, has_tail, make, clear, load, load_as, open_store, Store, Attached, refused_attach, taken_by, attached}
 
 loud_layer_after : (l : Layer) (op : Operation) (done : Bool) → is_loud_layer (layer_after l op done) ≡ is_loud_layer l
 loud_layer_after (Flaky moment up down features offset) op done = refl
@@ -81,35 +81,33 @@ areas_loud loud chunk a zero next keeps device h = keeps device h
 areas_loud loud chunk a (suc n) next keeps device h =
     either_tried _ loud _ _ (stays_loud loud device _ h) (read_loud loud _ (read_areas chunk (a + 1) n next) (areas_loud loud chunk (a + 1) n next keeps) device h)
 
-make_loud : (loud : Bool) (snaps : List Snap) (chunk : ℕ) → KeepsLoud loud (make snaps chunk)
-make_loud loud snaps chunk device h =
+make_loud : (loud : Bool) (chunk : ℕ) → KeepsLoud loud (make chunk)
+make_loud loud chunk device h =
     let header : Device → Tried = λ d. write_on d (Writes 0 chunk) (with_part d.bytes 0 (header_bytes (512 * chunk) true chunk)) (done chunk) in
     either_tried (is_too_small chunk device.bytes) loud _ _ (stays_loud loud device (Err StoreTooSmall) h)
-    (either_tried (not (is_wanted snaps chunk)) loud _ _ (stays_loud loud device (Err ChunkMismatch) h)
     (write_loud loud device (Writes (chunk * area_place chunk 0) chunk) (zeroed chunk device.bytes 0) header
-    (λ d at. write_loud loud d (Writes 0 chunk) (with_part d.bytes 0 (header_bytes (512 * chunk) true chunk)) (done chunk) (done_loud loud chunk) at) h))
+    (λ d at. write_loud loud d (Writes 0 chunk) (with_part d.bytes 0 (header_bytes (512 * chunk) true chunk)) (done chunk) (done_loud loud chunk) at) h)
 
-clear_loud : (loud : Bool) (snaps : List Snap) (sectors chunk : ℕ) → KeepsLoud loud (clear snaps sectors chunk)
-clear_loud loud snaps sectors chunk device h =
+clear_loud : (loud : Bool) (sectors chunk : ℕ) → KeepsLoud loud (clear sectors chunk)
+clear_loud loud sectors chunk device h =
     either_tried (not (is_loadable chunk sectors (sectors_of device) (pairs_of chunk device.bytes))) loud _ _ (stays_loud loud device (Err Damaged) h)
-    (either_tried (not (is_wanted snaps chunk)) loud _ _ (stays_loud loud device (Err ChunkMismatch) h)
     (either_tried (has_tail chunk device.bytes) loud _ _
     (write_loud loud device (Writes (chunk * area_place chunk (last_area chunk device.bytes)) chunk) (trimmed chunk device.bytes) (done chunk) (done_loud loud chunk) h)
-    (done_loud loud chunk device h)))
+    (done_loud loud chunk device h))
 
-load_loud : (loud : Bool) (snaps : List Snap) (sectors chunk : ℕ) → KeepsLoud loud (load snaps sectors chunk)
-load_loud loud snaps sectors chunk device h =
-    either_tried _ loud _ _ (stays_loud loud device _ h) (areas_loud loud chunk 0 _ (clear snaps sectors chunk) (clear_loud loud snaps sectors chunk) device h)
+load_loud : (loud : Bool) (sectors chunk : ℕ) → KeepsLoud loud (load sectors chunk)
+load_loud loud sectors chunk device h =
+    either_tried _ loud _ _ (stays_loud loud device _ h) (areas_loud loud chunk 0 _ (clear sectors chunk) (clear_loud loud sectors chunk) device h)
 
-load_as_loud : (loud : Bool) (snaps : List Snap) (sectors chunk : ℕ) (is : Result Found Refusal) → KeepsLoud loud (load_as snaps sectors chunk is)
-load_as_loud loud snaps sectors chunk (Err refusal) device h = stays_loud loud device _ h
-load_as_loud loud snaps sectors chunk (Ok Fresh) device h = make_loud loud snaps chunk device h
-load_as_loud loud snaps sectors chunk (Ok (Header own)) device h = load_loud loud snaps sectors own device h
+load_as_loud : (loud : Bool) (sectors chunk : ℕ) (is : Result Found Refusal) → KeepsLoud loud (load_as sectors chunk is)
+load_as_loud loud sectors chunk (Err refusal) device h = stays_loud loud device _ h
+load_as_loud loud sectors chunk (Ok Fresh) device h = make_loud loud chunk device h
+load_as_loud loud sectors chunk (Ok (Header own)) device h = load_loud loud sectors own device h
 
-open_loud : (loud : Bool) (snaps : List Snap) (sectors chunk : ℕ) → KeepsLoud loud (open_store snaps sectors chunk)
+open_loud : (loud : Bool) (sectors chunk : ℕ) → KeepsLoud loud (open_store sectors chunk)
 unfolding open_store
-open_loud loud snaps sectors chunk device h =
-    either_tried _ loud _ _ (stays_loud loud device _ h) (read_loud loud (Reads 0 1) _ (load_as_loud loud snaps sectors chunk (found_in (sector_at device.bytes 0))) device h)
+open_loud loud sectors chunk device h =
+    either_tried _ loud _ _ (stays_loud loud device _ h) (read_loud loud (Reads 0 1) _ (load_as_loud loud sectors chunk (found_in (sector_at device.bytes 0))) device h)
 
 -- the store that is given back, if one is, is as loud
 abbrev pub IsBackLoud : Bool → Option Store → Type 0
@@ -134,11 +132,11 @@ given_loud : (number chunk : ℕ) (overflow : Overflowing) (store : Store) (v : 
 unfolding attached
 given_loud number chunk overflow store v =
     let loud = is_loud store.device.layers in
-    let tried = open_store v.snaps (sectors_of v.origin) chunk store.device in
+    let tried = open_store (sectors_of v.origin) chunk store.device in
     either_back store.stale loud _ _ (refused_loud Stale store v)
     (either_back (nat_lt (length v.snaps) 8 && nat_lt number 4_294_967_296) loud _ _
     (either_back (is_chunk chunk) loud _ _
-    (taken_loud loud number overflow tried.device tried.outcome v (open_loud loud v.snaps (sectors_of v.origin) chunk store.device refl).same)
+    (taken_loud loud number overflow tried.device tried.outcome v (open_loud loud (sectors_of v.origin) chunk store.device refl).same)
     (refused_loud BadChunk store v))
     (refused_loud TooMany store v))
 

@@ -3,7 +3,7 @@ use Rattle.std.proofs.Common.{◌≡◌, ◌⊎◌, ℕ, ◌+◌, Bool, true, fa
 use Rattle.std.specs.Prelude.{Option, Some, None, is_some, ◌&&◌, ◌||◌, ◌==◌, ◌≢◌, nat_le, length, if◌then◌else◌}
 use Rattle.std.proofs.lemmas.Bool.{cases_Bool}
 use Rattle.sector.specs.declared.refusal.Refusal.{Refusal}
-use Rattle.sector.specs.declared.refusal.Refusal.TheVariants.{NoMemory, NotQuiet, Stale, MergeInProgress, TooMany, BadChunk, ChunkMismatch}
+use Rattle.sector.specs.declared.refusal.Refusal.TheVariants.{NoMemory, NotQuiet, Stale, MergeInProgress, TooMany, BadChunk}
 use Rattle.device.specs.Layers.{is_loud}
 use Rattle.layers.specs.declared.stack.Stack.{Stack}
 use Rattle.layers.specs.Stack.{stack_contents, stack_layers}
@@ -80,10 +80,7 @@ alone_refused stale chunk origin size bytes v e alone why same =
       | inl first ↦ not_begun stale (is_quiet_of v) (length v.snaps) v.attached chunk (sym plain ∙ first ∙ ap (λ (r : Refusal). let x : Option Refusal = Some r in x) same)
       | inr later ↦ elim later.1 [
         | inl none ↦ absurd (let clash : NoMemory ≡ MergeInProgress = sym none ∙ same in cc)
-        | inr opened ↦ elim opened [
-          | inl store ↦ subst (IsRefused chunk origin size bytes) same store
-          | inr other ↦ absurd (let clash : ChunkMismatch ≡ MergeInProgress = sym other.0 ∙ same in cc)
-        ]
+        | inr store ↦ subst (IsRefused chunk origin size bytes) same store
       ]
     ]
 

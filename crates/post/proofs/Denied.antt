@@ -1,6 +1,6 @@
 -- Why a volume takes no request and begins no merge, by what its journal says that it shows.
 use Rattle.std.proofs.Common.{◌≡◌, ◌⊎◌, inl, inr, ℕ, zero, suc, ◌+◌, ◌<◌, ◌≤◌, Bool, true, false, List, [], ◌∷◌, ◌++◌, length, map, set, get_or, cond, Option, Some, None, refl, sym, ap, ◌∙◌, subst, arith, nat_lt}
-use Rattle.std.specs.Prelude.{◌==◌, ◌≢◌, if◌then◌else◌}
+use Rattle.std.specs.Prelude.{◌==◌, ◌≢◌, if◌then◌else◌, min}
 use Rattle.std.specs.List.{list_any, position_or_len}
 use Rattle.std.proofs.lemmas.Bool.{cases_Bool, cases_lt}
 use Rattle.std.proofs.lemmas.List.{length-map}
@@ -29,12 +29,12 @@ use Rattle.volume_laws.specs.Shape.{shown_begun, shown_entry}
 use Rattle.volume.specs.Beginning.{begin_refusal, begin_with, beside_refusal, place_refusal}
 use Rattle.volume.specs.Stepping.{KeepsAll, merged_of}
 use Rattle.volume.specs.Submitting.{IsFoundFull, IsOverflown, IsRefusedAs, are_too_many, dev_refusal, first_of_two, is_merging, is_piece_of, limit_refusal, range_refusal, refusal_at, shut_at, shut_refusal, starting, submit_refusal}
-use Rattle.volume.specs.Volumed.{Volumed, piece_with, merge_shape, plain_of, snap_shape}
+use Rattle.volume.specs.Volumed.{Volumed, piece_of, piece_with, merge_shape, plain_of, snap_shape}
 use Rattle.journal.specs.declared.entry.Entry.{Entry}
 use Rattle.journal.specs.Books.{AuditShape}
 use Rattle.journal.specs.Journaled.{IsBarred, IsNotMerged, is_full_by}
 use Rattle.journal.specs.Replay.{Saves, replay, saves_of}
-use Rattle.post.specs.Denying.{Agrees, merged_number, IsClosed, IsDenied, IsLost, IsShut, Begin, Serve, WasDenied, is_merged, piece_in}
+use Rattle.post.specs.Denying.{Agrees, merged_number, IsClosed, IsDenied, IsLost, IsShut, Begin, Serve, WasDenied, is_merged, least_of, piece_in}
 use Rattle.post.specs.Fixed.{Fixed, StaysFrom, fixed_of}
 
 no_some : {A C : Type 0} (x : A) → None ≡ Some x → C
@@ -73,10 +73,13 @@ module _ {B : Type 0} where
   merged_is number None = refl
   merged_is number (Some m) = refl
 
+  least_is : (snaps : List (Kept B)) → least_of (map (λ s. s.state.chunk) snaps) ≡ piece_of snaps
+  least_is [] = refl
+  least_is (s ∷ snaps) = ap (min s.state.chunk) (least_is snaps)
+
   piece_is : (merge : Option (Merging B)) (snaps : List (Kept B)) → piece_in (merged_of merge) (map (λ s. s.state.chunk) snaps) ≡ piece_with merge snaps
-  piece_is None [] = refl
-  piece_is None (s ∷ snaps) = refl
-  piece_is (Some m) snaps = refl
+  piece_is None snaps = least_is snaps
+  piece_is (Some m) snaps = ap (min m.state.chunk) (least_is snaps)
 
   among : (number : ℕ) (snaps : List (Kept B)) → is_in (map number_of_snap snaps) number ≡ list_any (λ (s : Kept B). s.number == number) snaps
   among number snaps = any_of (λ n. n == number) number_of_snap snaps

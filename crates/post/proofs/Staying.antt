@@ -1,6 +1,6 @@
 -- What a rig leaves of a volume as it was.
-use Rattle.std.proofs.Common.{◌≡◌, ◌⊎◌, inl, inr, ℕ, ◌<◌, ◌==◌, if◌then◌else◌, Bool, true, false, List, [], ◌∷◌, length, get_or, map, Option, Some, None, refl, sym, ap, ◌∙◌, subst}
-use Rattle.std.specs.Prelude.{◌&&◌, not}
+use Rattle.std.proofs.Common.{◌≡◌, ◌⊎◌, inl, inr, ℕ, ◌*◌, ◌/◌, ◌<◌, ◌==◌, if◌then◌else◌, Bool, true, false, List, [], ◌∷◌, length, get_or, map, Option, Some, None, refl, sym, ap, ◌∙◌, subst}
+use Rattle.std.specs.Prelude.{◌&&◌, max, not}
 use Rattle.std.specs.List.{list_all, remove}
 use Rattle.std.proofs.lemmas.List.{get_or-map, length-map}
 use Rattle.device.specs.Layers.{Layer, is_loud}
@@ -58,13 +58,13 @@ if_chunk : {B : Type 0} (b : Bool) (count : ℕ) (s : Kept B) → (if b then kep
 if_chunk true count s = refl
 if_chunk false count s = refl
 
-numbers_kept : {B : Type 0} (number count : ℕ) (xs : List (Kept B)) → map number_of_snap (map (kept_for number count) xs) ≡ map number_of_snap xs
-numbers_kept number count [] = refl
-numbers_kept number count (x ∷ xs) = λ i. if_number (x.live && not (x.number == number)) count x i ∷ numbers_kept number count xs i
+numbers_kept : {B : Type 0} (number count chunk : ℕ) (xs : List (Kept B)) → map number_of_snap (map (kept_for number count chunk) xs) ≡ map number_of_snap xs
+numbers_kept number count chunk [] = refl
+numbers_kept number count chunk (x ∷ xs) = λ i. if_number (x.live && not (x.number == number)) (count * max 1 (chunk / x.state.chunk)) x i ∷ numbers_kept number count chunk xs i
 
-chunks_kept : {B : Type 0} (number count : ℕ) (xs : List (Kept B)) → map (λ s. s.state.chunk) (map (kept_for number count) xs) ≡ map (λ s. s.state.chunk) xs
-chunks_kept number count [] = refl
-chunks_kept number count (x ∷ xs) = λ i. if_chunk (x.live && not (x.number == number)) count x i ∷ chunks_kept number count xs i
+chunks_kept : {B : Type 0} (number count chunk : ℕ) (xs : List (Kept B)) → map (λ s. s.state.chunk) (map (kept_for number count chunk) xs) ≡ map (λ s. s.state.chunk) xs
+chunks_kept number count chunk [] = refl
+chunks_kept number count chunk (x ∷ xs) = λ i. if_chunk (x.live && not (x.number == number)) (count * max 1 (chunk / x.state.chunk)) x i ∷ chunks_kept number count chunk xs i
 
 -- what was there of a list that is known by another name
 at_mapped : {B : Type 0} (f : Kept B → ℕ) (xs : List (Kept B)) (ns : List ℕ) (k : ℕ) (s : Kept B) → map f xs ≡ ns → k < length xs → s ≡ get_or xs k s → f s ≡ get_or ns k 0
@@ -80,9 +80,9 @@ stays_begun {B} size layers f a b number stays admitted begun sound loud base =
     let within : k < length a.volume.snaps = position_within _ a.volume.snaps k begun.found in
     let merge_now : merged_of b.volume.merge ≡ Some (s.number, s.state.chunk) = ap (λ (v : Volumed B). merged_of v.merge) begun.becomes in
     let numbers_now : map number_of_snap b.volume.snaps ≡ remove (map number_of_snap a.volume.snaps) k =
-    ap (λ (v : Volumed B). map number_of_snap v.snaps) begun.becomes ∙ numbers_kept number _ (remove a.volume.snaps k) ∙ map-remove number_of_snap a.volume.snaps k in
+    ap (λ (v : Volumed B). map number_of_snap v.snaps) begun.becomes ∙ numbers_kept number _ _ (remove a.volume.snaps k) ∙ map-remove number_of_snap a.volume.snaps k in
     let chunks_now : map (λ (t : Kept B). t.state.chunk) b.volume.snaps ≡ remove (map (λ t. t.state.chunk) a.volume.snaps) k =
-    ap (λ (v : Volumed B). map (λ (t : Kept B). t.state.chunk) v.snaps) begun.becomes ∙ chunks_kept number _ (remove a.volume.snaps k) ∙ map-remove (λ (t : Kept B). t.state.chunk) a.volume.snaps k in
+    ap (λ (v : Volumed B). map (λ (t : Kept B). t.state.chunk) v.snaps) begun.becomes ∙ chunks_kept number _ _ (remove a.volume.snaps k) ∙ map-remove (λ (t : Kept B). t.state.chunk) a.volume.snaps k in
     record {
       attached = ap (λ (v : Volumed B). v.attached) begun.becomes ∙ stays.attached;
       sectors = ap (λ (v : Volumed B). size v.origin) begun.becomes ∙ stays.sectors;

@@ -1,7 +1,7 @@
 -- Why a volume with a journal takes no request, and why it begins no merge, by what its entries say that it shows and by what stays
 -- of it. The limits and the order of the refusals are this project's own; that a lost snapshot is Invalid, and that one whose store
 -- overflowed takes no write, is the kernel's rule, of its admin-guide page on snapshots.
-use Rattle.std.specs.Prelude.{◌≡◌, ◌≢◌, ◌⊎◌, ◌==◌, ℕ, Bool, true, false, List, [], ◌∷◌, ◌++◌, Option, Some, None}
+use Rattle.std.specs.Prelude.{◌≡◌, ◌≢◌, ◌⊎◌, ◌==◌, ℕ, Bool, true, false, List, [], ◌∷◌, ◌++◌, Option, Some, None, min}
 use Rattle.sector.specs.declared.refusal.Refusal.{Refusal}
 use Rattle.sector.specs.declared.refusal.Refusal.TheVariants.{Invalid as IsInvalid, JournalFull, MergeInProgress, MergingSnapshot, NoMemory, NoSuchDevice, OutOfRange, Overflow, TooMany}
 use Rattle.plain.specs.Plain.{Invalid, is_in, overflow_under, saved_under}
@@ -27,11 +27,15 @@ abbrev pub is_merged : ℕ → Option (ℕ × ℕ) → Bool
 is_merged number None = false
 is_merged number (Some m) = m.0 == number
 
--- the sectors of a piece: those of the snapshots' chunks, and of the largest chunk where there is none
+-- the least of these sizes, and that of the largest chunk where there is none
+abbrev pub least_of : List ℕ → ℕ
+least_of [] = 1024
+least_of (chunk ∷ chunks) = min chunk (least_of chunks)
+
+-- the sectors of a piece: those of the least chunk of the snapshots, the one that is being merged among them
 abbrev pub piece_in : Option (ℕ × ℕ) → List ℕ → ℕ
-piece_in None [] = 1024
-piece_in None (chunk ∷ chunks) = chunk
-piece_in (Some m) chunks = m.1
+piece_in None chunks = least_of chunks
+piece_in (Some m) chunks = min m.1 (least_of chunks)
 
 -- the number of the snapshot that is being merged
 abbrev pub merged_number : Option (ℕ × ℕ) → Option ℕ

@@ -1,13 +1,13 @@
 -- A merge that may be begun, by what is asked of it.
-use Rattle.std.proofs.Common.{◌≡◌, inl, inr, ℕ, true, false, List, Option, Some, None, IfSome, refl, sym, ◌∙◌, subst}
+use Rattle.std.proofs.Common.{◌≡◌, inl, inr, ℕ, true, false, List, Option, Some, None, IfNone, IfSome, refl, sym, ◌∙◌, subst}
 use Rattle.std.proofs.lemmas.Bool.{cond-false, eq-eqb}
 use Rattle.device.specs.Layers.{Layer}
 use Rattle.event_machine.specs.MergeSeen.{held_in}
 use Rattle.merge.specs.Merging.{Merging}
 use Rattle.chunk_alloc.specs.declared.usage.Usage.{Usage}
 use Rattle.snapshot.specs.Kept.{Kept}
-use Rattle.volume.specs.Asking.{HoldsOf, merging_number, merging_usage}
-use Rattle.volume.specs.Volumed.{Volumed, piece_with}
+use Rattle.volume.specs.Asking.{HoldsOf, merging_chunk_of, merging_number, merging_usage}
+use Rattle.volume.specs.Volumed.{Volumed}
 use Rattle.volume.specs.Moved.{merge_seen}
 use Rattle.volume.specs.Submitting.{is_merging}
 use Rattle.volume.specs.Telling.{numbered_relayered}
@@ -37,10 +37,18 @@ pub holds_merging : {B : Type 0} (OfMerge : Merging B → Type 0) (OfSnap : Kept
 holds_merging OfMerge OfSnap n v e (inl it) = (it.0, it.1, it.3)
 holds_merging OfMerge OfSnap n v e (inr other) = absurd (merging_it v.merge n e other.0)
 
--- pieces are as large as its chunks
-pub piece_merging : {B : Type 0} (o : Option (Merging B)) (n : ℕ) (piece : ℕ) (snaps : List (Kept B)) → Some n ≡ merging_number o → piece ≡ piece_with o snaps → (m : Merging B) × (o ≡ Some m) × (piece ≡ m.state.chunk)
-piece_merging None n piece snaps e is = absurd (cc)
-piece_merging (Some m) n piece snaps e is = (m, refl, is)
+-- the size of its chunks
+pub chunk_merging : {B : Type 0} (o : Option (Merging B)) (told : Option ℕ) → told ≡ merging_chunk_of o → IfSome told (λ chunk. (m : Merging B) × (o ≡ Some m) × (chunk ≡ m.state.chunk))
+chunk_merging None None is = tt
+chunk_merging None (Some n) is = absurd (cc)
+chunk_merging (Some m) None is = tt
+chunk_merging (Some m) (Some n) is = (m, refl, (let same : n ≡ m.state.chunk = cc in same))
+
+pub chunk_of_none : {B : Type 0} (o : Option (Merging B)) (told : Option ℕ) → told ≡ merging_chunk_of o → IfNone told (o ≡ None)
+chunk_of_none None None is = refl
+chunk_of_none None (Some n) is = tt
+chunk_of_none (Some m) None is = absurd (cc)
+chunk_of_none (Some m) (Some n) is = tt
 
 -- the numbers of its status line
 pub used_merging : {B : Type 0} (o : Option (Merging B)) (usage : Option Usage) → (m : Merging B) × (o ≡ Some m) × (usage ≡ Some (merging_usage m)) → IfSome usage (λ u. (m : Merging B) × (o ≡ Some m) × (u ≡ merging_usage m))

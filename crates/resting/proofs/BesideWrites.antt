@@ -6,7 +6,9 @@ use Rattle.std.proofs.lemmas.Bool.{cases_Bool, cond-true, cond-false}
 use Rattle.sector.specs.declared.range.Range.{Range}
 use Rattle.sector.specs.declared.refusal.Refusal.{Refusal}
 use Rattle.device.specs.Layers.{Layer}
+use Rattle.chunk.specs.Sizes.{is_chunk}
 use Rattle.chunk.specs.Pieces.{Span, span_of, Join, AreCutFrom, pieces_of}
+use Rattle.chunk.proofs.Limits.{is_chunk-some}
 use Rattle.chunk.proofs.Whole.{cut_pieces}
 use Rattle.model.proofs.Pictures.{length-picture}
 use Rattle.plain.specs.Plain.{Saved, Live, Invalid}
@@ -14,6 +16,7 @@ use Rattle.plain.specs.declared.request.Dev.{Dev}
 use Rattle.plain.specs.declared.request.Dev.TheVariants.{Origin, Snap as ToSnap}
 use Rattle.served.specs.Refusals.{is_starved}
 use Rattle.served.proofs.Starved.{starved_by}
+use Rattle.plain.specs.declared.request.Op.TheVariants.{Write}
 use Rattle.plain.specs.declared.request.Reply.{Reply}
 use Rattle.plain.specs.declared.request.Reply.TheVariants.{Data, Written, Refused}
 use Rattle.plain.specs.declared.request.Failure.{Failure}
@@ -22,8 +25,8 @@ use Rattle.settled.specs.Snaps.{Volume}
 use Rattle.settled.specs.Shown.{ShowTheSame}
 use Rattle.settled.specs.Pieces.{Answered}
 use Rattle.settled.specs.Commands.{write_piece, write_pieces, go_on}
+use Rattle.settled.proofs.Chunks.{HasChunks, answer_keeps}
 use Rattle.settled.proofs.Each.{Each}
-use Rattle.snapshot.specs.Kept.{Kept}
 use Rattle.served.specs.Beside.{Served, chunk_beside, written_beside}
 use Rattle.volume.specs.Volumed.{Volumed, piece_with}
 use Rattle.volume.specs.Moved.{moving_of}
@@ -34,12 +37,12 @@ use Rattle.settled.specs.MergeShown.{IsMerging, array_of, shown_through}
 use Rattle.resting.specs.Rested.{rested_of, merged_of, IsSettled}
 use Rattle.plain.specs.Failures.{refusal_of}
 use Rattle.resting.specs.Commands.{IsDoneBy, IsWriteRefused}
+use Rattle.resting.specs.Serving.{IsAsLarge}
 use Rattle.resting.specs.Showing.{Arrays, arrays_of, arrays_in, saved_of, AreKept, IsWritten, IsPlainWrite, IsPlainWriteRefused, IsWrittenInPart, pieces_for, sectors_in}
 use Rattle.resting.proofs.Shown.{arrays_by, arrays_with, seen}
-use Rattle.resting.proofs.Rests.{IsInside, IsWell}
+use Rattle.resting.proofs.Rests.{IsInside, IsWell, one_chunk, one_each}
 use Rattle.resting.proofs.Parts.{with_sectors_none, kept_none, written_none}
 use Rattle.resting.proofs.PlainReads.{missing_by, sectors_joined, has_pieces, settled_well, span_inside, IsUnder, under_by}
-use Rattle.chunk.proofs.PiecePlaces.{piece_high}
 use Rattle.merge_laws.proofs.MergeServes.{WritesThrough, writes_through}
 use Rattle.resting.proofs.BesideReads.{with_merge}
 use Rattle.resting.proofs.WriteRuns.{answer, parts_written, served_parts}
@@ -53,9 +56,9 @@ written_starved dev span pieces bytes refusal old new starved part = elim (starv
   | inr full ↦ subst (λ (r : Refusal). IsPlainWriteRefused dev span pieces bytes r old new) (sym full) part
 ]
 
-module _ (sectors chunk : ℕ) (pos : 0 < chunk) where
+module _ (sectors chunk : ℕ) (ok : is_chunk chunk ≡ true) where
   -- one piece of the origin beside a merge
-  module _ (piece : Span) (part : List ℕ) (m : Merging) (is : IsMerging sectors m) (same : m.merge.chunk ≡ chunk) (fits : IsInside sectors chunk piece) (len : length part ≡ 512 * piece.count) where
+  module _ (piece : Span) (part : List ℕ) (m : Merging) (is : IsMerging sectors m) (wide : chunk ≤ m.merge.chunk) (each : Each (HasChunks chunk) m.volume.snaps) (fits : IsInside sectors chunk piece) (len : length part ≡ 512 * piece.count) where
     abbrev Shows : Replied → Type 0
     Shows r = ShowTheSame m.volume.origin.bytes r.state.volume.origin.bytes m.volume.snaps r.state.volume.snaps
 
@@ -65,8 +68,8 @@ module _ (sectors chunk : ℕ) (pos : 0 < chunk) where
 
     one_through : WritesThrough sectors piece.first part m (write_part Origin piece part m)
     one_through =
-        let high : piece.first + piece.count ≤ chunk * (piece.first / chunk) + chunk = piece_high chunk piece.first piece.count pos fits.one.some fits.one.one in
-        writes_through sectors piece m is fits.one.some fits.inside (subst (λ (n : ℕ). piece.first + piece.count ≤ n * (piece.first / n) + n) (sym same) high) part len
+        let high : piece.first + piece.count ≤ m.merge.chunk * (piece.first / m.merge.chunk) + m.merge.chunk = one_chunk chunk m.merge.chunk piece ok (is.allowed, wide) fits.one in
+        writes_through sectors piece m is fits.one.some fits.inside high (one_each chunk piece m.volume.snaps ok fits.one each) part len
 
     one_shown : IsPieceShown Origin piece.first part (arrays_with (in_one m)) (arrays_with (in_one (write_part Origin piece part m).state)) (write_part Origin piece part m).reply
     one_shown =
@@ -79,6 +82,14 @@ module _ (sectors chunk : ℕ) (pos : 0 < chunk) where
               ((shown_through m, refl), (w.origin ∙ cond-false _ _ _ failed ∙ sym (with_sectors_none (shown_through m) piece.first), kept))
         ]
 
+  -- a piece keeps the sizes of chunks
+  part_keeps : (piece : Span) (part : List ℕ) (m : Merging) → Each (HasChunks chunk) m.volume.snaps → Each (HasChunks chunk) (write_part Origin piece part m).state.volume.snaps
+  part_keeps piece part m each = by (place_in piece.first m.merge)
+    where
+      by : (o : Option ℕ) → Each (HasChunks chunk) (write_at o piece part m).state.volume.snaps
+      by None = answer_keeps chunk Origin (Write part) piece m.volume each
+      by (Some n) = each
+
   goes_through : (piece : Span) (pieces : List Span) (bytes : List ℕ) (old : Arrays) (r : Reply) (here more : Replied) → 512 * piece.count ≤ length bytes → ((array : List ℕ) → saved_of Origin old ≡ Live array → 512 * piece.first ≤ length array) → here.reply ≡ r
       → IsPieceShown Origin piece.first (take (512 * piece.count) bytes) old (arrays_with (in_one here.state)) r → AreWritten Origin (piece.first + piece.count) pieces (drop (512 * piece.count) bytes) (arrays_with (in_one here.state)) (arrays_with (in_one more.state)) more.reply
       → AreWritten Origin piece.first (piece ∷ pieces) bytes old (arrays_with (in_one (beside_on r here more).state)) (beside_on r here more).reply
@@ -89,22 +100,22 @@ module _ (sectors chunk : ℕ) (pos : 0 < chunk) where
   goes_through piece pieces bytes old (Refused Overflow) here more room low is shows rest = absurd shows.1
 
   -- pieces of the origin beside a merge
-  through_written : (first b : ℕ) (pieces : List Span) (bytes : List ℕ) (m : Merging) → IsMerging sectors m → m.merge.chunk ≡ chunk → Each (IsInside sectors chunk) pieces → Join first b pieces → 512 * sectors_in pieces ≤ length bytes
+  through_written : (first b : ℕ) (pieces : List Span) (bytes : List ℕ) (m : Merging) → IsMerging sectors m → chunk ≤ m.merge.chunk → Each (HasChunks chunk) m.volume.snaps → Each (IsInside sectors chunk) pieces → Join first b pieces → 512 * sectors_in pieces ≤ length bytes
       → AreWritten Origin first pieces bytes (arrays_with (in_one m)) (arrays_with (in_one (write_parts Origin pieces bytes m).state)) (write_parts Origin pieces bytes m).reply
-  through_written first b [] bytes m is same fits join room = (λ some. absurd (omega arith), written_none Origin first (arrays_with (in_one m)))
-  through_written first b (piece ∷ pieces) bytes m is same fits join room =
+  through_written first b [] bytes m is wide each fits join room = (λ some. absurd (omega arith), written_none Origin first (arrays_with (in_one m)))
+  through_written first b (piece ∷ pieces) bytes m is wide each fits join room =
       let part : List ℕ = take (512 * piece.count) bytes in
       let tail : List ℕ = drop (512 * piece.count) bytes in
       let here : Replied = write_part Origin piece part m in
       let len : length part ≡ 512 * piece.count = simp length-take (omega (arith, room)) in
       let back : 512 * sectors_in pieces ≤ length tail = simp length-drop (omega (arith, room)) in
-      let w = one_through piece part m is same fits.0 len in
+      let w = one_through piece part m is wide each fits.0 len in
       let whole = is.whole in
       let low : (array : List ℕ) → saved_of Origin (arrays_with (in_one m)) ≡ Live array → 512 * piece.first ≤ length array =
       λ array live. (let long : length array ≡ length m.volume.origin.bytes = ap saved_length (sym live) ∙ length-picture m.merge.chunk m.volume.origin.bytes m.merge.store.bytes in let i = fits.0.inside in omega (arith, long, whole, i)) in
-      let rest = through_written (first + piece.count) b pieces tail here.state w.holds (w.chunk ∙ same) fits.1 join.1 back in
+      let rest = through_written (first + piece.count) b pieces tail here.state w.holds (subst (λ (n : ℕ). chunk ≤ n) (sym w.chunk) wide) (part_keeps piece part m each) fits.1 join.1 back in
       subst (λ (x : ℕ). AreWritten Origin x (piece ∷ pieces) bytes (arrays_with (in_one m)) (arrays_with (in_one (write_parts Origin (piece ∷ pieces) bytes m).state)) (write_parts Origin (piece ∷ pieces) bytes m).reply) join.0
-      (goes_through piece pieces bytes (arrays_with (in_one m)) here.reply here (write_parts Origin pieces tail here.state) (omega (arith, room)) low refl (one_shown piece part m is same fits.0 len)
+      (goes_through piece pieces bytes (arrays_with (in_one m)) here.reply here (write_parts Origin pieces tail here.state) (omega (arith, room)) low refl (one_shown piece part m is wide each fits.0 len)
       (subst (λ (x : ℕ). AreWritten Origin (x + piece.count) pieces tail (arrays_with (in_one here.state)) (arrays_with (in_one (write_parts Origin pieces tail here.state).state)) (write_parts Origin pieces tail here.state).reply) (sym join.0) rest))
     where
       saved_length : Saved → ℕ
@@ -138,23 +149,23 @@ snap_written number first pieces bytes g old new (Refused Overflow) law = (
 )
 
 -- pieces that are written, whether a merge is begun or not
-module _ (sectors chunk : ℕ) (pos : 0 < chunk) (first b : ℕ) (pieces : List Span) (bytes : List ℕ) (fits : Each (IsInside sectors chunk) pieces) (join : Join first b pieces) (room : 512 * sectors_in pieces ≤ length bytes) where
-  pub parts_shown : (dev : Dev) (o : Option Merge) (v : Volume) → IsWell sectors chunk v → ((g : Merge) → o ≡ Some g → (let m : Merging = record { volume = v; merge = g } in IsMerging sectors m) × (g.chunk ≡ chunk))
+module _ (sectors chunk : ℕ) (ok : is_chunk chunk ≡ true) (first b : ℕ) (pieces : List Span) (bytes : List ℕ) (fits : Each (IsInside sectors chunk) pieces) (join : Join first b pieces) (room : 512 * sectors_in pieces ≤ length bytes) where
+  pub parts_shown : (dev : Dev) (o : Option Merge) (v : Volume) → IsWell sectors chunk v → ((g : Merge) → o ≡ Some g → (let m : Merging = record { volume = v; merge = g } in IsMerging sectors m) × (chunk ≤ g.chunk))
       → (let m : Merged = record { volume = v; merge = o } in AreWritten dev first pieces bytes (arrays_with m) (arrays_with (parts_written dev pieces bytes m).state) (parts_written dev pieces bytes m).reply)
   parts_shown dev None v well under =
       let m : Merged = record { volume = v; merge = None } in
-      subst (λ (a : Served). AreWritten dev first pieces bytes (arrays_with m) (arrays_with a.state) a.reply) (served_parts dev pieces bytes m) (pieces_written sectors chunk pos dev first b pieces bytes v well fits join room)
+      subst (λ (a : Served). AreWritten dev first pieces bytes (arrays_with m) (arrays_with a.state) a.reply) (served_parts dev pieces bytes m) (pieces_written sectors chunk ok dev first b pieces bytes v well fits join room)
   parts_shown Origin (Some g) v well under =
       let m : Merged = record { volume = v; merge = Some g } in
       let is = under g refl in
       subst (λ (a : Served). AreWritten Origin first pieces bytes (arrays_with m) (arrays_with a.state) a.reply) (served_parts Origin pieces bytes m)
-      (through_written sectors chunk pos first b pieces bytes (record { volume = v; merge = g }) is.0 is.1 fits join room)
+      (through_written sectors chunk ok first b pieces bytes (record { volume = v; merge = g }) is.0 is.1 well.chunks fits join room)
   parts_shown (ToSnap number) (Some g) v well under =
       let m : Merged = record { volume = v; merge = Some g } in
       let a : Answered = write_pieces (ToSnap number) pieces bytes v in
       subst (λ (a : Served). AreWritten (ToSnap number) first pieces bytes (arrays_with m) (arrays_with a.state) a.reply) (served_parts (ToSnap number) pieces bytes m)
       (subst (λ (r : Replied). AreWritten (ToSnap number) first pieces bytes (arrays_with m) (arrays_with (in_one r.state)) r.reply) (sym (snap_parts number pieces bytes g v))
-      (snap_written number first pieces bytes g (arrays_of v) (arrays_of a.volume) a.reply (pieces_written sectors chunk pos (ToSnap number) first b pieces bytes v well fits join room)))
+      (snap_written number first pieces bytes g (arrays_of v) (arrays_of a.volume) a.reply (pieces_written sectors chunk ok (ToSnap number) first b pieces bytes v well fits join room)))
 
 -- some first pieces
 pub join_take : (a b count : ℕ) (pieces : List Span) → Join a b pieces → (c : ℕ) × Join a c (take count pieces)
@@ -172,8 +183,8 @@ fewer_in zero pieces = omega arith
 fewer_in (suc count) [] = omega arith
 fewer_in (suc count) (p ∷ pieces) = let h = fewer_in count pieces in omega (arith, h)
 
-module _ {B : Type 0} (contents : B → List ℕ) (layers : B → List Layer) (size : B → ℕ) (dev : Dev) (range : Range) (chunk : ℕ) (bytes : List ℕ) (v w : Volumed B) (pos : 0 < chunk) (some : 0 < range.count) (inside : range.first + range.count ≤ size v.origin) (len : length bytes ≡ 512 * range.count)
-    (all : All (λ (s : Kept B). s.state.chunk ≡ chunk) v.snaps) (least : chunk_beside (merged_of contents layers (rested_of v)) ≡ chunk) (with_chunk : chunk ≡ piece_with v.merge v.snaps)
+module _ {B : Type 0} (contents : B → List ℕ) (layers : B → List Layer) (size : B → ℕ) (dev : Dev) (range : Range) (chunk : ℕ) (bytes : List ℕ) (v w : Volumed B) (ok : is_chunk chunk ≡ true) (some : 0 < range.count) (inside : range.first + range.count ≤ size v.origin) (len : length bytes ≡ 512 * range.count)
+    (all : All (IsAsLarge chunk) v.snaps) (least : chunk_beside (merged_of contents layers (rested_of v)) ≡ chunk) (with_chunk : chunk ≡ piece_with v.merge v.snaps)
     (between : IsBetween (size v.origin) (moving_of contents layers None v)) (under : (h : MergeHeld) → (moving_of contents layers None v).merge ≡ Some h → IsMerging (size v.origin) (in_big_steps h (moving_of contents layers None v))) where
   abbrev start : Merged
   start = merged_of contents layers (rested_of v)
@@ -188,7 +199,7 @@ module _ {B : Type 0} (contents : B → List ℕ) (layers : B → List Layer) (s
   pieces = pieces_of chunk (span_of range)
 
   cut : AreCutFrom chunk (span_of range) pieces
-  cut = cut_pieces chunk (span_of range) pieces refl pos
+  cut = cut_pieces chunk (span_of range) pieces refl (is_chunk-some chunk ok)
 
   count_all : sectors_in pieces ≡ range.count
   count_all = let h = sectors_joined range.first (range.first + range.count) pieces cut.join in omega (arith, h)
@@ -197,8 +208,8 @@ module _ {B : Type 0} (contents : B → List ℕ) (layers : B → List Layer) (s
   many = has_pieces range.first (range.first + range.count) pieces cut.join (omega (arith, some))
 
   -- the merge that is begun
-  is_under : (g : Merge) → start.merge ≡ Some g → (let m : Merging = record { volume = start.volume; merge = g } in IsMerging (size v.origin) m) × (g.chunk ≡ chunk)
-  is_under g e = let is : IsUnder contents layers size v under g = under_by contents layers size v under (moving_of contents layers None v).merge refl g e in (is.0, is.1 ∙ sym with_chunk)
+  is_under : (g : Merge) → start.merge ≡ Some g → (let m : Merging = record { volume = start.volume; merge = g } in IsMerging (size v.origin) m) × (chunk ≤ g.chunk)
+  is_under g e = let is : IsUnder contents layers size v under g = under_by contents layers size v under (moving_of contents layers None v).merge refl g e in (is.0, subst (λ (n : ℕ). n ≤ g.chunk) (sym with_chunk) is.1)
 
   -- the first pieces, by the settled machine
   first_written : (count : ℕ) (reply : Reply) → parts_written dev (take count pieces) bytes start ≡ answer (merged_of contents layers (rested_of w)) reply → AreWritten dev range.first (take count pieces) bytes old new reply
@@ -207,7 +218,7 @@ module _ {B : Type 0} (contents : B → List ℕ) (layers : B → List Layer) (s
       let whole = count_all in
       let (end, join) = join_take range.first (range.first + range.count) count pieces cut.join in
       subst (λ (a : Served). AreWritten dev range.first (take count pieces) bytes old (arrays_with a.state) a.reply) done
-      (parts_shown (size v.origin) chunk pos range.first end (take count pieces) bytes (each_take (IsInside (size v.origin) chunk) count pieces (span_inside (size v.origin) chunk range pos inside)) join (omega (arith, few, whole, len))
+      (parts_shown (size v.origin) chunk ok range.first end (take count pieces) bytes (each_take (IsInside (size v.origin) chunk) count pieces (span_inside (size v.origin) chunk range ok inside)) join (omega (arith, few, whole, len))
       dev start.merge start.volume (settled_well contents layers size chunk v all between) is_under)
 
   whole_written : (reply : Reply) → IsDoneBy contents layers (written_beside dev (span_of range) bytes) reply (rested_of v) (rested_of w) → IsSettled layers (rested_of v) → AreWritten dev range.first pieces bytes old new reply

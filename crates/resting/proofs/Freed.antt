@@ -1,5 +1,5 @@
 -- The events of snapshots and requests leave the present group of a merge as it is, and are none of the merge.
-use Rattle.std.proofs.Common.{◌≡◌, ℕ, Bool, true, false, List, [], Option, Some, None, refl, sym, ◌∙◌, ap}
+use Rattle.std.proofs.Common.{◌≡◌, ℕ, Bool, true, false, List, [], ◌∷◌, ◌++◌, Option, Some, None, refl, sym, ◌∙◌, ap}
 use Rattle.std.specs.Prelude.{◌==◌, not, if◌then◌else◌}
 use Rattle.std.proofs.lemmas.Bool.{true≢false}
 use Rattle.sector.specs.declared.pair.Pair.{Pair}
@@ -14,15 +14,15 @@ use Rattle.pending.specs.declared.copies.Stage.{Stage}
 use Rattle.pending.specs.declared.copies.Stage.TheVariants.{Waiting, Read}
 use Rattle.pending.specs.declared.flights.Route.{Route}
 use Rattle.pending.specs.declared.flights.Route.TheVariants.{Held as Waits, Origin, Store, Refused}
-use Rattle.volume_laws.specs.MergeDue.{has_group, is_none, one_of, due_or}
-use Rattle.settled.specs.Devices.{answers}
+use Rattle.volume_laws.specs.MergeDue.{has_group, is_none, next_pair, one_of, due_or}
+use Rattle.settled.specs.Devices.{answers, sectors_of}
 use Rattle.settled.specs.Saving.{lacks_area}
 use Rattle.event_machine.specs.Held.{Copying, Held, Going, MergeHeld, Moving, group_in}
 use Rattle.event_machine.specs.Due.{due, batch_of}
-use Rattle.event_machine.specs.MergeDue.{merge_due, due_all, can_group, can_read_area, can_read, can_write, can_flush, can_commit_group, can_release}
+use Rattle.event_machine.specs.MergeDue.{merge_due, due_all, next_of, can_group, can_read_area, can_read, can_write, can_flush, can_commit_group, can_release}
 use Rattle.event_machine.specs.MergeSeen.{held_in}
-use Rattle.event_machine.specs.MergeStepping.{stepped_all}
-use Rattle.event_machine.specs.Stepping.{for_some, first_that, zero_next, read_copy, write_copy, commit, publish, mark_invalid, on_disk, on_store, on_merging, on_place, issue, on_copy, on_snap, stepped}
+use Rattle.event_machine.specs.MergeStepping.{start_next, start_waiting, stepped_all}
+use Rattle.event_machine.specs.Stepping.{for_some, first_that, publishes, zero_next, read_copy, write_copy, commit, publish, mark_invalid, on_disk, on_store, on_merging, on_place, issue, on_copy, on_snap, stepped}
 use Rattle.merge.specs.Due.{has_group_of}
 use Rattle.merge.specs.Merging.{Merging, books_of as merging_books}
 use Rattle.merge.specs.declared.group.Group.{Group}
@@ -109,34 +109,54 @@ module _ (ps : List Pair) where
   step_keeps MergeCommit v is = is
   step_keeps MergeRelease v is = is
 
--- an event that is none of the merge is the smaller machine's
-pub beside_steps : (event : Event) (v : Moving) → is_of_merge event ≡ false → stepped_all event v ≡ stepped event v
-beside_steps (Issue n) v e = refl
-beside_steps (CopyRead n) v e = refl
-beside_steps (CopyWrite n) v e = refl
-beside_steps (ZeroNext n) v e = refl
-beside_steps (WriteArea n) v e = refl
-beside_steps (Publish n) v e = refl
-beside_steps (WriteInvalid n) v e = refl
-beside_steps MergeGroup v e = absurd (true≢false e)
-beside_steps MergeAreaRead v e = absurd (true≢false e)
-beside_steps MergeRead v e = absurd (true≢false e)
-beside_steps MergeWrite v e = absurd (true≢false e)
-beside_steps MergeFlush v e = absurd (true≢false e)
-beside_steps MergeCommit v e = absurd (true≢false e)
-beside_steps MergeRelease v e = absurd (true≢false e)
+-- a merge without a group waits for no copy
+none_next : (waiting reading others : List Pair) → waiting ++ (reading ++ others) ≡ [] → next_pair reading waiting ≡ None
+none_next [] [] others e = refl
+none_next [] (q ∷ reading) others e = absurd (cc)
+none_next (p ∷ waiting) reading others e = absurd (cc)
+
+free_waits : (v : Moving) → grouped v.merge ≡ [] → start_waiting v ≡ v
+free_waits v = by v.merge
+  where
+    by : (o : Option MergeHeld) → grouped o ≡ [] → for_some o (λ m. start_next m.merge.chunk (next_of m) v) v ≡ v
+    by None free = refl
+    by (Some m) free = ap (λ q. start_next m.merge.chunk q v) (none_next m.waiting m.reading (m.copied ++ m.released) free)
+
+publish_steps : (n : ℕ) (v : Moving) → grouped v.merge ≡ [] → stepped_all (Publish n) v ≡ stepped (Publish n) v
+publish_steps n v free = by (first_that (publishes v.requests n) v.snaps) refl
+  where
+    by : (o : Option Held) → first_that (publishes v.requests n) v.snaps ≡ o → for_some o (λ h. start_waiting (stepped (Publish n) v)) v ≡ stepped (Publish n) v
+    by None none = sym (ap (λ (o : Option Held). for_some o (λ h. publish (publishes v.requests n) (λ m. m.number == n) h v) v) none)
+    by (Some h) some = free_waits (stepped (Publish n) v) (step_keeps [] (Publish n) v free)
+
+-- an event that is none of the merge is the smaller machine's, where the merge has no group
+pub beside_steps : (event : Event) (v : Moving) → grouped v.merge ≡ [] → is_of_merge event ≡ false → stepped_all event v ≡ stepped event v
+beside_steps (Issue n) v free e = refl
+beside_steps (CopyRead n) v free e = refl
+beside_steps (CopyWrite n) v free e = refl
+beside_steps (ZeroNext n) v free e = refl
+beside_steps (WriteArea n) v free e = refl
+beside_steps (Publish n) v free e = publish_steps n v free
+beside_steps (WriteInvalid n) v free e = refl
+beside_steps MergeGroup v free e = absurd (true≢false e)
+beside_steps MergeAreaRead v free e = absurd (true≢false e)
+beside_steps MergeRead v free e = absurd (true≢false e)
+beside_steps MergeWrite v free e = absurd (true≢false e)
+beside_steps MergeFlush v free e = absurd (true≢false e)
+beside_steps MergeCommit v free e = absurd (true≢false e)
+beside_steps MergeRelease v free e = absurd (true≢false e)
 
 one_merges : (b : Bool) (mine event : Event) (others : Option Event) → is_of_merge mine ≡ true → (others ≡ Some event → is_of_merge event ≡ true) → one_of b mine others ≡ Some event → is_of_merge event ≡ true
 one_merges true mine event others is rest e = (let same : mine ≡ event = cc in ap is_of_merge (sym same) ∙ is)
 one_merges false mine event others is rest e = rest e
 
-merge_merges : (snaps : List Held) (rs : List Going) (m : Option MergeHeld) (event : Event) → merge_due snaps rs m ≡ Some event → is_of_merge event ≡ true
-merge_merges snaps rs None event e = absurd (cc)
-merge_merges snaps rs (Some m) event e =
+merge_merges : (sectors : ℕ) (snaps : List Held) (rs : List Going) (m : Option MergeHeld) (event : Event) → merge_due sectors snaps rs m ≡ Some event → is_of_merge event ≡ true
+merge_merges sectors snaps rs None event e = absurd (cc)
+merge_merges sectors snaps rs (Some m) event e =
     one_merges (can_release rs m) MergeRelease event _ refl
     (one_merges (can_commit_group m) MergeCommit event _ refl
     (one_merges (can_flush m) MergeFlush event _ refl
-    (one_merges (can_write snaps m) MergeWrite event _ refl
+    (one_merges (can_write sectors snaps m) MergeWrite event _ refl
     (one_merges (can_read rs m) MergeRead event _ refl
     (one_merges (can_read_area m) MergeAreaRead event _ refl
     (one_merges (can_group m) MergeGroup event None refl (λ none. absurd (cc)))))))) e
@@ -145,8 +165,8 @@ merge_merges snaps rs (Some m) event e =
 pub beside_due : (event : Event) (v : Moving) → due_all v ≡ Some event → is_of_merge event ≡ false → due v ≡ Some event
 beside_due event v e beside = by (due v) e
   where
-    by : (o : Option Event) → due_or o (merge_due v.snaps v.requests v.merge) ≡ Some event → o ≡ Some event
-    by None is = absurd (true≢false (sym (merge_merges v.snaps v.requests v.merge event is) ∙ beside))
+    by : (o : Option Event) → due_or o (merge_due (sectors_of v.origin) v.snaps v.requests v.merge) ≡ Some event → o ≡ Some event
+    by None is = absurd (true≢false (sym (merge_merges (sectors_of v.origin) v.snaps v.requests v.merge event is) ∙ beside))
     by (Some other) is = is
 
 module _ {B : Type 0} (contents : B → List ℕ) (layers : B → List Layer) where

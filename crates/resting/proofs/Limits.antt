@@ -16,6 +16,7 @@ use Rattle.plain.specs.declared.request.Overflowing.TheVariants.{Never}
 use Rattle.pending.specs.Kinds.{kind_of}
 use Rattle.pending.specs.declared.flights.Kind.{Kind}
 use Rattle.pending.specs.declared.flights.Kind.TheVariants.{OriginRead, OriginWrite, SnapRead, SnapWrite}
+use Rattle.chunk.proofs.Limits.{is_chunk-some}
 use Rattle.chunk.proofs.PiecePlaces.{piece_high}
 use Rattle.snapshot.specs.Kept.{Kept}
 use Rattle.merge.specs.Merging.{Merging}
@@ -126,7 +127,7 @@ module _ {B : Type 0} (size : B → ℕ) (request : Request) (v : Volumed B) (ca
   range_none : range_refusal (piece_with v.merge v.snaps) (size v.origin) request.range ≡ None
   range_none =
       let whole : request.range.first / piece_with v.merge v.snaps * piece_with v.merge v.snaps + request.range.first % piece_with v.merge v.snaps ≡ request.range.first = div-add-mod' request.range.first (piece_with v.merge v.snaps) in
-      let high = piece_high (piece_with v.merge v.snaps) request.range.first request.range.count can.pos can.some can.one in
+      let high = piece_high (piece_with v.merge v.snaps) request.range.first request.range.count (is_chunk-some (piece_with v.merge v.snaps) can.allowed) can.some can.one in
       let within = within_piece request.range.first request.range.count (piece_with v.merge v.snaps) (request.range.first / piece_with v.merge v.snaps) (request.range.first % piece_with v.merge v.snaps) high whole in
       let fits : is_piece_of (piece_with v.merge v.snaps) (size v.origin) request.range ≡ true =
       ap (λ b. b && nat_le (request.range.first + request.range.count) (size v.origin) && nat_le (request.range.first % piece_with v.merge v.snaps + request.range.count) (piece_with v.merge v.snaps)) (lt-true 0 request.range.count can.some)

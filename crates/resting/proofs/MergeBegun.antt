@@ -50,15 +50,15 @@ either_done : {B : Type 0} (b : Bool) (count : ℕ) (s : Kept B) → is_done_of 
 either_done true count s = refl
 either_done false count s = refl
 
-kept_seen : {B : Type 0} (number count : ℕ) (xs : List (Kept B)) → map attached_of (map (kept_for number count) xs) ≡ map attached_of xs
-kept_seen number count [] = refl
-kept_seen number count (x ∷ xs) =
-    ap (λ (a : Attached _). a ∷ map attached_of (map (kept_for number count) xs)) (either_seen (x.live && not (x.number == number)) count x) ∙ ap (λ (zs : List (Attached _)). attached_of x ∷ zs) (kept_seen number count xs)
+kept_seen : {B : Type 0} (number count chunk : ℕ) (xs : List (Kept B)) → map attached_of (map (kept_for number count chunk) xs) ≡ map attached_of xs
+kept_seen number count chunk [] = refl
+kept_seen number count chunk (x ∷ xs) =
+    ap (λ (a : Attached _). a ∷ map attached_of (map (kept_for number count chunk) xs)) (either_seen (x.live && not (x.number == number)) _ x) ∙ ap (λ (zs : List (Attached _)). attached_of x ∷ zs) (kept_seen number count chunk xs)
 
-kept_done : {B : Type 0} (number count : ℕ) (xs : List (Kept B)) → list_all is_done_of (map (kept_for number count) xs) ≡ list_all is_done_of xs
-kept_done number count [] = refl
-kept_done number count (x ∷ xs) =
-    ap (λ b. b && list_all is_done_of (map (kept_for number count) xs)) (either_done (x.live && not (x.number == number)) count x) ∙ ap (λ b. is_done_of x && b) (kept_done number count xs)
+kept_done : {B : Type 0} (number count chunk : ℕ) (xs : List (Kept B)) → list_all is_done_of (map (kept_for number count chunk) xs) ≡ list_all is_done_of xs
+kept_done number count chunk [] = refl
+kept_done number count chunk (x ∷ xs) =
+    ap (λ b. b && list_all is_done_of (map (kept_for number count chunk) xs)) (either_done (x.live && not (x.number == number)) _ x) ∙ ap (λ b. is_done_of x && b) (kept_done number count chunk xs)
 
 pub unkept_seen : {B : Type 0} (xs : List (Kept B)) → map attached_of (map unkept xs) ≡ map attached_of xs
 unkept_seen [] = refl
@@ -78,11 +78,11 @@ module _ {B : Type 0} (number : ℕ) (old new : Volumed B) (out : IsMergeBegun n
   -- the volume was quiet, and is
   pub begun_quiet : (is_quiet_of old ≡ true) × (is_quiet_of new ≡ true)
   begun_quiet =
-      let others : List (Kept B) = map (kept_for number (length out.snap.pairs)) (remove old.snaps out.place) in (
+      let others : List (Kept B) = map (kept_for number (length out.snap.pairs) out.snap.state.chunk) (remove old.snaps out.place) in (
         at.1,
         ap (λ (v : Volumed B). is_quiet_of v) out.becomes
             ∙ ap (λ (fs : List _). (length fs == 0) && list_all is_done_of others) (quiet_flights old at.1)
-            ∙ kept_done number (length out.snap.pairs) (remove old.snaps out.place)
+            ∙ kept_done number (length out.snap.pairs) out.snap.state.chunk (remove old.snaps out.place)
             ∙ all_without is_done_of old.snaps out.place (quiet_done old at.1),
       )
 
@@ -101,7 +101,7 @@ module _ {B : Type 0} (number : ℕ) (old new : Volumed B) (out : IsMergeBegun n
         chunk_is = refl;
         store = refl;
         origin = ap (λ (v : Volumed B). v.origin) out.becomes;
-        snaps = ap (λ (v : Volumed B). map attached_of v.snaps) out.becomes ∙ kept_seen number (length out.snap.pairs) (remove old.snaps out.place) ∙ sym here.1;
+        snaps = ap (λ (v : Volumed B). map attached_of v.snaps) out.becomes ∙ kept_seen number (length out.snap.pairs) out.snap.state.chunk (remove old.snaps out.place) ∙ sym here.1;
         requests = ap (λ (v : Volumed B). v.requests) out.becomes;
         copies = ap (λ (v : Volumed B). v.copies) out.becomes;
         attached = ap (λ (v : Volumed B). v.attached) out.becomes;

@@ -12,10 +12,10 @@ use Rattle.model.specs.Pairs.{pairs_of}
 use Rattle.model.specs.Picture.{place_of}
 use Rattle.plain.specs.declared.request.Overflowing.{Overflowing}
 use Rattle.settled.specs.Devices.{Device, answers}
-use Rattle.settled.specs.Snaps.{Snap}
+use Rattle.settled.specs.Snaps.{Snap, Volume}
 use Rattle.settled.specs.Saving.{Saving, next_place, is_full, has_chunk, save}
-use Rattle.settled.specs.Pieces.{Served, save_all, write_place, write_saved}
-use Rattle.settled.specs.Merges.{Merge, Merging, sectors_in, write_disk, read_then, saved_first, copy_back, copy_all, group_of, flush, clear_slots, merge_group, read_before, in_area, merge_step, merge_steps, merge_all}
+use Rattle.settled.specs.Pieces.{Served, save_all, save_at, write_place, write_saved}
+use Rattle.settled.specs.Merges.{Merge, Merging, sectors_in, write_disk, read_then, next_over, saved_round, saved_rounds, saved_over, copy_back, copy_all, group_of, flush, clear_slots, merge_group, read_before, in_area, merge_step, merge_steps, merge_all}
 use Rattle.settled.proofs.Saves.{saves_nothing, saves_full, saves_copy, chunk_read}
 use Rattle.settled.proofs.Keeps.{copy_keeps}
 
@@ -37,12 +37,15 @@ save_overflow c origin s = elim (cases_Bool (not s.live || has_chunk c s)) [
   ]
 ]
 
+at_overflows : (at : Snap → ℕ) (origin : Device) (snaps : List Snap) → overflows_of (save_at at origin snaps).snaps ≡ overflows_of snaps
+at_overflows at origin [] = refl
+at_overflows at origin (s ∷ snaps) =
+    let here : Saving = save (at s) origin s in
+    ap (λ (o : Overflowing). o ∷ overflows_of (save_at at here.origin snaps).snaps) (save_overflow (at s) origin s)
+    ∙ ap (λ (os : List Overflowing). s.overflow ∷ os) (at_overflows at here.origin snaps)
+
 pub all_overflows : (first : ℕ) (origin : Device) (snaps : List Snap) → overflows_of (save_all first origin snaps).snaps ≡ overflows_of snaps
-all_overflows first origin [] = refl
-all_overflows first origin (s ∷ snaps) =
-    let here : Saving = save (first / s.chunk) origin s in
-    ap (λ (o : Overflowing). o ∷ overflows_of (save_all first here.origin snaps).snaps) (save_overflow (first / s.chunk) origin s)
-    ∙ ap (λ (os : List Overflowing). s.overflow ∷ os) (all_overflows first here.origin snaps)
+all_overflows first origin snaps = at_overflows (λ (s : Snap). first / s.chunk) origin snaps
 
 -- nor a write that is taken
 place_overflow : (piece : Span) (part : List ℕ) (origin : Device) (s : Snap) (o : Option ℕ) → (write_place piece part origin s o).snap.overflow ≡ s.overflow
@@ -73,13 +76,17 @@ disk_keeps first count bytes m = either _ _ _ m refl refl
 read_keeps : (op : Operation) (next : Merging → Merging) (m : Merging) → ((x : Merging) → overflows_in (next x) ≡ overflows_in x) → overflows_in (read_then op next m) ≡ overflows_in m
 read_keeps op next m same = either _ _ _ m (same _) refl
 
+rounds_keep : (first count n : ℕ) (v : Volume) → overflows_of (saved_rounds first count n v).snaps ≡ overflows_of v.snaps
+rounds_keep first count zero v = refl
+rounds_keep first count (suc n) v = rounds_keep first count n (saved_round first count v) ∙ at_overflows (next_over first count) v.origin v.snaps
+
 copy_back_keeps : (p : Pair) (m : Merging) → overflows_in (copy_back p m) ≡ overflows_in m
 copy_back_keeps p m =
     let first : ℕ = m.merge.chunk * p.old in
     let from : ℕ = m.merge.chunk * p.new in
     let count : ℕ = sectors_in p m in
     let bytes : List ℕ = sectors_at m.merge.store.bytes from count in
-    read_keeps (Reads from count) (write_disk first count bytes) (saved_first first m) (λ x. disk_keeps first count bytes x) ∙ all_overflows first m.volume.origin m.volume.snaps
+    read_keeps (Reads from count) (write_disk first count bytes) (saved_over first count m) (λ x. disk_keeps first count bytes x) ∙ rounds_keep first count count m.volume
 
 copy_all_keeps : (pairs : List Pair) (m : Merging) → overflows_in (copy_all pairs m) ≡ overflows_in m
 copy_all_keeps [] m = refl

@@ -8,7 +8,9 @@ use Rattle.sector.specs.Bytes.{sectors_at}
 use Rattle.sector.specs.declared.range.Range.{Range}
 use Rattle.sector.specs.declared.refusal.Refusal.{Refusal}
 use Rattle.device.specs.Layers.{Layer}
+use Rattle.chunk.specs.Sizes.{is_chunk}
 use Rattle.chunk.specs.Pieces.{Span, span_of, Join, IsInOneChunk, AreCutFrom, pieces_of}
+use Rattle.chunk.proofs.Limits.{is_chunk-some}
 use Rattle.chunk.proofs.Whole.{cut_pieces}
 use Rattle.plain.specs.Plain.{Saved, Live, Invalid}
 use Rattle.plain.specs.declared.request.Dev.{Dev}
@@ -34,6 +36,7 @@ use Rattle.volume.specs.Moved.{moving_of}
 use Rattle.resting.specs.Rested.{Attached, Rested, attached_of, rested_of, snap_of, settled_of, merged_of, IsSettled, has_dev, has_number}
 use Rattle.plain.specs.Failures.{refusal_of}
 use Rattle.resting.specs.Commands.{IsDoneBy, IsReadRefused}
+use Rattle.resting.specs.Serving.{IsAsLarge}
 use Rattle.resting.specs.Showing.{Arrays, entry_of, arrays_of, arrays_in, saved_at, saved_of, IsPlainRead, IsReadLost, IsPlainReadRefused, sectors_in}
 use Rattle.resting.proofs.Shown.{arrays_by, arrays_with, seen, shown_by}
 use Rattle.resting.proofs.Seen.{settled_same}
@@ -94,12 +97,12 @@ module _ {B : Type 0} (contents : B → List ℕ) (layers : B → List Layer) wh
   pub missing_shows : (dev : Dev) (v : Rested B) → has_dev dev v ≡ false → saved_of dev (arrays_in contents layers v) ≡ Invalid
   missing_shows dev v none = ap (saved_of dev) (shown_by contents layers v) ∙ missing_by dev v none
 
-  chunks_each : (chunk : ℕ) (xs : List (Kept B)) → All (λ (s : Kept B). s.state.chunk ≡ chunk) xs → Each (HasChunks chunk) (map (snap_of contents layers) (map attached_of xs))
+  chunks_each : (chunk : ℕ) (xs : List (Kept B)) → All (IsAsLarge chunk) xs → Each (HasChunks chunk) (map (snap_of contents layers) (map attached_of xs))
   chunks_each chunk [] all = tt
-  chunks_each chunk (x ∷ xs) all = (All-head (λ (s : Kept B). s.state.chunk ≡ chunk) x xs all, chunks_each chunk xs (All-tail (λ (s : Kept B). s.state.chunk ≡ chunk) x xs all))
+  chunks_each chunk (x ∷ xs) all = (All-head (IsAsLarge chunk) x xs all, chunks_each chunk xs (All-tail (IsAsLarge chunk) x xs all))
 
   -- the volume without its merge is at rest
-  pub settled_well : (size : B → ℕ) (chunk : ℕ) (v : Volumed B) → All (λ (s : Kept B). s.state.chunk ≡ chunk) v.snaps → IsBetween (size v.origin) (moving_of contents layers None v) → IsWell (size v.origin) chunk (settled_of contents layers (rested_of v))
+  pub settled_well : (size : B → ℕ) (chunk : ℕ) (v : Volumed B) → All (IsAsLarge chunk) v.snaps → IsBetween (size v.origin) (moving_of contents layers None v) → IsWell (size v.origin) chunk (settled_of contents layers (rested_of v))
   settled_well size chunk v all between = record {
     moving = record (moving_of contents layers None v) { merge = None };
     rest = record { whole = between.whole; snaps = between.snaps; requests = between.requests; alone = refl };
@@ -108,14 +111,14 @@ module _ {B : Type 0} (contents : B → List ℕ) (layers : B → List Layer) wh
   }
 
 -- the pieces of a span
-pub span_inside : (sectors chunk : ℕ) (range : Range) → 0 < chunk → range.first + range.count ≤ sectors → Each (IsInside sectors chunk) (pieces_of chunk (span_of range))
-span_inside sectors chunk range pos inside =
+pub span_inside : (sectors chunk : ℕ) (range : Range) → is_chunk chunk ≡ true → range.first + range.count ≤ sectors → Each (IsInside sectors chunk) (pieces_of chunk (span_of range))
+span_inside sectors chunk range ok inside =
     let pieces : List Span = pieces_of chunk (span_of range) in
-    let cut : AreCutFrom chunk (span_of range) pieces = cut_pieces chunk (span_of range) pieces refl pos in
-    inside_joined sectors chunk pos range.first (range.first + range.count) range.size pieces cut.join (each_from (IsInOneChunk chunk) pieces cut.inside) (each_from (λ (p : Span). p.size ≡ range.size) pieces cut.sizes) inside range.inside
+    let cut : AreCutFrom chunk (span_of range) pieces = cut_pieces chunk (span_of range) pieces refl (is_chunk-some chunk ok) in
+    inside_joined sectors chunk ok range.first (range.first + range.count) range.size pieces cut.join (each_from (IsInOneChunk chunk) pieces cut.inside) (each_from (λ (p : Span). p.size ≡ range.size) pieces cut.sizes) inside range.inside
 
 -- a read of the pieces of a range, of a volume at rest
-module _ (sectors chunk : ℕ) (range : Range) (pos : 0 < chunk) (some : 0 < range.count) (inside : range.first + range.count ≤ sectors) where
+module _ (sectors chunk : ℕ) (range : Range) (ok : is_chunk chunk ≡ true) (some : 0 < range.count) (inside : range.first + range.count ≤ sectors) where
   abbrev span : Span
   span = span_of range
 
@@ -123,7 +126,7 @@ module _ (sectors chunk : ℕ) (range : Range) (pos : 0 < chunk) (some : 0 < ran
   pieces = pieces_of chunk span
 
   cut : AreCutFrom chunk span pieces
-  cut = cut_pieces chunk span pieces refl pos
+  cut = cut_pieces chunk span pieces refl (is_chunk-some chunk ok)
 
   alone_plain : (dev : Dev) (v : Volume) → IsWell sectors chunk v → IsPlainReply dev span (arrays_of v) (read_pieces dev pieces [] v).reply
   alone_plain dev v well =
@@ -133,13 +136,13 @@ module _ (sectors chunk : ℕ) (range : Range) (pos : 0 < chunk) (some : 0 < ran
       elim (saved_cases (saved_of dev (arrays_of v))) [
         | inl dead ↦ subst (IsPlainReply dev span (arrays_of v)) (sym (pieces_dead dev pieces [] v many dead)) dead
         | inr (array, live) ↦ plain_reply dev span (arrays_of v) array (read_pieces dev pieces [] v).reply live
-            (subst (λ (n : ℕ). IsReadTo array range.first n [] (read_pieces dev pieces [] v).reply) count (pieces_read sectors chunk pos dev range.first (range.first + range.count) pieces [] array v well (span_inside sectors chunk range pos inside) cut.join live))
+            (subst (λ (n : ℕ). IsReadTo array range.first n [] (read_pieces dev pieces [] v).reply) count (pieces_read sectors chunk ok dev range.first (range.first + range.count) pieces [] array v well (span_inside sectors chunk range ok inside) cut.join live))
       ]
 
   -- of the origin beside a merge
-  through_plain : (m : Merging) → IsMerging sectors m → m.merge.chunk ≡ chunk → IsPlainReply Origin span (arrays_with (in_one m)) (read_parts Origin pieces [] m).reply
-  through_plain m is same =
-      let law = range_read sectors chunk pos range.first (range.first + range.count) pieces [] m is same cut.join (each_from (IsInOneChunk chunk) pieces cut.inside) inside in
+  through_plain : (m : Merging) → IsMerging sectors m → chunk ≤ m.merge.chunk → IsPlainReply Origin span (arrays_with (in_one m)) (read_parts Origin pieces [] m).reply
+  through_plain m is wide =
+      let law = range_read sectors chunk ok range.first (range.first + range.count) pieces [] m is wide cut.join (each_from (IsInOneChunk chunk) pieces cut.inside) inside in
       let count : range.first + range.count - range.first ≡ range.count = omega arith in
       elim law.reply [
         | inl answered ↦ subst (IsPlainReply Origin span (arrays_with (in_one m))) (sym answered) (shown_through m, refl, ap (λ n. sectors_at (shown_through m) range.first n) count)
@@ -147,7 +150,7 @@ module _ (sectors chunk : ℕ) (range : Range) (pos : 0 < chunk) (some : 0 < ran
       ]
 
   -- whether a merge is begun or not
-  parts_plain : (dev : Dev) (o : Option Merge) (v : Volume) → IsWell sectors chunk v → ((g : Merge) → o ≡ Some g → (let m : Merging = record { volume = v; merge = g } in IsMerging sectors m) × (g.chunk ≡ chunk))
+  parts_plain : (dev : Dev) (o : Option Merge) (v : Volume) → IsWell sectors chunk v → ((g : Merge) → o ≡ Some g → (let m : Merging = record { volume = v; merge = g } in IsMerging sectors m) × (chunk ≤ g.chunk))
       → (let m : Merged = record { volume = v; merge = o } in IsPlainReply dev span (arrays_with m) (parts_read dev pieces [] m).reply)
   parts_plain dev None v well under =
       let m : Merged = record { volume = v; merge = None } in
@@ -173,7 +176,7 @@ module _ (sectors chunk : ℕ) (range : Range) (pos : 0 < chunk) (some : 0 < ran
 module _ {B : Type 0} (contents : B → List ℕ) (layers : B → List Layer) (size : B → ℕ) (v : Volumed B)
     (under : (h : MergeHeld) → (moving_of contents layers None v).merge ≡ Some h → IsMerging (size v.origin) (in_big_steps h (moving_of contents layers None v))) where
   abbrev pub IsUnder : Merge → Type 0
-  IsUnder g = (let m : Merging = record { volume = settled_of contents layers (rested_of v); merge = g } in IsMerging (size v.origin) m) × (g.chunk ≡ piece_with v.merge v.snaps)
+  IsUnder g = (let m : Merging = record { volume = settled_of contents layers (rested_of v); merge = g } in IsMerging (size v.origin) m) × (piece_with v.merge v.snaps ≤ g.chunk)
 
   pub under_by : (o : Option MergeHeld) → (moving_of contents layers None v).merge ≡ o → (g : Merge) → merge_in o ≡ Some g → IsUnder g
   under_by None is g e = absurd (cc)
@@ -182,8 +185,8 @@ module _ {B : Type 0} (contents : B → List ℕ) (layers : B → List Layer) (s
       let with_volume : Volume → Merging = λ x. record { volume = x; merge = h.merge } in
       subst IsUnder same (subst (λ (x : Volume). IsMerging (size v.origin) (with_volume x)) (sym (settled_same contents layers None v)) (under h is), held_chunk contents layers v.merge v.snaps h is)
 
-module _ {B : Type 0} (contents : B → List ℕ) (layers : B → List Layer) (size : B → ℕ) (dev : Dev) (range : Range) (v w : Volumed B) (pos : 0 < piece_with v.merge v.snaps) (some : 0 < range.count) (inside : range.first + range.count ≤ size v.origin)
-    (all : All (λ (s : Kept B). s.state.chunk ≡ piece_with v.merge v.snaps) v.snaps) (least : chunk_beside (merged_of contents layers (rested_of v)) ≡ piece_with v.merge v.snaps)
+module _ {B : Type 0} (contents : B → List ℕ) (layers : B → List Layer) (size : B → ℕ) (dev : Dev) (range : Range) (v w : Volumed B) (ok : is_chunk (piece_with v.merge v.snaps) ≡ true) (some : 0 < range.count) (inside : range.first + range.count ≤ size v.origin)
+    (all : All (IsAsLarge (piece_with v.merge v.snaps)) v.snaps) (least : chunk_beside (merged_of contents layers (rested_of v)) ≡ piece_with v.merge v.snaps)
     (between : IsBetween (size v.origin) (moving_of contents layers None v)) (under : (h : MergeHeld) → (moving_of contents layers None v).merge ≡ Some h → IsMerging (size v.origin) (in_big_steps h (moving_of contents layers None v))) where
   abbrev old : Merged
   old = merged_of contents layers (rested_of v)
@@ -195,7 +198,7 @@ module _ {B : Type 0} (contents : B → List ℕ) (layers : B → List Layer) (s
       let did : parts_read dev pieces [] old ≡ answer (merged_of contents layers (rested_of w)) reply =
       sym (read_whole dev (span_of range) old ∙ ap (λ n. parts_read dev (pieces_of n (span_of range)) [] old) least) ∙ done settled in (
         subst (λ (a : Served). IsPlainReply dev (span_of range) (arrays_with old) a.reply) did
-            (parts_plain (size v.origin) (piece_with v.merge v.snaps) range pos some inside dev old.merge old.volume (settled_well contents layers size (piece_with v.merge v.snaps) v all between) (under_by contents layers size v under (moving_of contents layers None v).merge refl)),
+            (parts_plain (size v.origin) (piece_with v.merge v.snaps) range ok some inside dev old.merge old.volume (settled_well contents layers size (piece_with v.merge v.snaps) v all between) (under_by contents layers size v under (moving_of contents layers None v).merge refl)),
         ap (λ (a : Served). arrays_with a.state) (sym did) ∙ parts_shown dev pieces [] old,
       )
 

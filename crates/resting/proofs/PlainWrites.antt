@@ -6,6 +6,7 @@ use Rattle.std.proofs.lemmas.Bool.{cases_Bool, cond-true, cond-false}
 use Rattle.sector.specs.Bytes.{with_sectors}
 use Rattle.sector.specs.declared.range.Range.{Range}
 use Rattle.device.specs.declared.operation.Operation.TheVariants.{Writes}
+use Rattle.chunk.specs.Sizes.{is_chunk}
 use Rattle.chunk.specs.Pieces.{Span, Join}
 use Rattle.model.specs.Picture.{picture}
 use Rattle.model.proofs.Pictures.{length-picture}
@@ -83,7 +84,7 @@ dev_long Origin array v live = ap (λ (s : Saved). length (back s)) (sym live)
     back Invalid = []
 dev_long (ToSnap number) array v live = array_long number v.origin.bytes array v.snaps live
 
-module _ (sectors chunk : ℕ) (pos : 0 < chunk) where
+module _ (sectors chunk : ℕ) (ok : is_chunk chunk ≡ true) where
   origin_shown : (piece : Span) (part : List ℕ) (v : Volume) → IsWell sectors chunk v → IsInside sectors chunk piece → length part ≡ 512 * piece.count → IsPieceShown Origin piece.first part (arrays_of v) (arrays_of (write_origin piece part v).volume) (write_origin piece part v).reply
   origin_shown piece part v well fits len =
       let range : Range = record { first = piece.first; count = piece.count; size = piece.size; inside = fits.ends } in
@@ -93,7 +94,7 @@ module _ (sectors chunk : ℕ) (pos : 0 < chunk) where
       let after : List ℕ = (write_origin piece part v).volume.origin.bytes in
       let same : ShowTheSame v.origin.bytes after v.snaps (write_origin piece part v).volume.snaps =
       subst (λ (w : Volume). ShowTheSame w.origin.bytes (write_origin piece part w).volume.origin.bytes w.snaps (write_origin piece part w).volume.snaps) well.is
-      (origin_write_shows sectors piece part fits.one.some fits.inside len well.moving well.rest (one_all sectors chunk pos range well.moving.snaps fits.one chunks)) in
+      (origin_write_shows sectors piece part fits.one.some fits.inside len well.moving well.rest (one_all sectors chunk ok range well.moving.snaps fits.one chunks)) in
       let kept : AreKept (arrays_of v).saved (arrays_of (write_origin piece part v).volume).saved = kept_saved piece.first v.origin.bytes after v.origin v.snaps same in
       elim (cases_Bool (answers all.origin (Writes piece.first piece.count))) [
         | inl ok ↦ (let now : after ≡ with_sectors v.origin.bytes piece.first part = cond-true _ _ _ ok ∙ ap (λ (b : List ℕ). with_sectors b piece.first part) saved in
@@ -117,7 +118,7 @@ module _ (sectors chunk : ℕ) (pos : 0 < chunk) where
       let same : a.volume.origin.bytes ≡ v.origin.bytes = in_stays number piece part v.origin v.snaps in
       as_shown number piece part (arrays_of v) (arrays_of a.volume) a.reply same
       (subst (λ (b : List ℕ). AreShownBy number piece part (map (entry_of v.origin.bytes) v.snaps) (map (entry_of b) a.volume.snaps) a.reply) (sym same)
-      (in_written sectors chunk pos number piece part fits len v.origin v.snaps (well_whole sectors chunk pos v well) well.chunks (well_orders sectors chunk pos v well)))
+      (in_written sectors chunk ok number piece part fits len v.origin v.snaps (well_whole sectors chunk ok v well) well.chunks (well_orders sectors chunk ok v well)))
 
 -- what is shown after a write of pieces
 abbrev pub AreWritten : Dev → ℕ → List Span → List ℕ → Arrays → Arrays → Reply → Type 0
@@ -181,7 +182,7 @@ goes_write dev piece pieces bytes old (Refused Io) here more room fits is shows 
 goes_write dev piece pieces bytes old (Refused Overflow) here more room fits is shows rest =
     subst (AreWritten dev piece.first (piece ∷ pieces) bytes old (arrays_of here.volume)) (sym is) (shows.0, overflown_first dev piece.first piece pieces bytes old (arrays_of here.volume) shows.1)
 
-module _ (sectors chunk : ℕ) (pos : 0 < chunk) where
+module _ (sectors chunk : ℕ) (ok : is_chunk chunk ≡ true) where
   pub pieces_written : (dev : Dev) (first b : ℕ) (pieces : List Span) (bytes : List ℕ) (v : Volume) → IsWell sectors chunk v → Each (IsInside sectors chunk) pieces → Join first b pieces → 512 * sectors_in pieces ≤ length bytes
       → AreWritten dev first pieces bytes (arrays_of v) (arrays_of (write_pieces dev pieces bytes v).volume) (write_pieces dev pieces bytes v).reply
   pieces_written dev first b [] bytes v well fits join room = (λ some. absurd (omega arith), written_none dev first (arrays_of v))
@@ -191,10 +192,10 @@ module _ (sectors chunk : ℕ) (pos : 0 < chunk) where
       let here : Answered = write_piece dev piece part v in
       let len : length part ≡ 512 * piece.count = simp length-take (omega (arith, room)) in
       let back : 512 * sectors_in pieces ≤ length tail = simp length-drop (omega (arith, room)) in
-      let whole = well_whole sectors chunk pos v well in
+      let whole = well_whole sectors chunk ok v well in
       let low : (array : List ℕ) → saved_of dev (arrays_of v) ≡ Live array → 512 * piece.first ≤ length array =
       λ array live. (let long = dev_long dev array v live in let i = fits.0.inside in omega (arith, long, whole, i)) in
-      let rest = pieces_written dev (first + piece.count) b pieces tail here.volume (well_after sectors chunk pos dev (Write part) piece v well fits.0 len) fits.1 join.1 back in
+      let rest = pieces_written dev (first + piece.count) b pieces tail here.volume (well_after sectors chunk ok dev (Write part) piece v well fits.0 len) fits.1 join.1 back in
       subst (λ (x : ℕ). AreWritten dev x (piece ∷ pieces) bytes (arrays_of v) (arrays_of (write_pieces dev (piece ∷ pieces) bytes v).volume) (write_pieces dev (piece ∷ pieces) bytes v).reply) join.0
-      (goes_write dev piece pieces bytes (arrays_of v) here.reply here (write_pieces dev pieces tail here.volume) (omega (arith, room)) low refl (piece_shown sectors chunk pos dev piece part v well fits.0 len)
+      (goes_write dev piece pieces bytes (arrays_of v) here.reply here (write_pieces dev pieces tail here.volume) (omega (arith, room)) low refl (piece_shown sectors chunk ok dev piece part v well fits.0 len)
       (subst (λ (x : ℕ). AreWritten dev (x + piece.count) pieces tail (arrays_of here.volume) (arrays_of (write_pieces dev pieces tail here.volume).volume) (write_pieces dev pieces tail here.volume).reply) (sym join.0) rest))

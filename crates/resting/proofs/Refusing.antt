@@ -6,11 +6,11 @@ use Rattle.sector.specs.declared.refusal.Refusal.{Refusal}
 use Rattle.sector.specs.declared.refusal.Refusal.TheVariants.{Invalid, Overflow}
 use Rattle.served.specs.Refusals.{IsStarved, is_starved}
 use Rattle.served.proofs.Starved.{memory_starved}
-use Rattle.device.specs.Layers.{Layer, is_loud}
+use Rattle.device.specs.Layers.{Layer}
 use Rattle.plain.specs.declared.request.Overflowing.TheVariants.{Did}
 use Rattle.plain.specs.declared.request.Request.{Request}
 use Rattle.snapshot.specs.Kept.{Kept}
-use Rattle.volume.specs.Volumed.{Volumed, is_loud_in_all, is_loud_with}
+use Rattle.volume.specs.Volumed.{Volumed}
 use Rattle.volume.specs.Leaving.{has_group_in, is_done_of, is_quiet_of}
 use Rattle.snapshots.specs.Finding.{place_of_snap}
 use Rattle.snapshots.specs.Starting.{unroomed}

@@ -1,7 +1,10 @@
 -- A volume of devices and snapshots that is at rest, whatever is kept beside it, stays so from one piece to the next.
-use Rattle.std.proofs.Common.{◌≡◌, ℕ, ◌+◌, ◌*◌, ◌/◌, ◌<◌, ◌≤◌, true, List, [], ◌∷◌, length, map, arith, ap, ◌∙◌, sym, subst}
+use Rattle.std.proofs.Common.{◌≡◌, ℕ, ◌+◌, ◌*◌, ◌/◌, ◌%◌, ◌≤◌, true, List, [], ◌∷◌, length, map, arith, ap, ◌∙◌, sym, subst}
 use Rattle.sector.specs.declared.range.Range.{Range}
+use Rattle.chunk.specs.Sizes.{is_chunk}
 use Rattle.chunk.specs.Pieces.{Span, span_of, Join, IsInOneChunk}
+use Rattle.chunk.proofs.Limits.{is_chunk-some}
+use Rattle.chunk.proofs.Wider.{wider}
 use Rattle.plain.specs.declared.request.Request.{Request}
 use Rattle.plain.specs.declared.request.Dev.{Dev}
 use Rattle.plain.specs.declared.request.Op.{Op}
@@ -14,7 +17,7 @@ use Rattle.event_machine.specs.Settles.{SettlesTo}
 use Rattle.event_machine.specs.Submitting.{submitted}
 use Rattle.event_machine.specs.Requests.{volume_of, IsInChunk, IsFit}
 use Rattle.settled.specs.Requests.{answered_by, answer_of, FitsRange}
-use Rattle.settled.proofs.Each.{Each, all_from, each_from}
+use Rattle.settled.proofs.Each.{Each, all_from, each_from, each_weaker}
 use Rattle.settling.proofs.Requests.{request_settles}
 use Rattle.settled.proofs.Chunks.{HasChunks, answer_keeps}
 
@@ -28,7 +31,7 @@ pub record IsInside (sectors chunk : ℕ) (piece : Span) : Type 0 where
   pub inside : piece.first + piece.count ≤ sectors
   pub ends : piece.first + piece.count ≤ piece.size
 
--- At rest, over an origin of so many sectors, each snapshot with chunks of so many.
+-- At rest, over an origin of so many sectors, each snapshot with chunks of so many or more.
 pub record IsWell (sectors chunk : ℕ) (v : Volume) : Type 0 where
   pub moving : Moving
   pub rest : IsAtRest sectors moving
@@ -39,7 +42,19 @@ orders_of : (sectors : ℕ) (hs : List Held) → Each (IsResting sectors) hs →
 orders_of sectors [] all = tt
 orders_of sectors (h ∷ hs) all = (λ live. (all.0.live live).order, orders_of sectors hs all.1)
 
-module _ (sectors chunk : ℕ) (pos : 0 < chunk) where
+-- a piece lies inside one chunk of as many sectors or more
+pub one_chunk : (chunk c : ℕ) (piece : Span) → is_chunk chunk ≡ true → (is_chunk c ≡ true) × (chunk ≤ c) → IsInOneChunk chunk piece → piece.first + piece.count ≤ c * (piece.first / c) + c
+one_chunk chunk c piece ok has one = wider chunk c piece.first piece.count ok has.0 has.1 (piece_high chunk piece.first piece.count (is_chunk-some chunk ok) one.some one.one)
+
+-- and from where it begins in it, not past its end
+pub room_in : (chunk c : ℕ) (piece : Span) → is_chunk chunk ≡ true → (is_chunk c ≡ true) × (chunk ≤ c) → IsInOneChunk chunk piece → piece.first % c + piece.count ≤ c
+room_in chunk c piece ok has one = (let high = one_chunk chunk c piece ok has one in let at : c * (piece.first / c) + piece.first % c ≡ piece.first = omega arith in omega (arith, high, at))
+
+-- and inside one of each snapshot
+pub one_each : (chunk : ℕ) (piece : Span) (snaps : List Snap) → is_chunk chunk ≡ true → IsInOneChunk chunk piece → Each (HasChunks chunk) snaps → Each (λ (s : Snap). piece.first + piece.count ≤ s.chunk * (piece.first / s.chunk) + s.chunk) snaps
+one_each chunk piece snaps ok one all = each_weaker (HasChunks chunk) (λ (s : Snap). piece.first + piece.count ≤ s.chunk * (piece.first / s.chunk) + s.chunk) snaps (λ s has. one_chunk chunk s.chunk piece ok has one) all
+
+module _ (sectors chunk : ℕ) (ok : is_chunk chunk ≡ true) where
   pub well_orders : (v : Volume) → IsWell sectors chunk v → Each (IsOrderly sectors) v.snaps
   well_orders v well = subst (λ (w : Volume). Each (IsOrderly sectors) w.snaps) well.is (orders_of sectors well.moving.snaps (each_from (IsResting sectors) well.moving.snaps well.rest.snaps))
 
@@ -50,7 +65,7 @@ module _ (sectors chunk : ℕ) (pos : 0 < chunk) where
   pub one_all : (range : Range) (snaps : List Held) → IsInOneChunk chunk (span_of range) → Each (HasChunks chunk) (map (λ (h : Held). h.snap) snaps) → Each (IsInChunk range) snaps
   one_all range [] one all = tt
   one_all range (h ∷ snaps) one all =
-      (subst (λ (x : ℕ). range.first + range.count ≤ x * (range.first / x) + x) (sym all.0) (piece_high chunk range.first range.count pos one.some one.one), one_all range snaps one all.1)
+      (one_chunk chunk h.snap.chunk (span_of range) ok all.0 one, one_all range snaps one all.1)
 
   -- after one piece it is at rest again
   pub well_after : (dev : Dev) (op : Op) (piece : Span) (v : Volume) → IsWell sectors chunk v → IsInside sectors chunk piece → FitsRange op piece.count → IsWell sectors chunk (answered_by dev op piece v).volume

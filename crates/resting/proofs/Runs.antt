@@ -55,12 +55,12 @@ module _ {B : Type 0} (contents : B → List ℕ) (layers : B → List Layer) (s
     beside_more e loud kept requests = record {
       run = record {
         reaches = λ all. reaches_more (moving_of contents layers before v) (moving_of contents layers after w) (moving_of contents layers (replied_by outcome after) u) event (r.run.reaches all)
-            (beside_due event (moving_of contents layers after w) (first after) (beside all)) (e.step (r.run.loud ∙ all) after);
+            (beside_due event (moving_of contents layers after w) (first after) (beside all)) (sym (beside_steps event (moving_of contents layers after w) (r.free all) (beside all)) ∙ e.step (r.run.loud ∙ all) after);
         loud = loud ∙ r.run.loud;
       };
       kept = keeps_more size v w u r.kept kept;
       requests = requests ∙ r.requests;
       free = λ all.
-          let step : stepped event (moving_of contents layers None w) ≡ moving_of contents layers (replied_by outcome None) u = sym (beside_steps event (moving_of contents layers None w) (beside all)) ∙ e.step (r.run.loud ∙ all) None in
+          let step : stepped event (moving_of contents layers None w) ≡ moving_of contents layers (replied_by outcome None) u = sym (beside_steps event (moving_of contents layers None w) (r.free all) (beside all)) ∙ e.step (r.run.loud ∙ all) None in
           ap (λ (x : Moving). grouped x.merge) (sym step) ∙ step_keeps [] event (moving_of contents layers None w) (r.free all);
     }

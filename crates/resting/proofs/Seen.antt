@@ -1,6 +1,6 @@
 -- What callers see of a volume of events, and what its parts say of that.
 use Rattle.std.proofs.Common.{◌≡◌, ℕ, Bool, true, false, List, [], ◌∷◌, length, map, Option, Some, None, refl, ap, ◌∙◌, sym, get_or}
-use Rattle.std.specs.Prelude.{◌==◌, ◌&&◌}
+use Rattle.std.specs.Prelude.{◌==◌, ◌&&◌, min}
 use Rattle.std.specs.List.{list_all, list_any}
 use Rattle.std.proofs.lemmas.List.{length-map}
 use Rattle.device.specs.Layers.{Layer, is_loud}
@@ -85,35 +85,36 @@ module _ {B : Type 0} (size : B → ℕ) where
   pub devices_more : (layers : B → List Layer) (u v w : Rested B) → KeepsDevices layers size u v → KeepsDevices layers size v w → KeepsDevices layers size u w
   devices_more layers u v w h k = record { numbers = k.numbers ∙ h.numbers; chunks = k.chunks ∙ h.chunks; sizes = k.sizes ∙ h.sizes; loud = k.loud ∙ h.loud; attached = k.attached ∙ h.attached; merging = k.merging ∙ h.merging }
 
-  head_or : ℕ → List ℕ → ℕ
-  head_or d [] = d
-  head_or d (n ∷ ns) = n
-
   -- the origin has the sectors that it had
   pub size_kept : (layers : B → List Layer) (old new : Rested B) → KeepsDevices layers size old new → size new.origin ≡ size old.origin
   size_kept layers old new h =
       sym (head_counted size new.events.merge (size new.origin) (map (λ (s : Attached B). size s.store) new.snaps)) ∙ ap (λ (ns : List ℕ). get_or ns 0 0) h.sizes
       ∙ head_counted size old.events.merge (size old.origin) (map (λ (s : Attached B). size s.store) old.snaps)
 
-  piece_by : (xs : List (Kept B)) → piece_of xs ≡ head_or 1024 (map (λ (s : Kept B). s.state.chunk) xs)
-  unfolding head_or
+  -- pieces, by the sizes of the chunks alone
+  least_in : List ℕ → ℕ
+  least_in [] = 1024
+  least_in (n ∷ ns) = min n (least_in ns)
+
+  piece_by : (xs : List (Kept B)) → piece_of xs ≡ least_in (map (λ (s : Kept B). s.state.chunk) xs)
+  unfolding least_in
   piece_by [] = refl
-  piece_by (x ∷ xs) = refl
+  piece_by (x ∷ xs) = ap (min x.state.chunk) (piece_by xs)
 
-  -- and pieces are as large
-  second_or : ℕ → Option (ℕ × ℕ) → ℕ
-  second_or other None = other
-  second_or other (Some pair) = pair.1
+  -- and they are as large
+  least_with : ℕ → Option (ℕ × ℕ) → ℕ
+  least_with other None = other
+  least_with other (Some pair) = min pair.1 other
 
-  piece_seen : (m : Option (Merging B)) (xs : List (Kept B)) → piece_with m xs ≡ second_or (piece_of xs) (merged_of m)
-  unfolding second_or
+  piece_seen : (m : Option (Merging B)) (xs : List (Kept B)) → piece_with m xs ≡ least_with (piece_of xs) (merged_of m)
+  unfolding least_with
   piece_seen None xs = refl
   piece_seen (Some m) xs = refl
 
   pub piece_kept : (old new : Volumed B) → KeepsAll size old new → piece_with new.merge new.snaps ≡ piece_with old.merge old.snaps
   piece_kept old new h =
-      let others : piece_of new.snaps ≡ piece_of old.snaps = piece_by new.snaps ∙ ap (head_or 1024) h.chunks ∙ sym (piece_by old.snaps) in
-      piece_seen new.merge new.snaps ∙ ap (λ n. second_or n (merged_of new.merge)) others ∙ ap (second_or (piece_of old.snaps)) h.merged ∙ sym (piece_seen old.merge old.snaps)
+      let others : piece_of new.snaps ≡ piece_of old.snaps = piece_by new.snaps ∙ ap least_in h.chunks ∙ sym (piece_by old.snaps) in
+      piece_seen new.merge new.snaps ∙ ap (λ n. least_with n (merged_of new.merge)) others ∙ ap (least_with (piece_of old.snaps)) h.merged ∙ sym (piece_seen old.merge old.snaps)
 
   pub snap_chunks_kept : (layers : B → List Layer) (old new : Volumed B) → KeepsDevices layers size (rested_of old) (rested_of new) → map (λ (s : Kept B). s.state.chunk) new.snaps ≡ map (λ (s : Kept B). s.state.chunk) old.snaps
   snap_chunks_kept layers old new h = sym (chunks_same new) ∙ h.chunks ∙ chunks_same old

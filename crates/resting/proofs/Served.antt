@@ -1,14 +1,14 @@
 -- A request that was submitted to a volume at rest, beside a merge or without one, and whose events were done until none was
 -- due.
-use Rattle.std.proofs.Common.{◌≡◌, ℕ, ◌+◌, ◌*◌, ◌/◌, ◌≤◌, List, [], ◌∷◌, map, Option, Some, None, refl, ap, ◌∙◌, sym, subst}
+use Rattle.std.proofs.Common.{◌≡◌, ℕ, ◌+◌, ◌*◌, ◌/◌, ◌≤◌, true, List, [], ◌∷◌, map, Option, Some, None, arith, refl, ap, ◌∙◌, sym, subst}
 use Rattle.std.specs.List.{All}
 use Rattle.std.proofs.lemmas.List.Elements.{All-nil, All-cons, All-head, All-tail}
 use Rattle.device.specs.Layers.{Layer}
 use Rattle.sector.specs.declared.range.Range.{Range}
 use Rattle.plain.specs.declared.request.Request.{Request}
 use Rattle.plain.specs.declared.request.Reply.{Reply}
-use Rattle.chunk.specs.Pieces.{span_of}
-use Rattle.chunk.proofs.PiecePlaces.{piece_high}
+use Rattle.chunk.specs.Sizes.{is_chunk}
+use Rattle.chunk.specs.Pieces.{span_of, IsInOneChunk}
 use Rattle.settled.specs.Merges.{Merged, Merging, Replied, merged_of as in_one}
 use Rattle.settled.specs.MergeShown.{IsMerging}
 use Rattle.settled.specs.Snaps.{Snap, Volume}
@@ -33,21 +33,21 @@ use Rattle.volume.specs.Moved.{held_of, merge_seen, moving_of}
 use Rattle.volume.specs.Reaching.{Reaches}
 use Rattle.volume.proofs.Reaches.{reaches_end, reaches_replied}
 use Rattle.resting.specs.Rested.{rested_of, merged_of}
-use Rattle.resting.specs.Serving.{CanServe, part_done}
+use Rattle.resting.specs.Serving.{CanServe, IsAsLarge, part_done}
 use Rattle.resting.proofs.Seen.{settled_same}
+use Rattle.resting.proofs.Rests.{one_chunk}
 
 module _ {B : Type 0} (contents : B → List ℕ) (layers : B → List Layer) where
-  in_chunks : (range : Range) (chunk : ℕ) (xs : List (Kept B)) → range.first + range.count ≤ chunk * (range.first / chunk) + chunk → All (λ (s : Kept B). s.state.chunk ≡ chunk) xs → All (IsInChunk range) (map (held_of contents layers) xs)
-  in_chunks range chunk [] high all = All-nil (IsInChunk range)
-  in_chunks range chunk (x ∷ xs) high all =
-      All-cons (IsInChunk range) (held_of contents layers x) (map (held_of contents layers) xs)
-      (subst (λ (n : ℕ). range.first + range.count ≤ n * (range.first / n) + n) (sym (All-head (λ (s : Kept B). s.state.chunk ≡ chunk) x xs all)) high)
-      (in_chunks range chunk xs high (All-tail (λ (s : Kept B). s.state.chunk ≡ chunk) x xs all))
+  in_chunks : (range : Range) (chunk : ℕ) (xs : List (Kept B)) → is_chunk chunk ≡ true → IsInOneChunk chunk (span_of range) → All (IsAsLarge chunk) xs → All (IsInChunk range) (map (held_of contents layers) xs)
+  in_chunks range chunk [] ok one all = All-nil (IsInChunk range)
+  in_chunks range chunk (x ∷ xs) ok one all =
+      All-cons (IsInChunk range) (held_of contents layers x) (map (held_of contents layers) xs) (one_chunk chunk x.state.chunk (span_of range) ok (All-head (IsAsLarge chunk) x xs all) one)
+      (in_chunks range chunk xs ok one (All-tail (IsAsLarge chunk) x xs all))
 
-  -- pieces are as large as the merge's chunks
-  pub held_chunk : (m : Option (MergingKept B)) (snaps : List (Kept B)) (h : MergeHeld) → held_in (merge_seen contents layers m) ≡ Some h → h.merge.chunk ≡ piece_with m snaps
+  -- no piece is larger than the merge's chunks
+  pub held_chunk : (m : Option (MergingKept B)) (snaps : List (Kept B)) (h : MergeHeld) → held_in (merge_seen contents layers m) ≡ Some h → piece_with m snaps ≤ h.merge.chunk
   held_chunk None snaps h e = absurd (cc)
-  held_chunk (Some m) snaps h e = ap chunk_in (sym e)
+  held_chunk (Some m) snaps h e = (let is : h.merge.chunk ≡ m.state.chunk = ap chunk_in (sym e) in omega (arith, is))
     where
       chunk_in : Option MergeHeld → ℕ
       chunk_in None = 0
@@ -65,11 +65,11 @@ module _ {B : Type 0} (contents : B → List ℕ) (layers : B → List Layer) wh
     abbrev end : Moving
     end = moving_of contents layers (Some reply) new
 
-    high : request.range.first + request.range.count ≤ piece_with old.merge old.snaps * (request.range.first / piece_with old.merge old.snaps) + piece_with old.merge old.snaps
-    high = piece_high (piece_with old.merge old.snaps) request.range.first request.range.count can.pos can.some can.one
+    in_piece : IsInOneChunk (piece_with old.merge old.snaps) (span_of request.range)
+    in_piece = record { some = can.some; one = can.one }
 
     fits : IsFit (size old.origin) start.snaps request
-    fits = record { some = can.some; inside = can.inside; bytes = can.bytes; chunks = in_chunks request.range (piece_with old.merge old.snaps) old.snaps high can.chunks }
+    fits = record { some = can.some; inside = can.inside; bytes = can.bytes; chunks = in_chunks request.range (piece_with old.merge old.snaps) old.snaps can.allowed in_piece can.chunks }
 
     abbrev Did : Type 0
     Did = part_done request (merged_of contents layers (rested_of old)) ≡ record { state = merged_of contents layers (rested_of new); reply = reply }
@@ -108,7 +108,7 @@ module _ {B : Type 0} (contents : B → List ℕ) (layers : B → List Layer) wh
         let m : Merging = in_big_steps h start in
         let big : Replied = part_of request.dev request.op (span_of request.range) m in
         let one : request.range.first + request.range.count ≤ h.merge.chunk * (request.range.first / h.merge.chunk) + h.merge.chunk =
-        subst (λ (n : ℕ). request.range.first + request.range.count ≤ n * (request.range.first / n) + n) (sym (held_chunk old.merge old.snaps h is)) high in
+        one_chunk (piece_with old.merge old.snaps) h.merge.chunk (span_of request.range) can.allowed ((under (Some before) h is).allowed, held_chunk old.merge old.snaps h is) in_piece in
         let to : SettlesToReplied (size old.origin) (moving_of contents layers (Some before) mid) big = subst (λ (x : Moving). SettlesToReplied (size old.origin) x big) entered
         (part_settles (size old.origin) number request start h (merged_between (size old.origin) h start (between (Some before)) is) (under (Some before) h is) fits one) in
         let there : end ≡ to.last = reaches_replied (size old.origin) big (moving_of contents layers (Some before) mid) end to reaches none in

@@ -6,6 +6,7 @@ use Rattle.std.proofs.lemmas.List.{drop-drop, append_assoc}
 use Rattle.std.proofs.lemmas.Bool.{cases_Bool, cond-true, cond-false}
 use Rattle.sector.specs.Bytes.{sectors_at}
 use Rattle.device.specs.declared.operation.Operation.TheVariants.{Reads}
+use Rattle.chunk.specs.Sizes.{is_chunk}
 use Rattle.chunk.specs.Pieces.{Span, Join}
 use Rattle.model.specs.Pairs.{pairs_of}
 use Rattle.model.specs.Picture.{place_of, picture}
@@ -17,7 +18,7 @@ use Rattle.plain.specs.declared.request.Reply.{Reply}
 use Rattle.plain.specs.declared.request.Reply.TheVariants.{Data, Written, Refused}
 use Rattle.plain.specs.declared.request.Failure.TheVariants.{Invalid as Declined, Io, Overflow}
 use Rattle.settled.proofs.Laws.{option_cases}
-use Rattle.settled.proofs.PictureSectors.{shown_plain, shown_copied, place_inside, one_of}
+use Rattle.settled.proofs.PictureSectors.{shown_plain, shown_copied, place_inside}
 use Rattle.settled.specs.Devices.{Device, answers, read_reply}
 use Rattle.settled.specs.Snaps.{Snap, Volume, shown}
 use Rattle.settled.specs.Pieces.{Answered, Served, read_place, read_snap, in_snap}
@@ -25,7 +26,7 @@ use Rattle.settled.specs.Commands.{read_piece, read_pieces, go_on, bytes_in}
 use Rattle.settled.proofs.Each.{Each}
 use Rattle.settled.proofs.Chunks.{HasChunks}
 use Rattle.resting.specs.Showing.{Arrays, entry_of, arrays_of, saved_at, saved_of, sectors_in}
-use Rattle.resting.proofs.Rests.{IsOrderly, IsInside, IsWell, well_orders, well_whole, well_after}
+use Rattle.resting.proofs.Rests.{IsOrderly, IsInside, IsWell, room_in, well_orders, well_whole, well_after}
 
 -- a read of an array: the bytes of these sectors, or a failure
 abbrev pub IsReadOf : List ℕ → Span → Reply → Type 0
@@ -42,12 +43,12 @@ reads_of device first array piece same = elim (cases_Bool (answers device (Reads
   | inr failed ↦ subst (IsReadOf array piece) (sym (cond-false _ _ _ failed)) tt
 ]
 
-module _ (sectors chunk : ℕ) (pos : 0 < chunk) where
+module _ (sectors chunk : ℕ) (ok : is_chunk chunk ≡ true) where
   -- a live snapshot
-  live_read : (piece : Span) (origin : Device) (s : Snap) → length origin.bytes ≡ 512 * sectors → IsInside sectors chunk piece → s.chunk ≡ chunk → IsOrderly sectors s → s.live ≡ true → IsReadOf (picture s.chunk origin.bytes s.store.bytes) piece (read_snap piece origin s).reply
-  live_read piece origin s whole fits same orderly live =
+  live_read : (piece : Span) (origin : Device) (s : Snap) → length origin.bytes ≡ 512 * sectors → IsInside sectors chunk piece → HasChunks chunk s → IsOrderly sectors s → s.live ≡ true → IsReadOf (picture s.chunk origin.bytes s.store.bytes) piece (read_snap piece origin s).reply
+  live_read piece origin s whole fits has orderly live =
       let (size, order) = orderly live in
-      let room : piece.first % s.chunk + piece.count ≤ s.chunk = one_of chunk s.chunk piece.first piece.count order.some (sym same) fits.one.some fits.one.one in
+      let room : piece.first % s.chunk + piece.count ≤ s.chunk = room_in chunk s.chunk piece ok has fits.one in
       let array : List ℕ = picture s.chunk origin.bytes s.store.bytes in
       let inside : 512 * (piece.first + piece.count) ≤ length origin.bytes = (let i = fits.inside in omega (arith, whole, i)) in
       subst (λ (a : Served). IsReadOf array piece a.reply) (sym (cond-true _ _ _ live)) (elim (option_cases (place_of (pairs_of s.chunk s.store.bytes) (piece.first / s.chunk))) [
@@ -181,7 +182,7 @@ pieces_shown dev (piece ∷ pieces) before v =
     let same : arrays_of here.volume ≡ arrays_of v = piece_shown dev piece v in
     goes_shown here.reply (arrays_of v) here (read_pieces dev pieces (before ++ bytes_in here.reply) here.volume) same (pieces_shown dev pieces (before ++ bytes_in here.reply) here.volume ∙ same)
 
-module _ (sectors chunk : ℕ) (pos : 0 < chunk) where
+module _ (sectors chunk : ℕ) (ok : is_chunk chunk ≡ true) where
   -- a piece of a device that shows an array
   piece_read : (dev : Dev) (piece : Span) (array : List ℕ) (v : Volume) → IsWell sectors chunk v → IsInside sectors chunk piece → saved_of dev (arrays_of v) ≡ Live array → IsReadOf array piece (read_piece dev piece v).reply
   piece_read Origin piece array v well fits live = reads_of v.origin piece.first array piece (ap (λ (b : List ℕ). sectors_at b piece.first piece.count) (let f : Saved → List ℕ = back in ap f live))
@@ -189,7 +190,7 @@ module _ (sectors chunk : ℕ) (pos : 0 < chunk) where
       back : Saved → List ℕ
       back (Live xs) = xs
       back Invalid = []
-  piece_read (ToSnap number) piece array v well fits live = at_read sectors chunk pos number piece array v.origin v.snaps (well_whole sectors chunk pos v well) fits well.chunks (well_orders sectors chunk pos v well) live
+  piece_read (ToSnap number) piece array v well fits live = at_read sectors chunk ok number piece array v.origin v.snaps (well_whole sectors chunk ok v well) fits well.chunks (well_orders sectors chunk ok v well) live
 
   pub pieces_read : (dev : Dev) (first b : ℕ) (pieces : List Span) (before array : List ℕ) (v : Volume) → IsWell sectors chunk v → Each (IsInside sectors chunk) pieces → Join first b pieces → saved_of dev (arrays_of v) ≡ Live array → IsReadTo array first (sectors_in pieces) before (read_pieces dev pieces before v).reply
   pieces_read dev first b [] before array v well fits join live = sym (append-nil before)
@@ -197,7 +198,7 @@ module _ (sectors chunk : ℕ) (pos : 0 < chunk) where
       let here : Answered = read_piece dev piece v in
       let next : Volume = here.volume in
       let same : arrays_of next ≡ arrays_of v = piece_shown dev piece v in
-      let rest = pieces_read dev (first + piece.count) b pieces (before ++ bytes_in here.reply) array next (well_after sectors chunk pos dev Read piece v well fits.0 tt) fits.1 join.1 (ap (saved_of dev) same ∙ live) in
+      let rest = pieces_read dev (first + piece.count) b pieces (before ++ bytes_in here.reply) array next (well_after sectors chunk ok dev Read piece v well fits.0 tt) fits.1 join.1 (ap (saved_of dev) same ∙ live) in
       subst (λ (x : ℕ). IsReadTo array x (piece.count + sectors_in pieces) before (read_pieces dev (piece ∷ pieces) before v).reply) join.0
       (goes_read array piece (sectors_in pieces) before here.reply here (read_pieces dev pieces (before ++ bytes_in here.reply) next) refl (piece_read dev piece array v well fits.0 live)
       (subst (λ (x : ℕ). IsReadTo array (x + piece.count) (sectors_in pieces) (before ++ bytes_in here.reply) (read_pieces dev pieces (before ++ bytes_in here.reply) next).reply) (sym join.0) rest))

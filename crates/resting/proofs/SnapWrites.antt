@@ -5,6 +5,7 @@ use Rattle.std.proofs.lemmas.Bool.{cases_Bool, cond-true, cond-false, true≢fal
 use Rattle.sector.specs.Bytes.{with_sectors}
 use Rattle.sector.specs.declared.pair.Pair.{Pair}
 use Rattle.device.specs.declared.operation.Operation.TheVariants.{Writes}
+use Rattle.chunk.specs.Sizes.{is_chunk}
 use Rattle.chunk.specs.Pieces.{Span}
 use Rattle.model.specs.Pairs.{pairs_of}
 use Rattle.model.specs.Picture.{place_of, picture}
@@ -20,11 +21,11 @@ use Rattle.settled.specs.Order.{IsInOrder}
 use Rattle.settled.proofs.Saved.{AfterSaving, IsSavedTo}
 use Rattle.settled.proofs.Laws.{saving_law, option_cases}
 use Rattle.chunk.proofs.PiecePlaces.{piece_low}
-use Rattle.settled.proofs.PictureSectors.{place_inside, one_of}
+use Rattle.settled.proofs.PictureSectors.{place_inside}
 use Rattle.settled.specs.Devices.{Device, answers, written_by}
 use Rattle.settled.specs.Snaps.{Snap, shown}
 use Rattle.settled.specs.Saving.{Saving, next_place, is_full, has_chunk, save}
-use Rattle.settled.specs.Pieces.{Answered, Served, shuts, overflown, write_place, write_saved, write_snap, in_snap}
+use Rattle.settled.specs.Pieces.{Answered, Served, shuts, write_place, write_saved, write_snap, in_snap}
 use Rattle.event_machine.specs.Held.{Held}
 use Rattle.event_machine.specs.Rest.{IsResting}
 use Rattle.settled.proofs.Each.{Each}
@@ -34,8 +35,8 @@ use Rattle.settled.proofs.Keeps.{copy_keeps}
 use Rattle.settling.proofs.PlaceRests.{place_rests}
 use Rattle.settled.proofs.SavedBytes.{save_bytes}
 use Rattle.resting.specs.Showing.{entry_of, saved_at, with_bytes, changed_at}
-use Rattle.resting.proofs.Overflows.{save_overflow, taken_overflow}
-use Rattle.resting.proofs.Rests.{IsOrderly, IsInside}
+use Rattle.resting.proofs.Overflows.{save_overflow}
+use Rattle.resting.proofs.Rests.{IsOrderly, IsInside, room_in}
 
 -- saving a chunk keeps a snapshot's number
 pub save_number : (c : ℕ) (origin : Device) (s : Snap) → (save c origin s).snap.number ≡ s.number
@@ -95,15 +96,15 @@ shut_not_never c s shut never = (let free : shuts c s ≡ false = rw (and_first 
 open_not_did : (c : ℕ) (s : Snap) → shuts c s ≡ false → s.live ≡ true → s.overflow ≢ Did
 open_not_did c s free live did = (let shut : shuts c s ≡ true = rw (live, did) refl in true≢false (sym shut ∙ free))
 
-module _ (sectors chunk : ℕ) (pos : 0 < chunk) (piece : Span) (part : List ℕ) (fits : IsInside sectors chunk piece) (len : length part ≡ 512 * piece.count) where
+module _ (sectors chunk : ℕ) (ok : is_chunk chunk ≡ true) (piece : Span) (part : List ℕ) (fits : IsInside sectors chunk piece) (len : length part ≡ 512 * piece.count) where
   -- at a copy's place
-  placed : (o array : List ℕ) (origin : Device) (t : Snap) (size n : ℕ) (old : Saved) → length o ≡ 512 * sectors → t.chunk ≡ chunk → t.live ≡ true → IsInOrder t.chunk sectors size t.store.bytes → place_of (pairs_of t.chunk t.store.bytes) (piece.first / t.chunk) ≡ Some n
+  placed : (o array : List ℕ) (origin : Device) (t : Snap) (size n : ℕ) (old : Saved) → length o ≡ 512 * sectors → HasChunks chunk t → t.live ≡ true → IsInOrder t.chunk sectors size t.store.bytes → place_of (pairs_of t.chunk t.store.bytes) (piece.first / t.chunk) ≡ Some n
       → old ≡ Live array → picture t.chunk o t.store.bytes ≡ array → (let a = write_place piece part origin t (Some n) in IsShownBy piece part old (shown o a.snap) a.reply)
-  placed o array origin t size n old whole same live order some was is =
+  placed o array origin t size n old whole has live order some was is =
       let pos' : 0 < t.chunk = order.some in
       let off : ℕ = piece.first % t.chunk in
       let first : ℕ = t.chunk * n + off in
-      let room : off + piece.count ≤ t.chunk = one_of chunk t.chunk piece.first piece.count pos' (sym same) fits.one.some fits.one.one in
+      let room : off + piece.count ≤ t.chunk = room_in chunk t.chunk piece ok has fits.one in
       let at : t.chunk * (piece.first / t.chunk) + off ≡ piece.first = omega arith in
       let here : t.chunk * (n + 1) ≤ size = place_inside t.chunk sectors size (piece.first / t.chunk) n (pairs_of t.chunk t.store.bytes) order.pairs.inside some in
       let wide : t.chunk * (n + 1) ≡ t.chunk * n + t.chunk = grind arith in
@@ -127,9 +128,9 @@ module _ (sectors chunk : ℕ) (pos : 0 < chunk) (piece : Span) (part : List ℕ
       ]
 
   -- one snapshot that takes the write
-  taken_written : (origin : Device) (s : Snap) → length origin.bytes ≡ 512 * sectors → s.chunk ≡ chunk → IsOrderly sectors s
+  taken_written : (origin : Device) (s : Snap) → length origin.bytes ≡ 512 * sectors → HasChunks chunk s → IsOrderly sectors s
       → (let a : Served = write_saved piece part (save (piece.first / s.chunk) origin s) in IsShownBy piece part (shown origin.bytes s) (shown origin.bytes a.snap) a.reply)
-  taken_written origin s whole same orderly =
+  taken_written origin s whole has orderly =
       let c : ℕ = piece.first / s.chunk in
       let a : Saving = save c origin s in
       let t : Snap = a.snap in
@@ -150,18 +151,18 @@ module _ (sectors chunk : ℕ) (pos : 0 < chunk) (piece : Span) (part : List ℕ
             subst By (sym (cond-true _ _ _ live)) (elim (option_cases (place_of (pairs_of t.chunk t.store.bytes) (piece.first / t.chunk))) [
               | inl none ↦ absurd (copy none)
               | inr (n, some) ↦ subst (λ (o : Option ℕ). By (write_place piece part a.origin t o)) (sym some)
-                  (placed origin.bytes (picture s.chunk origin.bytes s.store.bytes) a.origin t size n old whole (kept ∙ same) live order' some (cond-true _ _ _ both.0) is)
+                  (placed origin.bytes (picture s.chunk origin.bytes s.store.bytes) a.origin t size n old whole (subst (λ (k : ℕ). (is_chunk k ≡ true) × (chunk ≤ k)) (sym kept) has) live order' some (cond-true _ _ _ both.0) is)
             ]))
       ]
 
   -- any snapshot
-  pub snap_written : (origin : Device) (s : Snap) → length origin.bytes ≡ 512 * sectors → s.chunk ≡ chunk → IsOrderly sectors s → IsShownBy piece part (shown origin.bytes s) (shown origin.bytes (write_snap piece part origin s).snap) (write_snap piece part origin s).reply
-  snap_written origin s whole same orderly =
+  pub snap_written : (origin : Device) (s : Snap) → length origin.bytes ≡ 512 * sectors → HasChunks chunk s → IsOrderly sectors s → IsShownBy piece part (shown origin.bytes s) (shown origin.bytes (write_snap piece part origin s).snap) (write_snap piece part origin s).reply
+  snap_written origin s whole has orderly =
       let c : ℕ = piece.first / s.chunk in
       let By : Served → Type 0 = λ (x : Served). IsShownBy piece part (shown origin.bytes s) (shown origin.bytes x.snap) x.reply in
       elim (cases_Bool (shuts c s)) [
         | inl shut ↦ subst By (sym (cond-true _ _ _ shut)) (picture s.chunk origin.bytes s.store.bytes, cond-true _ _ _ (and_first s.live _ shut), refl)
-        | inr free ↦ subst By (sym (cond-false _ _ _ free)) (taken_written origin s whole same orderly)
+        | inr free ↦ subst By (sym (cond-false _ _ _ free)) (taken_written origin s whole has orderly)
       ]
 
 -- what a full store does to it, after a write that it takes, and after any
@@ -271,7 +272,7 @@ in_stays number piece part origin (s ∷ snaps) = elim (cases_Bool (s.number == 
 ]
 
 -- the first with a number
-module _ (sectors chunk : ℕ) (pos : 0 < chunk) (number : ℕ) (piece : Span) (part : List ℕ) (fits : IsInside sectors chunk piece) (len : length part ≡ 512 * piece.count) where
+module _ (sectors chunk : ℕ) (ok : is_chunk chunk ≡ true) (number : ℕ) (piece : Span) (part : List ℕ) (fits : IsInside sectors chunk piece) (len : length part ≡ 512 * piece.count) where
   pub in_written : (origin : Device) (snaps : List Snap) → length origin.bytes ≡ 512 * sectors → Each (HasChunks chunk) snaps → Each (IsOrderly sectors) snaps
       → AreShownBy number piece part (map (entry_of origin.bytes) snaps) (map (entry_of origin.bytes) (in_snap number (write_snap piece part) origin snaps).volume.snaps) (in_snap number (write_snap piece part) origin snaps).reply
   in_written origin [] whole chunks orders = refl
@@ -280,7 +281,7 @@ module _ (sectors chunk : ℕ) (pos : 0 < chunk) (number : ℕ) (piece : Span) (
       elim (cases_Bool (s.number == number)) [
         | inl this ↦ subst By (sym (cond-true _ _ _ this))
             (shown_first number piece part (entry_of origin.bytes s) (entry_of origin.bytes (write_snap piece part origin s).snap) (map (entry_of origin.bytes) snaps) (write_snap piece part origin s).reply this (snap_stays piece part origin s).1
-            (snap_written sectors chunk pos piece part fits len origin s whole chunks.0 orders.0) (snap_marked piece part origin s))
+            (snap_written sectors chunk ok piece part fits len origin s whole chunks.0 orders.0) (snap_marked piece part origin s))
         | inr other ↦ subst By (sym (cond-false _ _ _ other))
             (shown_later number piece part (entry_of origin.bytes s) (map (entry_of origin.bytes) snaps) (map (entry_of origin.bytes) (in_snap number (write_snap piece part) origin snaps).volume.snaps) (in_snap number (write_snap piece part) origin snaps).reply other
             (in_written origin snaps whole chunks.1 orders.1))

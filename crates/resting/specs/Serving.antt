@@ -8,6 +8,7 @@ use Rattle.plain.specs.declared.request.Dev.{Dev}
 use Rattle.plain.specs.declared.request.Reply.{Reply}
 use Rattle.plain.specs.declared.request.Reply.TheVariants.{Data, Written, Refused}
 use Rattle.plain.specs.declared.request.Failure.{Failure}
+use Rattle.chunk.specs.Sizes.{is_chunk}
 use Rattle.chunk.specs.Pieces.{Span, span_of}
 use Rattle.settled.specs.Commands.{bytes_in, write_piece, read_piece}
 use Rattle.settled.specs.Merges.{Merged, write_part, read_part}
@@ -17,10 +18,15 @@ use Rattle.plain.specs.declared.request.Op.{Op}
 use Rattle.plain.specs.declared.request.Request.{Request}
 use Rattle.settled.specs.Requests.{FitsRange, answer_of}
 use Rattle.event_machine.specs.MergeSettles.{part_of}
+use Rattle.snapshot.specs.Kept.{Kept}
 use Rattle.volume.specs.Volumed.{Volumed, piece_with}
 use Rattle.resting.specs.Rested.{Rested, rested_of, merged_of, IsSettled, has_dev}
 use Rattle.plain.specs.Failures.{refusal_of}
 use Rattle.resting.specs.Commands.{IsDoneBy}
+
+-- a snapshot's chunks have a size that is allowed, and are no smaller than a piece
+abbrev pub IsAsLarge : {B : Type 0} → ℕ → Kept B → Type 0
+IsAsLarge piece s = (is_chunk s.state.chunk ≡ true) × (piece ≤ s.state.chunk)
 
 -- A request that a volume at rest accepts, where its snapshot is live: its device is there, its range lies inside the
 -- origin and one piece, and numbers are left.
@@ -30,8 +36,8 @@ pub record CanServe {B : Type 0} (size : B → ℕ) (dev : Dev) (op : Op) (range
   pub inside : range.first + range.count ≤ size v.origin
   pub one : (range.first + range.count - 1) / piece_with v.merge v.snaps ≡ range.first / piece_with v.merge v.snaps
   pub bytes : FitsRange op range.count
-  pub pos : 0 < piece_with v.merge v.snaps
-  pub chunks : All (λ s. s.state.chunk ≡ piece_with v.merge v.snaps) v.snaps
+  pub allowed : is_chunk (piece_with v.merge v.snaps) ≡ true
+  pub chunks : All (IsAsLarge (piece_with v.merge v.snaps)) v.snaps
   pub requests : v.requests < 9_223_372_036_854_775_808
 
 -- What is asked of a command: its device is there, its range has a sector and lies inside the origin, and there are

@@ -38,7 +38,7 @@ fn is_still<B: Layered>(volume: &Journaled<B>) -> bool
     ensures still { IsSettled B.layers (rested_of volume.now) → result ≡ true }
     ensures ordered { result ≡ true → is_loud_in B.layers (rested_of volume.now) ≡ true → IsOrdered (merged_of B.contents B.layers (rested_of volume.now)) }
 {
-    // A look: the chunks of all snapshots are as large.
+    // A look: the chunks of all snapshots are as large as a piece, or larger.
     let _ = volume.piece();
     volume.is_quiet()
 }

@@ -167,15 +167,12 @@ impl<B: Layered> Resting<B> {
         }
     }
 
-    /// The sectors of its chunks.
+    /// The sectors of its own chunks, of which a piece may be a part.
     pub fn merging_chunk(&self) -> Option<u32>
         ensures some { IfSome result (λ chunk. (m : Merging B) × (self.now.events.merge ≡ Some m) × (chunk ≡ m.state.chunk)) }
         ensures none { IfNone result (self.now.events.merge ≡ None) }
     {
-        match self.volume.merging() {
-            Some(_) => Some(self.volume.piece()),
-            None => None,
-        }
+        self.volume.merging_chunk()
     }
 
     /// The sectors in use on its store, by the numbers that are kept in memory.

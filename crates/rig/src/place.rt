@@ -11,7 +11,8 @@ use std::sync::{Condvar, Mutex};
 #[derive(Drop)]
 pub struct Place<B: Layered, J: Room> {
     pub(crate) volume: usize,
-    /// The sectors of a piece. No snapshot is attached while a rig stands, so that they stay what they were when it was made.
+    /// The sectors of a piece: of the least chunk of the snapshots, the one that is being merged among them. None is attached,
+    /// detached or taken out of its merge while a rig stands, so that they stay what they were when it was made.
     pub(crate) piece: u32,
     pub(crate) lock: Mutex<Post<B, J>>,
     pub(crate) moved: Condvar,

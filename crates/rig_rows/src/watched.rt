@@ -23,11 +23,14 @@ use std::thread;
 use std::thread::Threads;
 use volume::Volume;
 
-/// The first snapshot.
+/// The first snapshot, in chunks of four sectors.
 const LARGE: SnapId = 1;
 
 /// The second one, whose store is full after two copies, and may overflow.
 const SMALL: SnapId = 2;
+
+/// The third one, in chunks of two sectors, which is beside the merge of the first.
+const OTHER: SnapId = 3;
 
 /// The calls in turn, each with the seat that makes it, from 0.
 const CALLS: [(usize, Asked); 10] = [
@@ -53,7 +56,8 @@ fn agrees<B: Layered, G: Gate + Drop, J: Room>(
 {
     seat.usage(rig, 0, 0) == status_of(beside, LARGE)
         && seat.usage(rig, 0, 1) == status_of(beside, SMALL)
-        && seat.usage(rig, 0, 2) == Usage::empty()
+        && seat.usage(rig, 0, 2) == status_of(beside, OTHER)
+        && seat.usage(rig, 0, 3) == Usage::empty()
 }
 
 /// Whether each seat does.
@@ -219,11 +223,12 @@ where
     watched_in::<B, G, Brand, R>(rt, alloc, audits, opened, workers, gate, beside, calls)
 }
 
-/// A snapshot more, with this store.
+/// A snapshot more, with this store and chunks of so many sectors.
 fn with_snapshot(
     alloc: Global,
     volume: Volume<MemDisk>,
     device: MemDisk,
+    chunk: u32,
     overflow: bool,
 ) -> Result<Volume<MemDisk>, Fail>
     requires { volume.flights ≡ [] }
@@ -234,30 +239,38 @@ fn with_snapshot(
         device,
         stale: false,
     };
-    match volume.attach(alloc, store, 1, overflow) {
+    match volume.attach(alloc, store, chunk, overflow) {
         Ok(_) => Ok(volume),
         Err(_) => Err(Fail::from("no snapshot")),
     }
 }
 
-/// An origin with the two snapshots.
+/// An origin with the first two snapshots.
 pub fn volume_of_two(alloc: Global) -> Result<Volume<MemDisk>, Fail>
     ensures { IfOk result (λ v. v.flights ≡ []) }
 {
     let Ok(volume) = Volume::new(alloc, MemDisk::new(alloc, SECTORS)?) else {
         return Err(Fail::from("no volume"));
     };
-    let volume = with_snapshot(alloc, volume, MemDisk::new(alloc, 64)?, false)?;
-    with_snapshot(alloc, volume, MemDisk::new(alloc, 4)?, true)
+    let volume = with_snapshot(alloc, volume, MemDisk::new(alloc, 64)?, 4, false)?;
+    with_snapshot(alloc, volume, MemDisk::new(alloc, 4)?, 1, true)
+}
+
+/// An origin with all three.
+fn volume_of_three(alloc: Global) -> Result<Volume<MemDisk>, Fail>
+    ensures { IfOk result (λ v. v.flights ≡ []) }
+{
+    let volume = volume_of_two(alloc)?;
+    with_snapshot(alloc, volume, MemDisk::new(alloc, 64)?, 2, false)
 }
 
 #[test]
 fn boards_say_what_status_says_after_each_call(rt: HostRuntime) -> Result<(), Fail> {
     let alloc = rt.alloc();
-    let Ok(audit) = Audit::new(alloc, volume_of_two(alloc)?) else {
+    let Ok(audit) = Audit::new(alloc, volume_of_three(alloc)?) else {
         return Err(Fail::from("no audit"));
     };
-    let mut beside = volume_of_two(alloc)?;
+    let mut beside = volume_of_three(alloc)?;
     let gate = OpenGate { waits: false };
     assert_eq!(rt;
         watched(&rt, alloc, audit, 1, gate, &mut beside, &CALLS)?,
@@ -265,5 +278,6 @@ fn boards_say_what_status_says_after_each_call(rt: HostRuntime) -> Result<(), Fa
     );
     assert!(rt; status_of(&beside, SMALL).state == State::Invalid);
     assert_eq!(rt; beside.merging(), Some(LARGE));
+    assert!(rt; status_of(&beside, OTHER).state == State::Good);
     Ok(())
 }

@@ -1,8 +1,9 @@
--- No request changes the sectors of a snapshot's chunks.
-use Rattle.std.proofs.Common.{◌≡◌, ℕ, ◌/◌, List, [], ◌∷◌, Option, Some, None, refl, ap, ◌∙◌, inl, inr}
+-- No request changes the sectors of a snapshot's chunks; and the least of them.
+use Rattle.std.proofs.Common.{◌≡◌, ℕ, ◌/◌, ◌≤◌, true, List, [], ◌∷◌, Option, Some, None, min, arith, refl, ap, ◌∙◌, sym, subst, inl, inr}
 use Rattle.std.specs.Prelude.{◌==◌, ◌||◌, not}
-use Rattle.std.proofs.lemmas.Bool.{cases_Bool, cond-true, cond-false}
+use Rattle.std.proofs.lemmas.Bool.{cases_Bool, cases_lt, cond-true, cond-false}
 use Rattle.sector.specs.declared.pair.Pair.{Pair}
+use Rattle.chunk.specs.Sizes.{is_chunk}
 use Rattle.chunk.specs.Pieces.{Span}
 use Rattle.plain.specs.declared.request.Dev.{Dev}
 use Rattle.plain.specs.declared.request.Dev.TheVariants.{Origin, Snap as ToSnap}
@@ -13,9 +14,10 @@ use Rattle.model.specs.Picture.{place_of}
 use Rattle.settled.specs.Devices.{Device, answers}
 use Rattle.settled.specs.Snaps.{Snap, Volume}
 use Rattle.settled.specs.Saving.{Saving, next_place, is_full, has_chunk, save}
-use Rattle.settled.specs.Pieces.{Answered, Served, save_all, write_place, write_saved, shuts, write_snap, read_place, read_snap, in_snap}
+use Rattle.settled.specs.Pieces.{Answered, Served, save_at, write_place, write_saved, shuts, write_snap, read_place, read_snap, in_snap}
+use Rattle.settled.specs.Commands.{piece_of}
 use Rattle.settled.specs.Requests.{answered_by}
-use Rattle.settled.proofs.Each.{Each}
+use Rattle.settled.proofs.Each.{Each, each_weaker}
 use Rattle.settled.proofs.Saves.{saves_nothing, saves_full, saves_copy, chunk_read}
 use Rattle.settled.proofs.Keeps.{copy_keeps}
 
@@ -32,25 +34,31 @@ save_chunk c origin s = elim (cases_Bool (not s.live || has_chunk c s)) [
   ]
 ]
 
-module _ (chunk : ℕ) where
-  abbrev pub HasChunks : Snap → Type 0
-  HasChunks s = s.chunk ≡ chunk
+-- what holds of the sectors of a snapshot's chunks
+module _ (P : ℕ → Type 0) where
+  abbrev pub OfChunks : Snap → Type 0
+  OfChunks s = P s.chunk
 
-  all_keep : (first : ℕ) (origin : Device) (snaps : List Snap) → Each HasChunks snaps → Each HasChunks (save_all first origin snaps).snaps
-  all_keep first origin [] all = tt
-  all_keep first origin (s ∷ snaps) all = (save_chunk (first / s.chunk) origin s ∙ all.0, all_keep first (save (first / s.chunk) origin s).origin snaps all.1)
+  stays : (s t : Snap) → t.chunk ≡ s.chunk → OfChunks s → OfChunks t
+  stays s t same of = subst P (sym same) of
 
-  snap_keep : (number : ℕ) (serve : Device → Snap → Served) → ((origin : Device) (s : Snap) → (serve origin s).snap.chunk ≡ s.chunk) → (origin : Device) (snaps : List Snap) → Each HasChunks snaps → Each HasChunks (in_snap number serve origin snaps).volume.snaps
+  pub at_keep : (wanted : Snap → ℕ) (origin : Device) (snaps : List Snap) → Each OfChunks snaps → Each OfChunks (save_at wanted origin snaps).snaps
+  at_keep wanted origin [] all = tt
+  at_keep wanted origin (s ∷ snaps) all =
+      let here : Saving = save (wanted s) origin s in
+      (stays s here.snap (save_chunk (wanted s) origin s) all.0, at_keep wanted here.origin snaps all.1)
+
+  snap_keep : (number : ℕ) (serve : Device → Snap → Served) → ((origin : Device) (s : Snap) → (serve origin s).snap.chunk ≡ s.chunk) → (origin : Device) (snaps : List Snap) → Each OfChunks snaps → Each OfChunks (in_snap number serve origin snaps).volume.snaps
   snap_keep number serve keeps origin [] all = tt
   snap_keep number serve keeps origin (s ∷ snaps) all =
       let here : Answered = (let a : Served = serve origin s in record { volume = record { origin = a.origin; snaps = a.snap ∷ snaps }; reply = a.reply }) in
       let there : Answered = (let a : Answered = in_snap number serve origin snaps in record { volume = record { origin = a.volume.origin; snaps = s ∷ a.volume.snaps }; reply = a.reply }) in
       elim (cases_Bool (s.number == number)) [
-        | inl this ↦ subst_snaps _ here (cond-true _ _ _ this) (keeps origin s ∙ all.0, all.1)
+        | inl this ↦ subst_snaps _ here (cond-true _ _ _ this) (stays s (serve origin s).snap (keeps origin s) all.0, all.1)
         | inr other ↦ subst_snaps _ there (cond-false _ _ _ other) (all.0, snap_keep number serve keeps origin snaps all.1)
       ]
     where
-      subst_snaps : (a b : Answered) → a ≡ b → Each HasChunks b.volume.snaps → Each HasChunks a.volume.snaps
+      subst_snaps : (a b : Answered) → a ≡ b → Each OfChunks b.volume.snaps → Each OfChunks a.volume.snaps
       subst_snaps a b same each = rw same each
 
   place_keeps : (piece : Span) (bytes : List ℕ) (origin : Device) (s : Snap) (o : Option ℕ) → (write_place piece bytes origin s o).snap.chunk ≡ s.chunk
@@ -81,8 +89,43 @@ module _ (chunk : ℕ) where
     | inr out ↦ ap (λ (x : Served). x.snap.chunk) (cond-false _ _ _ out)
   ]
 
+  pub chunks_keep : (dev : Dev) (op : Op) (piece : Span) (v : Volume) → Each OfChunks v.snaps → Each OfChunks (answered_by dev op piece v).volume.snaps
+  chunks_keep Origin Read piece v all = all
+  chunks_keep Origin (Write bytes) piece v all = at_keep (λ s. piece.first / s.chunk) v.origin v.snaps all
+  chunks_keep (ToSnap n) Read piece v all = snap_keep n (read_snap piece) (read_keeps piece) v.origin v.snaps all
+  chunks_keep (ToSnap n) (Write bytes) piece v all = snap_keep n (write_snap piece bytes) (write_keeps piece bytes) v.origin v.snaps all
+
+-- a size that is allowed, and no less than this one
+module _ (chunk : ℕ) where
+  abbrev pub IsWide : ℕ → Type 0
+  IsWide own = (is_chunk own ≡ true) × (chunk ≤ own)
+
+  abbrev pub HasChunks : Snap → Type 0
+  HasChunks s = (is_chunk s.chunk ≡ true) × (chunk ≤ s.chunk)
+
   pub answer_keeps : (dev : Dev) (op : Op) (piece : Span) (v : Volume) → Each HasChunks v.snaps → Each HasChunks (answered_by dev op piece v).volume.snaps
-  answer_keeps Origin Read piece v all = all
-  answer_keeps Origin (Write bytes) piece v all = all_keep piece.first v.origin v.snaps all
-  answer_keeps (ToSnap n) Read piece v all = snap_keep n (read_snap piece) (read_keeps piece) v.origin v.snaps all
-  answer_keeps (ToSnap n) (Write bytes) piece v all = snap_keep n (write_snap piece bytes) (write_keeps piece bytes) v.origin v.snaps all
+  answer_keeps dev op piece v all = chunks_keep IsWide dev op piece v all
+
+-- the least of two sizes, or of those of all snapshots
+pub least_allowed : (a b : ℕ) → is_chunk a ≡ true → is_chunk b ≡ true → is_chunk (min a b) ≡ true
+least_allowed a b ha hb = elim (cases_lt a b) [
+  | inl lt ↦ (let e : min a b ≡ a = omega arith in ap is_chunk e ∙ ha)
+  | inr ge ↦ (let e : min a b ≡ b = omega arith in ap is_chunk e ∙ hb)
+]
+
+-- the largest size
+pub most_allowed : is_chunk 1024 ≡ true
+unfolding lib.Count.ones
+most_allowed = refl
+
+pub piece_allowed : (snaps : List Snap) → Each (λ s. is_chunk s.chunk ≡ true) snaps → is_chunk (piece_of snaps) ≡ true
+piece_allowed [] all = most_allowed
+piece_allowed (s ∷ snaps) all = least_allowed s.chunk (piece_of snaps) all.0 (piece_allowed snaps all.1)
+
+-- no chunk is less than a size that is no more than the least
+pub piece_least : (chunk : ℕ) (snaps : List Snap) → chunk ≤ piece_of snaps → Each (λ s. is_chunk s.chunk ≡ true) snaps → Each (HasChunks chunk) snaps
+piece_least chunk [] le all = tt
+piece_least chunk (s ∷ snaps) le all = ((all.0, omega (arith, le)), piece_least chunk snaps (omega (arith, le)) all.1)
+
+pub wide_allowed : (chunk : ℕ) (snaps : List Snap) → Each (HasChunks chunk) snaps → Each (λ s. is_chunk s.chunk ≡ true) snaps
+wide_allowed chunk snaps all = each_weaker (HasChunks chunk) (λ s. is_chunk s.chunk ≡ true) snaps (λ s wide. wide.0) all

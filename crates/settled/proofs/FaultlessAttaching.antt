@@ -10,7 +10,7 @@ use Rattle.std.proofs.lemmas.Nat.{mul-le, mod_below}
 use Rattle.sector.specs.Bytes.{with_part, sector_at}
 use Rattle.sector.specs.Number.{number_at}
 use Rattle.sector.specs.declared.refusal.Refusal.{Refusal}
-use Rattle.sector.specs.declared.refusal.Refusal.TheVariants.{StoreTooSmall, Damaged, ChunkMismatch, BadChunk, TooMany}
+use Rattle.sector.specs.declared.refusal.Refusal.TheVariants.{StoreTooSmall, Damaged, BadChunk, TooMany}
 use Rattle.model.specs.Places.{chunk_at, area_place}
 use Rattle.sector.specs.declared.pair.Pair.{Pair}
 use Rattle.model.specs.Pairs.{pairs_of}
@@ -31,7 +31,7 @@ use Rattle.settled.proofs.Loadable.{loadable-formed, header_allowed}
 use Rattle.settled.specs.Devices.{Device, sectors_of}
 use Rattle.settled.specs.Snaps.{Snap, Volume}
 use Rattle.settled.specs.Bare.{is_live, bare, AreBare, IsBare}
-use Rattle.settled.specs.Attaching.{Tried, refuse, done, read_areas, last_area, has_tail, is_wanted, make, clear, load, load_as, open_store, Store, Attached, refused_attach, taken_by, with_tried, attached}
+use Rattle.settled.specs.Attaching.{Tried, refuse, done, read_areas, last_area, has_tail, make, clear, load, load_as, open_store, Store, Attached, refused_attach, taken_by, with_tried, attached}
 use Rattle.settled.proofs.Faultless.{plainly}
 
 -- zeros that are there already
@@ -76,17 +76,15 @@ areas_cases chunk a (suc n) next store = elim (cases_Bool (nat_lt (length store)
 ]
 
 -- what a load gives is what the other machine takes
-abbrev pub Agrees : List Snap → Tried → Result Plainly Refusal → Type 0
-Agrees snaps tried (Err refusal) = tried.outcome ≡ Err refusal
-Agrees snaps tried (Ok t) =
-    (is_live t.saved ≡ true) × (is_wanted snaps t.chunk ≡ true → tried ≡ done t.chunk (plainly t.store)) × (is_wanted snaps t.chunk ≡ false → tried.outcome ≡ Err ChunkMismatch)
+abbrev pub Agrees : Tried → Result Plainly Refusal → Type 0
+Agrees tried (Err refusal) = tried.outcome ≡ Err refusal
+Agrees tried (Ok t) = (is_live t.saved ≡ true) × (tried ≡ done t.chunk (plainly t.store))
 
-make_agrees : (snaps : List Snap) (chunk : ℕ) (array store : List ℕ) → Agrees snaps (make snaps chunk (plainly store)) (taken_fresh chunk array store)
+make_agrees : (chunk : ℕ) (array store : List ℕ) → Agrees (make chunk (plainly store)) (taken_fresh chunk array store)
 unfolding made
-make_agrees snaps chunk array store = elim (cases_Bool (is_too_small chunk store)) [
-  | inl small ↦ subst (Agrees snaps (make snaps chunk (plainly store))) (sym (cond-true _ _ _ small)) (ap (λ (x : Tried). x.outcome) (cond-true _ _ _ small))
-  | inr large ↦ subst (Agrees snaps (make snaps chunk (plainly store))) (sym (cond-false _ _ _ large))
-      (refl, λ wanted. cond-false _ _ _ large ∙ cond-false _ _ _ (ap not wanted), λ other. ap (λ (x : Tried). x.outcome) (cond-false _ _ _ large ∙ cond-true _ _ _ (ap not other)))
+make_agrees chunk array store = elim (cases_Bool (is_too_small chunk store)) [
+  | inl small ↦ subst (Agrees (make chunk (plainly store))) (sym (cond-true _ _ _ small)) (ap (λ (x : Tried). x.outcome) (cond-true _ _ _ small))
+  | inr large ↦ subst (Agrees (make chunk (plainly store))) (sym (cond-false _ _ _ large)) (refl, cond-false _ _ _ large)
 ]
 
 -- a tail that is zero already
@@ -116,19 +114,11 @@ no_tail chunk store pos fits none =
       | inr other ↦ absurd (true≢false (sym all ∙ list_all_at (λ b. b == 0) xs i 0 lt other))
     ]
 
-clear_agrees : (snaps : List Snap) (sectors chunk : ℕ) (shown : Saved) (store : List ℕ) (was : is_live shown ≡ true) → 0 < chunk → is_loadable chunk sectors (length store / 512) (pairs_of chunk store) ≡ true → 512 * (chunk * area_place chunk (last_area chunk store) + chunk) ≤ length store →
-    Agrees snaps (clear snaps sectors chunk (plainly store)) (Ok (record { chunk = chunk; saved = shown; store = trimmed chunk store }))
-clear_agrees snaps sectors chunk shown store was pos loadable fits = elim (cases_Bool (has_tail chunk store)) [
-  | inl tail ↦ (
-    was,
-    λ wanted. cond-false _ _ _ (ap not loadable) ∙ cond-false _ _ _ (ap not wanted) ∙ cond-true _ _ _ tail,
-    λ other. ap (λ (x : Tried). x.outcome) (cond-false _ _ _ (ap not loadable) ∙ cond-true _ _ _ (ap not other)),
-  )
-  | inr none ↦ (
-    was,
-    λ wanted. cond-false _ _ _ (ap not loadable) ∙ cond-false _ _ _ (ap not wanted) ∙ cond-false _ _ _ none ∙ ap (λ b. done chunk (plainly b)) (sym (no_tail chunk store pos fits none)),
-    λ other. ap (λ (x : Tried). x.outcome) (cond-false _ _ _ (ap not loadable) ∙ cond-true _ _ _ (ap not other)),
-  )
+clear_agrees : (sectors chunk : ℕ) (shown : Saved) (store : List ℕ) (was : is_live shown ≡ true) → 0 < chunk → is_loadable chunk sectors (length store / 512) (pairs_of chunk store) ≡ true → 512 * (chunk * area_place chunk (last_area chunk store) + chunk) ≤ length store →
+    Agrees (clear sectors chunk (plainly store)) (Ok (record { chunk = chunk; saved = shown; store = trimmed chunk store }))
+clear_agrees sectors chunk shown store was pos loadable fits = elim (cases_Bool (has_tail chunk store)) [
+  | inl tail ↦ (was, cond-false _ _ _ (ap not loadable) ∙ cond-true _ _ _ tail)
+  | inr none ↦ (was, cond-false _ _ _ (ap not loadable) ∙ cond-false _ _ _ none ∙ ap (λ b. done chunk (plainly b)) (sym (no_tail chunk store pos fits none)))
 ]
 
 areas_inside : (chunk last size i : ℕ) (store : List ℕ) → length store ≡ 512 * size → chunk * (area_place chunk last + 1) ≤ size → i ≤ last → 512 * (chunk * (area_place chunk (0 + i) + 1)) ≤ length store
@@ -141,40 +131,40 @@ areas_inside chunk last size i store whole room le =
 pub size_of : (n m : ℕ) → n ≡ 512 * m → n / 512 ≡ m
 size_of n m e = omega arith
 
-load_agrees : (snaps : List Snap) (chunk size : ℕ) (array store : List ℕ) → 0 < chunk → length store ≡ 512 * size → Agrees snaps (load snaps (length array / 512) chunk (plainly store)) (taken_written chunk array store)
-load_agrees snaps chunk size array store pos whole =
+load_agrees : (chunk size : ℕ) (array store : List ℕ) → 0 < chunk → length store ≡ 512 * size → Agrees (load (length array / 512) chunk (plainly store)) (taken_written chunk array store)
+load_agrees chunk size array store pos whole =
     let sectors : ℕ = length array / 512 in
-    let tried : Tried = load snaps sectors chunk (plainly store) in
+    let tried : Tried = load sectors chunk (plainly store) in
     let last : ℕ = last_area chunk store in
     let ps : List Pair = pairs_of chunk store in
     elim (cases_Bool (is_too_small chunk store)) [
-      | inl small ↦ subst (Agrees snaps tried) (sym (cond-true _ _ _ small)) (ap (λ (x : Tried). x.outcome) (cond-true _ _ _ small))
+      | inl small ↦ subst (Agrees tried) (sym (cond-true _ _ _ small)) (ap (λ (x : Tried). x.outcome) (cond-true _ _ _ small))
       | inr large ↦ elim (cases_Bool (is_loadable chunk sectors (length store / 512) ps)) [
         | inl loadable ↦ (let formed = loadable-formed chunk sectors (length store / 512) ps loadable in
             let room : chunk * (area_place chunk (last_area chunk store) + 1) ≤ size = subst (λ (x : ℕ). chunk * (area_place chunk (last_area chunk store) + 1) ≤ x) (size_of (length store) size whole) formed.room in
-            let goes : tried ≡ clear snaps sectors chunk (plainly store) =
-            cond-false _ _ _ large ∙ areas_read chunk 0 (last + 1) (clear snaps sectors chunk) store (λ i lt. areas_inside chunk last size i store whole room (omega arith)) in
+            let goes : tried ≡ clear sectors chunk (plainly store) =
+            cond-false _ _ _ large ∙ areas_read chunk 0 (last + 1) (clear sectors chunk) store (λ i lt. areas_inside chunk last size i store whole room (omega arith)) in
             let want : Result Plainly Refusal = Ok (record { chunk = chunk; saved = Live (picture chunk array store); store = trimmed chunk store }) in
-            subst (Agrees snaps tried) (sym (cond-false _ _ _ large ∙ cond-true _ _ _ loadable))
-            (subst (λ (x : Tried). Agrees snaps x want) (sym goes) (clear_agrees snaps sectors chunk (Live (picture chunk array store)) store refl pos loadable (chunk_fits chunk (area_place chunk last) size store whole room))))
-        | inr damaged ↦ (let refuses : clear snaps sectors chunk (plainly store) ≡ refuse Damaged (plainly store) = cond-true _ _ _ (ap not damaged) in
-            let ends : tried ≡ refuse Damaged (plainly store) = cond-false _ _ _ large ∙ elim (areas_cases chunk 0 (last + 1) (clear snaps sectors chunk) store) [ inl all ↦ all ∙ refuses | inr none ↦ none ] in
-            subst (Agrees snaps tried) (sym (cond-false _ _ _ large ∙ cond-false _ _ _ damaged)) (ap (λ (x : Tried). x.outcome) ends))
+            subst (Agrees tried) (sym (cond-false _ _ _ large ∙ cond-true _ _ _ loadable))
+            (subst (λ (x : Tried). Agrees x want) (sym goes) (clear_agrees sectors chunk (Live (picture chunk array store)) store refl pos loadable (chunk_fits chunk (area_place chunk last) size store whole room))))
+        | inr damaged ↦ (let refuses : clear sectors chunk (plainly store) ≡ refuse Damaged (plainly store) = cond-true _ _ _ (ap not damaged) in
+            let ends : tried ≡ refuse Damaged (plainly store) = cond-false _ _ _ large ∙ elim (areas_cases chunk 0 (last + 1) (clear sectors chunk) store) [ inl all ↦ all ∙ refuses | inr none ↦ none ] in
+            subst (Agrees tried) (sym (cond-false _ _ _ large ∙ cond-false _ _ _ damaged)) (ap (λ (x : Tried). x.outcome) ends))
       ]
     ]
 
-found_agrees : (snaps : List Snap) (line size : ℕ) (array store : List ℕ) (found : Result Found Refusal) → ((own : ℕ) → found ≡ Ok (Header own) → 0 < own) → length store ≡ 512 * size → Agrees snaps (load_as snaps (length array / 512) line found (plainly store)) (taken_as line array store found)
-found_agrees snaps line size array store (Err refusal) own whole = refl
-found_agrees snaps line size array store (Ok Fresh) own whole = make_agrees snaps line array store
-found_agrees snaps line size array store (Ok (Header chunk)) own whole = load_agrees snaps chunk size array store (own chunk refl) whole
+found_agrees : (line size : ℕ) (array store : List ℕ) (found : Result Found Refusal) → ((own : ℕ) → found ≡ Ok (Header own) → 0 < own) → length store ≡ 512 * size → Agrees (load_as (length array / 512) line found (plainly store)) (taken_as line array store found)
+found_agrees line size array store (Err refusal) own whole = refl
+found_agrees line size array store (Ok Fresh) own whole = make_agrees line array store
+found_agrees line size array store (Ok (Header chunk)) own whole = load_agrees chunk size array store (own chunk refl) whole
 
 nothing_there : (xs : List ℕ) → length xs ≡ 0 → xs ≡ []
 nothing_there [] e = refl
 nothing_there (x ∷ xs) e = absurd (omega arith)
 
-open_agrees : (snaps : List Snap) (line size : ℕ) (array store : List ℕ) → 0 < line → length store ≡ 512 * size → Agrees snaps (open_store snaps (length array / 512) line (plainly store)) (taken line array store)
+open_agrees : (line size : ℕ) (array store : List ℕ) → 0 < line → length store ≡ 512 * size → Agrees (open_store (length array / 512) line (plainly store)) (taken line array store)
 unfolding open_store taken
-open_agrees snaps line size array store pos whole =
+open_agrees line size array store pos whole =
     let sectors : ℕ = length array / 512 in
     let same : length store / 512 ≡ size = size_of (length store) size whole in
     elim (cases_Bool (length store / 512 == 0)) [
@@ -183,21 +173,15 @@ open_agrees snaps line size array store pos whole =
           let small : is_too_small line [] ≡ true = lt-ltb _ _ (omega arith) in
           let refused : taken_as line array [] (found_in (sector_at [] 0)) ≡ Err StoreTooSmall = cond-true _ _ _ small in
           let is : taken_as line array store (found_in (sector_at store 0)) ≡ Err StoreTooSmall = ap (λ (b : List ℕ). taken_as line array b (found_in (sector_at b 0))) empty ∙ refused in
-          subst (Agrees snaps (open_store snaps (length array / 512) line (plainly store))) (sym is) (ap (λ (x : Tried). x.outcome) (cond-true _ _ _ none)))
-      | inr some ↦ subst (λ (x : Tried). Agrees snaps x (taken_as line array store (found_in (sector_at store 0)))) (sym (cond-false _ _ _ some))
-          (found_agrees snaps line size array store (found_in (sector_at store 0)) (λ own is. is_chunk-some own (header_allowed (number_at (sector_at store 0) 0 4) (number_at (sector_at store 0) 4 4) (number_at (sector_at store 0) 8 4) (number_at (sector_at store 0) 12 4) own is)) whole)
+          subst (Agrees (open_store (length array / 512) line (plainly store))) (sym is) (ap (λ (x : Tried). x.outcome) (cond-true _ _ _ none)))
+      | inr some ↦ subst (λ (x : Tried). Agrees x (taken_as line array store (found_in (sector_at store 0)))) (sym (cond-false _ _ _ some))
+          (found_agrees line size array store (found_in (sector_at store 0)) (λ own is. is_chunk-some own (header_allowed (number_at (sector_at store 0) 0 4) (number_at (sector_at store 0) 4 4) (number_at (sector_at store 0) 8 4) (number_at (sector_at store 0) 12 4) own is)) whole)
     ]
 
 -- an attach leaves what the other machine leaves
 abbrev pub AttachAgrees : Attached → Volume → Result Settled Refusal → Type 0
 AttachAgrees a v (Err refusal) = (a.refused ≡ Some refusal) × (a.volume ≡ v)
 AttachAgrees a v (Ok w) = (a.refused ≡ None) × IsBare a.volume w
-
-wanted_same : (chunk : ℕ) (ss : List Snap) (ts : List Plainly) → AreBare ss ts → is_wanted ss chunk ≡ list_all (λ (t : Plainly). t.chunk == chunk) ts
-wanted_same chunk [] [] are = refl
-wanted_same chunk [] (t ∷ ts) are = absurd are
-wanted_same chunk (s ∷ ss) [] are = absurd are
-wanted_same chunk (s ∷ ss) (t ∷ ts) are = ap (λ (x : Snap). (x.chunk == chunk) && is_wanted ss chunk) are.0 ∙ ap (λ b. (t.chunk == chunk) && b) (wanted_same chunk ss ts are.1)
 
 count_same : (ss : List Snap) (ts : List Plainly) → AreBare ss ts → length ss ≡ length ts
 count_same [] [] are = refl
@@ -211,20 +195,13 @@ one_more [] (u ∷ ts) s t are is = absurd are
 one_more (r ∷ ss) [] s t are is = absurd are
 one_more (r ∷ ss) (u ∷ ts) s t are is = (are.0, one_more ss ts s t are.1 is)
 
-tried_agrees : (number : ℕ) (overflow : Overflowing) (v : Volume) (w : Settled) (tried : Tried) (judged : Result Plainly Refusal) → IsBare v w → Agrees v.snaps tried judged → AttachAgrees (with_tried number overflow tried v) v (with_taken w judged)
+tried_agrees : (number : ℕ) (overflow : Overflowing) (v : Volume) (w : Settled) (tried : Tried) (judged : Result Plainly Refusal) → IsBare v w → Agrees tried judged → AttachAgrees (with_tried number overflow tried v) v (with_taken w judged)
 tried_agrees number overflow v w tried (Err refusal) is agrees = (ap (λ o. (taken_by number overflow tried.device o v).refused) agrees, ap (λ o. (taken_by number overflow tried.device o v).volume) agrees)
 tried_agrees number overflow v w tried (Ok t) is agrees =
-    let same : is_wanted v.snaps t.chunk ≡ list_all (λ (other : Plainly). other.chunk == t.chunk) w.snaps = wanted_same t.chunk v.snaps w.snaps is.snaps in
-    elim (cases_Bool (is_wanted v.snaps t.chunk)) [
-      | inl wanted ↦ (let goes : with_tried number overflow tried v ≡ with_tried number overflow (done t.chunk (plainly t.store)) v = ap (λ (x : Tried). with_tried number overflow x v) (agrees.1 wanted) in
-          let mk : Bool → Snap = λ (b : Bool). record { number = number; chunk = t.chunk; live = b; overflow = overflow; stale = false; store = plainly t.store } in
-          subst (AttachAgrees (with_tried number overflow tried v) v) (sym (cond-true _ _ _ (sym same ∙ wanted)))
-          (subst (λ (a : Attached). (a.refused ≡ None) × IsBare a.volume (record { array = w.array; disk = w.disk; snaps = w.snaps ++ t ∷ [] })) (sym goes)
-          (refl, record { origin = is.origin; snaps = one_more v.snaps w.snaps (mk true) t is.snaps (ap mk (sym agrees.0)) })))
-      | inr other ↦ (let refused = agrees.2 other in
-          subst (AttachAgrees (with_tried number overflow tried v) v) (sym (cond-false _ _ _ (sym same ∙ other)))
-          (ap (λ o. (taken_by number overflow tried.device o v).refused) refused, ap (λ o. (taken_by number overflow tried.device o v).volume) refused))
-    ]
+    let goes : with_tried number overflow tried v ≡ with_tried number overflow (done t.chunk (plainly t.store)) v = ap (λ (x : Tried). with_tried number overflow x v) agrees.1 in
+    let mk : Bool → Snap = λ (b : Bool). record { number = number; chunk = t.chunk; live = b; overflow = overflow; stale = false; store = plainly t.store } in
+    subst (λ (a : Attached). (a.refused ≡ None) × IsBare a.volume (record { array = w.array; disk = w.disk; snaps = w.snaps ++ t ∷ [] })) (sym goes)
+    (refl, record { origin = is.origin; snaps = one_more v.snaps w.snaps (mk true) t is.snaps (ap mk (sym agrees.0)) })
 
 -- an attach of a store that is not stale, under a number of 32 bits
 pub attach_faultless : (number line size : ℕ) (overflow : Overflowing) (bytes : List ℕ) (v : Volume) (w : Settled) → number < 4_294_967_296 → IsBare v w → length w.array ≡ length w.disk → length bytes ≡ 512 * size →
@@ -233,20 +210,20 @@ unfolding attached settled_attached
 attach_faultless number line size overflow bytes v w few is array whole =
     let count : length v.snaps ≡ length w.snaps = count_same v.snaps w.snaps is.snaps in
     let store : Store = record { device = plainly bytes; stale = false } in
-    let outer : Bool → Bool → Attached = λ (b c : Bool). if b then (if c then with_tried number overflow (open_store v.snaps (sectors_of v.origin) line store.device) v else refused_attach BadChunk store v) else refused_attach TooMany store v in
+    let outer : Bool → Bool → Attached = λ (b c : Bool). if b then (if c then with_tried number overflow (open_store (sectors_of v.origin) line store.device) v else refused_attach BadChunk store v) else refused_attach TooMany store v in
     let outer' : Bool → Bool → Result Settled Refusal = λ (b c : Bool). if b then (if c then with_taken w (taken line w.array bytes) else Err BadChunk) else Err TooMany in
     let same : (nat_lt (length v.snaps) 8 && nat_lt number 4_294_967_296) ≡ nat_lt (length w.snaps) 8 = ap (λ b. nat_lt (length v.snaps) 8 && b) (lt-ltb _ _ few) ∙ and_all (nat_lt (length v.snaps) 8) ∙ ap (λ n. nat_lt n 8) count in
     let sectors : sectors_of v.origin ≡ length w.array / 512 = ap (λ (d : Device). length d.bytes / 512) is.origin ∙ ap (λ n. n / 512) (sym array) in
     subst (λ b. AttachAgrees (outer (nat_lt (length v.snaps) 8 && nat_lt number 4_294_967_296) (is_chunk line)) v (outer' b (is_chunk line))) same
-    (by_tests (nat_lt (length v.snaps) 8 && nat_lt number 4_294_967_296) (is_chunk line) (λ allowed. subst (λ n. AttachAgrees (with_tried number overflow (open_store v.snaps n line (plainly bytes)) v) v (with_taken w (taken line w.array bytes))) (sym sectors)
-    (tried_agrees number overflow v w (open_store v.snaps (length w.array / 512) line (plainly bytes)) (taken line w.array bytes) is (open_agrees v.snaps line size w.array bytes (is_chunk-some line allowed) whole))))
+    (by_tests (nat_lt (length v.snaps) 8 && nat_lt number 4_294_967_296) (is_chunk line) (λ allowed. subst (λ n. AttachAgrees (with_tried number overflow (open_store n line (plainly bytes)) v) v (with_taken w (taken line w.array bytes))) (sym sectors)
+    (tried_agrees number overflow v w (open_store (length w.array / 512) line (plainly bytes)) (taken line w.array bytes) is (open_agrees line size w.array bytes (is_chunk-some line allowed) whole))))
   where
     and_all : (b : Bool) → (b && true) ≡ b
     and_all true = refl
     and_all false = refl
 
-    by_tests : (b c : Bool) → (c ≡ true → AttachAgrees (with_tried number overflow (open_store v.snaps (sectors_of v.origin) line (plainly bytes)) v) v (with_taken w (taken line w.array bytes))) →
-        AttachAgrees (if b then (if c then with_tried number overflow (open_store v.snaps (sectors_of v.origin) line (plainly bytes)) v else refused_attach BadChunk (record { device = plainly bytes; stale = false }) v) else refused_attach TooMany (record { device = plainly bytes; stale = false }) v) v
+    by_tests : (b c : Bool) → (c ≡ true → AttachAgrees (with_tried number overflow (open_store (sectors_of v.origin) line (plainly bytes)) v) v (with_taken w (taken line w.array bytes))) →
+        AttachAgrees (if b then (if c then with_tried number overflow (open_store (sectors_of v.origin) line (plainly bytes)) v else refused_attach BadChunk (record { device = plainly bytes; stale = false }) v) else refused_attach TooMany (record { device = plainly bytes; stale = false }) v) v
         (if b then (if c then with_taken w (taken line w.array bytes) else Err BadChunk) else Err TooMany)
     by_tests true true f = f refl
     by_tests true false f = (refl, refl)

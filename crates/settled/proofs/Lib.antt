@@ -20,3 +20,5 @@ pub mod Chunks
 pub mod FaultlessAttaching
 pub mod Opened
 pub mod Named
+pub mod Rounds
+pub mod RoundSaves

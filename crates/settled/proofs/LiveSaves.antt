@@ -1,5 +1,5 @@
 -- A snapshot that is live after a chunk was saved for it.
-use Rattle.std.proofs.Common.{◌≡◌, inl, inr, ℕ, Bool, true, false, refl, ap, ◌∙◌, sym}
+use Rattle.std.proofs.Common.{◌≡◌, inl, inr, ℕ, Bool, true, refl, ap, ◌∙◌, sym}
 use Rattle.std.proofs.lemmas.Bool.{cases_Bool, cond-true, true≢false}
 use Rattle.settled.specs.Saves.{Saving as Stored, saved}
 use Rattle.settled.specs.Devices.{Device}

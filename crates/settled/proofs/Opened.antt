@@ -21,8 +21,7 @@ use Rattle.settled.proofs.Loadable.{loadable-formed, header_allowed}
 use Rattle.settled.proofs.Made.{made_law}
 use Rattle.settled.proofs.Trimmed.{trimmed_law}
 use Rattle.settled.specs.Devices.{Device, sectors_of, answers, met, written_by}
-use Rattle.settled.specs.Snaps.{Snap}
-use Rattle.settled.specs.Attaching.{Tried, read_on, write_on, done, read_areas, last_area, has_tail, is_wanted, make, clear, load, load_as, open_store}
+use Rattle.settled.specs.Attaching.{Tried, read_on, write_on, done, read_areas, last_area, has_tail, make, clear, load, load_as, open_store}
 use Rattle.settled.proofs.FaultlessAttaching.{no_tail, size_of}
 
 module _ (sectors size : ℕ) (small_origin : sectors ≤ 16_777_216) (small : size ≤ 16_777_216) where
@@ -54,58 +53,52 @@ module _ (sectors size : ℕ) (small_origin : sectors ≤ 16_777_216) (small : s
         (read_sound device (Reads (chunk * area_place chunk a) chunk) (read_areas chunk (a + 1) n next) (λ d same. areas_sound chunk (a + 1) n next d (λ e more. sound e (more ∙ same))))
   ]
 
-  make_sound : (snaps : List Snap) (chunk : ℕ) (device : Device) → 0 < chunk → length device.bytes ≡ 512 * size → IsSound (make snaps chunk device)
+  make_sound : (chunk : ℕ) (device : Device) → 0 < chunk → length device.bytes ≡ 512 * size → IsSound (make chunk device)
   unfolding made
-  make_sound snaps chunk device pos whole = elim (cases_Bool (is_too_small chunk device.bytes)) [
+  make_sound chunk device pos whole = elim (cases_Bool (is_too_small chunk device.bytes)) [
     | inl short ↦ subst IsSound (sym (cond-true _ _ _ short)) tt
-    | inr large ↦ elim (cases_Bool (not (is_wanted snaps chunk))) [
-      | inl other ↦ subst IsSound (sym (cond-false _ _ _ large ∙ cond-true _ _ _ other)) tt
-      | inr wanted ↦ (let order : IsInOrder chunk sectors size (made chunk device.bytes) = (made_law chunk sectors size device.bytes device.bytes pos small_origin small whole (ltb-false _ _ large)).0 in
-          subst IsSound (sym (cond-false _ _ _ large ∙ cond-false _ _ _ wanted))
-          (write_sound device (Writes (chunk * area_place chunk 0) chunk) (zeroed chunk device.bytes 0) (λ d. write_on d (Writes 0 chunk) (with_part d.bytes 0 (header_bytes (512 * chunk) true chunk)) (done chunk))
-          (λ d zero_is. write_sound d (Writes 0 chunk) (with_part d.bytes 0 (header_bytes (512 * chunk) true chunk)) (done chunk)
-          (λ e made_is. subst (IsInOrder chunk sectors size) (sym (made_is ∙ ap (λ (b : List ℕ). with_part b 0 (header_bytes (512 * chunk) true chunk)) zero_is)) order))))
-    ]
+    | inr large ↦ (let order : IsInOrder chunk sectors size (made chunk device.bytes) = (made_law chunk sectors size device.bytes device.bytes pos small_origin small whole (ltb-false _ _ large)).0 in
+        subst IsSound (sym (cond-false _ _ _ large))
+        (write_sound device (Writes (chunk * area_place chunk 0) chunk) (zeroed chunk device.bytes 0) (λ d. write_on d (Writes 0 chunk) (with_part d.bytes 0 (header_bytes (512 * chunk) true chunk)) (done chunk))
+        (λ d zero_is. write_sound d (Writes 0 chunk) (with_part d.bytes 0 (header_bytes (512 * chunk) true chunk)) (done chunk)
+        (λ e made_is. subst (IsInOrder chunk sectors size) (sym (made_is ∙ ap (λ (b : List ℕ). with_part b 0 (header_bytes (512 * chunk) true chunk)) zero_is)) order))))
   ]
 
-  clear_sound : (snaps : List Snap) (chunk : ℕ) (device : Device) → 0 < chunk → length device.bytes ≡ 512 * size → IsSound (clear snaps sectors chunk device)
-  clear_sound snaps chunk device pos whole =
+  clear_sound : (chunk : ℕ) (device : Device) → 0 < chunk → length device.bytes ≡ 512 * size → IsSound (clear sectors chunk device)
+  clear_sound chunk device pos whole =
       let store : List ℕ = device.bytes in
       let same : length store / 512 ≡ size = size_of (length store) size whole in
       elim (cases_Bool (is_loadable chunk sectors (sectors_of device) (pairs_of chunk store))) [
         | inr damaged ↦ subst IsSound (sym (cond-true _ _ _ (ap not damaged))) tt
-        | inl loadable ↦ elim (cases_Bool (not (is_wanted snaps chunk))) [
-          | inl other ↦ subst IsSound (sym (cond-false _ _ _ (ap not loadable) ∙ cond-true _ _ _ other)) tt
-          | inr wanted ↦ (let formed : AreWellFormed chunk sectors size (pairs_of chunk store) = subst (λ (n : ℕ). AreWellFormed chunk sectors n (pairs_of chunk store)) same (loadable-formed chunk sectors (sectors_of device) (pairs_of chunk store) loadable) in
-              let order : IsInOrder chunk sectors size (trimmed chunk store) = (trimmed_law chunk sectors size store store pos small_origin small whole formed).0 in
-              subst IsSound (sym (cond-false _ _ _ (ap not loadable) ∙ cond-false _ _ _ wanted)) (elim (cases_Bool (has_tail chunk store)) [
-                | inl tail ↦ subst IsSound (sym (cond-true _ _ _ tail))
-                    (write_sound device (Writes (chunk * area_place chunk (last_area chunk store)) chunk) (trimmed chunk store) (done chunk) (λ d is. subst (IsInOrder chunk sectors size) (sym is) order))
-                | inr none ↦ subst IsSound (sym (cond-false _ _ _ none))
-                    (subst (IsInOrder chunk sectors size) (no_tail chunk store pos (chunk_fits chunk (area_place chunk (last_area chunk store)) size store whole formed.room) none) order)
-              ]))
-        ]
+        | inl loadable ↦ (let formed : AreWellFormed chunk sectors size (pairs_of chunk store) = subst (λ (n : ℕ). AreWellFormed chunk sectors n (pairs_of chunk store)) same (loadable-formed chunk sectors (sectors_of device) (pairs_of chunk store) loadable) in
+            let order : IsInOrder chunk sectors size (trimmed chunk store) = (trimmed_law chunk sectors size store store pos small_origin small whole formed).0 in
+            subst IsSound (sym (cond-false _ _ _ (ap not loadable))) (elim (cases_Bool (has_tail chunk store)) [
+              | inl tail ↦ subst IsSound (sym (cond-true _ _ _ tail))
+                  (write_sound device (Writes (chunk * area_place chunk (last_area chunk store)) chunk) (trimmed chunk store) (done chunk) (λ d is. subst (IsInOrder chunk sectors size) (sym is) order))
+              | inr none ↦ subst IsSound (sym (cond-false _ _ _ none))
+                  (subst (IsInOrder chunk sectors size) (no_tail chunk store pos (chunk_fits chunk (area_place chunk (last_area chunk store)) size store whole formed.room) none) order)
+            ]))
       ]
 
-  load_sound : (snaps : List Snap) (chunk : ℕ) (device : Device) → 0 < chunk → length device.bytes ≡ 512 * size → IsSound (load snaps sectors chunk device)
-  load_sound snaps chunk device pos whole = elim (cases_Bool (is_too_small chunk device.bytes)) [
+  load_sound : (chunk : ℕ) (device : Device) → 0 < chunk → length device.bytes ≡ 512 * size → IsSound (load sectors chunk device)
+  load_sound chunk device pos whole = elim (cases_Bool (is_too_small chunk device.bytes)) [
     | inl short ↦ subst IsSound (sym (cond-true _ _ _ short)) tt
     | inr large ↦ subst IsSound (sym (cond-false _ _ _ large))
-        (areas_sound chunk 0 (last_area chunk device.bytes + 1) (clear snaps sectors chunk) device (λ d same. clear_sound snaps chunk d pos (ap length same ∙ whole)))
+        (areas_sound chunk 0 (last_area chunk device.bytes + 1) (clear sectors chunk) device (λ d same. clear_sound chunk d pos (ap length same ∙ whole)))
   ]
 
-  found_sound : (snaps : List Snap) (line : ℕ) (found : Result Found Refusal) (device : Device) → 0 < line → ((own : ℕ) → found ≡ Ok (Header own) → 0 < own) → length device.bytes ≡ 512 * size → IsSound (load_as snaps sectors line found device)
-  found_sound snaps line (Err refusal) device pos own whole = tt
-  found_sound snaps line (Ok Fresh) device pos own whole = make_sound snaps line device pos whole
-  found_sound snaps line (Ok (Header chunk)) device pos own whole = load_sound snaps chunk device (own chunk refl) whole
+  found_sound : (line : ℕ) (found : Result Found Refusal) (device : Device) → 0 < line → ((own : ℕ) → found ≡ Ok (Header own) → 0 < own) → length device.bytes ≡ 512 * size → IsSound (load_as sectors line found device)
+  found_sound line (Err refusal) device pos own whole = tt
+  found_sound line (Ok Fresh) device pos own whole = make_sound line device pos whole
+  found_sound line (Ok (Header chunk)) device pos own whole = load_sound chunk device (own chunk refl) whole
 
-  pub open_sound : (snaps : List Snap) (line : ℕ) (device : Device) → 0 < line → length device.bytes ≡ 512 * size → IsSound (open_store snaps sectors line device)
+  pub open_sound : (line : ℕ) (device : Device) → 0 < line → length device.bytes ≡ 512 * size → IsSound (open_store sectors line device)
   unfolding open_store
-  open_sound snaps line device pos whole =
+  open_sound line device pos whole =
       let first : List ℕ = sector_at device.bytes 0 in
       elim (cases_Bool (sectors_of device == 0)) [
         | inl none ↦ subst IsSound (sym (cond-true _ _ _ none)) tt
         | inr some ↦ subst IsSound (sym (cond-false _ _ _ some))
-            (read_sound device (Reads 0 1) (load_as snaps sectors line (found_in (sector_at device.bytes 0)))
-            (λ d same. found_sound snaps line (found_in (sector_at device.bytes 0)) d pos (λ own is. is_chunk-some own (header_allowed (number_at first 0 4) (number_at first 4 4) (number_at first 8 4) (number_at first 12 4) own is)) (ap length same ∙ whole)))
+            (read_sound device (Reads 0 1) (load_as sectors line (found_in (sector_at device.bytes 0)))
+            (λ d same. found_sound line (found_in (sector_at device.bytes 0)) d pos (λ own is. is_chunk-some own (header_allowed (number_at first 0 4) (number_at first 4 4) (number_at first 8 4) (number_at first 12 4) own is)) (ap length same ∙ whole)))
       ]

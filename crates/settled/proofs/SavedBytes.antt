@@ -5,7 +5,7 @@ use Rattle.std.proofs.lemmas.Bool.{cases_Bool}
 use Rattle.settled.specs.Devices.{Device}
 use Rattle.settled.specs.Snaps.{Snap}
 use Rattle.settled.specs.Saving.{Saving, is_full, has_chunk, save}
-use Rattle.settled.specs.Pieces.{save_all}
+use Rattle.settled.specs.Pieces.{save_at, save_all}
 use Rattle.settled.proofs.Saves.{saves_nothing, saves_full, saves_copy}
 
 -- a copy's read changes no byte of the origin
@@ -18,6 +18,9 @@ save_bytes c origin s = elim (cases_Bool (not s.live || has_chunk c s)) [
   ]
 ]
 
+pub save_at_bytes : (wanted : Snap → ℕ) (origin : Device) (snaps : List Snap) → (save_at wanted origin snaps).origin.bytes ≡ origin.bytes
+save_at_bytes wanted origin [] = refl
+save_at_bytes wanted origin (s ∷ snaps) = save_at_bytes wanted (save (wanted s) origin s).origin snaps ∙ save_bytes (wanted s) origin s
+
 pub save_all_bytes : (first : ℕ) (origin : Device) (snaps : List Snap) → (save_all first origin snaps).origin.bytes ≡ origin.bytes
-save_all_bytes first origin [] = refl
-save_all_bytes first origin (s ∷ snaps) = save_all_bytes first (save (first / s.chunk) origin s).origin snaps ∙ save_bytes (first / s.chunk) origin s
+save_all_bytes first origin snaps = save_at_bytes (λ s. first / s.chunk) origin snaps

@@ -6,7 +6,7 @@ use Rattle.std.specs.Prelude.{◌==◌, ℕ, zero, suc, ◌+◌, ◌*◌, ◌/�
 use Rattle.std.specs.List.{list_all}
 use Rattle.sector.specs.Bytes.{with_part, sector_at}
 use Rattle.sector.specs.declared.refusal.Refusal.{Refusal}
-use Rattle.sector.specs.declared.refusal.Refusal.TheVariants.{Io, TooMany, BadChunk, StoreTooSmall, Damaged, Stale, ChunkMismatch}
+use Rattle.sector.specs.declared.refusal.Refusal.TheVariants.{Io, TooMany, BadChunk, StoreTooSmall, Damaged, Stale}
 use Rattle.plain.specs.declared.request.Overflowing.{Overflowing}
 use Rattle.device.specs.declared.operation.Operation.{Operation}
 use Rattle.device.specs.declared.operation.Operation.TheVariants.{Reads, Writes}
@@ -54,42 +54,36 @@ abbrev pub has_tail : ℕ → List ℕ → Bool
 has_tail chunk store =
     not (list_all (λ b. b == 0) (drop (16 * (length (pairs_of chunk store) % (32 * chunk) + 1)) (chunk_at chunk store (area_place chunk (last_area chunk store)))))
 
--- the chunks of the snapshots that are there, if there are any, are as large
-abbrev pub is_wanted : List Snap → ℕ → Bool
-is_wanted snaps chunk = list_all (λ s. s.chunk == chunk) snaps
-
 -- a fresh store: area 0 is zeroed, and then the header is written
-abbrev pub make : List Snap → ℕ → Device → Tried
-make snaps chunk device =
+abbrev pub make : ℕ → Device → Tried
+make chunk device =
     if is_too_small chunk device.bytes then refuse StoreTooSmall device
-    else (if not (is_wanted snaps chunk) then refuse ChunkMismatch device
     else write_on device (Writes (chunk * area_place chunk 0) chunk) (zeroed chunk device.bytes 0)
-    (λ d. write_on d (Writes 0 chunk) (with_part d.bytes 0 (header_bytes (512 * chunk) true chunk)) (done chunk)))
+    (λ d. write_on d (Writes 0 chunk) (with_part d.bytes 0 (header_bytes (512 * chunk) true chunk)) (done chunk))
 
 -- a written store whose areas were read: the tail is cleared, if it has one
-abbrev pub clear : List Snap → ℕ → ℕ → Device → Tried
-clear snaps sectors chunk device =
+abbrev pub clear : ℕ → ℕ → Device → Tried
+clear sectors chunk device =
     if not (is_loadable chunk sectors (sectors_of device) (pairs_of chunk device.bytes)) then refuse Damaged device
-    else (if not (is_wanted snaps chunk) then refuse ChunkMismatch device
     else (if has_tail chunk device.bytes
     then write_on device (Writes (chunk * area_place chunk (last_area chunk device.bytes)) chunk) (trimmed chunk device.bytes) (done chunk)
-    else done chunk device))
+    else done chunk device)
 
 -- a written store: the areas are read up to the one of the first empty slot
-abbrev pub load : List Snap → ℕ → ℕ → Device → Tried
-load snaps sectors chunk device =
-    if is_too_small chunk device.bytes then refuse StoreTooSmall device else read_areas chunk 0 (last_area chunk device.bytes + 1) (clear snaps sectors chunk) device
+abbrev pub load : ℕ → ℕ → Device → Tried
+load sectors chunk device =
+    if is_too_small chunk device.bytes then refuse StoreTooSmall device else read_areas chunk 0 (last_area chunk device.bytes + 1) (clear sectors chunk) device
 
-abbrev pub load_as : List Snap → ℕ → ℕ → Result Found Refusal → Device → Tried
-load_as snaps sectors chunk (Err refusal) device = refuse refusal device
-load_as snaps sectors chunk (Ok Fresh) device = make snaps chunk device
-load_as snaps sectors chunk (Ok (Header own)) device = load snaps sectors own device
+abbrev pub load_as : ℕ → ℕ → Result Found Refusal → Device → Tried
+load_as sectors chunk (Err refusal) device = refuse refusal device
+load_as sectors chunk (Ok Fresh) device = make chunk device
+load_as sectors chunk (Ok (Header own)) device = load sectors own device
 
 -- a store, for an origin of so many sectors and by a table line with this chunk size: its first sector is read
-unfoldable pub open_store : List Snap → ℕ → ℕ → Device → Tried
-open_store snaps sectors chunk device =
+unfoldable pub open_store : ℕ → ℕ → Device → Tried
+open_store sectors chunk device =
     if sectors_of device == 0 then refuse StoreTooSmall device
-    else read_on device (Reads 0 1) (load_as snaps sectors chunk (found_in (sector_at device.bytes 0)))
+    else read_on device (Reads 0 1) (load_as sectors chunk (found_in (sector_at device.bytes 0)))
 
 -- a store that nothing uses: its device, and whether it is stale
 pub record Store : Type 0 where
@@ -122,7 +116,7 @@ with_tried number overflow tried v = taken_by number overflow tried.device tried
 unfoldable pub attached : ℕ → ℕ → Overflowing → Store → Volume → Attached
 attached number chunk overflow store v =
     if store.stale then refused_attach Stale store v
-    else (if nat_lt (length v.snaps) 8 && nat_lt number 4_294_967_296 then (if is_chunk chunk then with_tried number overflow (open_store v.snaps (sectors_of v.origin) chunk store.device) v else refused_attach BadChunk store v)
+    else (if nat_lt (length v.snaps) 8 && nat_lt number 4_294_967_296 then (if is_chunk chunk then with_tried number overflow (open_store (sectors_of v.origin) chunk store.device) v else refused_attach BadChunk store v)
     else refused_attach TooMany store v)
 
 -- a detach of the snapshot of a number, the first that has it: its store, with its stale mark

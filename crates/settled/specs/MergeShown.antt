@@ -1,6 +1,7 @@
 -- What a volume with a merge shows: its origin is the picture of the origin disk and the merging store, from the merge's
 -- beginning on; its snapshots show what they do without a merge.
 use Rattle.std.specs.Prelude.{◌≡◌, ℕ, ◌+◌, ◌*◌, ◌<◌, ◌≤◌, true, List, length, Option, Some, None}
+use Rattle.chunk.specs.Sizes.{is_chunk}
 use Rattle.model.specs.Pairs.{AreWellFormed}
 use Rattle.model.specs.Picture.{picture}
 use Rattle.settled.specs.Order.{IsInOrder}
@@ -38,12 +39,13 @@ pub record IsUnderWay (sectors : ℕ) (g : Merge) : Type 0 where
   pub low : g.current * (32 * g.chunk) ≤ length (pairs_in g)
   pub high : length (pairs_in g) ≤ g.current * (32 * g.chunk) + 32 * g.chunk
 
--- a volume of so many sectors with a merge: the other snapshots' chunks are as large as the merged one's
+-- a volume of so many sectors with a merge, and with chunks of sizes that are allowed
 pub record IsMerging (sectors : ℕ) (m : Merging) : Type 0 where
   pub whole : length m.volume.origin.bytes ≡ 512 * sectors
   pub merge : IsUnderWay sectors m.merge
   pub snaps : All (IsWell sectors) m.volume.snaps
-  pub chunks : All (λ s. s.chunk ≡ m.merge.chunk) m.volume.snaps
+  pub allowed : is_chunk m.merge.chunk ≡ true
+  pub chunks : All (λ s. is_chunk s.chunk ≡ true) m.volume.snaps
 
 -- what the merge does is not seen: the origin shows what it showed, and so does each snapshot that is still live
 pub record IsUnseen (sectors : ℕ) (m after : Merging) : Type 0 where

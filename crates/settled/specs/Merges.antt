@@ -3,16 +3,18 @@
 -- beginning on, and the snapshot's chunks are copied to the origin disk from the last pair backwards. The order of the pairs
 -- and the groups are those of the kernel's dm-snap.c and dm-snap-persistent.c; that the first operation that fails stops the
 -- merge, which may go on later, is this project's own rule.
-use Rattle.std.specs.Prelude.{◌==◌, ◌&&◌, ℕ, zero, suc, ◌+◌, ◌-◌, ◌*◌, ◌/◌, ◌%◌, nat_lt, Bool, true, false, List, [], ◌∷◌, ◌++◌, length, take, drop, min, replicate, is_some, Option, Some, None, if◌then◌else◌}
+use Rattle.std.specs.Prelude.{◌==◌, ◌&&◌, not, ℕ, zero, suc, ◌+◌, ◌-◌, ◌*◌, ◌/◌, ◌%◌, nat_lt, Bool, true, false, List, [], ◌∷◌, ◌++◌, length, take, drop, min, replicate, is_some, Option, Some, None, if◌then◌else◌}
+use Rattle.std.specs.Option.{unwrap_or}
 use Rattle.sector.specs.Bytes.{sectors_at, with_part, with_sectors}
 use Rattle.sector.specs.declared.pair.Pair.{Pair}
 use Rattle.device.specs.declared.operation.Operation.{Operation}
 use Rattle.device.specs.declared.operation.Operation.TheVariants.{Reads, Writes, Flushes}
-use Rattle.chunk.specs.Pieces.{Span, pieces_of}
+use Rattle.chunk.specs.Pieces.{Span, pieces_of, chunks_over}
 use Rattle.model.specs.Places.{area_place}
 use Rattle.model.specs.Pairs.{pairs_of}
 use Rattle.model.specs.Picture.{place_of}
 use Rattle.pending.specs.Copies.{count_of}
+use Rattle.pending.specs.Due.{first_by}
 use Rattle.plain.specs.declared.request.Dev.{Dev}
 use Rattle.plain.specs.declared.request.Dev.TheVariants.{Origin, Snap as ToSnap}
 use Rattle.plain.specs.declared.request.Reply.{Reply}
@@ -20,8 +22,8 @@ use Rattle.plain.specs.declared.request.Reply.TheVariants.{Data, Written, Refuse
 use Rattle.plain.specs.declared.request.Failure.TheVariants.{Io}
 use Rattle.settled.specs.Devices.{Device, sectors_of, answers, met, written_by, read_reply}
 use Rattle.settled.specs.Snaps.{Snap, Volume}
-use Rattle.settled.specs.Saving.{next_place}
-use Rattle.settled.specs.Pieces.{Answered, save_all, write_origin, read_origin}
+use Rattle.settled.specs.Saving.{next_place, has_chunk}
+use Rattle.settled.specs.Pieces.{Answered, save_at, write_origin, read_origin}
 use Rattle.settled.specs.Commands.{write_piece, read_piece, bytes_in, piece_of}
 use Rattle.settled.specs.Attaching.{Store, last_area, detached}
 
@@ -84,9 +86,26 @@ with_store m device = record m { merge = record m.merge { store = device } }
 abbrev pub with_origin : Merging → Device → Merging
 with_origin m device = record m { volume = record m.volume { origin = device } }
 
--- each other snapshot saves the chunk that begins at this sector
-abbrev pub saved_first : ℕ → Merging → Merging
-saved_first first m = record m { volume = save_all first m.volume.origin m.volume.snaps }
+-- of the chunks that so many sectors touch from this one on, the first that a snapshot's store has no copy of
+abbrev pub unsaved_in : ℕ → ℕ → Snap → Option ℕ
+unsaved_in first count s = first_by (λ c. not (has_chunk c s)) (λ c. c) (chunks_over s.chunk first count)
+
+-- that one; or the one that these sectors begin in, where it has them all
+abbrev pub next_over : ℕ → ℕ → Snap → ℕ
+next_over first count s = unwrap_or (unsaved_in first count s) (first / s.chunk)
+
+-- One round: each snapshot saves the first of these chunks that it lacks.
+abbrev pub saved_round : ℕ → ℕ → Volume → Volume
+saved_round first count v = save_at (next_over first count) v.origin v.snaps
+
+abbrev pub saved_rounds : ℕ → ℕ → ℕ → Volume → Volume
+saved_rounds first count zero v = v
+saved_rounds first count (suc n) v = saved_rounds first count n (saved_round first count v)
+
+-- Each other snapshot saves all chunks that so many sectors touch from this one on, the lowest first. The snapshots take
+-- turns, so that their reads of the origin meet in this order. None of them lacks more chunks than there are sectors.
+abbrev pub saved_over : ℕ → ℕ → Merging → Merging
+saved_over first count m = record m { volume = saved_rounds first count count m.volume }
 
 -- a read of the store
 abbrev pub read_then : Operation → (Merging → Merging) → Merging → Merging
@@ -105,12 +124,12 @@ write_disk first count bytes m =
 abbrev pub sectors_in : Pair → Merging → ℕ
 sectors_in p m = count_of m.merge.chunk (sectors_of m.volume.origin) p.old
 
--- The chunk of one pair is copied to the origin disk. Each other snapshot saves it first.
+-- The chunk of one pair is copied to the origin disk. Each other snapshot saves first what it touches.
 abbrev pub copy_back : Pair → Merging → Merging
 copy_back p m =
     read_then (Reads (m.merge.chunk * p.new) (sectors_in p m))
     (write_disk (m.merge.chunk * p.old) (sectors_in p m) (sectors_at m.merge.store.bytes (m.merge.chunk * p.new) (sectors_in p m)))
-    (saved_first (m.merge.chunk * p.old) m)
+    (saved_over (m.merge.chunk * p.old) (sectors_in p m) m)
 
 -- the chunks of these pairs, from the last backwards
 abbrev pub copy_all : List Pair → Merging → Merging

@@ -21,14 +21,18 @@ pub record Answered : Type 0 where
   pub volume : Volume
   pub reply : Reply
 
--- The chunk of this sector of the origin is saved in each live snapshot, in order of attaching. Only their reads of the
+-- The chunk that is wanted of each snapshot is saved in it, where it is live, in order of attaching. Only their reads of the
 -- origin meet one another: a snapshot's other operations go to its own store.
-abbrev pub save_all : ℕ → Device → List Snap → Volume
-save_all first origin [] = record { origin = origin; snaps = [] }
-save_all first origin (s ∷ snaps) =
-    let here = save (first / s.chunk) origin s in
-    let rest = save_all first here.origin snaps in
+abbrev pub save_at : (Snap → ℕ) → Device → List Snap → Volume
+save_at wanted origin [] = record { origin = origin; snaps = [] }
+save_at wanted origin (s ∷ snaps) =
+    let here = save (wanted s) origin s in
+    let rest = save_at wanted here.origin snaps in
     record { origin = rest.origin; snaps = here.snap ∷ rest.snaps }
+
+-- the chunk of this sector of the origin is saved in each
+abbrev pub save_all : ℕ → Device → List Snap → Volume
+save_all first origin snaps = save_at (λ s. first / s.chunk) origin snaps
 
 -- so many sectors are written to the origin's device
 abbrev pub write_disk : Span → List ℕ → Volume → Answered

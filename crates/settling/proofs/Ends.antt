@@ -1,6 +1,6 @@
 -- One snapshot's copy from any stage to its end: it is published, or the snapshot is spoiled and its mark is tried. What is
 -- left is what the big step says.
-use Rattle.std.proofs.Common.{◌≡◌, inl, inr, ℕ, ◌+◌, ◌*◌, ◌/◌, ◌%◌, ◌<◌, Bool, true, false, List, [], ◌∷◌, ◌++◌, length, map, Option, None, Some, refl, ap, ◌∙◌, sym, subst}
+use Rattle.std.proofs.Common.{◌≡◌, inl, inr, ℕ, ◌+◌, ◌*◌, ◌/◌, ◌%◌, ◌<◌, Bool, true, false, List, [], ◌∷◌, ◌++◌, length, map, Option, Some, refl, ap, ◌∙◌, sym, subst}
 use Rattle.std.specs.Prelude.{◌==◌, ◌&&◌, not, if◌then◌else◌}
 use Rattle.std.specs.List.{list_any}
 use Rattle.std.proofs.lemmas.Bool.{cases_Bool, cond-true, cond-false, true≢false}
@@ -22,8 +22,8 @@ use Rattle.event_machine.specs.Held.{Held, Going, MergeHeld, Moving, with_store,
 use Rattle.event_machine.specs.Due.{copy_at, is_reading, least_in}
 use Rattle.event_machine.specs.Again.{again, placed, refused}
 use Rattle.settled.proofs.Each.{Each, each_weaker}
-use Rattle.settling.proofs.Goes.{Goes, goes_on}
-use Rattle.event_machine.proofs.Around.{at_with, IsIdle, IsLater}
+use Rattle.settling.proofs.Goes.{no_start, Goes, goes_on}
+use Rattle.event_machine.proofs.Around.{at_with, IsIdle, IsLater, IsBefore}
 use Rattle.settling.proofs.Stages.{holding, copying, marks_here, reads_done, reads_failed, writes_done, writes_failed, zeros_lacking, zeros_done, zeros_failed, area_done, area_failed, publishes}
 
 -- the requests in flight once a snapshot's copy came to its end
@@ -34,49 +34,61 @@ requests_after g snaps h rs = map (again g snaps) (map (if h.snap.live then plac
 abbrev pub IsUnread : List Going → Type 0
 IsUnread rs = (h : Held) (c : ℕ) → list_any (is_reading h c) rs ≡ false
 
-module _ (g : Option MergeHeld) (done rest : List Held) (rs : List Going) (a : Option Reply) (k : ℕ) where
-  -- A volume goes on to one where that snapshot is idle, and is this one. While it is live it has these pairs and this next
-  -- place, and the area after the current one is not zeroed.
+-- what a publication starts, in a snapshot that is live
+abbrev pub started_if : (Moving → Moving) → Bool → Moving → Moving
+started_if starts live v = if live then starts v else v
+
+pub unstarted : (live : Bool) (v : Moving) → started_if no_start live v ≡ v
+unstarted true v = refl
+unstarted false v = refl
+
+module _ (starts : Moving → Moving) (g : Option MergeHeld) (done rest : List Held) (rs : List Going) (a : Option Reply) (k : ℕ) where
+  -- A volume goes on to one where that snapshot is idle, and is this one, and then to what its publication starts. While it is
+  -- live it has these pairs and this next place, and the area after the current one is not zeroed.
   pub record Ends (origin : Device) (v : Moving) (ps : List Pair) (nx : ℕ) (target : Snap) : Type 0 where
     pub held : Held
     pub snap : held.snap ≡ target
     pub idle : IsIdle held
-    pub goes : Goes v (at_with g origin (done ++ held ∷ rest) (requests_after g (done ++ held ∷ rest) held rs) a k)
+    pub goes : Goes starts v (started_if starts held.snap.live (at_with g origin (done ++ held ∷ rest) (requests_after g (done ++ held ∷ rest) held rs) a k))
     pub pairs : held.snap.live ≡ true → held.pairs ≡ ps
     pub next : held.snap.live ≡ true → held.next ≡ nx
     pub zeroed : held.snap.live ≡ true → held.zeroed ≡ false
 
-  pub ends_after : (origin : Device) (u v : Moving) (ps : List Pair) (nx : ℕ) (t : Snap) → Goes u v → Ends origin v ps nx t → Ends origin u ps nx t
+  pub ends_after : (origin : Device) (u v : Moving) (ps : List Pair) (nx : ℕ) (t : Snap) → Goes starts u v → Ends origin v ps nx t → Ends origin u ps nx t
   ends_after origin u v ps nx t goes e = record { held = e.held; snap = e.snap; idle = e.idle; goes = goes_on _ _ _ goes e.goes; pairs = e.pairs; next = e.next; zeroed = e.zeroed }
 
   pub ends_as : (origin : Device) (v : Moving) (ps : List Pair) (nx : ℕ) (t u : Snap) → t ≡ u → Ends origin v ps nx t → Ends origin v ps nx u
   ends_as origin v ps nx t u same e = record { held = e.held; snap = e.snap ∙ same; idle = e.idle; goes = e.goes; pairs = e.pairs; next = e.next; zeroed = e.zeroed }
 
   -- a spoiled snapshot
-  pub ends_spoiled : (origin : Device) (h : Held) (ps : List Pair) (nx : ℕ) → Each IsIdle done → Ends origin (at_with g origin (done ++ spoiled h ∷ rest) (map (refused h.snap.number) rs) a k) ps nx (spoilt h.snap)
+  pub ends_spoiled : (origin : Device) (h : Held) (ps : List Pair) (nx : ℕ) → Each IsLater done → Ends origin (at_with g origin (done ++ spoiled h ∷ rest) (map (refused h.snap.number) rs) a k) ps nx (spoilt h.snap)
   ends_spoiled origin h ps nx before =
       let after : Held = record h { snap = spoilt h.snap; untried = false; copies = []; marks = [] } in
       record {
         held = after;
         snap = refl;
         idle = record { tried = refl; copies = refl; marks = refl };
-        goes = marks_here g origin done rest (map (refused h.snap.number) rs) a k (spoiled h) (each_weaker IsIdle (λ (d : Held). d.untried ≡ false) done (λ d i. i.tried) before) refl;
+        goes = marks_here g origin done rest (map (refused h.snap.number) rs) a k (spoiled h) (each_weaker IsLater (λ (d : Held). d.untried ≡ false) done (λ d i. i.tried) before) refl;
         pairs = λ live. absurd (true≢false (sym live));
         next = λ live. absurd (true≢false (sym live));
         zeroed = λ live. absurd (true≢false (sym live));
       }
 
-  module _ (n : ℕ) (q : Pair) (ps : List Pair) (nx : ℕ) (before : Each IsIdle done) (later : Each IsLater rest) (unread : IsUnread rs) where
+  module _ (n : ℕ) (q : Pair) (ps : List Pair) (nx : ℕ) (before : Each (IsBefore n) done) (later : Each IsLater rest) (unread : IsUnread rs) where
+    befores : Each IsLater done
+    befores = each_weaker (IsBefore n) IsLater done (λ d i. i.later) before
+
     -- a committed copy
     ends_published : (origin : Device) (s : Snap) (z : Bool) → s.live ≡ true → z ≡ false → Ends origin (at_with g origin (done ++ holding s (ps ++ q ∷ []) nx z [] ((record { number = n; chunk = q.old }) ∷ []) ∷ rest) rs a k) (ps ++ q ∷ []) nx s
     ends_published origin s z live unzeroed =
         let now : Held = holding s (ps ++ q ∷ []) nx z [] [] in
         let same : map (again g (done ++ now ∷ rest)) (map (placed now) rs) ≡ requests_after g (done ++ now ∷ rest) now rs = ap (λ f. map (again g (done ++ now ∷ rest)) (map f rs)) (sym (cond-true _ _ _ live)) in
+        let ended : starts (at_with g origin (done ++ now ∷ rest) (map (again g (done ++ now ∷ rest)) (map (placed now) rs)) a k) ≡ starts (at_with g origin (done ++ now ∷ rest) (requests_after g (done ++ now ∷ rest) now rs) a k) = ap (λ x. starts (at_with g origin (done ++ now ∷ rest) x a k)) same in
         record {
           held = now;
           snap = refl;
           idle = record { tried = refl; copies = refl; marks = refl };
-          goes = subst (λ (x : List Going). Goes (at_with g origin (done ++ holding s (ps ++ q ∷ []) nx z [] ((record { number = n; chunk = q.old }) ∷ []) ∷ rest) rs a k) (at_with g origin (done ++ now ∷ rest) x a k)) same
+          goes = subst (Goes starts (at_with g origin (done ++ holding s (ps ++ q ∷ []) nx z [] ((record { number = n; chunk = q.old }) ∷ []) ∷ rest) rs a k)) (ended ∙ sym (cond-true _ _ _ live))
               (publishes g done rest a k s (ps ++ q ∷ []) nx z n q before later origin rs unread);
           pairs = λ on. refl;
           next = λ on. refl;
@@ -94,7 +106,7 @@ module _ (g : Option MergeHeld) (done rest : List Held) (rs : List Going) (a : O
           | inl ok ↦ ends_as origin v (ps ++ q ∷ []) nx now (write_pair (length ps) q s) (sym (cond-true _ _ _ ok))
               (ends_after origin v _ (ps ++ q ∷ []) nx now (area_done g done rest a k s ps nx z n q before later origin rs bytes some ready ok) (ends_published origin now (z && not (((length ps + 1) % (32 * s.chunk)) == 0)) live unzeroed))
           | inr failed ↦ ends_as origin v (ps ++ q ∷ []) nx (spoilt now) (write_pair (length ps) q s) (sym (cond-false _ _ _ failed))
-              (ends_after origin v _ (ps ++ q ∷ []) nx (spoilt now) (area_failed g done rest a k s ps nx z n q before later origin rs bytes some ready failed) (ends_spoiled origin (with_store (holding s ps nx z (copying n q Written bytes ∷ []) []) now.store) (ps ++ q ∷ []) nx before))
+              (ends_after origin v _ (ps ++ q ∷ []) nx (spoilt now) (area_failed g done rest a k s ps nx z n q before later origin rs bytes some ready failed) (ends_spoiled origin (with_store (holding s ps nx z (copying n q Written bytes ∷ []) []) now.store) (ps ++ q ∷ []) nx befores))
         ]
 
     -- a copy that is written
@@ -109,12 +121,12 @@ module _ (g : Option MergeHeld) (done rest : List Held) (rs : List Going) (a : O
           | inr part ↦ ends_as origin v (ps ++ q ∷ []) nx (write_pair (length ps) q s) (commit (length ps) q s) (sym (cond-false _ _ _ part)) (ends_area origin s false bytes some live (rw part refl) refl)
           | inl fill ↦ elim (cases_Bool (lacks_area next s)) [
             | inl lacks ↦ ends_as origin v (ps ++ q ∷ []) nx (spoilt s) (commit (length ps) q s) (sym (cond-true _ _ _ fill ∙ cond-true _ _ _ lacks))
-                (ends_after origin v _ (ps ++ q ∷ []) nx (spoilt s) (zeros_lacking g done rest a k s ps nx false n q before later origin rs bytes some fill refl lacks) (ends_spoiled origin (holding s ps nx false (copying n q Written bytes ∷ []) []) (ps ++ q ∷ []) nx before))
+                (ends_after origin v _ (ps ++ q ∷ []) nx (spoilt s) (zeros_lacking g done rest a k s ps nx false n q before later origin rs bytes some fill refl lacks) (ends_spoiled origin (holding s ps nx false (copying n q Written bytes ∷ []) []) (ps ++ q ∷ []) nx befores))
             | inr room ↦ elim (cases_Bool (answers s.store op)) [
               | inl ok ↦ ends_as origin v (ps ++ q ∷ []) nx (write_pair (length ps) q now) (commit (length ps) q s) (sym (cond-true _ _ _ fill ∙ cond-false _ _ _ room ∙ cond-true _ _ _ ok))
                   (ends_after origin v _ (ps ++ q ∷ []) nx (write_pair (length ps) q now) (zeros_done g done rest a k s ps nx false n q before later origin rs bytes some fill refl room ok) (ends_area origin now true bytes some live (rw fill refl) (rw fill refl)))
               | inr failed ↦ ends_as origin v (ps ++ q ∷ []) nx (spoilt now) (commit (length ps) q s) (sym (cond-true _ _ _ fill ∙ cond-false _ _ _ room ∙ cond-false _ _ _ failed))
-                  (ends_after origin v _ (ps ++ q ∷ []) nx (spoilt now) (zeros_failed g done rest a k s ps nx false n q before later origin rs bytes some fill refl room failed) (ends_spoiled origin (with_store (holding s ps nx false (copying n q Written bytes ∷ []) []) now.store) (ps ++ q ∷ []) nx before))
+                  (ends_after origin v _ (ps ++ q ∷ []) nx (spoilt now) (zeros_failed g done rest a k s ps nx false n q before later origin rs bytes some fill refl room failed) (ends_spoiled origin (with_store (holding s ps nx false (copying n q Written bytes ∷ []) []) now.store) (ps ++ q ∷ []) nx befores))
             ]
           ]
         ]
@@ -133,7 +145,7 @@ module _ (g : Option MergeHeld) (done rest : List Held) (rs : List Going) (a : O
               (ap (commit (length ps) q) here ∙ ap (λ x. commit (length x) q (put (copied s.chunk origin.bytes s.store.bytes q.old q.new))) (sym has) ∙ sym (cond-true _ _ _ ok))
               (ends_after origin v _ (ps ++ q ∷ []) nx (commit (length ps) q now) (writes_done g done rest a k s ps nx false n q before later origin rs bytes ok) (ends_commit origin now bytes some live))
           | inr failed ↦ ends_as origin v (ps ++ q ∷ []) nx (spoilt now) (copy origin.bytes q s) (ap spoilt here ∙ sym (cond-false _ _ _ failed))
-              (ends_after origin v _ (ps ++ q ∷ []) nx (spoilt now) (writes_failed g done rest a k s ps nx false n q before later origin rs bytes failed) (ends_spoiled origin (with_store (holding s ps nx false (copying n q Read bytes ∷ []) []) now.store) (ps ++ q ∷ []) nx before))
+              (ends_after origin v _ (ps ++ q ∷ []) nx (spoilt now) (writes_failed g done rest a k s ps nx false n q before later origin rs bytes failed) (ends_spoiled origin (with_store (holding s ps nx false (copying n q Read bytes ∷ []) []) now.store) (ps ++ q ∷ []) nx befores))
         ]
 
     -- a copy that waits: it is read from the origin disk
@@ -149,5 +161,5 @@ module _ (g : Option MergeHeld) (done rest : List Held) (rs : List Going) (a : O
           | inl ok ↦ ends_as (met origin op) v (ps ++ q ∷ []) nx (copy origin.bytes q s) target (sym (cond-true _ _ _ ok))
               (ends_after (met origin op) v _ (ps ++ q ∷ []) nx (copy origin.bytes q s) (reads_done g done rest a k s ps nx false n q before later origin rs low ok) (ends_write (met origin op) s bytes some live has same))
           | inr failed ↦ ends_as (met origin op) v (ps ++ q ∷ []) nx (spoilt s) target (sym (cond-false _ _ _ failed))
-              (ends_after (met origin op) v _ (ps ++ q ∷ []) nx (spoilt s) (reads_failed g done rest a k s ps nx false n q before later origin rs low failed) (ends_spoiled (met origin op) (holding s ps nx false (copying n q Waiting [] ∷ []) []) (ps ++ q ∷ []) nx before))
+              (ends_after (met origin op) v _ (ps ++ q ∷ []) nx (spoilt s) (reads_failed g done rest a k s ps nx false n q before later origin rs low failed) (ends_spoiled (met origin op) (holding s ps nx false (copying n q Waiting [] ∷ []) []) (ps ++ q ∷ []) nx befores))
         ]

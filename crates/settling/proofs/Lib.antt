@@ -6,6 +6,8 @@ pub mod Resting
 pub mod Primed
 pub mod Starts
 pub mod SavesSettle
+pub mod Waits
+pub mod RoundsSettle
 pub mod MergeStages
 pub mod OriginWrites
 pub mod Issued

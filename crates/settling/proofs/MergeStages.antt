@@ -14,7 +14,7 @@ use Rattle.volume_laws.specs.MergeDue.{is_none, last_of, one_of}
 use Rattle.settled.specs.Devices.{Device, sectors_of, answers, met, written_by}
 use Rattle.settled.specs.Merges.{Merge, last_run, without_slots}
 use Rattle.event_machine.specs.Held.{Held, MergeHeld, Moving}
-use Rattle.event_machine.specs.Again.{is_clear}
+use Rattle.event_machine.specs.Again.{is_clear_over}
 use Rattle.event_machine.specs.MergeDue.{in_area, is_free, can_group, can_read_area, can_read, is_readable, can_write, is_copied, can_flush, can_commit_group}
 use Rattle.event_machine.specs.MergeStepping.{start_next, without_last, read_chunk}
 use Rattle.event_machine.proofs.Around.{at_with, IsIdle}
@@ -101,7 +101,7 @@ module _ (origin : Device) (snaps : List Held) (a : Option Reply) (k : ℕ) (idl
     reads_chunk : can_read [] waiting ≡ true
     reads_chunk = ap (is_readable []) (last_is xs q)
 
-    read_due : one_of (can_commit_group waiting) MergeCommit (one_of (can_flush waiting) MergeFlush (one_of (can_write snaps waiting) MergeWrite (one_of (can_read [] waiting) MergeRead (one_of (can_read_area waiting) MergeAreaRead (one_of (can_group waiting) MergeGroup None))))) ≡ Some MergeRead
+    read_due : one_of (can_commit_group waiting) MergeCommit (one_of (can_flush waiting) MergeFlush (one_of (can_write (sectors_of origin) snaps waiting) MergeWrite (one_of (can_read [] waiting) MergeRead (one_of (can_read_area waiting) MergeAreaRead (one_of (can_group waiting) MergeGroup None))))) ≡ Some MergeRead
     read_due =
         let not_copied : is_copied waiting ≡ false = ap (λ b. b && not (is_none cs)) (some_there xs q) in
         ap (λ b. one_of b MergeCommit (one_of (can_flush waiting) MergeFlush (one_of (can_read [] waiting) MergeRead (one_of (can_read_area waiting) MergeAreaRead (one_of (can_group waiting) MergeGroup None))))) (and_last (is_copied waiting) false refl)
@@ -120,7 +120,7 @@ module _ (origin : Device) (snaps : List Held) (a : Option Reply) (k : ℕ) (idl
         (cond-true _ _ _ reads_chunk ∙ ap (λ o. read_chunk o waiting (with_group waiting)) (last_is xs q) ∙ cond-false _ _ _ lost)
 
   -- MergeWrite
-  module _ (g : Merge) (ps xs cs : List Pair) (q : Pair) (buffer : List ℕ) (clear : is_clear snaps (g.chunk * q.old) ≡ true) where
+  module _ (g : Merge) (ps xs cs : List Pair) (q : Pair) (buffer : List ℕ) (clear : is_clear_over snaps (g.chunk * q.old) (count_of g.chunk (sectors_of origin) q.old) ≡ true) where
     abbrev pub reading : MergeHeld
     reading = grouped g ps xs (q ∷ []) buffer cs [] false
 
@@ -130,10 +130,10 @@ module _ (origin : Device) (snaps : List Held) (a : Option Reply) (k : ℕ) (idl
     abbrev pub disk_after : Device
     disk_after = written_by origin write_op (with_sectors origin.bytes (g.chunk * q.old) buffer)
 
-    write_due : one_of (can_commit_group reading) MergeCommit (one_of (can_flush reading) MergeFlush (one_of (can_write snaps reading) MergeWrite (one_of (can_read [] reading) MergeRead (one_of (can_read_area reading) MergeAreaRead (one_of (can_group reading) MergeGroup None))))) ≡ Some MergeWrite
+    write_due : one_of (can_commit_group reading) MergeCommit (one_of (can_flush reading) MergeFlush (one_of (can_write (sectors_of origin) snaps reading) MergeWrite (one_of (can_read [] reading) MergeRead (one_of (can_read_area reading) MergeAreaRead (one_of (can_group reading) MergeGroup None))))) ≡ Some MergeWrite
     write_due =
-        ap (λ b. one_of b MergeCommit (one_of (can_flush reading) MergeFlush (one_of (can_write snaps reading) MergeWrite (one_of (can_read_area reading) MergeAreaRead (one_of (can_group reading) MergeGroup None))))) (and_last (is_copied reading) false refl)
-        ∙ ap (λ b. one_of (b && true) MergeFlush (one_of (can_write snaps reading) MergeWrite (one_of (can_read_area reading) MergeAreaRead (one_of (can_group reading) MergeGroup None)))) (and_last (is_none xs) false refl)
+        ap (λ b. one_of b MergeCommit (one_of (can_flush reading) MergeFlush (one_of (can_write (sectors_of origin) snaps reading) MergeWrite (one_of (can_read_area reading) MergeAreaRead (one_of (can_group reading) MergeGroup None))))) (and_last (is_copied reading) false refl)
+        ∙ ap (λ b. one_of (b && true) MergeFlush (one_of (can_write (sectors_of origin) snaps reading) MergeWrite (one_of (can_read_area reading) MergeAreaRead (one_of (can_group reading) MergeGroup None)))) (and_last (is_none xs) false refl)
         ∙ ap (λ b. one_of b MergeWrite (one_of (can_read_area reading) MergeAreaRead (one_of (can_group reading) MergeGroup None))) clear
 
     pub chunk_written : answers origin write_op ≡ true → GoesAll (with_group reading) (start_next g.chunk (last_of xs) (at_with (Some (grouped g ps xs [] [] (q ∷ cs) [] false)) disk_after snaps [] a k))

@@ -19,7 +19,7 @@ use Rattle.event_machine.specs.Again.{again, is_saved, is_clear, is_grouped, mer
 use Rattle.event_machine.specs.Stepping.{for_some, issue, write_reply}
 use Rattle.event_machine.proofs.Lists.{same_number}
 use Rattle.settled.proofs.Each.{Each, each_weaker}
-use Rattle.settling.proofs.Goes.{Goes, goes_step}
+use Rattle.settling.proofs.Goes.{no_start, Goes, goes_by}
 use Rattle.event_machine.proofs.Around.{at_with, IsIdle, due_request}
 use Rattle.settling.proofs.Ends.{IsUnread, requests_after}
 use Rattle.event_machine.proofs.Clears.{and_last, unclear_unsaved, unclear_untried, clear_all}
@@ -67,13 +67,13 @@ module _ (g : Option MergeHeld) (sectors number : ℕ) (range : Range) (ungroupe
 
   -- the write itself, once each snapshot is idle and has the chunk
   pub issues : (origin : Device) (snaps : List Held) → Each IsIdle snaps → Each (λ d. is_saved range.first d ≡ true) snaps →
-      Goes (writing origin snaps) (at_with g (written_by origin (Writes range.first range.count) (with_sectors origin.bytes range.first bytes)) snaps [] (Some (write_reply origin range.first range.count)) k)
+      Goes no_start (writing origin snaps) (at_with g (written_by origin (Writes range.first range.count) (with_sectors origin.bytes range.first bytes)) snaps [] (Some (write_reply origin range.first range.count)) k)
   issues origin snaps idle saved =
       let clear : is_clear snaps range.first ≡ true = clear_all range.first snaps saved (each_weaker IsIdle (λ d. is_untried d ≡ false) snaps (λ d i. i.tried) idle) in
       let v : Moving = at_with g origin snaps (going Origin ∷ []) a k in
       let mine : Going → Bool = λ r. r.number == number in
       let after : Device = written_by origin (Writes range.first range.count) (with_sectors origin.bytes range.first bytes) in
       goes_between _ _ _ _ (ap (λ r. at_with g origin snaps (going r ∷ []) a k) (routed_by snaps ∙ ap (write_route_of false None) clear)) refl
-      (goes_step v _ (Issue number) (due_request origin snaps (going Origin ∷ []) a k idle (Some number) refl)
+      (goes_by v _ (Issue number) (due_request origin snaps (going Origin ∷ []) a k idle (Some number) refl) tt
       (ap (λ o. for_some o (λ (r : Going). issue r.route mine r v) v) (cond-true _ _ _ (same_number number true))
       ∙ ap (λ rs. at_with g after snaps rs (Some (write_reply origin range.first range.count)) k) (cond-true _ _ _ (eq-eqb number number refl))))

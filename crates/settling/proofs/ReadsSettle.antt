@@ -35,8 +35,8 @@ use Rattle.event_machine.proofs.Found.{split_at, none_that, served_nowhere}
 use Rattle.settling.proofs.Issued.{mine_of, issued, answered_here, Serves, serves_there, serves_settles}
 use Rattle.settling.proofs.Served.{snap_of, each_here, served_by}
 
-pub goes_to : (u v w : Moving) → Goes u v → v ≡ w → Goes u w
-goes_to u v w goes same = subst (Goes u) same goes
+pub goes_to : {starts : Moving → Moving} → (u v w : Moving) → Goes starts u v → v ≡ w → Goes starts u w
+goes_to {starts} u v w goes same = subst (Goes starts u) same goes
 
 -- the request
 abbrev pub read_request : Range → Request

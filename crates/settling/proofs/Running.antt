@@ -1,5 +1,5 @@
 -- A whole command, piece by piece, leaves what the settled machine says.
-use Rattle.std.proofs.Common.{◌≡◌, ℕ, ◌+◌, ◌*◌, ◌/◌, ◌<◌, ◌≤◌, List, [], ◌∷◌, ◌++◌, length, take, drop, map, Some, arith, ap, ◌∙◌, sym, subst, length-take, length-drop}
+use Rattle.std.proofs.Common.{◌≡◌, ℕ, ◌+◌, ◌*◌, ◌≤◌, true, List, [], ◌∷◌, ◌++◌, length, take, drop, map, Some, arith, ap, ◌∙◌, sym, subst, length-take, length-drop}
 use Rattle.sector.specs.declared.range.Range.{Range}
 use Rattle.chunk.specs.Pieces.{Span, span_of, Join, IsInOneChunk, AreCutFrom, pieces_of}
 use Rattle.plain.specs.declared.request.Request.{Request}
@@ -8,6 +8,9 @@ use Rattle.plain.specs.declared.request.Op.{Op}
 use Rattle.plain.specs.declared.request.Op.TheVariants.{Read, Write}
 use Rattle.plain.specs.declared.request.Reply.{Reply}
 use Rattle.plain.specs.declared.request.Reply.TheVariants.{Data, Written, Refused}
+use Rattle.chunk.specs.Sizes.{is_chunk}
+use Rattle.chunk.proofs.Limits.{is_chunk-some}
+use Rattle.chunk.proofs.Wider.{wider}
 use Rattle.chunk.proofs.PiecePlaces.{join_le, piece_high}
 use Rattle.settled.specs.Snaps.{Snap, Volume}
 use Rattle.settled.specs.Pieces.{Answered}
@@ -39,11 +42,11 @@ pub record FitsPiece (sectors chunk : ℕ) (piece : Span) : Type 0 where
   pub one : IsInOneChunk chunk piece
   pub inside : piece.first + piece.count ≤ sectors
 
-module _ (sectors chunk : ℕ) (pos : 0 < chunk) where
+module _ (sectors chunk : ℕ) (allowed : is_chunk chunk ≡ true) where
   pub fits_all : (range : Range) (snaps : List Held) → IsInOneChunk chunk (span_of range) → Each (HasChunks chunk) (map (λ (h : Held). h.snap) snaps) → Each (IsInChunk range) snaps
   fits_all range [] one all = tt
   fits_all range (h ∷ snaps) one all =
-      (subst (λ (x : ℕ). range.first + range.count ≤ x * (range.first / x) + x) (sym all.0) (piece_high chunk range.first range.count pos one.some one.one), fits_all range snaps one all.1)
+      (wider chunk h.snap.chunk range.first range.count allowed all.0.0 all.0.1 (piece_high chunk range.first range.count (is_chunk-some chunk allowed) one.some one.one), fits_all range snaps one all.1)
 
   -- one piece
   piece_left : (number : ℕ) (dev : Dev) (op : Op) (piece : Span) (v mid : Moving) (got : Reply) → IsAtRest sectors v → Each (HasChunks chunk) (map (λ (h : Held). h.snap) v.snaps) → FitsPiece sectors chunk piece → FitsRange op piece.count → IsDone number dev op piece v mid got →

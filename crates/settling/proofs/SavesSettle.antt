@@ -17,20 +17,20 @@ use Rattle.settled.specs.Pieces.{save_all}
 use Rattle.event_machine.specs.Held.{Held, Going, MergeHeld, Moving, spoiled}
 use Rattle.event_machine.specs.Due.{copy_at, least_in}
 use Rattle.event_machine.specs.Again.{again, is_saved}
-use Rattle.event_machine.specs.Submitting.{needs_none, is_filled, with_copy, started_all}
+use Rattle.event_machine.specs.Submitting.{needs_none, is_filled, with_copy, started_all, chunk_at}
 use Rattle.event_machine.specs.Rest.{IsKept, IsResting}
 use Rattle.settled.proofs.Each.{Each, each_weaker, each_more}
-use Rattle.settling.proofs.Goes.{Goes, goes_none, goes_on}
-use Rattle.event_machine.proofs.Around.{at_with, IsIdle}
+use Rattle.settling.proofs.Goes.{no_start, Goes, goes_none, goes_on}
+use Rattle.event_machine.proofs.Around.{at_with, IsIdle, IsBefore, idle_before}
 use Rattle.settling.proofs.Stages.{holding, copying, marks_here}
-use Rattle.settling.proofs.Ends.{Ends, IsUnread, requests_after, ends_read}
+use Rattle.settling.proofs.Ends.{unstarted, Ends, IsUnread, requests_after, ends_read}
 use Rattle.settled.proofs.Saves.{saves_nothing, saves_full, saves_copy, chunk_read}
 use Rattle.settling.proofs.Resting.{rests_live, saved_chunk, saved_snap}
 use Rattle.settling.proofs.Starts.{needs_same, next_same, copy_bytes, as_holding, saved_already, saved_now}
 use Rattle.settling.proofs.Primed.{tried_of, primed, primed_none, primed_full, primed_copy, resting_idle, primed_later, primed_above, least_low}
 
-pub goes_between : (u u' v v' : Moving) → u ≡ u' → v' ≡ v → Goes u' v' → Goes u v
-goes_between u u' v v' a b goes = subst (λ (x : Moving). Goes x v) (sym a) (subst (Goes u') b goes)
+pub goes_between : {starts : Moving → Moving} → (u u' v v' : Moving) → u ≡ u' → v' ≡ v → Goes starts u' v' → Goes starts u v
+goes_between {starts} u u' v v' a b goes = subst (λ (x : Moving). Goes starts x v) (sym a) (subst (Goes starts u') b goes)
 
 abbrev pub snap_of : Held → Snap
 snap_of h = h.snap
@@ -49,52 +49,52 @@ module _ (g : Option MergeHeld) (sectors first : ℕ) (requests : List Held → 
   with_requests origin snaps = at_with g origin snaps (requests snaps) a k
 
   -- a spoiled snapshot's mark
-  tries_here : (origin : Device) (done rest : List Held) (h : Held) → Each (λ d. d.untried ≡ false) done → Goes (with_requests origin (done ++ spoiled h ∷ rest)) (with_requests origin (done ++ tried_of h ∷ rest))
+  tries_here : {starts : Moving → Moving} → (origin : Device) (done rest : List Held) (h : Held) → Each (λ d. d.untried ≡ false) done → Goes starts (with_requests origin (done ++ spoiled h ∷ rest)) (with_requests origin (done ++ tried_of h ∷ rest))
   tries_here origin done rest h before =
       goes_between _ _ _ _ refl (ap (λ rs. at_with g origin (done ++ tried_of h ∷ rest) rs a k) (routed.tried done rest (spoiled h) (tried_of h) refl))
       (marks_here g origin done rest (requests (done ++ spoiled h ∷ rest)) a k (spoiled h) before refl)
 
   -- one snapshot more that is done with
-  onward : (origin origin' : Device) (done xs ys : List Held) (x : Held) → Goes (with_requests origin ((done ++ x ∷ []) ++ xs)) (with_requests origin' ((done ++ x ∷ []) ++ ys)) → Goes (with_requests origin (done ++ x ∷ xs)) (with_requests origin' (done ++ x ∷ ys))
+  pub onward : {starts : Moving → Moving} → (origin origin' : Device) (done xs ys : List Held) (x : Held) → Goes starts (with_requests origin ((done ++ x ∷ []) ++ xs)) (with_requests origin' ((done ++ x ∷ []) ++ ys)) → Goes starts (with_requests origin (done ++ x ∷ xs)) (with_requests origin' (done ++ x ∷ ys))
   onward origin origin' done xs ys x goes = goes_between _ _ _ _ (ap (with_requests origin) (sym (append_assoc done (x ∷ []) xs))) (ap (with_requests origin') (append_assoc done (x ∷ []) ys)) goes
 
   -- the marks of the stores that were full
-  tries_all : (origin : Device) (done snaps : List Held) (m : ℕ) → Each (λ d. d.untried ≡ false) done → Each (λ d. d.untried ≡ false) snaps → Goes (with_requests origin (done ++ started_all first m snaps)) (with_requests origin (done ++ primed first m snaps))
-  tries_all origin done [] m before tried = goes_none _
-  tries_all origin done (h ∷ snaps) m before tried = elim (cases_Bool (needs_none (first / h.snap.chunk) h)) [
+  pub tries_all : {starts : Moving → Moving} → (at : Held → ℕ) (origin : Device) (done snaps : List Held) (m : ℕ) → Each (λ d. d.untried ≡ false) done → Each (λ d. d.untried ≡ false) snaps → Goes starts (with_requests origin (done ++ started_all at m snaps)) (with_requests origin (done ++ primed at m snaps))
+  tries_all at origin done [] m before tried = goes_none _
+  tries_all at origin done (h ∷ snaps) m before tried = elim (cases_Bool (needs_none (at h) h)) [
     | inl none ↦ goes_between _ _ _ _ (ap (λ xs. with_requests origin (done ++ xs)) (cond-true _ _ _ none)) (ap (λ xs. with_requests origin (done ++ xs)) (sym (cond-true _ _ _ none)))
-        (onward origin origin done (started_all first m snaps) (primed first m snaps) h
-        (tries_all origin (done ++ h ∷ []) snaps m (each_more (λ (d : Held). d.untried ≡ false) done h before tried.0) tried.1))
+        (onward origin origin done (started_all at m snaps) (primed at m snaps) h
+        (tries_all at origin (done ++ h ∷ []) snaps m (each_more (λ (d : Held). d.untried ≡ false) done h before tried.0) tried.1))
     | inr some ↦ elim (cases_Bool (is_filled h)) [
-      | inl full ↦ goes_between _ _ _ _ (ap (λ xs. with_requests origin (done ++ xs)) (cond-false _ _ _ some ∙ cond-true _ _ _ full)) (ap (λ xs. with_requests origin (done ++ xs)) (sym (primed_full first m h snaps some full)))
-          (goes_on _ _ _ (tries_here origin done (started_all first m snaps) h before)
-          (onward origin origin done (started_all first m snaps) (primed first m snaps) (tried_of h)
-          (tries_all origin (done ++ tried_of h ∷ []) snaps m (each_more (λ (d : Held). d.untried ≡ false) done (tried_of h) before refl) tried.1)))
-      | inr room ↦ (let w : Held = with_copy (m + 1) (first / h.snap.chunk) h in
-          goes_between _ _ _ _ (ap (λ xs. with_requests origin (done ++ xs)) (cond-false _ _ _ some ∙ cond-false _ _ _ room)) (ap (λ xs. with_requests origin (done ++ xs)) (sym (primed_copy first m h snaps some room)))
-          (onward origin origin done (started_all first (m + 1) snaps) (primed first (m + 1) snaps) w
-          (tries_all origin (done ++ w ∷ []) snaps (m + 1) (each_more (λ (d : Held). d.untried ≡ false) done w before tried.0) tried.1)))
+      | inl full ↦ goes_between _ _ _ _ (ap (λ xs. with_requests origin (done ++ xs)) (cond-false _ _ _ some ∙ cond-true _ _ _ full)) (ap (λ xs. with_requests origin (done ++ xs)) (sym (primed_full at m h snaps some full)))
+          (goes_on _ _ _ (tries_here origin done (started_all at m snaps) h before)
+          (onward origin origin done (started_all at m snaps) (primed at m snaps) (tried_of h)
+          (tries_all at origin (done ++ tried_of h ∷ []) snaps m (each_more (λ (d : Held). d.untried ≡ false) done (tried_of h) before refl) tried.1)))
+      | inr room ↦ (let w : Held = with_copy (m + 1) (at h) h in
+          goes_between _ _ _ _ (ap (λ xs. with_requests origin (done ++ xs)) (cond-false _ _ _ some ∙ cond-false _ _ _ room)) (ap (λ xs. with_requests origin (done ++ xs)) (sym (primed_copy at m h snaps some room)))
+          (onward origin origin done (started_all at (m + 1) snaps) (primed at (m + 1) snaps) w
+          (tries_all at origin (done ++ w ∷ []) snaps (m + 1) (each_more (λ (d : Held). d.untried ≡ false) done w before tried.0) tried.1)))
     ]
   ]
 
   -- the snapshots once every copy came to its end: those after the first
   pub record Finals (v : Moving) (origin : Device) (done snaps : List Held) : Type 0 where
     pub finals : List Held
-    pub goes : Goes v (with_requests (save_all first origin (map snap_of snaps)).origin (done ++ finals))
+    pub goes : Goes no_start v (with_requests (save_all first origin (map snap_of snaps)).origin (done ++ finals))
     pub same : map snap_of finals ≡ (save_all first origin (map snap_of snaps)).snaps
     pub rest : Each (IsResting sectors) finals
     pub saved : Each (λ d. is_saved first d ≡ true) finals
 
   -- one snapshot, and then those after it
   finals_more : (origin : Device) (done snaps : List Held) (h y : Held) (m m' : ℕ) (x : Saving) → save (first / h.snap.chunk) origin h.snap ≡ x → y.snap ≡ x.snap → IsResting sectors y → is_saved first y ≡ true →
-      Goes (with_requests origin (done ++ primed first m (h ∷ snaps))) (with_requests x.origin (done ++ y ∷ primed first m' snaps)) → Finals (with_requests x.origin ((done ++ y ∷ []) ++ primed first m' snaps)) x.origin (done ++ y ∷ []) snaps → Finals (with_requests origin (done ++ primed first m (h ∷ snaps))) origin done (h ∷ snaps)
+      Goes no_start (with_requests origin (done ++ primed (chunk_at first) m (h ∷ snaps))) (with_requests x.origin (done ++ y ∷ primed (chunk_at first) m' snaps)) → Finals (with_requests x.origin ((done ++ y ∷ []) ++ primed (chunk_at first) m' snaps)) x.origin (done ++ y ∷ []) snaps → Finals (with_requests origin (done ++ primed (chunk_at first) m (h ∷ snaps))) origin done (h ∷ snaps)
   finals_more origin done snaps h y m m' x is same rest saved goes more =
       let then_all : Saving → Volume = λ (z : Saving). record { origin = (save_all first z.origin (map snap_of snaps)).origin; snaps = z.snap ∷ (save_all first z.origin (map snap_of snaps)).snaps } in
       let all : save_all first origin (map snap_of (h ∷ snaps)) ≡ then_all x = ap then_all is in
       record {
         finals = y ∷ more.finals;
         goes = goes_on _ _ _ goes (goes_between _ _ _ _ refl (ap (λ (z : Volume). with_requests z.origin (done ++ y ∷ more.finals)) (sym all))
-            (onward x.origin (save_all first x.origin (map snap_of snaps)).origin done (primed first m' snaps) more.finals y more.goes));
+            (onward x.origin (save_all first x.origin (map snap_of snaps)).origin done (primed (chunk_at first) m' snaps) more.finals y more.goes));
         same = ap (λ s. s ∷ map snap_of more.finals) same ∙ ap (λ ss. x.snap ∷ ss) more.same ∙ sym (ap (λ (z : Volume). z.snaps) all);
         rest = (rest, more.rest);
         saved = (saved, more.saved);
@@ -112,7 +112,7 @@ module _ (g : Option MergeHeld) (sectors first : ℕ) (requests : List Held → 
   record OneCopy (origin : Device) (done snaps : List Held) (h : Held) (m : ℕ) : Type 0 where
     pub held : Held
     pub snap : held.snap ≡ saved_snap sectors (first / h.snap.chunk) origin h held
-    pub goes : Goes (with_requests origin (done ++ primed first m (h ∷ snaps))) (with_requests (met origin (chunk_read (first / h.snap.chunk) origin h.snap)) (done ++ held ∷ primed first (m + 1) snaps))
+    pub goes : Goes no_start (with_requests origin (done ++ primed (chunk_at first) m (h ∷ snaps))) (with_requests (met origin (chunk_read (first / h.snap.chunk) origin h.snap)) (done ++ held ∷ primed (chunk_at first) (m + 1) snaps))
     pub rest : IsResting sectors held
     pub saved : is_saved first held ≡ true
 
@@ -123,22 +123,22 @@ module _ (g : Option MergeHeld) (sectors first : ℕ) (requests : List Held → 
       let kept : IsKept sectors h = resting.live on in
       let q : Pair = record { old = c; new = next_place s } in
       let nx : ℕ = stepped s.chunk (next_place s + 1) in
-      let rest : List Held = primed first (m + 1) snaps in
+      let rest : List Held = primed (chunk_at first) (m + 1) snaps in
       let start : Held = holding s h.pairs nx false (copying (m + 1) q Waiting [] ∷ []) [] in
       let none : is_some (place_of h.pairs c) ≡ false = ap (λ ps. is_some (place_of ps c)) (sym kept.pairs) ∙ lacks in
       let unsaved : is_saved first start ≡ false = rw (on, none) refl in
       let rs : List Going = requests (done ++ start ∷ rest) in
-      let e : Ends g done rest rs a k (met origin (chunk_read c origin s)) (at_with g origin (done ++ start ∷ rest) rs a k) (h.pairs ++ q ∷ []) nx (saved_snap sectors c origin h h) =
-      ends_read g done rest rs a k (m + 1) q h.pairs nx before (primed_later first (m + 1) snaps idle) (routed.unread (done ++ start ∷ rest)) origin s kept.order.1.some on kept.pairs (copy_bytes sectors origin s c (next_place s) whole)
-      (least_low (m + 1) (least_in (copy_at Waiting) rest) (primed_above first (m + 1) snaps idle)) in
+      let e : Ends no_start g done rest rs a k (met origin (chunk_read c origin s)) (at_with g origin (done ++ start ∷ rest) rs a k) (h.pairs ++ q ∷ []) nx (saved_snap sectors c origin h h) =
+      ends_read no_start g done rest rs a k (m + 1) q h.pairs nx (each_weaker IsIdle (IsBefore (m + 1)) done (idle_before (m + 1)) before) (primed_later (chunk_at first) (m + 1) snaps idle) (routed.unread (done ++ start ∷ rest)) origin s kept.order.1.some on kept.pairs (copy_bytes sectors origin s c (next_place s) whole)
+      (least_low (m + 1) (least_in (copy_at Waiting) rest) (primed_above (chunk_at first) (m + 1) snaps idle)) in
       let low : s.chunk * c ≤ first = piece_low s.chunk first in
       let chunk : e.held.snap.chunk ≡ s.chunk = ap (λ (t : Snap). t.chunk) e.snap ∙ saved_chunk sectors c origin h h in
       record {
         held = e.held;
         snap = e.snap;
         goes = goes_between _ _ _ _
-            (ap (λ xs. with_requests origin (done ++ xs)) (primed_copy first m h snaps some filled ∙ ap (λ (w : Held). w ∷ rest) (as_holding sectors c (m + 1) h resting kept)))
-            (ap (λ xs. at_with g (met origin (chunk_read c origin s)) (done ++ e.held ∷ rest) xs a k) (routed.saved done rest start e.held unsaved)) e.goes;
+            (ap (λ xs. with_requests origin (done ++ xs)) (primed_copy (chunk_at first) m h snaps some filled ∙ ap (λ (w : Held). w ∷ rest) (as_holding sectors c (m + 1) h resting kept)))
+            (unstarted e.held.snap.live _ ∙ ap (λ xs. at_with g (met origin (chunk_read c origin s)) (done ++ e.held ∷ rest) xs a k) (routed.saved done rest start e.held unsaved)) e.goes;
         rest = record {
           tried = e.idle.tried;
           copies = e.idle.copies;
@@ -149,7 +149,7 @@ module _ (g : Option MergeHeld) (sectors first : ℕ) (requests : List Held → 
       }
 
   -- the copies of one snapshot after the other
-  copies_all : (snaps : List Held) (origin : Device) (done : List Held) (m : ℕ) → length origin.bytes ≡ 512 * sectors → first < sectors → Each IsIdle done → Each (IsResting sectors) snaps → Finals (with_requests origin (done ++ primed first m snaps)) origin done snaps
+  copies_all : (snaps : List Held) (origin : Device) (done : List Held) (m : ℕ) → length origin.bytes ≡ 512 * sectors → first < sectors → Each IsIdle done → Each (IsResting sectors) snaps → Finals (with_requests origin (done ++ primed (chunk_at first) m snaps)) origin done snaps
   copies_all [] origin done m whole inside before rest = record { finals = []; goes = goes_none _; same = refl; rest = tt; saved = tt }
   copies_all (h ∷ snaps) origin done m whole inside before rest =
       let c : ℕ = first / h.snap.chunk in
@@ -157,7 +157,7 @@ module _ (g : Option MergeHeld) (sectors first : ℕ) (requests : List Held → 
       let needs : needs_none c h ≡ (not s.live || has_chunk c s) = needs_same sectors c h rest.0 in
       elim (cases_Bool (needs_none c h)) [
         | inl none ↦ finals_more origin done snaps h h m m (record { origin = origin; snap = s }) (saves_nothing c origin s (sym needs ∙ none)) refl rest.0 (saved_already sectors first h rest.0 none)
-            (goes_between _ _ _ _ (ap (λ xs. with_requests origin (done ++ xs)) (primed_none first m h snaps none)) refl (goes_none (with_requests origin (done ++ h ∷ primed first m snaps))))
+            (goes_between _ _ _ _ (ap (λ xs. with_requests origin (done ++ xs)) (primed_none (chunk_at first) m h snaps none)) refl (goes_none (with_requests origin (done ++ h ∷ primed (chunk_at first) m snaps))))
             (copies_all snaps origin (done ++ h ∷ []) m whole inside (each_more IsIdle done h before (resting_idle sectors h rest.0)) rest.1)
         | inr some ↦ (let both = or_false s.live (has_chunk c s) (sym needs ∙ some) in
             let kept = rest.0.live both.0 in
@@ -165,7 +165,7 @@ module _ (g : Option MergeHeld) (sectors first : ℕ) (requests : List Held → 
             elim (cases_Bool (is_filled h)) [
               | inl full ↦ finals_more origin done snaps h (tried_of h) m m (record { origin = origin; snap = spoilt s }) (saves_full c origin s (sym needs ∙ some) (sym full_same ∙ full)) refl
                   (record { tried = refl; copies = refl; marks = refl; live = λ live. absurd (true≢false (sym live)) }) refl
-                  (goes_between _ _ _ _ (ap (λ xs. with_requests origin (done ++ xs)) (primed_full first m h snaps some full)) refl (goes_none (with_requests origin (done ++ tried_of h ∷ primed first m snaps))))
+                  (goes_between _ _ _ _ (ap (λ xs. with_requests origin (done ++ xs)) (primed_full (chunk_at first) m h snaps some full)) refl (goes_none (with_requests origin (done ++ tried_of h ∷ primed (chunk_at first) m snaps))))
                   (copies_all snaps origin (done ++ tried_of h ∷ []) m whole inside (each_more IsIdle done (tried_of h) before (record { tried = refl; copies = refl; marks = refl })) rest.1)
               | inr filled ↦ (let room : is_full s ≡ false = sym full_same ∙ filled in
                   let one : OneCopy origin done snaps h m = one_copy origin done snaps h m whole inside before (each_weaker (IsResting sectors) IsIdle snaps (resting_idle sectors) rest.1) rest.0 both.0 some both.1 filled room in
@@ -175,12 +175,12 @@ module _ (g : Option MergeHeld) (sectors first : ℕ) (requests : List Held → 
       ]
 
   -- from the start of the copies to the end of them all
-  pub saves_settle : (origin : Device) (snaps : List Held) (m : ℕ) → length origin.bytes ≡ 512 * sectors → first < sectors → Each (IsResting sectors) snaps → Finals (with_requests origin (started_all first m snaps)) origin [] snaps
+  pub saves_settle : (origin : Device) (snaps : List Held) (m : ℕ) → length origin.bytes ≡ 512 * sectors → first < sectors → Each (IsResting sectors) snaps → Finals (with_requests origin (started_all (chunk_at first) m snaps)) origin [] snaps
   saves_settle origin snaps m whole inside rest =
       let last = copies_all snaps origin [] m whole inside tt rest in
       record {
         finals = last.finals;
-        goes = goes_on _ _ _ (tries_all origin [] snaps m tt (each_weaker (IsResting sectors) (λ (d : Held). d.untried ≡ false) snaps (λ d r. r.tried) rest)) last.goes;
+        goes = goes_on _ _ _ (tries_all (chunk_at first) origin [] snaps m tt (each_weaker (IsResting sectors) (λ (d : Held). d.untried ≡ false) snaps (λ d r. r.tried) rest)) last.goes;
         same = last.same;
         rest = last.rest;
         saved = last.saved;

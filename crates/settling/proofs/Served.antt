@@ -8,7 +8,7 @@ use Rattle.settled.specs.Pieces.{Answered, Served, in_snap}
 use Rattle.event_machine.specs.Held.{Held, MergeHeld, Moving}
 use Rattle.event_machine.specs.Rest.{IsResting}
 use Rattle.settled.proofs.Each.{Each}
-use Rattle.settling.proofs.Goes.{Goes}
+use Rattle.settling.proofs.Goes.{no_start, Goes}
 use Rattle.event_machine.proofs.Around.{at_with}
 use Rattle.event_machine.proofs.Found.{served_here}
 use Rattle.settling.proofs.Issued.{Serves, serves_there}
@@ -39,7 +39,7 @@ module _ (P : Held → Type 0) where
 
 pub served_by : (sectors : ℕ) (g : Option MergeHeld) (number : ℕ) (serve : Device → Snap → Served) (origin origin' : Device) (done rest : List Held) (h h' : Held) (reply : Reply) (k : ℕ) (u v : Moving) →
     Each (λ (d : Held). (d.snap.number == number) ≡ false) done → (h.snap.number == number) ≡ true → Each (IsResting sectors) (done ++ h ∷ rest) → IsResting sectors h' → length origin'.bytes ≡ 512 * sectors →
-    serve origin h.snap ≡ record { origin = origin'; snap = h'.snap; reply = reply } → u ≡ v → Goes v (at_with g origin' (done ++ h' ∷ rest) [] (Some reply) k) → Serves sectors g u (in_snap number serve origin (map snap_of (done ++ h ∷ rest)))
+    serve origin h.snap ≡ record { origin = origin'; snap = h'.snap; reply = reply } → u ≡ v → Goes no_start v (at_with g origin' (done ++ h' ∷ rest) [] (Some reply) k) → Serves sectors g u (in_snap number serve origin (map snap_of (done ++ h ∷ rest)))
 served_by sectors g number serve origin origin' done rest h h' reply k u v before pass all resting whole is begun goes =
     let made : Served → Answered = λ (a : Served). record { volume = record { origin = a.origin; snaps = map snap_of done ++ a.snap ∷ map snap_of rest }; reply = a.reply } in
     let put : List Snap → Answered = λ (ss : List Snap). record { volume = record { origin = origin'; snaps = ss }; reply = reply } in

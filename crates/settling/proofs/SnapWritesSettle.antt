@@ -41,10 +41,10 @@ use Rattle.event_machine.specs.Rest.{IsKept, IsResting, IsAtRest}
 use Rattle.event_machine.specs.Settles.{SettlesTo}
 use Rattle.settled.proofs.Each.{Each, each_weaker, each_from}
 use Rattle.event_machine.proofs.Lists.{here_that, none_least}
-use Rattle.settling.proofs.Goes.{Goes, goes_none, goes_on}
-use Rattle.event_machine.proofs.Around.{at, at_with, at_alone, IsIdle, IsLater, idle_later}
+use Rattle.settling.proofs.Goes.{no_start, Goes, goes_none, goes_on}
+use Rattle.event_machine.proofs.Around.{at, at_with, at_alone, IsIdle, IsLater, idle_later, IsBefore, idle_before}
 use Rattle.settling.proofs.Stages.{put_here, marks_here}
-use Rattle.settling.proofs.Ends.{Ends, IsUnread, requests_after, ends_read}
+use Rattle.settling.proofs.Ends.{unstarted, Ends, IsUnread, requests_after, ends_read}
 use Rattle.settled.proofs.Saves.{saves_nothing, saves_full, saves_copy, chunk_read}
 use Rattle.settling.proofs.Resting.{rests_live, saved_snap, saved_chunk, saved_number}
 use Rattle.event_machine.proofs.Clears.{and_last}
@@ -78,7 +78,7 @@ module _ (g : Option MergeHeld) (sectors number n : ℕ) (range : Range) (bytes 
 
   -- a write that is routed to its chunk's place
   place_goes : (origin : Device) (done rest : List Held) (h : Held) (place : ℕ) (a : Option Reply) (k : ℕ) → Each IsIdle (done ++ h ∷ rest) → Each (λ d. is_this d ≡ false) done → is_this h ≡ true →
-      Goes (at_with g origin (done ++ h ∷ rest) (routed (Store place) ∷ []) a k) (at_with g origin (done ++ after_place h place ∷ rest) [] (Some (place_reply h place)) k)
+      Goes no_start (at_with g origin (done ++ h ∷ rest) (routed (Store place) ∷ []) a k) (at_with g origin (done ++ after_place h place ∷ rest) [] (Some (place_reply h place)) k)
   place_goes origin done rest h place a k idle before pass =
       let r : Going = routed (Store place) in
       let v : Moving = at_with g origin (done ++ h ∷ rest) (r ∷ []) a k in
@@ -88,7 +88,7 @@ module _ (g : Option MergeHeld) (sectors number n : ℕ) (range : Range) (bytes 
       ∙ answered_here g origin (done ++ after_place h place ∷ rest) r (place_reply h place) a k)
 
   -- a write whose snapshot was spoiled
-  refused_goes : (origin : Device) (snaps : List Held) (a : Option Reply) (k : ℕ) → Each IsIdle snaps → Goes (at_with g origin snaps (routed Refused ∷ []) a k) (at_with g origin snaps [] (Some (Declined Invalid)) k)
+  refused_goes : (origin : Device) (snaps : List Held) (a : Option Reply) (k : ℕ) → Each IsIdle snaps → Goes no_start (at_with g origin snaps (routed Refused ∷ []) a k) (at_with g origin snaps [] (Some (Declined Invalid)) k)
   refused_goes origin snaps a k idle = goes_to _ _ _ (issued g origin snaps (routed Refused) a k idle refl) (answered_here g origin snaps (routed Refused) (Declined Invalid) a k)
 
   -- what the big step does of a write that the snapshot takes, by what saving the chunk leaves
@@ -232,15 +232,15 @@ module _ (g : Option MergeHeld) (sectors number n : ℕ) (range : Range) (bytes 
       saving = record { origin = met origin (chunk_read c origin h.snap); snap = saved_snap sectors c origin h h }
 
       abbrev CopyEnds : Type 0
-      CopyEnds = Ends g done rest (routed Waits ∷ []) a (k + 1) (met origin (chunk_read c origin h.snap)) (at_with g origin (done ++ with_copy (k + 1) c h ∷ rest) (routed Waits ∷ []) a (k + 1)) (h.pairs ++ q ∷ []) (stepped h.snap.chunk (next_place h.snap + 1)) (saved_snap sectors c origin h h)
+      CopyEnds = Ends no_start g done rest (routed Waits ∷ []) a (k + 1) (met origin (chunk_read c origin h.snap)) (at_with g origin (done ++ with_copy (k + 1) c h ∷ rest) (routed Waits ∷ []) a (k + 1)) (h.pairs ++ q ∷ []) (stepped h.snap.chunk (next_place h.snap + 1)) (saved_snap sectors c origin h h)
 
       copy_ends : h.snap.live ≡ true → place_of h.pairs c ≡ None → CopyEnds
       copy_ends on none =
           let kept : IsKept sectors h = here.live on in
           let low : least_in (copy_at Waiting) rest ≡ None = none_least (copy_at Waiting) rest (each_weaker IsIdle (λ d. copy_at Waiting d ≡ None) rest (λ d i. rw i.copies refl) idle_rest) in
-          subst (λ (w : Held). Ends g done rest (routed Waits ∷ []) a (k + 1) (met origin (chunk_read c origin h.snap)) (at_with g origin (done ++ w ∷ rest) (routed Waits ∷ []) a (k + 1)) (h.pairs ++ q ∷ []) (stepped h.snap.chunk (next_place h.snap + 1)) (saved_snap sectors c origin h h))
+          subst (λ (w : Held). Ends no_start g done rest (routed Waits ∷ []) a (k + 1) (met origin (chunk_read c origin h.snap)) (at_with g origin (done ++ w ∷ rest) (routed Waits ∷ []) a (k + 1)) (h.pairs ++ q ∷ []) (stepped h.snap.chunk (next_place h.snap + 1)) (saved_snap sectors c origin h h))
           (sym (as_holding sectors c (k + 1) h here kept))
-          (ends_read g done rest (routed Waits ∷ []) a (k + 1) (k + 1) q h.pairs (stepped h.snap.chunk (next_place h.snap + 1)) idle_done (each_weaker IsIdle IsLater rest idle_later idle_rest) unread origin h.snap kept.order.1.some on kept.pairs
+          (ends_read no_start g done rest (routed Waits ∷ []) a (k + 1) (k + 1) q h.pairs (stepped h.snap.chunk (next_place h.snap + 1)) (each_weaker IsIdle (IsBefore (k + 1)) done (idle_before (k + 1)) idle_done) (each_weaker IsIdle IsLater rest idle_later idle_rest) unread origin h.snap kept.order.1.some on kept.pairs
           (copy_bytes sectors origin h.snap c (next_place h.snap) whole) (ap (least (Some (k + 1))) low))
 
       -- the snapshot once its copy came to its end
@@ -276,8 +276,8 @@ module _ (g : Option MergeHeld) (sectors number n : ℕ) (range : Range) (bytes 
         abbrev copied_after : List Held
         copied_after = done ++ e.held ∷ rest
 
-        goes_routed : (route : Route) → requests_after g copied_after e.held (routed Waits ∷ []) ≡ routed route ∷ [] → Goes (at_with g origin (done ++ with_copy (k + 1) c h ∷ rest) (routed Waits ∷ []) a (k + 1)) (at_with g (met origin (chunk_read c origin h.snap)) copied_after (routed route ∷ []) a (k + 1))
-        goes_routed route is = goes_to _ _ _ e.goes (ap (λ rs. at_with g (met origin (chunk_read c origin h.snap)) copied_after rs a (k + 1)) is)
+        goes_routed : (route : Route) → requests_after g copied_after e.held (routed Waits ∷ []) ≡ routed route ∷ [] → Goes no_start (at_with g origin (done ++ with_copy (k + 1) c h ∷ rest) (routed Waits ∷ []) a (k + 1)) (at_with g (met origin (chunk_read c origin h.snap)) copied_after (routed route ∷ []) a (k + 1))
+        goes_routed route is = goes_to _ _ _ e.goes (unstarted e.held.snap.live _ ∙ ap (λ rs. at_with g (met origin (chunk_read c origin h.snap)) copied_after rs a (k + 1)) is)
 
         -- it was spoiled
         routed_refused : e.held.snap.live ≡ false → requests_after g copied_after e.held (routed Waits ∷ []) ≡ routed Refused ∷ []

@@ -1,6 +1,6 @@
--- One snapshot's copy, event by event: each event is due where the snapshots before it are idle and those after it wait, and
--- what it does.
-use Rattle.std.proofs.Common.{◌≡◌, ℕ, ◌+◌, ◌*◌, ◌/◌, ◌%◌, ◌<◌, Bool, true, false, List, [], ◌∷◌, ◌++◌, length, map, drop, Option, Some, None, refl, ap, ◌∙◌, eq-eqb, arith, append-nil}
+-- One snapshot's copy, event by event: each event is due where the other snapshots wait at most, those before it for copies of
+-- higher numbers, and what it does.
+use Rattle.std.proofs.Common.{◌≡◌, ℕ, ◌+◌, ◌*◌, ◌/◌, ◌%◌, ◌<◌, Bool, true, false, List, [], ◌∷◌, ◌++◌, length, map, drop, Option, Some, refl, ap, ◌∙◌, eq-eqb, arith, append-nil}
 use Rattle.std.specs.Prelude.{◌==◌, ◌&&◌, not, if◌then◌else◌}
 use Rattle.std.specs.List.{list_any}
 use Rattle.std.proofs.lemmas.Bool.{cond-true, cond-false}
@@ -27,9 +27,10 @@ use Rattle.event_machine.specs.Again.{again, placed, refused, rerouted}
 use Rattle.event_machine.specs.Stepping.{for_some, first_that, with_first, put, spoil, store_write, read_copy, write_copy, zero_next, all_paired, commit, publish, mark_invalid, is_copy, on_copy, on_snap}
 use Rattle.event_machine.proofs.Lists.{same_number, here_that, here_with}
 use Rattle.settled.proofs.Each.{Each, each_weaker}
-use Rattle.settling.proofs.Goes.{Goes, goes_step}
+use Rattle.settling.proofs.Goes.{Goes, goes_by}
 use Rattle.event_machine.proofs.Slots.{one_batch, one_last, one_fills, next_area}
-use Rattle.event_machine.proofs.Around.{at_with, IsIdle, IsLater, due_invalid, due_publish, due_area, due_zeros, due_write, due_read}
+use Rattle.event_machine.proofs.Lists.{Above}
+use Rattle.event_machine.proofs.Around.{at_with, IsLater, IsBefore, later_commits, later_zeroes, due_invalid, due_publish, due_area, due_zeros, due_write, due_read}
 
 -- a live snapshot with these copies and marks
 abbrev pub holding : Snap → List Pair → ℕ → Bool → List Copying → List Mark → Held
@@ -58,14 +59,14 @@ module _ (g : Option MergeHeld) (origin : Device) (done rest : List Held) (rs : 
     on_this_snap f = ap (λ o. for_some o (λ x. f test x (at_with g origin (done ++ h ∷ rest) rs a k)) (at_with g origin (done ++ h ∷ rest) rs a k)) (here_that test done rest h before pass)
 
   -- the mark of a spoiled snapshot
-  pub marks_here : (h : Held) → Each (λ d. d.untried ≡ false) done → h.untried ≡ true → (let after : Held = record h { snap = record h.snap { store = written_by h.snap.store (Writes 0 h.snap.chunk) (marked h.snap.chunk h.snap.store.bytes); stale = not (answers h.snap.store (Writes 0 h.snap.chunk)) }; untried = false } in
-      Goes (at_with g origin (done ++ h ∷ rest) rs a k) (at_with g origin (done ++ after ∷ rest) (map (again g (done ++ after ∷ rest)) rs) a k))
+  pub marks_here : {starts : Moving → Moving} → (h : Held) → Each (λ d. d.untried ≡ false) done → h.untried ≡ true → (let after : Held = record h { snap = record h.snap { store = written_by h.snap.store (Writes 0 h.snap.chunk) (marked h.snap.chunk h.snap.store.bytes); stale = not (answers h.snap.store (Writes 0 h.snap.chunk)) }; untried = false } in
+      Goes starts (at_with g origin (done ++ h ∷ rest) rs a k) (at_with g origin (done ++ after ∷ rest) (map (again g (done ++ after ∷ rest)) rs) a k))
   marks_here h before is =
       let test : Held → Bool = λ d. (d.snap.number == h.snap.number) && d.untried in
       let fails : Each (λ d. test d ≡ false) done = each_weaker (λ (d : Held). d.untried ≡ false) (λ d. test d ≡ false) done (λ d e. and_no (d.snap.number == h.snap.number) d.untried e) before in
       let pass : test h ≡ true = same_number h.snap.number h.untried ∙ is in
       let after : Held = record h { snap = record h.snap { store = written_by h.snap.store (Writes 0 h.snap.chunk) (marked h.snap.chunk h.snap.store.bytes); stale = not (answers h.snap.store (Writes 0 h.snap.chunk)) }; untried = false } in
-      goes_step _ _ (WriteInvalid h.snap.number) (due_invalid origin done rest h rs a k before is)
+      goes_by _ _ (WriteInvalid h.snap.number) (due_invalid origin done rest h rs a k before is) tt
       (on_this_snap test h fails pass mark_invalid ∙ ap (λ xs. at_with g origin xs (map (again g xs) rs) a k) (here_with test after done rest h fails pass))
     where
       and_no : (x y : Bool) → y ≡ false → (x && y) ≡ false
@@ -79,13 +80,19 @@ is_mine stage n q bytes same = same_number n (is_stage stage stage) ∙ same
 has_mine : (stage : Stage) (n : ℕ) (q : Pair) (bytes : List ℕ) → is_stage stage stage ≡ true → list_any (is_copy stage n) (copying n q stage bytes ∷ []) ≡ true
 has_mine stage n q bytes same = rw (is_mine stage n q bytes same) refl
 
-module _ (g : Option MergeHeld) (done rest : List Held) (a : Option Reply) (k : ℕ) (s : Snap) (ps : List Pair) (nx : ℕ) (z : Bool) (n : ℕ) (q : Pair) (before : Each IsIdle done) (later : Each IsLater rest) where
+module _ (g : Option MergeHeld) (done rest : List Held) (a : Option Reply) (k : ℕ) (s : Snap) (ps : List Pair) (nx : ℕ) (z : Bool) (n : ℕ) (q : Pair) (before : Each (IsBefore n) done) (later : Each IsLater rest) where
+  befores : Each IsLater done
+  befores = each_weaker (IsBefore n) IsLater done (λ d i. i.later) before
+
+  aboves : Each (λ d. Above n (copy_at Waiting d)) done
+  aboves = each_weaker (IsBefore n) (λ d. Above n (copy_at Waiting d)) done (λ d i. i.above) before
+
   -- the snapshot with its copy at a stage
   abbrev pub with_stage : Stage → List ℕ → Held
   with_stage stage bytes = holding s ps nx z (copying n q stage bytes ∷ []) []
 
   no_copy : (stage : Stage) → Each (λ d. list_any (is_copy stage n) d.copies ≡ false) done
-  no_copy stage = each_weaker IsIdle (λ d. list_any (is_copy stage n) d.copies ≡ false) done (λ d i. rw i.copies refl) before
+  no_copy stage = each_weaker (IsBefore n) (λ d. list_any (is_copy stage n) d.copies ≡ false) done (λ d i. i.apart stage) before
 
   on_this_copy : (stage : Stage) (bytes : List ℕ) → is_stage stage stage ≡ true → (origin : Device) (rs : List Going) (f : (Held → Bool) → (Copying → Bool) → Held → Copying → Moving → Moving) →
       on_copy stage n f (at_with g origin (done ++ with_stage stage bytes ∷ rest) rs a k) ≡ f (λ d. list_any (is_copy stage n) d.copies) (is_copy stage n) (with_stage stage bytes) (copying n q stage bytes) (at_with g origin (done ++ with_stage stage bytes ∷ rest) rs a k)
@@ -105,18 +112,18 @@ module _ (g : Option MergeHeld) (done rest : List Held) (a : Option Reply) (k : 
   waits_later = record { tried = refl; marks = refl; front = refl; read = refl }
 
   -- CopyRead
-  pub reads_done : (origin : Device) (rs : List Going) → least (Some n) (least_in (copy_at Waiting) rest) ≡ Some n → answers origin (read_op origin) ≡ true → Goes (at_with g origin (done ++ with_stage Waiting [] ∷ rest) rs a k) (at_with g (met origin (read_op origin)) (done ++ with_stage Read (bytes_read origin) ∷ rest) rs a k)
+  pub reads_done : {starts : Moving → Moving} → (origin : Device) (rs : List Going) → least (Some n) (least_in (copy_at Waiting) rest) ≡ Some n → answers origin (read_op origin) ≡ true → Goes starts (at_with g origin (done ++ with_stage Waiting [] ∷ rest) rs a k) (at_with g (met origin (read_op origin)) (done ++ with_stage Read (bytes_read origin) ∷ rest) rs a k)
   reads_done origin rs low ok =
       let test : Held → Bool = λ d. list_any (is_copy Waiting n) d.copies in
-      goes_step _ _ (CopyRead n) (due_read origin done rest (with_stage Waiting []) rs a k before later n waits_later refl low)
+      goes_by _ _ (CopyRead n) (due_read origin done rest (with_stage Waiting []) rs a k befores later n aboves waits_later refl low) tt
       (on_this_copy Waiting [] refl origin rs read_copy ∙ cond-true _ _ _ ok
       ∙ ap (λ cs. put test (holding s ps nx z cs []) (at_with g (met origin (read_op origin)) (done ++ with_stage Waiting [] ∷ rest) rs a k)) (cond-true _ _ _ (is_mine Waiting n q [] refl))
       ∙ put_here g (met origin (read_op origin)) done rest rs a k test (with_stage Waiting []) (no_copy Waiting) (has_mine Waiting n q [] refl) (with_stage Read (bytes_read origin)))
 
-  pub reads_failed : (origin : Device) (rs : List Going) → least (Some n) (least_in (copy_at Waiting) rest) ≡ Some n → answers origin (read_op origin) ≡ false → Goes (at_with g origin (done ++ with_stage Waiting [] ∷ rest) rs a k) (at_with g (met origin (read_op origin)) (done ++ spoiled (with_stage Waiting []) ∷ rest) (map (refused s.number) rs) a k)
+  pub reads_failed : {starts : Moving → Moving} → (origin : Device) (rs : List Going) → least (Some n) (least_in (copy_at Waiting) rest) ≡ Some n → answers origin (read_op origin) ≡ false → Goes starts (at_with g origin (done ++ with_stage Waiting [] ∷ rest) rs a k) (at_with g (met origin (read_op origin)) (done ++ spoiled (with_stage Waiting []) ∷ rest) (map (refused s.number) rs) a k)
   reads_failed origin rs low failed =
       let test : Held → Bool = λ d. list_any (is_copy Waiting n) d.copies in
-      goes_step _ _ (CopyRead n) (due_read origin done rest (with_stage Waiting []) rs a k before later n waits_later refl low)
+      goes_by _ _ (CopyRead n) (due_read origin done rest (with_stage Waiting []) rs a k befores later n aboves waits_later refl low) tt
       (on_this_copy Waiting [] refl origin rs read_copy ∙ cond-false _ _ _ failed
       ∙ spoil_here g (met origin (read_op origin)) done rest rs a k test (with_stage Waiting []) (no_copy Waiting) (has_mine Waiting n q [] refl) (with_stage Waiting []))
 
@@ -127,22 +134,22 @@ module _ (g : Option MergeHeld) (done rest : List Held) (a : Option Reply) (k : 
   abbrev pub store_after : Operation → List ℕ → Snap
   store_after op bytes = record s { store = written_by s.store op bytes }
 
-  pub writes_done : (origin : Device) (rs : List Going) (bytes : List ℕ) → answers s.store (write_op origin) ≡ true →
-      Goes (at_with g origin (done ++ with_stage Read bytes ∷ rest) rs a k) (at_with g origin (done ++ holding (store_after (write_op origin) (with_sectors s.store.bytes (s.chunk * q.new) bytes)) ps nx z (copying n q Written bytes ∷ []) [] ∷ rest) rs a k)
+  pub writes_done : {starts : Moving → Moving} → (origin : Device) (rs : List Going) (bytes : List ℕ) → answers s.store (write_op origin) ≡ true →
+      Goes starts (at_with g origin (done ++ with_stage Read bytes ∷ rest) rs a k) (at_with g origin (done ++ holding (store_after (write_op origin) (with_sectors s.store.bytes (s.chunk * q.new) bytes)) ps nx z (copying n q Written bytes ∷ []) [] ∷ rest) rs a k)
   writes_done origin rs bytes ok =
       let test : Held → Bool = λ d. list_any (is_copy Read n) d.copies in
       let now : Snap = store_after (write_op origin) (with_sectors s.store.bytes (s.chunk * q.new) bytes) in
-      goes_step _ _ (CopyWrite n) (due_write origin done rest (with_stage Read bytes) rs a k before later n refl refl refl refl)
+      goes_by _ _ (CopyWrite n) (due_write origin done rest (with_stage Read bytes) rs a k befores later n refl refl refl refl) tt
       (on_this_copy Read bytes refl origin rs write_copy
       ∙ write_done g origin done rest rs a k test (with_stage Read bytes) (no_copy Read) (has_mine Read n q bytes refl) (write_op origin) (with_sectors s.store.bytes (s.chunk * q.new) bytes)
       (λ after. record after { copies = with_first (is_copy Read n) (copying n q Written bytes) after.copies }) ok
       ∙ ap (λ cs. at_with g origin (done ++ holding now ps nx z cs [] ∷ rest) rs a k) (cond-true _ _ _ (is_mine Read n q bytes refl)))
 
-  pub writes_failed : (origin : Device) (rs : List Going) (bytes : List ℕ) → answers s.store (write_op origin) ≡ false →
-      Goes (at_with g origin (done ++ with_stage Read bytes ∷ rest) rs a k) (at_with g origin (done ++ spoiled (with_store (with_stage Read bytes) (written_by s.store (write_op origin) (with_sectors s.store.bytes (s.chunk * q.new) bytes))) ∷ rest) (map (refused s.number) rs) a k)
+  pub writes_failed : {starts : Moving → Moving} → (origin : Device) (rs : List Going) (bytes : List ℕ) → answers s.store (write_op origin) ≡ false →
+      Goes starts (at_with g origin (done ++ with_stage Read bytes ∷ rest) rs a k) (at_with g origin (done ++ spoiled (with_store (with_stage Read bytes) (written_by s.store (write_op origin) (with_sectors s.store.bytes (s.chunk * q.new) bytes))) ∷ rest) (map (refused s.number) rs) a k)
   writes_failed origin rs bytes failed =
       let test : Held → Bool = λ d. list_any (is_copy Read n) d.copies in
-      goes_step _ _ (CopyWrite n) (due_write origin done rest (with_stage Read bytes) rs a k before later n refl refl refl refl)
+      goes_by _ _ (CopyWrite n) (due_write origin done rest (with_stage Read bytes) rs a k befores later n refl refl refl refl) tt
       (on_this_copy Read bytes refl origin rs write_copy
       ∙ write_failed g origin done rest rs a k test (with_stage Read bytes) (no_copy Read) (has_mine Read n q bytes refl) (write_op origin) (with_sectors s.store.bytes (s.chunk * q.new) bytes)
       (λ after. record after { copies = with_first (is_copy Read n) (copying n q Written bytes) after.copies }) failed)
@@ -152,10 +159,10 @@ module _ (g : Option MergeHeld) (done rest : List Held) (a : Option Reply) (k : 
   fills = (length ps + 1) % (32 * s.chunk) == 0
 
   no_commit : Each (λ d. can_commit d ≡ false) done
-  no_commit = each_weaker IsIdle (λ d. can_commit d ≡ false) done (λ d i. rw i.copies refl) before
+  no_commit = each_weaker IsLater (λ d. can_commit d ≡ false) done later_commits befores
 
   no_zero : Each (λ d. can_zero d ≡ false) done
-  no_zero = each_weaker IsIdle (λ d. can_zero d ≡ false) done (λ d i. rw i.copies refl) before
+  no_zero = each_weaker IsLater (λ d. can_zero d ≡ false) done later_zeroes befores
 
   and_left : (x y : Bool) → y ≡ false → (x && y) ≡ false
   and_left true y e = e
@@ -176,7 +183,7 @@ module _ (g : Option MergeHeld) (done rest : List Held) (a : Option Reply) (k : 
     zero_here = needs_now
 
     zeros_due : due (at_with g origin (done ++ with_stage Written bytes ∷ rest) rs a k) ≡ Some (ZeroNext s.number)
-    zeros_due = due_zeros origin done rest (with_stage Written bytes) rs a k before later refl refl (ap not needs_now) zero_here
+    zeros_due = due_zeros origin done rest (with_stage Written bytes) rs a k befores later refl refl (ap not needs_now) zero_here
 
     zero_fails : Each (λ d. ((d.snap.number == s.number) && can_zero d) ≡ false) done
     zero_fails = each_weaker (λ (d : Held). can_zero d ≡ false) (λ d. ((d.snap.number == s.number) && can_zero d) ≡ false) done (λ d e. and_left (d.snap.number == s.number) (can_zero d) e) no_zero
@@ -196,22 +203,22 @@ module _ (g : Option MergeHeld) (done rest : List Held) (a : Option Reply) (k : 
     zeroes = on_this_snap g origin done rest rs a k (λ d. (d.snap.number == s.number) && can_zero d) (with_stage Written bytes) zero_fails zero_passes zero_next
         ∙ ap zeroing (next_area (length ps) (32 * s.chunk) (omega (arith, some)) full)
 
-    pub zeros_lacking : lacks_area area_next s ≡ true → Goes (at_with g origin (done ++ with_stage Written bytes ∷ rest) rs a k) (at_with g origin (done ++ spoiled (with_stage Written bytes) ∷ rest) (map (refused s.number) rs) a k)
+    pub zeros_lacking : {starts : Moving → Moving} → lacks_area area_next s ≡ true → Goes starts (at_with g origin (done ++ with_stage Written bytes ∷ rest) rs a k) (at_with g origin (done ++ spoiled (with_stage Written bytes) ∷ rest) (map (refused s.number) rs) a k)
     zeros_lacking lacks =
-        goes_step _ _ (ZeroNext s.number) zeros_due
+        goes_by _ _ (ZeroNext s.number) zeros_due tt
         (zeroes
         ∙ cond-true _ _ _ lacks ∙ spoil_here g origin done rest rs a k (λ d. (d.snap.number == s.number) && can_zero d) (with_stage Written bytes) zero_fails zero_passes (with_stage Written bytes))
 
-    pub zeros_done : lacks_area area_next s ≡ false → answers s.store zero_op ≡ true → Goes (at_with g origin (done ++ with_stage Written bytes ∷ rest) rs a k) (at_with g origin (done ++ holding (store_after zero_op (zeroed s.chunk s.store.bytes area_next)) ps nx true (copying n q Written bytes ∷ []) [] ∷ rest) rs a k)
+    pub zeros_done : {starts : Moving → Moving} → lacks_area area_next s ≡ false → answers s.store zero_op ≡ true → Goes starts (at_with g origin (done ++ with_stage Written bytes ∷ rest) rs a k) (at_with g origin (done ++ holding (store_after zero_op (zeroed s.chunk s.store.bytes area_next)) ps nx true (copying n q Written bytes ∷ []) [] ∷ rest) rs a k)
     zeros_done room ok =
-        goes_step _ _ (ZeroNext s.number) zeros_due
+        goes_by _ _ (ZeroNext s.number) zeros_due tt
         (zeroes
         ∙ cond-false _ _ _ room
         ∙ write_done g origin done rest rs a k (λ d. (d.snap.number == s.number) && can_zero d) (with_stage Written bytes) zero_fails zero_passes zero_op (zeroed s.chunk s.store.bytes area_next) (λ after. record after { zeroed = true }) ok)
 
-    pub zeros_failed : lacks_area area_next s ≡ false → answers s.store zero_op ≡ false → Goes (at_with g origin (done ++ with_stage Written bytes ∷ rest) rs a k) (at_with g origin (done ++ spoiled (with_store (with_stage Written bytes) (written_by s.store zero_op (zeroed s.chunk s.store.bytes area_next))) ∷ rest) (map (refused s.number) rs) a k)
+    pub zeros_failed : {starts : Moving → Moving} → lacks_area area_next s ≡ false → answers s.store zero_op ≡ false → Goes starts (at_with g origin (done ++ with_stage Written bytes ∷ rest) rs a k) (at_with g origin (done ++ spoiled (with_store (with_stage Written bytes) (written_by s.store zero_op (zeroed s.chunk s.store.bytes area_next))) ∷ rest) (map (refused s.number) rs) a k)
     zeros_failed room failed =
-        goes_step _ _ (ZeroNext s.number) zeros_due
+        goes_by _ _ (ZeroNext s.number) zeros_due tt
         (zeroes
         ∙ cond-false _ _ _ room
         ∙ write_failed g origin done rest rs a k (λ d. (d.snap.number == s.number) && can_zero d) (with_stage Written bytes) zero_fails zero_passes zero_op (zeroed s.chunk s.store.bytes area_next) (λ after. record after { zeroed = true }) failed)
@@ -228,7 +235,7 @@ module _ (g : Option MergeHeld) (done rest : List Held) (a : Option Reply) (k : 
     commits_here = ap not (ap (λ b. b && not z) (one_fills (length ps) (32 * s.chunk) (omega (arith, some))) ∙ ready)
 
     area_due : due (at_with g origin (done ++ with_stage Written bytes ∷ rest) rs a k) ≡ Some (WriteArea s.number)
-    area_due = due_area origin done rest (with_stage Written bytes) rs a k before later refl refl commits_here
+    area_due = due_area origin done rest (with_stage Written bytes) rs a k befores later refl refl commits_here
 
     area_fails : Each (λ d. ((d.snap.number == s.number) && can_commit d) ≡ false) done
     area_fails = each_weaker (λ (d : Held). can_commit d ≡ false) (λ d. ((d.snap.number == s.number) && can_commit d) ≡ false) done (λ d e. and_left (d.snap.number == s.number) (can_commit d) e) no_commit
@@ -256,33 +263,33 @@ module _ (g : Option MergeHeld) (done rest : List Held) (a : Option Reply) (k : 
     abbrev pub committed_here : Held
     committed_here = holding (store_after area_op (paired s.chunk s.store.bytes (length ps) q)) (ps ++ q ∷ []) nx (z && not fills) [] (mark_here ∷ [])
 
-    pub area_done : answers s.store area_op ≡ true → Goes (at_with g origin (done ++ with_stage Written bytes ∷ rest) rs a k) (at_with g origin (done ++ committed_here ∷ rest) rs a k)
+    pub area_done : {starts : Moving → Moving} → answers s.store area_op ≡ true → Goes starts (at_with g origin (done ++ with_stage Written bytes ∷ rest) rs a k) (at_with g origin (done ++ committed_here ∷ rest) rs a k)
     area_done ok =
-        goes_step _ _ (WriteArea s.number) area_due
+        goes_by _ _ (WriteArea s.number) area_due tt
         (commits
         ∙ write_done g origin done rest rs a k (λ d. (d.snap.number == s.number) && can_commit d) (with_stage Written bytes) area_fails area_passes area_op (paired s.chunk s.store.bytes (length ps) q)
         (committed_by fills) ok)
 
-    pub area_failed : answers s.store area_op ≡ false → Goes (at_with g origin (done ++ with_stage Written bytes ∷ rest) rs a k) (at_with g origin (done ++ spoiled (with_store (with_stage Written bytes) (written_by s.store area_op (paired s.chunk s.store.bytes (length ps) q))) ∷ rest) (map (refused s.number) rs) a k)
+    pub area_failed : {starts : Moving → Moving} → answers s.store area_op ≡ false → Goes starts (at_with g origin (done ++ with_stage Written bytes ∷ rest) rs a k) (at_with g origin (done ++ spoiled (with_store (with_stage Written bytes) (written_by s.store area_op (paired s.chunk s.store.bytes (length ps) q))) ∷ rest) (map (refused s.number) rs) a k)
     area_failed failed =
-        goes_step _ _ (WriteArea s.number) area_due
+        goes_by _ _ (WriteArea s.number) area_due tt
         (commits
         ∙ write_failed g origin done rest rs a k (λ d. (d.snap.number == s.number) && can_commit d) (with_stage Written bytes) area_fails area_passes area_op (paired s.chunk s.store.bytes (length ps) q)
         (committed_by fills) failed)
 
-  -- Publish
+  -- Publish, and what it starts besides
   abbrev pub idle_here : Held
   idle_here = holding s ps nx z [] []
 
-  pub publishes : (origin : Device) (rs : List Going) → ((h : Held) (c : ℕ) → list_any (is_reading h c) rs ≡ false) →
-      Goes (at_with g origin (done ++ holding s ps nx z [] (mark_here ∷ []) ∷ rest) rs a k) (at_with g origin (done ++ idle_here ∷ rest) (map (again g (done ++ idle_here ∷ rest)) (map (placed idle_here) rs)) a k)
-  publishes origin rs unread =
+  pub publishes : {starts : Moving → Moving} → (origin : Device) (rs : List Going) → ((h : Held) (c : ℕ) → list_any (is_reading h c) rs ≡ false) →
+      Goes starts (at_with g origin (done ++ holding s ps nx z [] (mark_here ∷ []) ∷ rest) rs a k) (starts (at_with g origin (done ++ idle_here ∷ rest) (map (again g (done ++ idle_here ∷ rest)) (map (placed idle_here) rs)) a k))
+  publishes {starts} origin rs unread =
       let h : Held = holding s ps nx z [] (mark_here ∷ []) in
       let free : is_publishable rs h mark_here ≡ true = rw (unread h q.old) refl in
       let test : Held → Bool = λ d. list_any (λ m. (m.number == n) && is_publishable rs d m) d.marks in
-      let fails : Each (λ d. test d ≡ false) done = each_weaker IsIdle (λ d. test d ≡ false) done (λ d i. rw i.marks refl) before in
+      let fails : Each (λ d. test d ≡ false) done = each_weaker IsLater (λ d. test d ≡ false) done (λ d i. rw i.marks refl) befores in
       let pass : test h ≡ true = rw (same_number n (is_publishable rs h mark_here), free) refl in
-      goes_step _ _ (Publish n) (due_publish origin done rest h rs a k before later n refl (cond-true _ _ _ free))
-      (on_this_snap g origin done rest rs a k test h fails pass (λ t g. publish t (λ m. m.number == n) g)
+      goes_by _ _ (Publish n) (due_publish origin done rest h rs a k befores later n refl (cond-true _ _ _ free)) (h, here_that test done rest h fails pass)
+      (ap starts (on_this_snap g origin done rest rs a k test h fails pass (λ t g. publish t (λ m. m.number == n) g)
       ∙ ap (λ ms. rerouted (at_with g origin (with_first test (holding s ps nx z [] ms) (done ++ h ∷ rest)) (map (placed (holding s ps nx z [] ms)) rs) a k)) (cond-true _ _ _ (eq-eqb n n refl))
-      ∙ ap (λ xs. at_with g origin xs (map (again g xs) (map (placed idle_here) rs)) a k) (here_with test idle_here done rest h fails pass))
+      ∙ ap (λ xs. at_with g origin xs (map (again g xs) (map (placed idle_here) rs)) a k) (here_with test idle_here done rest h fails pass)))

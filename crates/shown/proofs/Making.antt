@@ -67,7 +67,7 @@ is_taken chunk overflow stacked volume =
     either v (is_some volume.merging) _ _ (not_taken v (kept_out stacked) (store_of stacked))
     (either v stacked.stale _ _ (not_taken v Stale (store_of stacked))
     (either v (nat_lt (length v.snaps) 8 && nat_lt (volume.given + 1) 4_294_967_296) _ _
-    (either v (is_chunk chunk) _ _ (taken v (volume.given + 1) (overflow_of overflow) (open_store v.snaps (sectors_of v.origin) chunk stacked.device).device (open_store v.snaps (sectors_of v.origin) chunk stacked.device).outcome) (not_taken v BadChunk (store_of stacked)))
+    (either v (is_chunk chunk) _ _ (taken v (volume.given + 1) (overflow_of overflow) (open_store (sectors_of v.origin) chunk stacked.device).device (open_store (sectors_of v.origin) chunk stacked.device).outcome) (not_taken v BadChunk (store_of stacked)))
     (not_taken v TooMany (store_of stacked))))
 
 -- the volume then

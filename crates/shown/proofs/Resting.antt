@@ -2,6 +2,7 @@
 use Rattle.std.proofs.Common.{◌≡◌, ℕ, List, [], ◌∷◌, map, refl, ap}
 use Rattle.settled.specs.Snaps.{Snap, Volume}
 use Rattle.settled.specs.MergeShown.{IsWell as IsOrderly}
+use Rattle.settled.proofs.Chunks.{HasChunks}
 use Rattle.settled.proofs.Each.{Each, each_from, all_from}
 use Rattle.event_machine.specs.Held.{Held}
 use Rattle.event_machine.specs.Rest.{IsResting}
@@ -30,5 +31,5 @@ rests sectors chunk v is = record {
     alone = refl;
   };
   is = ap (λ (ss : List Snap). let w : Volume = record { origin = v.origin; snaps = ss } in w) (snaps_of v.snaps);
-  chunks = each_from (λ (s : Snap). s.chunk ≡ chunk) v.snaps is.chunks;
+  chunks = each_from (HasChunks chunk) v.snaps is.chunks;
 }

@@ -7,6 +7,7 @@ use Rattle.sector.specs.declared.range.Range.{Range}
 use Rattle.sector.specs.declared.refusal.Refusal.{Refusal}
 use Rattle.sector.specs.declared.refusal.Refusal.TheVariants.{OutOfRange}
 use Rattle.chunk.specs.Pieces.{Span, AreCutFrom, pieces_of}
+use Rattle.chunk.proofs.Limits.{is_chunk-some}
 use Rattle.chunk.proofs.Whole.{cut_pieces}
 use Rattle.plain.specs.Plain.{Saved, Live, Invalid, marked_in}
 use Rattle.plain.specs.declared.request.Dev.{Dev}
@@ -149,7 +150,7 @@ module _ (volume : Volume) (well : IsWell volume) (first count : ℕ) (bytes : L
   inside = let whole = well.ordered.is.whole in omega (arith, whole, fits)
 
   cut : AreCutFrom chunk span pieces
-  cut = cut_pieces chunk span pieces refl well.ordered.some
+  cut = cut_pieces chunk span pieces refl (is_chunk-some chunk well.ordered.is.allowed)
 
   count_all : sectors_in pieces ≡ count
   count_all = let h = sectors_joined first (first + count) pieces cut.join in omega (arith, h)
@@ -158,7 +159,7 @@ module _ (volume : Volume) (well : IsWell volume) (first count : ℕ) (bytes : L
   many = has_pieces first (first + count) pieces cut.join (omega (arith, some))
 
   each_inside : Each (IsInside well.ordered.sectors chunk) pieces
-  each_inside = span_inside well.ordered.sectors chunk range well.ordered.some inside
+  each_inside = span_inside well.ordered.sectors chunk range well.ordered.is.allowed inside
 
   -- the first pieces
   first_written : (dev : Dev) (n : ℕ) → AreWritten dev first (take n pieces) bytes (arrays_with m) (arrays_with (parts_written dev (take n pieces) bytes m).state) (parts_written dev (take n pieces) bytes m).reply
@@ -166,7 +167,7 @@ module _ (volume : Volume) (well : IsWell volume) (first count : ℕ) (bytes : L
       let few = fewer_in n pieces in
       let whole = count_all in
       let (end, join) = join_take first (first + count) n pieces cut.join in
-      parts_shown well.ordered.sectors chunk well.ordered.some first end (take n pieces) bytes (each_take (IsInside well.ordered.sectors chunk) n pieces each_inside) join (omega (arith, few, whole, len))
+      parts_shown well.ordered.sectors chunk well.ordered.is.allowed first end (take n pieces) bytes (each_take (IsInside well.ordered.sectors chunk) n pieces each_inside) join (omega (arith, few, whole, len))
       dev m.merge m.volume (rests well.ordered.sectors chunk m.volume well.ordered.is) (λ g is. let h = well.ordered.merge g is in (h.1, h.0))
 
   whole_written : (dev : Dev) → AreWritten dev first pieces bytes (arrays_with m) (arrays_with (written_beside dev span bytes m).state) (written_beside dev span bytes m).reply

@@ -7,11 +7,10 @@ use Rattle.std.proofs.lemmas.Nat.{mod_below}
 use Rattle.sector.proofs.Sectors.{byte_read}
 use Rattle.sector.specs.declared.pair.Pair.{Pair}
 use Rattle.model.specs.Places.{area_place, is_area_place}
-use Rattle.model.specs.Pairs.{pairs_of, IsInside, AreWellFormed}
+use Rattle.model.specs.Pairs.{pairs_of, IsInside}
 use Rattle.model.specs.Picture.{place_of, picture, picture_at, byte_of}
 use Rattle.model.proofs.AreaPlaces.{place_is}
 use Rattle.model.proofs.Pictures.{same_picture}
-use Rattle.cow_header.specs.declared.found.Found.TheVariants.{Fresh, Header}
 use Rattle.store.specs.declared.state.Left.TheVariants.{Nothing}
 use Rattle.store.specs.declared.state.State.{State}
 use Rattle.store.specs.Stored.{new_of}
@@ -26,36 +25,12 @@ use Rattle.store.specs.Opened.{MatchLoaded}
 use Rattle.store.specs.Opening.{IsOpenedFresh, IsOpenedWritten}
 use Rattle.volume_laws.proofs.Pairs.{place_of-All}
 use Rattle.volume_laws.proofs.Attaching.{picture_none}
-use Rattle.snapshot.specs.Opening.{IsWanted, IsMismatched, IsOpenedAs, ChangesFront, prepared, shown_array, shown_as}
-
-fresh_ne_header : (chunk : ℕ) → Fresh ≢ Header chunk
-fresh_ne_header chunk e = cc
-
-header_same : (m n : ℕ) → Header m ≡ Header n → m ≡ n
-header_same m n e = cc
+use Rattle.snapshot.specs.Opening.{IsOpenedAs, ChangesFront, prepared, shown_array, shown_as}
 
 -- an opened store was fresh or written
 pub opened_by : (l : Loaded) (line origin size : ℕ) (bytes : List ℕ) (s : State) (ps : List Pair) → MatchLoaded l (IsOpenedFresh line origin size bytes s ps) (IsOpenedWritten origin size bytes s ps) → IsOpenedAs line origin size bytes s ps
 opened_by LoadedFresh line origin size bytes s ps is = inl is
 opened_by Written line origin size bytes s ps is = inr is
-
--- chunks of another size
-pub mismatched : (line : ℕ) (wanted : Option ℕ) (origin size : ℕ) (bytes : List ℕ) (s : State) (ps : List Pair) → IsOpenedAs line origin size bytes s ps → (IsWanted wanted s.chunk → ⊥) → IsMismatched line wanted origin size bytes
-mismatched line wanted origin size bytes s ps (inl o) not = record {
-  found = Fresh;
-  is = o.found;
-  large = o.large;
-  formed = λ chunk e. absurd (fresh_ne_header chunk e);
-  other = λ is. not (subst (IsWanted wanted) (sym (ap (λ (t : State). t.chunk) o.state)) is);
-}
-mismatched line wanted origin size bytes s ps (inr o) not = record {
-  found = Header s.chunk;
-  is = o.found;
-  large = o.large;
-  formed = λ chunk e. (let formed : AreWellFormed s.chunk origin size (pairs_of s.chunk bytes) = subst (AreWellFormed s.chunk origin size) (sym o.pairs) o.formed in
-      subst (λ (n : ℕ). AreWellFormed n origin size (pairs_of n bytes)) (header_same s.chunk chunk e) formed);
-  other = not;
-}
 
 -- a pair's place is neither the header nor the current area
 apart_front : (chunk origin size a : ℕ) (p : Pair) → 0 < chunk → IsInside chunk origin size p → (p.new ≢ 0) × (p.new ≢ area_place chunk a)

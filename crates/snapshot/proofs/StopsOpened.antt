@@ -1,5 +1,5 @@
 -- What a stop within the opening of a snapshot leaves of its store, write by write.
-use Rattle.std.proofs.Common.{◌≡◌, ◌≢◌, ◌⊎◌, inl, inr, ℕ, ◌+◌, ◌*◌, ◌<◌, ◌≤◌, Bool, true, false, List, [], length, get_or, refl, sym, ◌∙◌, ap, subst, arith, Ok, Err}
+use Rattle.std.proofs.Common.{◌≡◌, ◌≢◌, ◌⊎◌, inl, inr, ℕ, ◌*◌, ◌<◌, true, false, List, [], length, refl, sym, ◌∙◌, ap, subst, arith}
 use Rattle.std.specs.Prelude.{Result}
 use Rattle.std.proofs.lemmas.Bool.{false≢true}
 use Rattle.sector.specs.Bytes.{sector_at}
@@ -7,22 +7,19 @@ use Rattle.sector.specs.declared.pair.Pair.{Pair}
 use Rattle.sector.specs.declared.refusal.Refusal.{Refusal}
 use Rattle.sector.specs.declared.refusal.Refusal.TheVariants.{Io}
 use Rattle.model.specs.Places.{area_place, ChangesOnly}
-use Rattle.model.specs.Pairs.{pairs_of}
 use Rattle.cow_header.specs.HeaderText.{found_in}
 use Rattle.cow_header.specs.declared.found.Found.{Found}
-use Rattle.cow_header.specs.declared.found.Found.TheVariants.{Fresh, Header}
 use Rattle.store.specs.declared.state.Left.{Left}
 use Rattle.store.specs.declared.state.Left.TheVariants.{FirstArea, HeaderChunk, Tail, Nothing}
 use Rattle.store.specs.declared.state.State.{State}
 use Rattle.store.specs.Loading.{with_left, is_left, after_write}
-use Rattle.store.specs.Opening.{IsOpenedFresh, IsOpenedWritten}
-use Rattle.store.specs.Stopping.{LoadsFirst, IsFreshAgain, StopsPreparing}
+use Rattle.store.specs.Stopping.{LoadsFirst, StopsPreparing}
 use Rattle.stop_laws.specs.Stop.{IsTorn}
 use Rattle.stop_laws.proofs.Loads.{header_kept}
 use Rattle.stop_laws.proofs.Torn.{torn_still, torn_only}
 use Rattle.snapshot.specs.Opened.{IsBack}
 use Rattle.snapshot.specs.Opening.{IsOpenedAs}
-use Rattle.snapshot.specs.StopsOpening.{StopsPrepared, StopsOpening, StopsRefused, begun_store}
+use Rattle.snapshot.specs.StopsOpening.{StopsPrepared, StopsOpening, StopsRefused}
 
 -- a second write is left only after the first of a fresh store
 pub prepared_two : (left : Left) (s : State) (ps : List Pair) (old middle new : List ℕ) → is_left (after_write left) ≡ true → middle ≡ with_left left s old

@@ -1,14 +1,14 @@
 -- A store that is opened over a device with layers: what its load read and wrote is what `settled` does.
 use Rattle.std.proofs.Common.{◌≡◌, ◌≢◌, inl, inr, ℕ, zero, suc, ◌+◌, ◌*◌, ◌-◌, ◌/◌, ◌%◌, ◌<◌, ◌≤◌, Bool, true, false, List, [], ◌∷◌, length, get_or, drop, arith, refl, ap, ◌∙◌, sym, subst}
 use Rattle.std.specs.Prelude.{◌==◌, ◌&&◌, nat_lt, not, Option, Some, None, Result, Ok, Err}
-use Rattle.std.specs.List.{All, list_all}
+use Rattle.std.specs.List.{list_all}
 use Rattle.std.proofs.lemmas.Bool.{cases_Bool, cases_lt, cond-true, cond-false, lt-ltb, le-ltb, eq-eqb, ne_eqb}
 use Rattle.std.proofs.lemmas.List.{get_or-drop}
 use Rattle.std.proofs.lemmas.List.Folds.{list_all_at}
 use Rattle.sector.specs.Bytes.{sector_at}
 use Rattle.sector.specs.declared.pair.Pair.{Pair}
 use Rattle.sector.specs.declared.refusal.Refusal.{Refusal}
-use Rattle.sector.specs.declared.refusal.Refusal.TheVariants.{NoMemory, Damaged, ChunkMismatch}
+use Rattle.sector.specs.declared.refusal.Refusal.TheVariants.{NoMemory, Damaged}
 use Rattle.device.specs.declared.operation.Operation.{Operation}
 use Rattle.device.specs.declared.operation.Operation.TheVariants.{Reads, Writes}
 use Rattle.device.specs.Layers.{Layer, fate, is_answered, layers_after}
@@ -26,11 +26,10 @@ use Rattle.settled.specs.Loads.{trimmed, is_loadable, is_too_small}
 use Rattle.settled.proofs.Loadable.{formed-loadable, loadable-formed}
 use Rattle.settled.proofs.Trimmed.{cleared}
 use Rattle.settled.specs.Devices.{Device}
-use Rattle.settled.specs.Snaps.{Snap}
-use Rattle.settled.specs.Attaching.{Tried, refuse, write_on, done, read_areas, last_area, has_tail, is_wanted, make, clear, load_as, open_store}
+use Rattle.settled.specs.Attaching.{Tried, refuse, write_on, done, read_areas, last_area, has_tail, make, clear, load_as, open_store}
 use Rattle.settled.proofs.FaultlessAttaching.{size_of}
-use Rattle.snapshot.specs.Opening.{IsWanted, IsOpenedAs}
-use Rattle.snapshot.specs.Attaching.{AreSized, prepared_by}
+use Rattle.snapshot.specs.Opening.{IsOpenedAs}
+use Rattle.snapshot.specs.Attaching.{prepared_by}
 
 abbrev pub over : List ℕ → List Layer → Device
 over bytes layers = record { bytes = bytes; layers = layers }
@@ -69,53 +68,53 @@ module _ (bytes : List ℕ) (size : ℕ) (whole : length bytes ≡ 512 * size) w
       ]
 
   -- what a store's first sector leads to
-  abbrev pub then_found : List Snap → ℕ → ℕ → Result Found Refusal → Device → Tried
-  then_found snaps sectors line (Err refusal) device = refuse refusal device
-  then_found snaps sectors line (Ok Fresh) device = make snaps line device
-  then_found snaps sectors line (Ok (Header chunk)) device = clear snaps sectors chunk device
+  abbrev pub then_found : ℕ → ℕ → Result Found Refusal → Device → Tried
+  then_found sectors line (Err refusal) device = refuse refusal device
+  then_found sectors line (Ok Fresh) device = make line device
+  then_found sectors line (Ok (Header chunk)) device = clear sectors chunk device
 
-  found_same : (snaps : List Snap) (sectors line : ℕ) (found : Result Found Refusal) (old : List Layer) → load_as snaps sectors line found (over bytes old) ≡ goes (read_found line size bytes found old) bytes (then_found snaps sectors line found)
-  found_same snaps sectors line (Err refusal) old = refl
-  found_same snaps sectors line (Ok Fresh) old =
+  found_same : (sectors line : ℕ) (found : Result Found Refusal) (old : List Layer) → load_as sectors line found (over bytes old) ≡ goes (read_found line size bytes found old) bytes (then_found sectors line found)
+  found_same sectors line (Err refusal) old = refl
+  found_same sectors line (Ok Fresh) old =
       let same : is_too_small line bytes ≡ nat_lt size (2 * line) = lacks_same bytes size (2 * line) whole in
       elim (cases_Bool (nat_lt size (2 * line))) [
-        | inl small ↦ cond-true _ _ _ (same ∙ small) ∙ sym (ap (λ (r : Reading). goes r bytes (then_found snaps sectors line (Ok Fresh))) (cond-true _ _ _ small))
-        | inr large ↦ sym (ap (λ (r : Reading). goes r bytes (then_found snaps sectors line (Ok Fresh))) (cond-false _ _ _ large))
+        | inl small ↦ cond-true _ _ _ (same ∙ small) ∙ sym (ap (λ (r : Reading). goes r bytes (then_found sectors line (Ok Fresh))) (cond-true _ _ _ small))
+        | inr large ↦ sym (ap (λ (r : Reading). goes r bytes (then_found sectors line (Ok Fresh))) (cond-false _ _ _ large))
       ]
-  found_same snaps sectors line (Ok (Header chunk)) old =
+  found_same sectors line (Ok (Header chunk)) old =
       let same : is_too_small chunk bytes ≡ nat_lt size (2 * chunk) = lacks_same bytes size (2 * chunk) whole in
       elim (cases_Bool (nat_lt size (2 * chunk))) [
-        | inl small ↦ cond-true _ _ _ (same ∙ small) ∙ sym (ap (λ (r : Reading). goes r bytes (then_found snaps sectors line (Ok (Header chunk)))) (cond-true _ _ _ small))
-        | inr large ↦ cond-false _ _ _ (same ∙ large) ∙ areas_same chunk 0 (last_area chunk bytes + 1) old (clear snaps sectors chunk)
-            ∙ sym (ap (λ (r : Reading). goes r bytes (then_found snaps sectors line (Ok (Header chunk)))) (cond-false _ _ _ large))
+        | inl small ↦ cond-true _ _ _ (same ∙ small) ∙ sym (ap (λ (r : Reading). goes r bytes (then_found sectors line (Ok (Header chunk)))) (cond-true _ _ _ small))
+        | inr large ↦ cond-false _ _ _ (same ∙ large) ∙ areas_same chunk 0 (last_area chunk bytes + 1) old (clear sectors chunk)
+            ∙ sym (ap (λ (r : Reading). goes r bytes (then_found sectors line (Ok (Header chunk)))) (cond-false _ _ _ large))
       ]
 
   -- a load of a store goes as its reads say
-  open_goes : (snaps : List Snap) (sectors line : ℕ) (old : List Layer) → open_store snaps sectors line (over bytes old) ≡ goes (reading line size bytes old) bytes (then_found snaps sectors line (found_in (sector_at bytes 0)))
+  open_goes : (sectors line : ℕ) (old : List Layer) → open_store sectors line (over bytes old) ≡ goes (reading line size bytes old) bytes (then_found sectors line (found_in (sector_at bytes 0)))
   unfolding open_store reading
-  open_goes snaps sectors line old =
+  open_goes sectors line old =
       let count : length bytes / 512 ≡ size = size_of (length bytes) size whole in
       let says : Result Found Refusal = found_in (sector_at bytes 0) in
       elim (cases_Bool (size == 0)) [
-        | inl none ↦ cond-true _ _ _ (ap (λ n. n == 0) count ∙ none) ∙ sym (ap (λ (r : Reading). goes r bytes (then_found snaps sectors line (found_in (sector_at bytes 0)))) (cond-true _ _ _ none))
+        | inl none ↦ cond-true _ _ _ (ap (λ n. n == 0) count ∙ none) ∙ sym (ap (λ (r : Reading). goes r bytes (then_found sectors line (found_in (sector_at bytes 0)))) (cond-true _ _ _ none))
         | inr some ↦ elim (cases_Bool (is_answered (fate old (Reads 0 1)))) [
           | inl ok ↦ cond-false _ _ _ (ap (λ n. n == 0) count ∙ some) ∙ cond-true _ _ _ ok
-              ∙ found_same snaps sectors line (found_in (sector_at bytes 0)) (layers_after old (Reads 0 1))
-              ∙ sym (ap (λ (r : Reading). goes r bytes (then_found snaps sectors line (found_in (sector_at bytes 0)))) (cond-false _ _ _ some ∙ cond-true _ _ _ ok))
+              ∙ found_same sectors line (found_in (sector_at bytes 0)) (layers_after old (Reads 0 1))
+              ∙ sym (ap (λ (r : Reading). goes r bytes (then_found sectors line (found_in (sector_at bytes 0)))) (cond-false _ _ _ some ∙ cond-true _ _ _ ok))
           | inr fails ↦ cond-false _ _ _ (ap (λ n. n == 0) count ∙ some) ∙ cond-false _ _ _ fails
-              ∙ sym (ap (λ (r : Reading). goes r bytes (then_found snaps sectors line (found_in (sector_at bytes 0)))) (cond-false _ _ _ some ∙ cond-false _ _ _ fails))
+              ∙ sym (ap (λ (r : Reading). goes r bytes (then_found sectors line (found_in (sector_at bytes 0)))) (cond-false _ _ _ some ∙ cond-false _ _ _ fails))
         ]
       ]
 
   -- refused by its reads
-  pub open_ended : (snaps : List Snap) (sectors line : ℕ) (old new : List Layer) (refusal : Refusal) → reading line size bytes old ≡ ended refusal new → open_store snaps sectors line (over bytes old) ≡ refuse refusal (over bytes new)
-  open_ended snaps sectors line old new refusal is = open_goes snaps sectors line old ∙ ap (λ (r : Reading). goes r bytes (then_found snaps sectors line (found_in (sector_at bytes 0)))) is
+  pub open_ended : (sectors line : ℕ) (old new : List Layer) (refusal : Refusal) → reading line size bytes old ≡ ended refusal new → open_store sectors line (over bytes old) ≡ refuse refusal (over bytes new)
+  open_ended sectors line old new refusal is = open_goes sectors line old ∙ ap (λ (r : Reading). goes r bytes (then_found sectors line (found_in (sector_at bytes 0)))) is
 
   -- all is read
-  open_read : (snaps : List Snap) (sectors line : ℕ) (old new : List Layer) (found : Found) → reading line size bytes old ≡ all_read new → found_in (sector_at bytes 0) ≡ Ok found → open_store snaps sectors line (over bytes old) ≡ then_found snaps sectors line (Ok found) (over bytes new)
-  open_read snaps sectors line old new found is says =
-      open_goes snaps sectors line old ∙ ap (λ (r : Reading). goes r bytes (then_found snaps sectors line (found_in (sector_at bytes 0)))) is
-      ∙ ap (λ (f : Result Found Refusal). then_found snaps sectors line f (over bytes new)) says
+  open_read : (sectors line : ℕ) (old new : List Layer) (found : Found) → reading line size bytes old ≡ all_read new → found_in (sector_at bytes 0) ≡ Ok found → open_store sectors line (over bytes old) ≡ then_found sectors line (Ok found) (over bytes new)
+  open_read sectors line old new found is says =
+      open_goes sectors line old ∙ ap (λ (r : Reading). goes r bytes (then_found sectors line (found_in (sector_at bytes 0)))) is
+      ∙ ap (λ (f : Result Found Refusal). then_found sectors line f (over bytes new)) says
 
   loadable_as : (chunk sectors : ℕ) (b : Bool) → is_loadable chunk sectors size (pairs_of chunk bytes) ≡ b → is_loadable chunk sectors (length bytes / 512) (pairs_of chunk bytes) ≡ b
   loadable_as chunk sectors b is = ap (λ n. is_loadable chunk sectors n (pairs_of chunk bytes)) (size_of (length bytes) size whole) ∙ is
@@ -124,9 +123,9 @@ module _ (bytes : List ℕ) (size : ℕ) (whole : length bytes ≡ 512 * size) w
   not_loadable chunk sectors bad = elim (cases_Bool (is_loadable chunk sectors size (pairs_of chunk bytes))) [ inl loads ↦ absurd (bad (loadable-formed chunk sectors size (pairs_of chunk bytes) loads)) | inr f ↦ f ]
 
   -- refused for its pairs
-  pub open_damaged : (snaps : List Snap) (sectors line chunk : ℕ) (old new : List Layer) → reading line size bytes old ≡ all_read new → found_in (sector_at bytes 0) ≡ Ok (Header chunk) → (AreWellFormed chunk sectors size (pairs_of chunk bytes) → ⊥) → open_store snaps sectors line (over bytes old) ≡ refuse Damaged (over bytes new)
-  open_damaged snaps sectors line chunk old new is says bad =
-      open_read snaps sectors line old new (Header chunk) is says ∙ cond-true _ _ _ (ap not (loadable_as chunk sectors false (not_loadable chunk sectors bad)))
+  pub open_damaged : (sectors line chunk : ℕ) (old new : List Layer) → reading line size bytes old ≡ all_read new → found_in (sector_at bytes 0) ≡ Ok (Header chunk) → (AreWellFormed chunk sectors size (pairs_of chunk bytes) → ⊥) → open_store sectors line (over bytes old) ≡ refuse Damaged (over bytes new)
+  open_damaged sectors line chunk old new is says bad =
+      open_read sectors line old new (Header chunk) is says ∙ cond-true _ _ _ (ap not (loadable_as chunk sectors false (not_loadable chunk sectors bad)))
 
   formed_here : (chunk sectors : ℕ) (s : State) (ps : List Pair) → IsOpenedWritten sectors size bytes s ps → is_loadable s.chunk sectors (length bytes / 512) (pairs_of s.chunk bytes) ≡ true
   formed_here chunk sectors s ps opened =
@@ -135,14 +134,6 @@ module _ (bytes : List ℕ) (size : ℕ) (whole : length bytes ≡ 512 * size) w
 
   large_here : (chunk : ℕ) → 2 * chunk ≤ size → is_too_small chunk bytes ≡ false
   large_here chunk large = lacks_same bytes size (2 * chunk) whole ∙ le-ltb _ _ large
-
-  -- refused for the size of its chunks
-  pub open_mismatched : (snaps : List Snap) (sectors line : ℕ) (old new : List Layer) (s : State) (ps : List Pair) → reading line size bytes old ≡ all_read new → IsOpenedAs line sectors size bytes s ps → is_wanted snaps s.chunk ≡ false → open_store snaps sectors line (over bytes old) ≡ refuse ChunkMismatch (over bytes new)
-  open_mismatched snaps sectors line old new s ps is (inl fresh) other =
-      let chunk : s.chunk ≡ line = ap (λ (t : State). t.chunk) fresh.state in
-      open_read snaps sectors line old new Fresh is fresh.found ∙ cond-false _ _ _ (large_here line fresh.large) ∙ cond-true _ _ _ (ap not (ap (is_wanted snaps) (sym chunk) ∙ other))
-  open_mismatched snaps sectors line old new s ps is (inr written) other =
-      open_read snaps sectors line old new (Header s.chunk) is written.found ∙ cond-false _ _ _ (ap not (formed_here s.chunk sectors s ps written)) ∙ cond-true _ _ _ (ap not other)
 
   -- a tail is one byte that is not 0
   tail_is : (area : List ℕ) (j : ℕ) → HasTail area j → not (list_all (λ b. b == 0) (drop (16 * (j + 1)) area)) ≡ true
@@ -173,8 +164,8 @@ module _ (bytes : List ℕ) (size : ℕ) (whole : length bytes ≡ 512 * size) w
       let r : length (pairs_of chunk bytes) % (32 * chunk) ≡ j = ap (λ n. n % (32 * chunk)) count ∙ number_in chunk a j lt in
       ap (λ n. cleared chunk bytes n (length (pairs_of chunk bytes) % (32 * chunk))) q ∙ ap (cleared chunk bytes a) r
 
-  clear_goes : (sectors : ℕ) (s : State) (ps : List Pair) (snaps : List Snap) (new : List Layer) → IsOpenedWritten sectors size bytes s ps → is_wanted snaps s.chunk ≡ true → clear snaps sectors s.chunk (over bytes new) ≡ prepared_by s.left s (over bytes new)
-  clear_goes sectors s ps snaps new opened wanted =
+  clear_goes : (sectors : ℕ) (s : State) (ps : List Pair) (new : List Layer) → IsOpenedWritten sectors size bytes s ps → clear sectors s.chunk (over bytes new) ≡ prepared_by s.left s (over bytes new)
+  clear_goes sectors s ps new opened =
       let chunk : ℕ = s.chunk in
       let n : ℕ = length (pairs_of s.chunk bytes) in
       let count : length (pairs_of s.chunk bytes) ≡ s.current * (32 * s.chunk) + s.filled = ap length opened.pairs ∙ opened.count in
@@ -183,7 +174,7 @@ module _ (bytes : List ℕ) (size : ℕ) (whole : length bytes ≡ 512 * size) w
       let tail_at : ℕ → ℕ → Bool = λ (a j : ℕ). not (list_all (λ b. b == 0) (drop (16 * (j + 1)) (chunk_at s.chunk bytes (area_place s.chunk a)))) in
       let here : has_tail s.chunk bytes ≡ tail_at s.current s.filled = ap (λ a. tail_at a (length (pairs_of s.chunk bytes) % (32 * s.chunk))) q ∙ ap (tail_at s.current) r in
       let write : ℕ → List ℕ → Tried = λ (a : ℕ) (b : List ℕ). write_on (over bytes new) (Writes (s.chunk * area_place s.chunk a) s.chunk) b (done s.chunk) in
-      cond-false _ _ _ (ap not (formed_here s.chunk sectors s ps opened)) ∙ cond-false _ _ _ (ap not wanted) ∙ elim opened.tail [
+      cond-false _ _ _ (ap not (formed_here s.chunk sectors s ps opened)) ∙ elim opened.tail [
         | inl (left, tail) ↦ cond-true _ _ _ (here ∙ tail_is (chunk_at s.chunk bytes (area_place s.chunk s.current)) s.filled tail)
             ∙ ap (λ a. write a (trimmed s.chunk bytes)) q ∙ ap (write s.current) (trimmed_at s.chunk s.current s.filled count opened.part)
             ∙ sym (ap (λ l. prepared_by l s (over bytes new)) left)
@@ -192,43 +183,23 @@ module _ (bytes : List ℕ) (size : ℕ) (whole : length bytes ≡ 512 * size) w
       ]
 
   -- a store that is opened
-  pub open_opened : (snaps : List Snap) (sectors line : ℕ) (old new : List Layer) (s : State) (ps : List Pair) → reading line size bytes old ≡ all_read new → IsOpenedAs line sectors size bytes s ps → is_wanted snaps s.chunk ≡ true → open_store snaps sectors line (over bytes old) ≡ prepared_by s.left s (over bytes new)
-  open_opened snaps sectors line old new s ps is (inl fresh) wanted =
-      let chunk : s.chunk ≡ line = ap (λ (t : State). t.chunk) fresh.state in
-      open_read snaps sectors line old new Fresh is fresh.found ∙ cond-false _ _ _ (large_here line fresh.large) ∙ cond-false _ _ _ (ap not (ap (is_wanted snaps) (sym chunk) ∙ wanted))
+  pub open_opened : (sectors line : ℕ) (old new : List Layer) (s : State) (ps : List Pair) → reading line size bytes old ≡ all_read new → IsOpenedAs line sectors size bytes s ps → open_store sectors line (over bytes old) ≡ prepared_by s.left s (over bytes new)
+  open_opened sectors line old new s ps is (inl fresh) =
+      open_read sectors line old new Fresh is fresh.found ∙ cond-false _ _ _ (large_here line fresh.large)
       ∙ sym (ap (λ (t : State). prepared_by t.left t (over bytes new)) fresh.state)
-  open_opened snaps sectors line old new s ps is (inr written) wanted = open_read snaps sectors line old new (Header s.chunk) is written.found ∙ clear_goes sectors s ps snaps new written wanted
-
--- the chunks that are wanted
-pub wanted_yes : (wanted : Option ℕ) (snaps : List Snap) (chunk : ℕ) → AreSized wanted snaps → IsWanted wanted chunk → is_wanted snaps chunk ≡ true
-wanted_yes None snaps chunk sized is = ap (λ (ss : List Snap). is_wanted ss chunk) sized
-wanted_yes (Some other) snaps chunk sized is = each snaps sized.1
-  where
-    each : (ss : List Snap) → All (λ s. s.chunk ≡ other) ss → is_wanted ss chunk ≡ true
-    each [] all = refl
-    each (s ∷ ss) all = ap (λ b. b && is_wanted ss chunk) (eq-eqb s.chunk chunk (all 0 s (omega arith) ∙ is)) ∙ each ss (λ k d lt. all (suc k) d (omega arith))
-
-pub wanted_not : (wanted : Option ℕ) (snaps : List Snap) (chunk : ℕ) → AreSized wanted snaps → (IsWanted wanted chunk → ⊥) → is_wanted snaps chunk ≡ false
-wanted_not None snaps chunk sized not = absurd (not tt)
-wanted_not (Some other) [] chunk sized not = absurd (sized.0 refl)
-wanted_not (Some other) (s ∷ ss) chunk sized not = ap (λ b. b && is_wanted ss chunk) (ne_eqb s.chunk chunk (λ e. not (sym (sized.1 0 s (omega arith)) ∙ e)))
+  open_opened sectors line old new s ps is (inr written) = open_read sectors line old new (Header s.chunk) is written.found ∙ clear_goes sectors s ps new written
 
 -- the device that is given back by a load that is refused
-pub back_by : (line sectors size : ℕ) (bytes bytes' : List ℕ) (old new : List Layer) (refusal : Refusal) → length bytes ≡ 512 * size → bytes' ≡ bytes → refusal ≢ NoMemory → IsRefused line sectors size bytes refusal → IsEnded (reading line size bytes old) refusal old new → (snaps : List Snap) → open_store snaps sectors line (over bytes old) ≡ refuse refusal (over bytes' new)
-back_by line sectors size bytes bytes' old new refusal whole same some refused (inl (memory, reads)) snaps = absurd (some memory)
-back_by line sectors size bytes bytes' old new refusal whole same some refused (inr (inl is)) snaps =
-    open_ended bytes size whole snaps sectors line old new refusal is ∙ ap (λ (b : List ℕ). refuse refusal (over b new)) (sym same)
-back_by line sectors size bytes bytes' old new refusal whole same some refused (inr (inr (damaged, is))) snaps =
+pub back_by : (line sectors size : ℕ) (bytes bytes' : List ℕ) (old new : List Layer) (refusal : Refusal) → length bytes ≡ 512 * size → bytes' ≡ bytes → refusal ≢ NoMemory → IsRefused line sectors size bytes refusal → IsEnded (reading line size bytes old) refusal old new → open_store sectors line (over bytes old) ≡ refuse refusal (over bytes' new)
+back_by line sectors size bytes bytes' old new refusal whole same some refused (inl (memory, reads)) = absurd (some memory)
+back_by line sectors size bytes bytes' old new refusal whole same some refused (inr (inl is)) =
+    open_ended bytes size whole sectors line old new refusal is ∙ ap (λ (b : List ℕ). refuse refusal (over b new)) (sym same)
+back_by line sectors size bytes bytes' old new refusal whole same some refused (inr (inr (damaged, is))) =
     let (chunk, says, large, bad) = subst (IsRefused line sectors size bytes) damaged refused in
-    open_damaged bytes size whole snaps sectors line chunk old new is says bad
+    open_damaged bytes size whole sectors line chunk old new is says bad
     ∙ ap (λ (b : List ℕ). refuse Damaged (over b new)) (sym same) ∙ ap (λ (r : Refusal). refuse r (over bytes' new)) (sym damaged)
 
 -- the store that is opened
-pub goes_by : (line sectors size : ℕ) (wanted : Option ℕ) (bytes bytes' : List ℕ) (old new : List Layer) (s : State) (ps : List Pair) → length bytes ≡ 512 * size → bytes' ≡ bytes → reading line size bytes old ≡ all_read new → IsOpenedAs line sectors size bytes s ps → IsWanted wanted s.chunk → (snaps : List Snap) → AreSized wanted snaps → open_store snaps sectors line (over bytes old) ≡ prepared_by s.left s (over bytes' new)
-goes_by line sectors size wanted bytes bytes' old new s ps whole same is opened wants snaps sized =
-    open_opened bytes size whole snaps sectors line old new s ps is opened (wanted_yes wanted snaps s.chunk sized wants) ∙ ap (λ (b : List ℕ). prepared_by s.left s (over b new)) (sym same)
-
--- and the one whose chunks are not wanted
-pub mismatched_by : (line sectors size : ℕ) (wanted : Option ℕ) (bytes bytes' : List ℕ) (old new : List Layer) (s : State) (ps : List Pair) → length bytes ≡ 512 * size → bytes' ≡ bytes → reading line size bytes old ≡ all_read new → IsOpenedAs line sectors size bytes s ps → (IsWanted wanted s.chunk → ⊥) → (snaps : List Snap) → AreSized wanted snaps → open_store snaps sectors line (over bytes old) ≡ refuse ChunkMismatch (over bytes' new)
-mismatched_by line sectors size wanted bytes bytes' old new s ps whole same is opened other snaps sized =
-    open_mismatched bytes size whole snaps sectors line old new s ps is opened (wanted_not wanted snaps s.chunk sized other) ∙ ap (λ (b : List ℕ). refuse ChunkMismatch (over b new)) (sym same)
+pub goes_by : (line sectors size : ℕ) (bytes bytes' : List ℕ) (old new : List Layer) (s : State) (ps : List Pair) → length bytes ≡ 512 * size → bytes' ≡ bytes → reading line size bytes old ≡ all_read new → IsOpenedAs line sectors size bytes s ps → open_store sectors line (over bytes old) ≡ prepared_by s.left s (over bytes' new)
+goes_by line sectors size bytes bytes' old new s ps whole same is opened =
+    open_opened bytes size whole sectors line old new s ps is opened ∙ ap (λ (b : List ℕ). prepared_by s.left s (over b new)) (sym same)

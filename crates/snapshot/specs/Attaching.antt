@@ -1,6 +1,5 @@
 -- Opening a snapshot over a device that may fail, as `settled` has it. This project's own.
-use Rattle.std.specs.Prelude.{◌≡◌, ◌≢◌, ℕ, ◌*◌, List, [], Option, Some, None}
-use Rattle.std.specs.List.{All}
+use Rattle.std.specs.Prelude.{ℕ, ◌*◌, List}
 use Rattle.device.specs.declared.operation.Operation.TheVariants.{Writes}
 use Rattle.device.specs.Layers.{Layer}
 use Rattle.model.specs.Places.{area_place}
@@ -9,16 +8,10 @@ use Rattle.store.specs.declared.state.Left.TheVariants.{FirstArea, HeaderChunk, 
 use Rattle.store.specs.declared.state.State.{State}
 use Rattle.store.specs.Loading.{with_left}
 use Rattle.settled.specs.Devices.{Device}
-use Rattle.settled.specs.Snaps.{Snap}
 use Rattle.settled.specs.Attaching.{Tried, write_on, done}
 
 abbrev pub device_of : {B : Type 0} → (B → List ℕ) → (B → List Layer) → B → Device
 device_of contents layers device = record { bytes = contents device; layers = layers device }
-
--- snapshots whose chunks all have the wanted size; none where no size is wanted
-abbrev pub AreSized : Option ℕ → List Snap → Type 0
-AreSized None snaps = snaps ≡ []
-AreSized (Some chunk) snaps = (snaps ≢ []) × All (λ s. s.chunk ≡ chunk) snaps
 
 -- the writes of a load that are left, in their order
 abbrev pub prepared_by : Left → State → Device → Tried

@@ -1,13 +1,11 @@
 -- To be believed: `run`'s output, a volume's steps or its attach are said in these words.
--- What opening a store for a snapshot answers, and what it leaves on the store. The order of the refusals, and that all
--- snapshots of an origin have one chunk size, are this project's rules; the bytes are those of dm-snap-persistent.c.
-use Rattle.std.specs.Prelude.{◌≡◌, ◌≢◌, ◌⊎◌, ℕ, ◌*◌, ◌≤◌, List, length, Option, Result, Ok, Err, IfSome}
+-- What opening a store for a snapshot leaves on the store, and what the snapshot shows. The bytes are those of
+-- dm-snap-persistent.c.
+use Rattle.std.specs.Prelude.{◌≡◌, ◌≢◌, ◌⊎◌, ℕ, List, length, Result, Ok, Err}
 use Rattle.sector.specs.Bytes.{sector_at}
 use Rattle.sector.specs.declared.pair.Pair.{Pair}
 use Rattle.sector.specs.declared.refusal.Refusal.{Refusal}
-use Rattle.sector.specs.declared.refusal.Refusal.TheVariants.{ChunkMismatch}
 use Rattle.model.specs.Places.{chunk_at, area_place}
-use Rattle.model.specs.Pairs.{pairs_of, AreWellFormed}
 use Rattle.model.specs.Picture.{picture}
 use Rattle.cow_header.specs.HeaderText.{found_in}
 use Rattle.cow_header.specs.declared.found.Found.{Found}
@@ -16,24 +14,7 @@ use Rattle.store.specs.declared.state.Left.{Left}
 use Rattle.store.specs.declared.state.Left.TheVariants.{FirstArea, HeaderChunk, Tail, Nothing}
 use Rattle.store.specs.declared.state.State.{State}
 use Rattle.store.specs.Loading.{with_left}
-use Rattle.store.specs.Opening.{IsRefused, IsOpenedFresh, IsOpenedWritten, chunk_found}
-
--- chunks of so many sectors are those that the other snapshots have, if there are any
-abbrev pub IsWanted : Option ℕ → ℕ → Type 0
-IsWanted wanted chunk = IfSome wanted (λ other. other ≡ chunk)
-
--- a store that could be opened, but whose chunks are not those of the other snapshots
-pub record IsMismatched (line : ℕ) (wanted : Option ℕ) (origin size : ℕ) (bytes : List ℕ) : Type 0 where
-  pub found : Found
-  pub is : found_in (sector_at bytes 0) ≡ Ok found
-  pub large : 2 * chunk_found line found ≤ size
-  pub formed : (chunk : ℕ) → found ≡ Header chunk → AreWellFormed chunk origin size (pairs_of chunk bytes)
-  pub other : IsWanted wanted (chunk_found line found) → ⊥
-
--- why a store is refused: as its load says, and last by its chunk size
-abbrev pub IsOpenRefused : ℕ → Option ℕ → ℕ → ℕ → List ℕ → Refusal → Type 0
-IsOpenRefused line wanted origin size bytes refusal =
-    IsRefused line origin size bytes refusal ⊎ ((refusal ≡ ChunkMismatch) × IsMismatched line wanted origin size bytes)
+use Rattle.store.specs.Opening.{IsOpenedFresh, IsOpenedWritten}
 
 -- a store that was opened, before the writes of its load
 abbrev pub IsOpenedAs : ℕ → ℕ → ℕ → List ℕ → State → List Pair → Type 0

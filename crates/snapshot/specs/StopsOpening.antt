@@ -2,12 +2,11 @@
 -- a load are done one after another, and a stop within one leaves each sector as it was or as that write gives it, each by
 -- itself. This project's own; the bytes are those of dm-snap-persistent.c.
 use Rattle.std.specs.Prelude.{◌≡◌, ◌⊎◌, ℕ, ◌*◌, List, [], Result, Ok, Err, replicate}
-use Rattle.sector.specs.Bytes.{sector_at, with_sectors}
+use Rattle.sector.specs.Bytes.{with_sectors}
 use Rattle.sector.specs.declared.pair.Pair.{Pair}
 use Rattle.sector.specs.declared.refusal.Refusal.{Refusal}
 use Rattle.model.specs.Places.{area_place}
 use Rattle.model.specs.Pairs.{pairs_of}
-use Rattle.cow_header.specs.HeaderText.{found_in}
 use Rattle.cow_header.specs.declared.found.Found.{Found}
 use Rattle.cow_header.specs.declared.found.Found.TheVariants.{Fresh, Header}
 use Rattle.store.specs.declared.state.Left.{Left}

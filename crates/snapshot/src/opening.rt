@@ -9,18 +9,17 @@ ghost use Rattle.model.specs.Places.{area_place, ChangesOnly};
 ghost use Rattle.store.specs.declared.state.Left.TheVariants.{FirstArea, Nothing};
 ghost use Rattle.store.specs.Held.{committed, pending, reserved};
 ghost use Rattle.store.specs.Loading.{with_left};
-ghost use Rattle.store.specs.Opening.{faults_after};
+ghost use Rattle.store.specs.Opening.{IsRefused, faults_after};
 ghost use Rattle.model.specs.Picture.{picture};
 ghost use Rattle.volume_laws.specs.Steps.{IsNewSnap};
 ghost use Rattle.snapshot.specs.InStep.{IsInStep};
 ghost use Rattle.snapshot.specs.Kept.{books_of};
-ghost use Rattle.snapshot.specs.Opening.{IsWanted, IsOpenRefused, IsOpenedAs, prepared, shown_array, ChangesFront};
+ghost use Rattle.snapshot.specs.Opening.{IsOpenedAs, prepared, shown_array, ChangesFront};
 ghost use Rattle.snapshot.specs.Opened.{IsOpened, IsBack};
 ghost use Rattle.snapshot.specs.StopsOpening.{StopsOpening, StopsPrepared, StopsRefused};
 ghost use Rattle.store.specs.Reading.{AreRead};
-ghost use Rattle.settled.specs.Snaps.{Snap};
 ghost use Rattle.settled.specs.Attaching.{open_store, refuse, done};
-ghost use Rattle.snapshot.specs.Attaching.{device_of, AreSized, prepared_by};
+ghost use Rattle.snapshot.specs.Attaching.{device_of, prepared_by};
 
 use crate::Snapshot;
 use device::{Block, Io};
@@ -36,48 +35,30 @@ pub struct StoreDev<B: Block> {
     pub stale: bool,
 }
 
-/// Whether chunks of so many sectors are those that the other snapshots have, if there are any.
-fn is_wanted(wanted: Option<u32>, chunk: u32) -> bool
-    ensures { MatchBool result (IsWanted wanted chunk) (IsWanted wanted chunk → ⊥) }
-{
-    match wanted {
-        None => true,
-        Some(other) => other == chunk,
-    }
-}
-
-/// Opens a store for an origin of so many sectors, and tests its chunk size. Nothing is written. The refusals are those of
-/// the store's load, and then `ChunkMismatch`.
-fn open_wanted<B: Block>(
+/// Opens a store for an origin of so many sectors. Nothing is written. The refusals are those of the store's load.
+fn open_unwritten<B: Block>(
     alloc: Global,
     device: B,
     sectors: u64,
     chunk: u32,
-    wanted: Option<u32>,
 ) -> Result<Store<B>, (Refusal, B)>
     requires { is_chunk chunk ≡ true }
     ensures opened { IfOk result (λ store. IsOpenedAs chunk sectors (B.size device) (B.contents device) store.state (committed store.exceptions)) }
-    ensures wanted { IfOk result (λ store. IsWanted wanted store.state.chunk) }
     ensures pending { IfOk result (λ store. pending store.exceptions ≡ []) }
     ensures reserved { IfOk result (λ store. reserved store.exceptions ≡ 0) }
-    ensures refused { IfErr result (λ refused. IsOpenRefused chunk wanted sectors (B.size device) (B.contents device) refused.0) }
+    ensures refused { IfErr result (λ refused. IsRefused chunk sectors (B.size device) (B.contents device) refused.0) }
     ensures contents { MatchResult result (λ store. B.contents store.device ≡ B.contents device) (λ refused. B.contents refused.1 ≡ B.contents device) }
     ensures durable { MatchResult result (λ store. B.durable store.device ≡ B.durable device) (λ refused. B.durable refused.1 ≡ B.durable device) }
     ensures size { MatchResult result (λ store. B.size store.device ≡ B.size device) (λ refused. B.size refused.1 ≡ B.size device) }
-    ensures exact { IfOk result (λ store. (snaps : List Snap) → AreSized wanted snaps → open_store snaps sectors chunk (device_of B.contents B.layers device) ≡ prepared_by store.state.left store.state (device_of B.contents B.layers store.device)) }
-    ensures back { IfErr result (λ e. e.0 ≢ NoMemory → (snaps : List Snap) → AreSized wanted snaps → open_store snaps sectors chunk (device_of B.contents B.layers device) ≡ refuse e.0 (device_of B.contents B.layers e.1)) }
+    ensures exact { IfOk result (λ store. open_store sectors chunk (device_of B.contents B.layers device) ≡ prepared_by store.state.left store.state (device_of B.contents B.layers store.device)) }
+    ensures back { IfErr result (λ e. e.0 ≢ NoMemory → open_store sectors chunk (device_of B.contents B.layers device) ≡ refuse e.0 (device_of B.contents B.layers e.1)) }
     ensures starved { IfErr result (λ e. e.0 ≡ NoMemory → AreRead (B.layers device) (B.layers e.1)) }
     ensures loud { MatchResult result (λ store. is_loud (B.layers store.device) ≡ is_loud (B.layers device)) (λ refused. is_loud (B.layers refused.1) ≡ is_loud (B.layers device)) }
     ensures faults { MatchResult result (λ store. B.fault_count store.device ≡ B.fault_count device) (λ refused. B.fault_count refused.1 ≡ faults_after refused.0 (B.fault_count device)) }
 {
-    let store = match open(alloc, device, chunk, sectors) {
-        Ok((store, _)) => store,
-        Err(refused) => return Err(refused),
-    };
-    if is_wanted(wanted, store.chunk()) {
-        Ok(store)
-    } else {
-        Err((Refusal::ChunkMismatch, store.into_device()))
+    match open(alloc, device, chunk, sectors) {
+        Ok((store, _)) => Ok(store),
+        Err(refused) => Err(refused),
     }
 }
 
@@ -111,9 +92,8 @@ fn prepare_all<B: Block>(store: &mut Store<B>) -> Result<(), Io>
 
 /// Opens a snapshot over a store, for an origin of so many sectors: a fresh store gets chunks of so many sectors, a written
 /// one has its own. Whether it may overflow is asked for, and no write of it found its store full yet. All writes of its load
-/// are done. Where other snapshots have chunks of another size it is refused with `ChunkMismatch`, after the refusals of the
-/// store's load and before anything is written. The store is given back with a refusal; after `Io` its area 0 may be zeroed,
-/// where it was fresh. Whatever a stop before, within or after it leaves of the store is as it was, fresh as it was, or loaded
+/// are done. The refusals are those of the store's load: other snapshots of the origin may have chunks of another size. The
+/// store is given back with a refusal; after `Io` its area 0 may be zeroed, where it was fresh. Whatever a stop before, within or after it leaves of the store is as it was, fresh as it was, or loaded
 /// again with the pairs that it had.
 pub fn open_snapshot<B: Block>(
     alloc: Global,
@@ -122,20 +102,18 @@ pub fn open_snapshot<B: Block>(
     sectors: u64,
     chunk: u32,
     overflow: bool,
-    wanted: Option<u32>,
 ) -> Result<Snapshot<B>, (Refusal, StoreDev<B>)>
     requires { is_chunk chunk ≡ true }
     ensures opened { IfOk result (λ s. IsOpened B.contents B.layers number chunk sectors (B.size store.device) overflow store.device s) }
-    ensures wanted { IfOk result (λ s. IsWanted wanted s.state.chunk) }
     ensures counted { IfOk result (λ s. length s.pairs ≡ s.state.current * (32 * s.state.chunk) + s.state.filled) }
     ensures unfilled { IfOk result (λ s. s.state.filled < 32 * s.state.chunk) }
     ensures in_step { IfOk result (λ s. IsInStep B.contents B.layers B.size s) }
     ensures new { IfOk result (λ s. (origin : List ℕ) → length origin ≡ 512 * sectors → IsNewSnap origin (books_of B.contents B.layers s)) }
     ensures shown { IfOk result (λ s. is_loud (B.layers store.device) ≡ true → (origin : List ℕ) → picture s.state.chunk origin (B.contents s.device) ≡ shown_array origin (B.contents store.device)) }
-    ensures exact { IfOk result (λ s. is_loud (B.layers store.device) ≡ true → (snaps : List Snap) → AreSized wanted snaps → open_store snaps sectors chunk (device_of B.contents B.layers store.device) ≡ done s.state.chunk (device_of B.contents B.layers s.device)) }
-    ensures given_back { IfErr result (λ e. e.0 ≢ NoMemory → is_loud (B.layers store.device) ≡ true → (snaps : List Snap) → AreSized wanted snaps → open_store snaps sectors chunk (device_of B.contents B.layers store.device) ≡ refuse e.0 (device_of B.contents B.layers e.1.device)) }
+    ensures exact { IfOk result (λ s. is_loud (B.layers store.device) ≡ true → open_store sectors chunk (device_of B.contents B.layers store.device) ≡ done s.state.chunk (device_of B.contents B.layers s.device)) }
+    ensures given_back { IfErr result (λ e. e.0 ≢ NoMemory → is_loud (B.layers store.device) ≡ true → open_store sectors chunk (device_of B.contents B.layers store.device) ≡ refuse e.0 (device_of B.contents B.layers e.1.device)) }
     ensures starved { IfErr result (λ e. e.0 ≡ NoMemory → (B.contents e.1.device ≡ B.contents store.device) × AreRead (B.layers store.device) (B.layers e.1.device)) }
-    ensures refused { IfErr result (λ e. IsOpenRefused chunk wanted sectors (B.size store.device) (B.contents store.device) e.0) }
+    ensures refused { IfErr result (λ e. IsRefused chunk sectors (B.size store.device) (B.contents store.device) e.0) }
     ensures back { IfErr result (λ e. IsBack chunk e.0 (B.contents store.device) (B.contents e.1.device)) }
     ensures stops { IfOk result (λ s. is_loud (B.layers store.device) ≡ true → StopsOpening chunk sectors (B.size store.device) (found_in (sector_at (B.contents store.device) 0)) (B.contents store.device) (B.contents s.device)) }
     ensures stops_back { IfErr result (λ e. StopsRefused (B.size store.device) (B.contents store.device) (B.contents e.1.device)) }
@@ -146,7 +124,7 @@ pub fn open_snapshot<B: Block>(
     ensures faults { MatchResult result (λ s. B.fault_count s.device ≡ B.fault_count store.device) (λ e. B.fault_count e.1.device ≡ faults_after e.0 (B.fault_count store.device)) }
 {
     let StoreDev { device, stale } = store;
-    let mut store = match open_wanted(alloc, device, sectors, chunk, wanted) {
+    let mut store = match open_unwritten(alloc, device, sectors, chunk) {
         Ok(store) => store,
         Err((refusal, device)) => return Err((refusal, StoreDev { device, stale })),
     };

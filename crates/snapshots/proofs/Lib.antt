@@ -3,3 +3,4 @@ pub mod Firsts
 pub mod Roomed
 pub mod Starts
 pub mod Overflowing
+pub mod Unpublished

@@ -12,7 +12,7 @@ use Rattle.device.specs.Layers.{Layer}
 use Rattle.pending.specs.declared.flights.Flight.{Flight}
 use Rattle.snapshot.specs.Kept.{Kept}
 use Rattle.snapshot.specs.Calls.{StartsAt, started}
-use Rattle.snapshots.specs.Starting.{unroomed, HasRoomFor, HaveRooms, IsSavedIn, AreSavedIn, lacks, starts, overflows, is_full_of}
+use Rattle.snapshots.specs.Starting.{unroomed, HasRoomFor, HaveRooms, IsSavedIn, AreSavedIn, lacks_chunk, starts_chunk, overflows_chunk, is_full_of}
 
 -- a chunk begins at its sector or before it
 pub own_begins : (p first : ℕ) → p * (first / p) ≤ first
@@ -73,58 +73,59 @@ rooms_fewer first k snaps rooms h within =
           (subst (λ (i : ℕ). HasRoomFor first (get_or snaps i d) (get_or rooms (j + 1) e)) at (h.each (j + 1) d e (omega (arith, lt)))));
     }
 
-module _ {B : Type 0} (contents : B → List ℕ) (layers : B → List Layer) (first : ℕ) where
-  pub saved_push : (ss ts : List (Kept B)) (s t : Kept B) (n m k : ℕ) (fs gs hs : List Flight) → AreSavedIn contents layers first ss ts n m fs gs → IsSavedIn contents layers first s t m k gs hs → AreSavedIn contents layers first (ss ++ s ∷ []) (ts ++ t ∷ []) n k fs hs
-  saved_push [] [] s t n m k fs gs hs (m_is, g_is) one =
-      (k, hs, subst (λ (x : ℕ). IsSavedIn contents layers first s t x k fs hs) m_is (subst (λ (x : List Flight). IsSavedIn contents layers first s t m k x hs) g_is one), (refl, refl))
-  saved_push [] (y ∷ ts) s t n m k fs gs hs e one = absurd e
-  saved_push (x ∷ ss) [] s t n m k fs gs hs e one = absurd e
-  saved_push (x ∷ ss) (y ∷ ts) s t n m k fs gs hs (n', fs', begun, rest) one = (n', fs', begun, saved_push ss ts s t n' m k fs' gs hs rest one)
-
-  -- so far: the snapshots before place k are as they become, the others as they were
-  pub record IsSavedBelow (k : ℕ) (olds news : List (Kept B)) (n m : ℕ) (fs gs : List Flight) : Type 0 where
-    pub saved : AreSavedIn contents layers first (take k olds) (take k news) n m fs gs
-    pub rest : drop k news ≡ drop k olds
-    pub few : m ≤ n + k
-
-  pub saved_none : (olds : List (Kept B)) (n : ℕ) (fs : List Flight) → IsSavedBelow 0 olds olds n n fs fs
-  saved_none olds n fs = record { saved = (refl, refl); rest = refl; few = omega arith }
-
-  pub saved_here : (k : ℕ) (olds news : List (Kept B)) (n m : ℕ) (fs gs : List Flight) (d : Kept B) → IsSavedBelow k olds news n m fs gs → get_or news k d ≡ get_or olds k d
-  saved_here k olds news n m fs gs d h =
-      let at : k ≡ k + 0 = omega arith in
-      ap (λ i. get_or news i d) at ∙ sym (get_or-drop k news 0 d) ∙ ap (λ xs. get_or xs 0 d) h.rest ∙ get_or-drop k olds 0 d ∙ ap (λ i. get_or olds i d) (sym at)
-
-  pub saved_more : (k : ℕ) (olds news : List (Kept B)) (s t : Kept B) (n m m' : ℕ) (fs gs hs : List Flight) → k < length olds → length news ≡ length olds → s ≡ get_or olds k s → IsSavedBelow k olds news n m fs gs → IsSavedIn contents layers first s t m m' gs hs → m' ≤ m + 1
-      → IsSavedBelow (k + 1) olds (set news k t) n m' fs hs
-  saved_more k olds news s t n m m' fs gs hs within len is h one step =
-      let inside : k < length news = omega (arith, within, len) in
-      let up : suc k ≡ k + 1 = omega arith in
-      let front : take (k + 1) olds ≡ take k olds ++ s ∷ [] = ap (λ i. take i olds) (sym up) ∙ take-suc olds k s within ∙ ap (λ x. take k olds ++ x ∷ []) (sym is) in
-      let back : take (k + 1) (set news k t) ≡ take k news ++ t ∷ [] = ap (λ i. take i (set news k t)) (sym up) ∙ take-suc-set news k t inside in
-      record {
-        saved = subst (λ (x : List (Kept B)). AreSavedIn contents layers first x (take (k + 1) (set news k t)) n m' fs hs) (sym front)
-            (subst (λ (x : List (Kept B)). AreSavedIn contents layers first (take k olds ++ s ∷ []) x n m' fs hs) (sym back) (saved_push (take k olds) (take k news) s t n m m' fs gs hs h.saved one));
-        rest = drop-set-lt (k + 1) news k t (omega arith) ∙ drop_more_same news olds k h.rest;
-        few = omega (arith, h.few, step);
-      }
-
+module _ {B : Type 0} (contents : B → List ℕ) (layers : B → List Layer) where
   -- a copy is started
-  pub saved_started : (s t : Kept B) (n : ℕ) (fs : List Flight) (buffer : Vec ℕ) → lacks first s ≡ true → s.state.chunk * (s.next + 1) ≤ s.state.size → StartsAt contents layers (started (n + 1) (first / s.state.chunk) s.next buffer) s t → IsSavedIn contents layers first s t n (n + 1) fs fs
-  saved_started s t n fs buffer lacking fits at =
+  pub saved_started : (c : ℕ) (s t : Kept B) (n : ℕ) (fs : List Flight) (buffer : Vec ℕ) → lacks_chunk c s ≡ true → s.state.chunk * (s.next + 1) ≤ s.state.size → StartsAt contents layers (started (n + 1) c s.next buffer) s t → IsSavedIn contents layers c s t n (n + 1) fs fs
+  saved_started c s t n fs buffer lacking fits at =
       let room : is_full_of s ≡ false = le-ltb s.state.size (s.state.chunk * (s.next + 1)) fits in
-      let begins : starts first s ≡ true = rw (lacking, room) refl in
+      let begins : starts_chunk c s ≡ true = rw (lacking, room) refl in
       rw begins (buffer, at, refl, refl)
 
   -- at most one number is given
-  pub saved_step : (s t : Kept B) (n m : ℕ) (fs gs : List Flight) → IsSavedIn contents layers first s t n m fs gs → m ≤ n + 1
-  saved_step s t n m fs gs e = elim (cases_Bool (starts first s)) [
+  pub saved_step : (c : ℕ) (s t : Kept B) (n m : ℕ) (fs gs : List Flight) → IsSavedIn contents layers c s t n m fs gs → m ≤ n + 1
+  saved_step c s t n m fs gs e = elim (cases_Bool (starts_chunk c s)) [
     | inl begins ↦ (let (buffer, at, m_is, g) = MatchBool-at_true _ _ begins e in omega (arith, m_is))
-    | inr unsaid ↦ elim (cases_Bool (overflows first s)) [
+    | inr unsaid ↦ elim (cases_Bool (overflows_chunk c s)) [
       | inl over ↦ (let (same, m_is, g) = MatchBool-at_true _ _ over (MatchBool-at_false _ _ unsaid e) in omega (arith, m_is))
       | inr fine ↦ (let (same, m_is, g) = MatchBool-at_false _ _ fine (MatchBool-at_false _ _ unsaid e) in omega (arith, m_is))
     ]
   ]
+
+  module _ (at : Kept B → ℕ) where
+    pub saved_push : (ss ts : List (Kept B)) (s t : Kept B) (n m k : ℕ) (fs gs hs : List Flight) → AreSavedIn contents layers at ss ts n m fs gs → IsSavedIn contents layers (at s) s t m k gs hs → AreSavedIn contents layers at (ss ++ s ∷ []) (ts ++ t ∷ []) n k fs hs
+    saved_push [] [] s t n m k fs gs hs (m_is, g_is) one =
+        (k, hs, subst (λ (x : ℕ). IsSavedIn contents layers (at s) s t x k fs hs) m_is (subst (λ (x : List Flight). IsSavedIn contents layers (at s) s t m k x hs) g_is one), (refl, refl))
+    saved_push [] (y ∷ ts) s t n m k fs gs hs e one = absurd e
+    saved_push (x ∷ ss) [] s t n m k fs gs hs e one = absurd e
+    saved_push (x ∷ ss) (y ∷ ts) s t n m k fs gs hs (n', fs', begun, rest) one = (n', fs', begun, saved_push ss ts s t n' m k fs' gs hs rest one)
+
+    -- so far: the snapshots before place k are as they become, the others as they were
+    pub record IsSavedBelow (k : ℕ) (olds news : List (Kept B)) (n m : ℕ) (fs gs : List Flight) : Type 0 where
+      pub saved : AreSavedIn contents layers at (take k olds) (take k news) n m fs gs
+      pub rest : drop k news ≡ drop k olds
+      pub few : m ≤ n + k
+
+    pub saved_none : (olds : List (Kept B)) (n : ℕ) (fs : List Flight) → IsSavedBelow 0 olds olds n n fs fs
+    saved_none olds n fs = record { saved = (refl, refl); rest = refl; few = omega arith }
+
+    pub saved_here : (k : ℕ) (olds news : List (Kept B)) (n m : ℕ) (fs gs : List Flight) (d : Kept B) → IsSavedBelow k olds news n m fs gs → get_or news k d ≡ get_or olds k d
+    saved_here k olds news n m fs gs d h =
+        let place : k ≡ k + 0 = omega arith in
+        ap (λ i. get_or news i d) place ∙ sym (get_or-drop k news 0 d) ∙ ap (λ xs. get_or xs 0 d) h.rest ∙ get_or-drop k olds 0 d ∙ ap (λ i. get_or olds i d) (sym place)
+
+    pub saved_more : (k : ℕ) (olds news : List (Kept B)) (s t : Kept B) (n m m' : ℕ) (fs gs hs : List Flight) → k < length olds → length news ≡ length olds → s ≡ get_or olds k s → IsSavedBelow k olds news n m fs gs → IsSavedIn contents layers (at s) s t m m' gs hs → m' ≤ m + 1
+        → IsSavedBelow (k + 1) olds (set news k t) n m' fs hs
+    saved_more k olds news s t n m m' fs gs hs within len is h one step =
+        let inside : k < length news = omega (arith, within, len) in
+        let up : suc k ≡ k + 1 = omega arith in
+        let front : take (k + 1) olds ≡ take k olds ++ s ∷ [] = ap (λ i. take i olds) (sym up) ∙ take-suc olds k s within ∙ ap (λ x. take k olds ++ x ∷ []) (sym is) in
+        let back : take (k + 1) (set news k t) ≡ take k news ++ t ∷ [] = ap (λ i. take i (set news k t)) (sym up) ∙ take-suc-set news k t inside in
+        record {
+          saved = subst (λ (x : List (Kept B)). AreSavedIn contents layers at x (take (k + 1) (set news k t)) n m' fs hs) (sym front)
+              (subst (λ (x : List (Kept B)). AreSavedIn contents layers at (take k olds ++ s ∷ []) x n m' fs hs) (sym back) (saved_push (take k olds) (take k news) s t n m m' fs gs hs h.saved one));
+          rest = drop-set-lt (k + 1) news k t (omega arith) ∙ drop_more_same news olds k h.rest;
+          few = omega (arith, h.few, step);
+        }
 
 -- an element as its own default
 pub element_is : {X : Type 0} (xs : List X) (k : ℕ) (d : X) → k < length xs → get_or xs k d ≡ get_or xs k (get_or xs k d)

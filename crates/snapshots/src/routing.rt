@@ -1,10 +1,12 @@
-// Whether an origin write may go to the disk; and held writes of a snapshot are routed again, after a publication.
-ghost use Rattle.std.specs.Prelude.{◌≡◌, ◌<◌, map};
+// Whether an origin write may go to the disk, or a merge's; which chunk that it waits for comes first; and held writes of a
+// snapshot are routed again, after a publication.
+ghost use Rattle.std.specs.Prelude.{◌≡◌, ◌+◌, ◌^◌, ◌<◌, map};
 ghost use Rattle.std.specs.List.{All, list_all, list_any};
 ghost use Rattle.volume_laws.specs.Again.{placed_of, published_place as place_if_published};
-ghost use Rattle.volume_laws.specs.Published.{is_clear as is_clear_in, is_saved as is_saved_in};
+ghost use Rattle.volume_laws.specs.Published.{is_clear as is_clear_in, is_clear_over as is_clear_in_all, is_saved as is_saved_in, is_saved_over as is_saved_in_all, next_over, unpublished_in};
 ghost use Rattle.snapshot.specs.Kept.{books_of};
 
+use crate::starting::own_chunk;
 use device::Block;
 use pending::{Flight, placed_route, request_kind};
 use sector::Chunk;
@@ -50,6 +52,65 @@ pub fn is_clear<B: Block>(snaps: &[Snapshot<B>], first: u64) -> bool
     ensures { result ≡ is_clear_in (map (books_of B.contents B.layers) snaps.now) first }
 {
     are_saved(snaps, first) && !is_any_untried(snaps)
+}
+
+/// The first chunk that a snapshot has not published, of those that so many sectors of the origin touch from this one on.
+fn first_unpublished<B: Block>(snap: &Snapshot<B>, first: u64, count: u32) -> Option<Chunk>
+    requires { first + count < 2 ^ 64 }
+    ensures { result ≡ unpublished_in first count (books_of B.contents B.layers snap.now) }
+{
+    if count == 0 {
+        return None;
+    }
+    let sectors = snap.chunk() as u64;
+    let last = (first + (count - 1) as u64) / sectors;
+    for chunk in first / sectors..last + 1 {
+        if !snap.is_published(chunk) {
+            return Some(chunk);
+        }
+    }
+    None
+}
+
+/// That chunk: a merge waits for its copy next. Where the snapshot has published each, the first of all.
+pub fn next_chunk<B: Block>(snap: &Snapshot<B>, first: u64, count: u32) -> Chunk
+    requires { first + count < 2 ^ 64 }
+    ensures { result ≡ next_over first count (books_of B.contents B.layers snap.now) }
+{
+    match first_unpublished(snap, first, count) {
+        Some(chunk) => chunk,
+        None => own_chunk(snap, first),
+    }
+}
+
+/// Whether a snapshot has published each chunk that so many sectors of the origin touch from this one on, if it is live.
+fn is_saved_over<B: Block>(snap: &Snapshot<B>, first: u64, count: u32) -> bool
+    requires { first + count < 2 ^ 64 }
+    ensures { result ≡ is_saved_in_all first count (books_of B.contents B.layers snap.now) }
+{
+    !snap.is_live() || !first_unpublished(snap, first, count).is_some()
+}
+
+/// Whether every live snapshot has.
+fn are_saved_over<B: Block>(snaps: &[Snapshot<B>], first: u64, count: u32) -> bool
+    requires { first + count < 2 ^ 64 }
+    ensures { result ≡ list_all (is_saved_in_all first count) (map (books_of B.contents B.layers) snaps.now) }
+{
+    for s in snaps {
+        if !is_saved_over(s, first, count) {
+            return false;
+        }
+    }
+    true
+}
+
+/// Whether so many sectors from this one on may be written to the origin disk at once: every live snapshot has published
+/// each chunk that they touch, and no header is left to be marked invalid.
+pub fn is_clear_over<B: Block>(snaps: &[Snapshot<B>], first: u64, count: u32) -> bool
+    requires { first + count < 2 ^ 64 }
+    ensures { result ≡ is_clear_in_all (map (books_of B.contents B.layers) snaps.now) first count }
+{
+    are_saved_over(snaps, first, count) && !is_any_untried(snaps)
 }
 
 /// The place of a chunk of the origin, where the snapshot has published it.

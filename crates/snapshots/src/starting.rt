@@ -4,7 +4,7 @@ ghost use Rattle.std.specs.Prelude.{◌≡◌, ◌==◌, ◌&&◌, ◌+◌, ◌*
 ghost use Rattle.std.specs.List.{All};
 ghost use Rattle.sector.specs.declared.refusal.Refusal.TheVariants.{NoMemory};
 ghost use Rattle.snapshots.specs.Numbers.{count_in};
-ghost use Rattle.snapshots.specs.Starting.{AreSavedIn, HasRoomFor, HaveRooms, IsSavedIn, lacks, starts, unroomed};
+ghost use Rattle.snapshots.specs.Starting.{AreSavedIn, HasRoomFor, HaveRooms, IsSavedIn, lacks, lacks_chunk, own_of, starts, unroomed};
 
 use device::Block;
 use pending::{Flight, has_copy, refuse, sectors_of};
@@ -20,12 +20,18 @@ pub fn own_chunk<B: Block>(snap: &Snapshot<B>, first: u64) -> Chunk
     first / snap.chunk() as u64
 }
 
+/// Whether a snapshot is live, and has neither a chunk nor a copy of it under way.
+pub fn is_lacking_chunk<B: Block>(snap: &Snapshot<B>, chunk: Chunk) -> bool
+    ensures { result ≡ lacks_chunk chunk snap.now }
+{
+    snap.is_live() && !snap.place_of(chunk).is_some() && !has_copy(snap.copies(), chunk)
+}
+
 /// Whether a snapshot is live, and has neither its chunk of a sector nor a copy of it under way.
 pub fn is_lacking<B: Block>(snap: &Snapshot<B>, first: u64) -> bool
     ensures { result ≡ lacks first snap.now }
 {
-    let chunk = own_chunk(snap, first);
-    snap.is_live() && !snap.place_of(chunk).is_some() && !has_copy(snap.copies(), chunk)
+    is_lacking_chunk(snap, own_chunk(snap, first))
 }
 
 /// Makes room for the copy of a snapshot's chunk of a sector, where it lacks it: the buffer is as long as the chunk, or
@@ -90,7 +96,7 @@ pub fn save_in<B: Block>(
     requires begins { first < snap.old.state.origin }
     requires room { HasRoomFor first snap.old room }
     requires few { copies + 1 < 2 ^ 64 }
-    ensures saved { IsSavedIn B.contents B.layers first snap.old snap.new copies result flights.old flights.new }
+    ensures saved { IsSavedIn B.contents B.layers (own_of first snap.old) snap.old snap.new copies result flights.old flights.new }
 {
     if !is_lacking(snap, first) {
         return copies;
@@ -118,7 +124,7 @@ pub fn save_in_all<B: Block>(
     requires begins { All (λ s. first < s.state.origin) snaps.old }
     requires rooms { HaveRooms first snaps.old rooms.items }
     requires few { copies + length snaps.old < 2 ^ 64 }
-    ensures saved { AreSavedIn B.contents B.layers first snaps.old snaps.new copies result flights.old flights.new }
+    ensures saved { AreSavedIn B.contents B.layers (own_of first) snaps.old snaps.new copies result flights.old flights.new }
 {
     let mut given = copies;
     for k in 0..snaps.len() {

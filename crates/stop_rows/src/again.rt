@@ -13,12 +13,14 @@ use std::alloc::Global;
 use std::test::Fail;
 use volume::Stopped;
 
-/// What a stop left: the stores, the last one first, and then the origin disk; and the arrays from before.
+/// What a stop left: the stores, the last one first, and then the origin disk; the arrays from before; and the snapshot whose store
+/// a merge may find full.
 #[derive(Drop)]
 struct Left<B: Block> {
     disks: Vec<B>,
     arrays: Arrays,
     chunk: u32,
+    fills_up: Option<SnapId>,
 }
 
 /// The disk that is left of a fuse.
@@ -54,6 +56,7 @@ fn stop(alloc: Global, machine: Machine<Fuse>) -> Result<Left<MemDisk>, Fail> {
         arrays,
         stores,
         chunk,
+        fills_up,
         ..
     } = machine;
     let count = arrays.snaps.len().saturating_add(1);
@@ -64,6 +67,7 @@ fn stop(alloc: Global, machine: Machine<Fuse>) -> Result<Left<MemDisk>, Fail> {
         disks,
         arrays,
         chunk,
+        fills_up,
     })
 }
 
@@ -177,9 +181,11 @@ fn judged<B: Layered + Drop>(alloc: Global, left: Left<B>) -> Result<Machine<B>,
         mut disks,
         arrays,
         chunk,
+        fills_up,
     } = left;
     let merging = arrays.merging();
     let mut again = volume_again(alloc, &mut disks, chunk)?;
+    again.fills_up = fills_up;
     again.take_all_again(alloc, &mut disks, &arrays)?;
     again.arrays.show(arrays.origin.clone()?);
     if let Some(asked) = arrays.under_way {

@@ -2,7 +2,8 @@
 use crate::disks::disks_of;
 use crate::machine::Machine;
 use crate::scenario::{
-    FULL_STORE, LONG_MERGE, MERGE_BESIDE, ONE_COPY, Scenario, Step, WHOLE_AREA, WRITTEN_MERGE,
+    FILLS_UP, FULL_STORE, LONG_MERGE, MERGE_BESIDE, ONE_COPY, Scenario, Step, WHOLE_AREA,
+    WIDE_MERGE, WRITTEN_MERGE,
 };
 use device::{FailAt, MemDisk};
 use plain::Dev;
@@ -90,5 +91,14 @@ fn a_merge_goes_on_after_a_fault(rt: HostRuntime) -> Result<(), Fail> {
         long > 40 * 5 && beside > 20 && written > 20,
         "{long} {beside} {written}"
     );
+    Ok(())
+}
+
+#[test]
+fn a_merge_over_smaller_chunks_goes_on_after_a_fault(rt: HostRuntime) -> Result<(), Fail> {
+    let wide = fail_everywhere(rt.alloc(), &[64, 64], &WIDE_MERGE)?;
+    let full = fail_everywhere(rt.alloc(), &[64, 4], &FILLS_UP)?;
+    // Each of eight sectors is read, written to the store, and its pair is written; and of four two are.
+    assert!(rt; wide > 8 * 3 && full > 2 * 3, "{wide} {full}");
     Ok(())
 }

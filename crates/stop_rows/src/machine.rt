@@ -14,8 +14,8 @@ use volume::Volume;
 /// More events than are ever due.
 const MOST: u64 = 100_000;
 
-/// A volume, the plain arrays, the stores that are not attached, the next of which is the last, and how many operations
-/// failed. Where it is to stop, a run ends at the first failure.
+/// A volume, the plain arrays, the stores that are not attached, the next of which is the last, how many operations failed, and
+/// the snapshot whose store a merge may find full. Where it is to stop, a run ends at the first failure.
 #[derive(Drop)]
 pub struct Machine<B: Block> {
     pub volume: Volume<B>,
@@ -24,6 +24,7 @@ pub struct Machine<B: Block> {
     pub chunk: u32,
     pub stops: bool,
     pub failures: u64,
+    pub fills_up: Option<SnapId>,
 }
 
 impl<B: Layered + Drop> Machine<B> {
@@ -44,6 +45,7 @@ impl<B: Layered + Drop> Machine<B> {
             chunk,
             stops,
             failures: 0,
+            fills_up: None,
         })
     }
 
@@ -54,6 +56,20 @@ impl<B: Layered + Drop> Machine<B> {
                 snap.state = State::Spoilt;
             }
         }
+    }
+
+    /// Enters that a merge found a store full, in an event at which no device failed, and tells how many snapshots it lost by that.
+    fn notice_full(&mut self, outcome: &Outcome) -> u64 {
+        let Some(number) = self.fills_up else {
+            return 0;
+        };
+        let failed = matches!(outcome, Outcome::Fault);
+        let live = self.arrays.state(number) == Some(State::Live);
+        if failed || !live || !calls::is_spoilt(&self.volume, number) {
+            return 0;
+        }
+        self.arrays.set_state(number, State::Spoilt);
+        1
     }
 
     /// Follows what came of an event, and tells whether that may be.
@@ -83,7 +99,8 @@ impl<B: Layered + Drop> Machine<B> {
             };
         };
         let after = failed(&self.volume, &self.arrays);
-        if !is_told(event, &outcome, before, after) || !self.follow(event, &outcome) {
+        let full = self.notice_full(&outcome);
+        if !is_told(event, &outcome, before, after, full) || !self.follow(event, &outcome) {
             return Err(Fail::from("a wrong outcome"));
         }
         self.failures = self
@@ -191,15 +208,15 @@ impl<B: Layered + Drop> Machine<B> {
     }
 
     /// Attaches the next store, which has such a sector. Where a device fails at it and the run goes on, it is attached again.
-    fn attach(&mut self, alloc: Global, own: Option<(u64, u8)>) -> Result<bool, Fail> {
+    fn attach(&mut self, alloc: Global, chunk: u32, own: Option<(u64, u8)>) -> Result<bool, Fail> {
         let Some(device) = self.stores.pop() else {
             return Err(Fail::from("no store"));
         };
         let array = self.array_with(own)?;
         let faults = device.faults();
-        match calls::attach(alloc, &mut self.volume, device, self.chunk) {
+        match calls::attach(alloc, &mut self.volume, device, chunk) {
             Ok(number) => self.enter(number, faults, array),
-            Err((Refusal::Io, device)) => self.attach_again(alloc, device, faults, array),
+            Err((Refusal::Io, device)) => self.attach_again(alloc, chunk, device, faults, array),
             Err((refusal, _)) => Err(Fail::from(refusal)),
         }
     }
@@ -217,6 +234,7 @@ impl<B: Layered + Drop> Machine<B> {
     fn attach_again(
         &mut self,
         alloc: Global,
+        chunk: u32,
         device: B,
         faults: u64,
         array: Vec<u8>,
@@ -231,7 +249,7 @@ impl<B: Layered + Drop> Machine<B> {
             self.arrays.enter(SnapId::MAX, array)?;
             return Ok(true);
         }
-        match calls::attach(alloc, &mut self.volume, device, self.chunk) {
+        match calls::attach(alloc, &mut self.volume, device, chunk) {
             Ok(number) => self.enter(number, after, array),
             Err((refusal, _)) => Err(Fail::from(refusal)),
         }
@@ -261,11 +279,22 @@ impl<B: Layered + Drop> Machine<B> {
         Ok(false)
     }
 
+    /// A snapshot is lost, unless a device failed.
+    fn hold_full(&self, number: SnapId) -> Result<bool, Fail> {
+        if self.failures == 0 && self.arrays.is_live(Dev::Snap(number)) {
+            return Err(Fail::from("a full store"));
+        }
+        Ok(false)
+    }
+
     /// Takes a step, and tells whether the run ends with it.
     fn take(&mut self, alloc: Global, step: &Step) -> Result<bool, Fail> {
         match *step {
-            Step::Attach => self.attach(alloc, None),
-            Step::AttachWritten(sector, byte) => self.attach(alloc, Some((sector, byte))),
+            Step::Attach => self.attach(alloc, self.chunk, None),
+            Step::AttachBy(chunk) => self.attach(alloc, chunk, None),
+            Step::AttachWritten(sector, byte) => {
+                self.attach(alloc, self.chunk, Some((sector, byte)))
+            }
             Step::Start(dev, chunk, byte) => self.start(alloc, dev, chunk, byte),
             Step::Fill(dev, first, count, byte) => self.fill(alloc, dev, first, count, byte),
             Step::Read(dev, chunk) => self.read(alloc, dev, chunk),
@@ -275,6 +304,11 @@ impl<B: Layered + Drop> Machine<B> {
                 self.arrays.set_state(number, State::Spoilt);
                 Ok(false)
             }
+            Step::FillsUp(number) => {
+                self.fills_up = Some(number);
+                Ok(false)
+            }
+            Step::IsFull(number) => self.hold_full(number),
             Step::Overflow(number, chunk) => self.overflow(alloc, number, chunk),
             Step::Merge(number) => self.merge(alloc, number),
             Step::Finish => self.finish(),

@@ -6,6 +6,8 @@ use plain::{Dev, Event, SnapId};
 pub enum Step {
     /// Attaches the next store, which is fresh.
     Attach,
+    /// Attaches the next store, which is fresh, with chunks of so many sectors.
+    AttachBy(u32),
     /// Attaches the next store, which has one sector of its own, with this byte.
     AttachWritten(u64, u8),
     /// Submits a write of a chunk.
@@ -20,6 +22,10 @@ pub enum Step {
     Settle,
     /// Says that the write before found the store of this snapshot full.
     Full(SnapId),
+    /// Says that from here on a merge may find the store of this snapshot full.
+    FillsUp(SnapId),
+    /// Says that a merge found the store of this snapshot full, where no device failed.
+    IsFull(SnapId),
     /// Submits a write of a chunk to a snapshot whose store is full, or overflowed before: it is refused.
     Overflow(SnapId, u64),
     /// Begins to merge a snapshot.
@@ -83,6 +89,37 @@ pub static MERGE_BESIDE: [Step; 10] = [
     Step::Read(Dev::Snap(2), 5),
     Step::Read(Dev::Origin, 9),
     Step::Read(Dev::Origin, 5),
+];
+
+/// A snapshot in chunks of four sectors is merged beside one of smaller chunks.
+pub static WIDE_MERGE: [Step; 12] = [
+    Step::Attach,
+    Step::AttachBy(4),
+    Step::Fill(Dev::Origin, 5, 1, 0xaa),
+    Step::Fill(Dev::Origin, 6, 1, 0xbb),
+    Step::Fill(Dev::Snap(2), 20, 1, 0x77),
+    Step::Merge(2),
+    Step::Read(Dev::Origin, 5),
+    Step::Settle,
+    Step::Read(Dev::Snap(1), 4),
+    Step::Read(Dev::Snap(1), 20),
+    Step::Finish,
+    Step::Read(Dev::Origin, 20),
+];
+
+/// A chunk of four sectors is merged beside a snapshot of one, whose store is full after two of its four copies.
+pub static FILLS_UP: [Step; 11] = [
+    Step::AttachBy(4),
+    Step::Attach,
+    Step::Fill(Dev::Snap(1), 9, 1, 0x77),
+    Step::Merge(1),
+    Step::Do(Event::MergeGroup),
+    Step::Do(Event::MergeRead),
+    Step::FillsUp(2),
+    Step::Settle,
+    Step::IsFull(2),
+    Step::Finish,
+    Step::Read(Dev::Origin, 9),
 ];
 
 /// The origin is written while a merge has its chunks: one is in the group and waits, the other is not.

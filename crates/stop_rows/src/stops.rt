@@ -3,8 +3,8 @@ use crate::again::load_again;
 use crate::disks::disks_of;
 use crate::machine::Machine;
 use crate::scenario::{
-    ATTACH, ATTACH_WRITTEN, FULL_STORE, LONG_MERGE, MERGE_BESIDE, ONE_COPY, OVERFLOWED, Scenario,
-    Step, WHOLE_AREA, WRITTEN_MERGE,
+    ATTACH, ATTACH_WRITTEN, FILLS_UP, FULL_STORE, LONG_MERGE, MERGE_BESIDE, ONE_COPY, OVERFLOWED,
+    Scenario, Step, WHOLE_AREA, WIDE_MERGE, WRITTEN_MERGE,
 };
 use device::MemDisk;
 use fuse::Fuse;
@@ -15,10 +15,17 @@ use std::test::Fail;
 /// More writes than a run has.
 const MOST: u64 = 10_000;
 
-/// Which sectors of a write are new: none, all, the first alone, the last alone, in chunks of one sector and of two.
+/// Which sectors of a write are new: none, all, the first alone, the last alone, in chunks of one sector, of two and of four.
 static ONE_SECTOR: [&[bool]; 2] = [&[], &[true]];
 
 static TWO_SECTORS: [&[bool]; 4] = [&[], &[true, true], &[true], &[false, true]];
+
+static FOUR_SECTORS: [&[bool]; 4] = [
+    &[],
+    &[true, true, true, true],
+    &[true],
+    &[false, false, false, true],
+];
 
 /// A fuse over a disk.
 fn fuse_over(alloc: Global, disk: MemDisk, writes: u64, new: &[bool]) -> Result<Fuse, Fail> {
@@ -79,13 +86,22 @@ pub fn stop_at_each(
     Err(Fail::from("writes without an end"))
 }
 
-/// Stops runs at each write of each device, in each way, and tells how many there were.
+/// Stops runs at each write of each device, in each way that its chunks have, and tells how many there were.
 fn stop_everywhere(alloc: Global, scenario: &Scenario) -> Result<u64, Fail> {
     let ways = if scenario.chunk == 1 {
         ONE_SECTOR.as_slice()
     } else {
         TWO_SECTORS.as_slice()
     };
+    stop_in_ways(alloc, scenario, ways)
+}
+
+/// Stops runs at each write of each device, in each of some ways, and tells how many there were.
+fn stop_in_ways(
+    alloc: Global,
+    scenario: &Scenario,
+    ways: &'static [&'static [bool]],
+) -> Result<u64, Fail> {
     let mut count = 0u64;
     for place in 0..=scenario.stores.len() {
         for new in ways {
@@ -192,5 +208,36 @@ fn a_stop_beside_a_spoil(rt: HostRuntime) -> Result<(), Fail> {
     };
     let count = stop_everywhere(rt.alloc(), &scenario)?;
     assert!(rt; count > 33 * 2 * 2, "{count}");
+    Ok(())
+}
+
+#[test]
+fn a_stop_within_a_merge_over_smaller_chunks(rt: HostRuntime) -> Result<(), Fail> {
+    let mut count = 0u64;
+    for chunk in [1, 2] {
+        let scenario = Scenario {
+            chunk,
+            stores: &[64, 64],
+            written: false,
+            steps: &WIDE_MERGE,
+        };
+        let stops = stop_in_ways(rt.alloc(), &scenario, FOUR_SECTORS.as_slice())?;
+        count = count.saturating_add(stops);
+    }
+    assert!(rt; count > 200, "{count}");
+    Ok(())
+}
+
+#[test]
+fn a_stop_beside_a_store_that_fills_up_within_a_merged_chunk(rt: HostRuntime) -> Result<(), Fail> {
+    let scenario = Scenario {
+        chunk: 1,
+        stores: &[64, 4],
+        written: false,
+        steps: &FILLS_UP,
+    };
+    let count = stop_in_ways(rt.alloc(), &scenario, FOUR_SECTORS.as_slice())?;
+    // Of 14 writes each stops in four ways.
+    assert_eq!(rt; count, 14 * 4);
     Ok(())
 }

@@ -33,9 +33,15 @@ fn wanted(event: Event, outcome: &Outcome) -> (u64, u64) {
     }
 }
 
-/// Whether an outcome tells what failed in an event, and nothing else.
-pub fn is_told(event: Event, outcome: &Outcome, before: Failures, after: Failures) -> bool {
+/// Whether an outcome tells what failed in an event, and nothing else. So many snapshots were lost since their stores are full.
+pub fn is_told(
+    event: Event,
+    outcome: &Outcome,
+    before: Failures,
+    after: Failures,
+    full: u64,
+) -> bool {
     let faults = after.faults.wrapping_sub(before.faults);
     let lost = after.lost.wrapping_sub(before.lost);
-    wanted(event, outcome) == (faults, lost)
+    wanted(event, outcome) == (faults, lost.wrapping_sub(full))
 }

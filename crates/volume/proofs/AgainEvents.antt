@@ -8,9 +8,8 @@ use Rattle.std.proofs.lemmas.List.Edits.{length-remove}
 use Rattle.std.proofs.lemmas.List.Quantifiers.{position-Some}
 use Rattle.sector.specs.Bytes.{next_count}
 use Rattle.device.specs.Layers.{Layer, is_loud}
-use Rattle.plain.specs.declared.event.Event.TheVariants.{Publish, WriteInvalid}
+use Rattle.plain.specs.declared.event.Event.TheVariants.{WriteInvalid}
 use Rattle.plain.specs.declared.event.Outcome.{Outcome}
-use Rattle.plain.specs.declared.event.Outcome.TheVariants.{Done}
 use Rattle.pending.specs.Due.{number_of_copy, number_of_mark, is_publishable}
 use Rattle.pending.specs.Kinds.{in_flight}
 use Rattle.pending.specs.Routes.{is_reading}
@@ -22,6 +21,8 @@ use Rattle.volume_laws.specs.Published.{is_clear}
 use Rattle.volume_laws.specs.Again.{again_of, placed_of, Reroutes, Places}
 use Rattle.volume_laws.specs.Steps.{ChangesSnap, Unmarks, TriesMark}
 use Rattle.volume_laws.specs.Outcomes.{IsSilent}
+use Rattle.volume_laws.specs.Due.{left_in}
+use Rattle.volume_laws.specs.Waits.{Waits}
 use Rattle.volume_laws.specs.Whole.{IsLoud}
 use Rattle.volume_laws.proofs.WholeOne.{snap_holds, live_by_mark, unmark_event}
 use Rattle.volume_laws.proofs.Placing.{place_event}
@@ -33,6 +34,7 @@ use Rattle.volume_laws.proofs.Lists.{map-remove}
 use Rattle.snapshot.specs.Kept.{Kept, books_of as snap_books, due_of_kept, unpublished}
 use Rattle.merge_beside.specs.Rooms.{merge_books, room_of}
 use Rattle.volume_laws.specs.MergeRooms.{unpublished as unpublished_room}
+use Rattle.volume_laws.proofs.MergeRooms.{KeepsSpace}
 use Rattle.volume_laws.proofs.MergeRoomEvents.{publish_room, tried_room}
 use Rattle.volume.specs.Volumed.{Volumed, books_of}
 use Rattle.snapshots.specs.Numbers.{numbers_in}
@@ -40,12 +42,26 @@ use Rattle.volume.specs.Whole.{IsWhole, IsCounted}
 use Rattle.snapshots.specs.Finding.{is_trying, is_mark_of}
 use Rattle.volume.specs.Causes.{HasCause}
 use Rattle.volume.proofs.Changing.{SameDisk, same_disk, StaysAttached, changed, books_within, books_is, changes, few_less, few_same}
-use Rattle.volume.proofs.Counting.{counts_same, counts_store, store_within, lives_same}
+use Rattle.volume.proofs.Counting.{counts_store, store_within}
 use Rattle.volume.proofs.CopyEvents.{both_left, both_right}
 use Rattle.volume.proofs.Good.{IsGood, Spoiling, Staying, Calm, silent_good}
 use Rattle.volume.proofs.StartsLeft.{left_same, left_spoilt}
 use Rattle.volume.proofs.MovedCounts.{counted_marks}
 use Rattle.merge.specs.Merging.{Merging}
+
+-- A mark of snapshot s was taken away, which is s' then, and held writes were routed again: nothing is seen of it, and less is
+-- left. What a merge waits for next may be another copy then.
+pub record IsUnmarked {B : Type 0} (contents : B → List ℕ) (layers : B → List Layer) (size : B → ℕ) (v : Volumed B) (k : ℕ) (s s' : Kept B) (flights : List Flight) : Type 0 where
+  pub silent : IsSilent (books_of contents layers size v) (books_of contents layers size (changed v v.origin k s' flights))
+  pub waits : Waits (books_of contents layers size (changed v v.origin k s' flights))
+  pub loud : IsLoud (books_of contents layers size v) → IsLoud (books_of contents layers size (changed v v.origin k s' flights))
+  pub stays : StaysAttached s s'
+  pub less : left_in (due_of_kept contents layers s') < left_in (due_of_kept contents layers s)
+  pub flown : map in_flight flights ≡ map in_flight v.flights
+  pub room : KeepsSpace (room_of contents layers s) (room_of contents layers s')
+  pub device : s'.device ≡ s.device
+  pub live : s'.live ≡ s.live
+  pub overflow : s'.overflow ≡ s.overflow
 
 -- the same requests are in flight
 pub again_flown : (merge : Option MergeBooks) (clear : ℕ → Bool) (rs : List Flight) → map in_flight (map (again_of merge clear) rs) ≡ map in_flight rs
@@ -163,8 +179,8 @@ module _ {B : Type 0} (contents : B → List ℕ) (layers : B → List Layer) (s
     abbrev placed : List Flight
     placed = map (placed_of (snap_books contents layers s')) v.flights
 
-    pub published_good : IsGood contents layers size faults done (Publish number) Done v (changed v v.origin k s' (again placed))
-    published_good =
+    pub unmarked : IsUnmarked contents layers size v k s s' (again placed)
+    unmarked =
         let vb = books_of contents layers size v in
         let ub = books_of contents layers size mid in
         let xb = books_of contents layers size (changed v v.origin k s' placed) in
@@ -187,29 +203,33 @@ module _ {B : Type 0} (contents : B → List ℕ) (layers : B → List Layer) (s
         } in
         let two : IsSilent ub xb = place_event k b ub xb one.holds places (ap (λ (x : Kept B). x.live) f ∙ live) in
         let three : IsSilent xb wb = reroute xb wb two.holds (reroutes placed) in
-        let stays : StaysAttached s s' = record {
-          number = ap (λ (x : Kept B). x.number) f;
-          chunk_is = ap (λ (x : Kept B). x.state.chunk) f;
-          origin = ap (λ (x : Kept B). x.state.origin) f;
-          numbers = inr (inl (
-            j,
-            marks_in,
-            ap (λ (x : Kept B). numbers_in x) f ∙ ap (λ ns. ns ++ map number_of_copy s.copies) (map-remove number_of_mark s.marks j)
-                ∙ sym (remove_front (map number_of_mark s.marks) (map number_of_copy s.copies) j (omega (arith, r.within, length-map s.marks number_of_mark))),
-          ));
-          few = few_less s s' fewer;
-          counted = λ counts. subst IsCounted (sym f) (counted_marks s counts (remove s.marks j) (unpublished m.number s.merging));
-          left = left_same s s' (ap (λ (x : Kept B). x.live) f) (ap (λ (x : Kept B). x.state.size) f) (ap (λ (x : Kept B). x.next) f);
-        } in
-        silent_good contents layers size faults done v h (Publish number) Done (λ p q x. x) (λ xs ys e. e) (λ b. refl) v.origin k s s' within is disk loud (ap size device) (again placed) (again_flown (merge_books contents layers true v.merge) clear placed ∙ placed_flown b v.flights) stays (ap (λ (x : Kept B). x.overflow) f)
-        (silent_then vb ub wb one (silent_then ub xb wb two three (same_loud v.flights placed)) (loud_one k a b vb ub e_is loud))
-        (waits_published k j m a b vb ub xb wb h.waits e_is r places (reroutes placed))
-        (unmark_left j m (due_of_kept contents layers s) (due_of_kept contents layers s') r (ap (λ (x : Kept B). x.state.zeroed) f))
-        (record { counts = counts_same v v.origin k s s' (again placed) within is faults refl (ap faults device); lives = lives_same v v.origin k s s' (again placed) within is (ap (λ (x : Kept B). x.live) f) })
-        (inl (counts_same v v.origin k s s' (again placed) within is done refl (ap done device)))
-        (publish_room j m (room_of contents layers s) (room_of contents layers s') r
-        (record { kept_back = ap (λ (x : Kept B). x.kept_back) f; spare = ap (λ (x : Kept B). x.spare) f; merging = ap (λ (x : Kept B). x.merging) f ∙ unpublished_alike m.number s.merging })
-        (marks_apart s.marks s.copies j m (subst (λ (x : Kept B). AllPairs (λ a b. a < b) (numbers_in x)) (sym is) (h.snaps k s within).numbers.ascending) r.within r.was))
+        record {
+          silent = silent_then vb ub wb one (silent_then ub xb wb two three (same_loud v.flights placed)) (loud_one k a b vb ub e_is loud);
+          waits = waits_published k j m a b vb ub xb wb h.waits e_is r places (reroutes placed);
+          loud = λ l. same_loud v.flights (again placed) (loud_one k a b vb ub e_is loud l);
+          stays = record {
+            number = ap (λ (x : Kept B). x.number) f;
+            chunk_is = ap (λ (x : Kept B). x.state.chunk) f;
+            origin = ap (λ (x : Kept B). x.state.origin) f;
+            numbers = inr (inl (
+              j,
+              marks_in,
+              ap (λ (x : Kept B). numbers_in x) f ∙ ap (λ ns. ns ++ map number_of_copy s.copies) (map-remove number_of_mark s.marks j)
+                  ∙ sym (remove_front (map number_of_mark s.marks) (map number_of_copy s.copies) j (omega (arith, r.within, length-map s.marks number_of_mark))),
+            ));
+            few = few_less s s' fewer;
+            counted = λ counts. subst IsCounted (sym f) (counted_marks s counts (remove s.marks j) (unpublished m.number s.merging));
+            left = left_same s s' (ap (λ (x : Kept B). x.live) f) (ap (λ (x : Kept B). x.state.size) f) (ap (λ (x : Kept B). x.next) f);
+          };
+          less = unmark_left j m (due_of_kept contents layers s) (due_of_kept contents layers s') r (ap (λ (x : Kept B). x.state.zeroed) f);
+          flown = again_flown (merge_books contents layers true v.merge) clear placed ∙ placed_flown b v.flights;
+          room = publish_room j m (room_of contents layers s) (room_of contents layers s') r
+              (record { kept_back = ap (λ (x : Kept B). x.kept_back) f; spare = ap (λ (x : Kept B). x.spare) f; merging = ap (λ (x : Kept B). x.merging) f ∙ unpublished_alike m.number s.merging })
+              (marks_apart s.marks s.copies j m (subst (λ (x : Kept B). AllPairs (λ a b. a < b) (numbers_in x)) (sym is) (h.snaps k s within).numbers.ascending) r.within r.was);
+          device = device;
+          live = ap (λ (x : Kept B). x.live) f;
+          overflow = ap (λ (x : Kept B). x.overflow) f;
+        }
       where
         get_or-set_at : (i : ℕ) → get_or (map (snap_books contents layers) (set v.snaps k s')) k (snap_books contents layers s') ≡ snap_books contents layers s'
         get_or-set_at i = ap (λ xs. get_or xs k (snap_books contents layers s')) (map-set (snap_books contents layers) v.snaps k s') ∙ get_or-set_same (map (snap_books contents layers) v.snaps) k (snap_books contents layers s') (snap_books contents layers s') sb_in

@@ -17,7 +17,7 @@ use Rattle.event_machine.specs.Seen.{copying_of, going_of}
 use Rattle.snapshot.specs.Kept.{Kept}
 use Rattle.merge.specs.declared.group.Group.{Group}
 use Rattle.merge.specs.Merging.{Merging, due_of as merging_due}
-use Rattle.volume.specs.Volumed.{Volumed, is_loud_in_all, is_loud_with, piece_with}
+use Rattle.volume.specs.Volumed.{Volumed, is_loud_in_all, is_loud_with}
 use Rattle.volume.specs.Whole.{IsAttached, IsWhole}
 use Rattle.volume.specs.Moved.{held_of, moving_of, merge_seen}
 use Rattle.volume.specs.Leaving.{IsStillOn, has_group_in, is_done_of}
@@ -73,18 +73,18 @@ module _ {B : Type 0} (contents : B → List ℕ) (layers : B → List Layer) wh
             });
       }
 
-  all_resting : (copies sectors chunk : ℕ) (ss : List (Kept B)) → sectors ≤ 16_777_216 → All (IsAttached copies sectors chunk) ss → All (IsStillOn contents layers) ss → list_all is_done_of ss ≡ true → list_all (λ s. is_loud (layers s.device)) ss ≡ true → All (IsResting sectors) (map (held_of contents layers) ss)
-  all_resting copies sectors chunk [] small attached still done loud = λ k d below. absurd (omega (arith, below))
-  all_resting copies sectors chunk (s ∷ ss) small attached still done loud =
+  all_resting : (copies sectors : ℕ) (ss : List (Kept B)) → sectors ≤ 16_777_216 → All (IsAttached copies sectors) ss → All (IsStillOn contents layers) ss → list_all is_done_of ss ≡ true → list_all (λ s. is_loud (layers s.device)) ss ≡ true → All (IsResting sectors) (map (held_of contents layers) ss)
+  all_resting copies sectors [] small attached still done loud = λ k d below. absurd (omega (arith, below))
+  all_resting copies sectors (s ∷ ss) small attached still done loud =
       All-cons (IsResting sectors) (held_of contents layers s) (map (held_of contents layers) ss)
       (resting sectors s small (attached 0 s (omega arith)).origin (and_first (is_done_of s) (list_all is_done_of ss) done) (and_first (is_loud (layers s.device)) (list_all (λ (t : Kept B). is_loud (layers t.device)) ss) loud) (still 0 s (omega arith)))
-      (all_resting copies sectors chunk ss small (λ k d below. attached (suc k) d (omega (arith, below))) (λ k d below. still (suc k) d (omega (arith, below)))
+      (all_resting copies sectors ss small (λ k d below. attached (suc k) d (omega (arith, below))) (λ k d below. still (suc k) d (omega (arith, below)))
       (and_second (is_done_of s) (list_all is_done_of ss) done) (and_second (is_loud (layers s.device)) (list_all (λ (t : Kept B). is_loud (layers t.device)) ss) loud))
 
   -- no request is in flight, no group of the merge is formed, and each snapshot is done
   module _ (size : B → ℕ) (v : Volumed B) (replied : Option Reply) (whole : IsWhole contents layers size v) (small : size v.origin ≤ 16_777_216) (none : v.flights ≡ []) (done : list_all is_done_of v.snaps ≡ true) (still : All (IsStillOn contents layers) v.snaps) (loud : is_loud_in_all layers v ≡ true) where
     snaps_rest : All (IsResting (size v.origin)) (map (held_of contents layers) v.snaps)
-    snaps_rest = all_resting v.copies (size v.origin) (piece_with v.merge v.snaps) v.snaps small whole.snaps still done (and_second (is_loud (layers v.origin)) (list_all (λ (s : Kept B). is_loud (layers s.device)) v.snaps) (loud_others contents layers size v loud))
+    snaps_rest = all_resting v.copies (size v.origin) v.snaps small whole.snaps still done (and_second (is_loud (layers v.origin)) (list_all (λ (s : Kept B). is_loud (layers s.device)) v.snaps) (loud_others contents layers size v loud))
 
     pub rests : v.merge ≡ None → IsAtRest (size v.origin) (moving_of contents layers replied v)
     rests alone = record {

@@ -1,10 +1,10 @@
 -- A volume that takes a snapshot does what the machine of `settled` does.
-use Rattle.std.proofs.Common.{◌≡◌, inl, inr, ℕ, suc, ◌+◌, ◌*◌, ◌<◌, ◌≤◌, Bool, true, false, List, [], ◌∷◌, ◌++◌, length, map, refl, sym, ap, ◌∙◌, subst, arith}
+use Rattle.std.proofs.Common.{◌≡◌, inl, inr, ℕ, ◌+◌, ◌*◌, ◌<◌, ◌≤◌, Bool, true, false, List, [], ◌∷◌, ◌++◌, length, map, refl, sym, ap, ◌∙◌, subst, arith}
 use Rattle.std.specs.Prelude.{◌==◌, ◌&&◌, ◌||◌, not, nat_lt, nat_le, Option, Some, None}
 use Rattle.std.specs.List.{All, list_all}
 use Rattle.std.proofs.lemmas.List.Folds.{list_all-append}
 use Rattle.std.proofs.lemmas.Bool.{cases_Bool, cases_lt, cases_eq, cond-true, cond-false, false≢true, lt-ltb, le-ltb, lt-leb, le-leb, eq-eqb, ne_eqb}
-use Rattle.std.proofs.lemmas.List.Elements.{All-cons, All-push}
+use Rattle.std.proofs.lemmas.List.Elements.{All-push}
 use Rattle.sector.specs.declared.refusal.Refusal.{Refusal}
 use Rattle.sector.specs.declared.refusal.Refusal.TheVariants.{Stale, MergeInProgress, TooMany, BadChunk, NoMemory, NotQuiet}
 use Rattle.chunk.specs.Sizes.{is_chunk}
@@ -25,15 +25,13 @@ use Rattle.settled.proofs.Nexts.{next_place_is}
 use Rattle.volume_laws.specs.Steps.{IsNewSnap}
 use Rattle.snapshot.specs.declared.opening.StoreDev.{StoreDev}
 use Rattle.snapshot.specs.Kept.{Kept, books_of as snap_books}
-use Rattle.snapshot.specs.Attaching.{AreSized}
 use Rattle.snapshot.specs.Opened.{IsOpened}
 use Rattle.snapshot.specs.Opening.{IsOpenedAs}
 use Rattle.store.specs.declared.state.State.{State}
 use Rattle.store.specs.Stored.{new_of}
-use Rattle.volume.specs.Volumed.{Volumed, piece_of, is_loud_in_all, is_loud_with}
+use Rattle.volume.specs.Volumed.{Volumed, is_loud_in_all, is_loud_with}
 use Rattle.volume.specs.Moved.{device_of, held_of, moving_of}
-use Rattle.volume.specs.Whole.{IsAttached}
-use Rattle.volume.specs.Taking.{taking_refusal, wanted_of}
+use Rattle.volume.specs.Taking.{taking_refusal}
 use Rattle.volume.specs.Attached.{store_of, volume_in, IsAttachedAs}
 use Rattle.volume.proofs.Shown.{one_loud}
 
@@ -106,7 +104,7 @@ no_memory false false true count given chunk e = elim (cases_Bool (nat_le 8 coun
 ]
 
 -- not refused before that: the store is opened
-pub admitted : (stale begun quiet : Bool) (count given chunk : ℕ) (overflow : Overflowing) (store : Store) (v : Volume) → given ≤ 4_294_967_295 → store.stale ≡ stale → length v.snaps ≡ count → taking_refusal stale begun quiet count given chunk ≡ None → (is_chunk chunk ≡ true) × (store.stale ≡ false) × (attached (given + 1) chunk overflow store v ≡ with_tried (given + 1) overflow (open_store v.snaps (sectors_of v.origin) chunk store.device) v)
+pub admitted : (stale begun quiet : Bool) (count given chunk : ℕ) (overflow : Overflowing) (store : Store) (v : Volume) → given ≤ 4_294_967_295 → store.stale ≡ stale → length v.snaps ≡ count → taking_refusal stale begun quiet count given chunk ≡ None → (is_chunk chunk ≡ true) × (store.stale ≡ false) × (attached (given + 1) chunk overflow store v ≡ with_tried (given + 1) overflow (open_store (sectors_of v.origin) chunk store.device) v)
 unfolding attached
 admitted true begun quiet count given chunk overflow store v few is len e = absurd (cc)
 admitted false true quiet count given chunk overflow store v few is len e = absurd (cc)
@@ -138,16 +136,6 @@ module _ {B : Type 0} (contents : B → List ℕ) (layers : B → List Layer) wh
   pub count_in : (v : Volumed B) → length (volume_in contents layers v).snaps ≡ length v.snaps
   count_in v = snaps_length v.snaps
 
-  -- the volume's chunks are of one size
-  sized_all : (copies sectors chunk : ℕ) (ss : List (Kept B)) → All (IsAttached copies sectors chunk) ss → All (λ (t : Snap). t.chunk ≡ chunk) (map (λ (h : Held). h.snap) (map (held_of contents layers) ss))
-  sized_all copies sectors chunk [] all = λ k d lt. absurd (omega (arith, lt))
-  sized_all copies sectors chunk (s ∷ ss) all =
-      All-cons (λ (t : Snap). t.chunk ≡ chunk) (snap_of s) (map (λ (h : Held). h.snap) (map (held_of contents layers) ss)) (all 0 s (omega arith)).chunk_is (sized_all copies sectors chunk ss (λ j e below. all (suc j) e (omega (arith, below))))
-
-  pub sized : (copies sectors : ℕ) (ss : List (Kept B)) → All (IsAttached copies sectors (piece_of ss)) ss → AreSized (wanted_of ss) (map (λ (h : Held). h.snap) (map (held_of contents layers) ss))
-  sized copies sectors [] all = refl
-  sized copies sectors (s ∷ ss) all = (λ e. absurd (cc), sized_all copies sectors s.state.chunk (s ∷ ss) all)
-
   -- the volume with one more
   abbrev pub taken : Volumed B → ℕ → Kept B → Volumed B
   taken v number s = record v { snaps = v.snaps ++ s ∷ []; attached = number }
@@ -166,14 +154,14 @@ module _ {B : Type 0} (contents : B → List ℕ) (layers : B → List Layer) wh
       ∙ ap whole (sym (snaps_taken v.snaps s))
 
   -- nothing is left to do for the new one
-  pub resting : (sectors size chunk : ℕ) (origin : List ℕ) (device : Device) (snaps : List Snap) (s : Kept B) → sectors ≤ 16_777_216 → size ≤ 16_777_216 → 0 < chunk → length device.bytes ≡ 512 * size →
-      open_store snaps sectors chunk device ≡ done s.state.chunk (device_of contents layers s.device) → is_loud (layers s.device) ≡ true → IsNewSnap origin (snap_books contents layers s) → IsNextPlace s.state.chunk (map new_of s.pairs) s.next → s.state.zeroed ≡ false → IsResting sectors (held_of contents layers s)
-  resting sectors size chunk origin device snaps s small_origin small pos whole opens loud new next unzeroed = record {
+  pub resting : (sectors size chunk : ℕ) (origin : List ℕ) (device : Device) (s : Kept B) → sectors ≤ 16_777_216 → size ≤ 16_777_216 → 0 < chunk → length device.bytes ≡ 512 * size →
+      open_store sectors chunk device ≡ done s.state.chunk (device_of contents layers s.device) → is_loud (layers s.device) ≡ true → IsNewSnap origin (snap_books contents layers s) → IsNextPlace s.state.chunk (map new_of s.pairs) s.next → s.state.zeroed ≡ false → IsResting sectors (held_of contents layers s)
+  resting sectors size chunk origin device s small_origin small pos whole opens loud new next unzeroed = record {
     tried = new.tried;
     copies = ap (λ cs. map copying_of cs) new.copies;
     marks = new.marks;
     live = λ _. record {
-      order = (size, subst (IsSound sectors size small_origin small) opens (open_sound sectors size small_origin small snaps chunk device pos whole));
+      order = (size, subst (IsSound sectors size small_origin small) opens (open_sound sectors size small_origin small chunk device pos whole));
       pairs = new.stored loud;
       next = next_place_is s.state.chunk s.next s.pairs new.text.some next;
       zeroed = unzeroed;
@@ -190,15 +178,15 @@ module _ {B : Type 0} (contents : B → List ℕ) (layers : B → List Layer) wh
 
   -- the new one, over an origin of so many sectors
   pub attached_is : (v : Volumed B) (number size_origin chunk : ℕ) (overflow : Bool) (store : StoreDev B) (s : Kept B) (snaps : List (Kept B)) → length (contents v.origin) ≡ 512 * size_origin →
-      attached number chunk (overflow_of overflow) (store_of contents layers store) (volume_in contents layers v) ≡ with_tried number (overflow_of overflow) (open_store (volume_in contents layers v).snaps (sectors_of (device_of contents layers v.origin)) chunk (device_of contents layers store.device)) (volume_in contents layers v) →
-      open_store (volume_in contents layers v).snaps size_origin chunk (device_of contents layers store.device) ≡ done s.state.chunk (device_of contents layers s.device) →
+      attached number chunk (overflow_of overflow) (store_of contents layers store) (volume_in contents layers v) ≡ with_tried number (overflow_of overflow) (open_store (sectors_of (device_of contents layers v.origin)) chunk (device_of contents layers store.device)) (volume_in contents layers v) →
+      open_store size_origin chunk (device_of contents layers store.device) ≡ done s.state.chunk (device_of contents layers s.device) →
       s.number ≡ number → s.live ≡ true → s.overflow ≡ overflow_of overflow → s.stale ≡ false → IsResting size_origin (held_of contents layers s) → snaps ≡ v.snaps ++ s ∷ [] →
       IsAttachedAs contents layers number chunk overflow store v (record v { snaps = snaps; attached = number })
   attached_is v number size_origin chunk overflow store s snaps whole goes opens number_is live overflow_is stale here same =
       let vol : Volume = volume_in contents layers v in
       let count : sectors_of (device_of contents layers v.origin) ≡ size_origin = size_of (length (contents v.origin)) size_origin whole in
       subst (λ (ss : List (Kept B)). IsAttachedAs contents layers number chunk overflow store v (record v { snaps = ss; attached = number })) (sym same) (record {
-        exact = goes ∙ ap (λ n. with_tried number (overflow_of overflow) (open_store (volume_in contents layers v).snaps n chunk (device_of contents layers store.device)) (volume_in contents layers v)) count
+        exact = goes ∙ ap (λ n. with_tried number (overflow_of overflow) (open_store n chunk (device_of contents layers store.device)) (volume_in contents layers v)) count
             ∙ ap (λ (t : Tried). with_tried number (overflow_of overflow) t (volume_in contents layers v)) opens ∙ exactly v number (overflow_of overflow) s number_is live overflow_is stale;
         snap = s;
         becomes = refl;
@@ -212,12 +200,12 @@ module _ {B : Type 0} (contents : B → List ℕ) (layers : B → List Layer) wh
 
   -- the store that is given back
   pub back_is : (v : Volumed B) (number size_origin chunk : ℕ) (overflow : Bool) (store back : StoreDev B) (refusal : Refusal) → length (contents v.origin) ≡ 512 * size_origin →
-      attached number chunk (overflow_of overflow) (store_of contents layers store) (volume_in contents layers v) ≡ with_tried number (overflow_of overflow) (open_store (volume_in contents layers v).snaps (sectors_of (device_of contents layers v.origin)) chunk (device_of contents layers store.device)) (volume_in contents layers v) →
-      open_store (volume_in contents layers v).snaps size_origin chunk (device_of contents layers store.device) ≡ refuse refusal (device_of contents layers back.device) → back.stale ≡ false →
+      attached number chunk (overflow_of overflow) (store_of contents layers store) (volume_in contents layers v) ≡ with_tried number (overflow_of overflow) (open_store (sectors_of (device_of contents layers v.origin)) chunk (device_of contents layers store.device)) (volume_in contents layers v) →
+      open_store size_origin chunk (device_of contents layers store.device) ≡ refuse refusal (device_of contents layers back.device) → back.stale ≡ false →
       attached number chunk (overflow_of overflow) (store_of contents layers store) (volume_in contents layers v) ≡ refused_attach refusal (store_of contents layers back) (volume_in contents layers v)
   back_is v number size_origin chunk overflow store back refusal whole goes opens stale =
       let count : sectors_of (device_of contents layers v.origin) ≡ size_origin = size_of (length (contents v.origin)) size_origin whole in
-      goes ∙ ap (λ n. with_tried number (overflow_of overflow) (open_store (volume_in contents layers v).snaps n chunk (device_of contents layers store.device)) (volume_in contents layers v)) count
+      goes ∙ ap (λ n. with_tried number (overflow_of overflow) (open_store n chunk (device_of contents layers store.device)) (volume_in contents layers v)) count
       ∙ ap (λ (t : Tried). with_tried number (overflow_of overflow) t (volume_in contents layers v)) opens
       ∙ ap (λ b. refused_attach refusal (store_at b) (volume_in contents layers v)) (sym stale)
     where

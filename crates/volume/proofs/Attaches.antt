@@ -6,9 +6,10 @@ use Rattle.std.specs.Option.{is_some}
 use Rattle.std.proofs.lemmas.Bool.Decides.{leb_tells}
 use Rattle.std.proofs.lemmas.List.{get_or-map, length-map}
 use Rattle.sector.specs.declared.refusal.Refusal.TheVariants.{TooMany}
-use Rattle.std.proofs.lemmas.List.Elements.{All-nil, All-cons, All-push, All-weaker}
+use Rattle.std.proofs.lemmas.List.Elements.{All-nil, All-push, All-weaker}
 use Rattle.std.proofs.lemmas.List.Quantifiers.{all_pairs_push}
 use Rattle.std.proofs.lemmas.List.Sums.{sum_by-append}
+use Rattle.chunk.specs.Sizes.{is_chunk}
 use Rattle.device.specs.Layers.{Layer}
 use Rattle.model.specs.Picture.{picture}
 use Rattle.plain.specs.declared.request.Overflowing.{Overflowing}
@@ -19,12 +20,11 @@ use Rattle.volume_laws.specs.Whole.{plain_of as plain_books}
 use Rattle.volume_laws.proofs.Attaching.{attach_event}
 use Rattle.volume_laws.proofs.Waiting.{waits_none}
 use Rattle.snapshot.specs.Kept.{Kept, books_of as snap_books}
-use Rattle.snapshot.specs.Opening.{IsWanted}
 use Rattle.merge.specs.Merging.{Merging}
-use Rattle.volume.specs.Volumed.{Volumed, books_of, piece_of, piece_with, plain_of}
+use Rattle.volume.specs.Volumed.{Volumed, books_of, plain_of}
 use Rattle.snapshots.specs.Numbers.{number_of_snap, numbers_in, count_in}
 use Rattle.volume.specs.Whole.{AreNumbers, SharesNone, IsAttached, IsWhole, GoesOn, IsCounted, starts_left}
-use Rattle.volume.specs.Taking.{wanted_of, taking_refusal}
+use Rattle.volume.specs.Taking.{taking_refusal}
 use Rattle.volume.proofs.Shown.{shown}
 use Rattle.volume.proofs.StartsLeft.{left_whole}
 use Rattle.volume.proofs.Sums.{sum_cons}
@@ -67,15 +67,6 @@ numbers_same : {B : Type 0} (contents : B → List ℕ) (layers : B → List Lay
 numbers_same contents layers [] = refl
 numbers_same contents layers (x ∷ xs) = ap (λ ys. x.number ∷ ys) (numbers_same contents layers xs)
 
--- without a merge the piece is by the snapshots
-pub piece_alone : {B : Type 0} (merge : Option (Merging B)) (snaps : List (Kept B)) → merge ≡ None → piece_with merge snaps ≡ piece_of snaps
-piece_alone merge snaps alone = ap (λ m. piece_with m snaps) alone
-
--- the new one's chunks are as large as those of the others
-attached_push : {B : Type 0} (copies sectors : ℕ) (xs : List (Kept B)) (s : Kept B) → IsWanted (wanted_of xs) s.state.chunk → All (IsAttached copies sectors (piece_of xs)) xs → IsAttached copies sectors s.state.chunk s → All (IsAttached copies sectors (piece_of (xs ++ s ∷ []))) (xs ++ s ∷ [])
-attached_push copies sectors [] s wanted all mine = All-cons (IsAttached copies sectors s.state.chunk) s [] mine (All-nil (IsAttached copies sectors s.state.chunk))
-attached_push copies sectors (x ∷ xs) s wanted all mine = All-push (IsAttached copies sectors x.state.chunk) (x ∷ xs) s all (subst (λ n. IsAttached copies sectors n s) (sym wanted) mine)
-
 module _ {B : Type 0} (contents : B → List ℕ) (layers : B → List Layer) (size : B → ℕ) (v : Volumed B) (s : Kept B) (none : v.flights ≡ []) (alone : v.merge ≡ None) (h : IsWhole contents layers size v) (number : s.number ≡ v.attached + 1) (new : IsNewSnap (contents v.origin) (snap_books contents layers s)) where
   abbrev pub taken : Volumed B
   taken = record v { snaps = v.snaps ++ s ∷ []; attached = v.attached + 1 }
@@ -92,14 +83,14 @@ module _ {B : Type 0} (contents : B → List ℕ) (layers : B → List Layer) (s
     merge = refl;
   }
 
-  pub whole_taken : length v.snaps < 8 → s.state.size ≤ 16_777_216 → s.state.origin ≡ size v.origin → IsWanted (wanted_of v.snaps) s.state.chunk → numbers_in s ≡ [] → IsCounted s → IsWhole contents layers size taken
-  whole_taken room small origin wanted idle counts =
+  pub whole_taken : length v.snaps < 8 → s.state.size ≤ 16_777_216 → s.state.origin ≡ size v.origin → is_chunk s.state.chunk ≡ true → numbers_in s ≡ [] → IsCounted s → IsWhole contents layers size taken
+  whole_taken room small origin allowed idle counts =
       let all_numbers : AreNumbers v.copies (numbers_in s) = subst (AreNumbers v.copies) (sym idle) (record { given = All-nil (λ n. n ≤ v.copies); ascending = λ i j d lt within. absurd (omega (arith, within)) }) in
       record {
         merge = subst (λ (x : Option (Merging B)). GoesOn contents layers size x taken) (sym alone) tt;
         holds = (attach_event (snap_books contents layers s) (books_of contents layers size v) (books_of contents layers size taken) h.holds attaches new).0;
         waits = waits_none (books_of contents layers size taken) none;
-        snaps = subst (λ (n : ℕ). All (IsAttached v.copies (size v.origin) n) (v.snaps ++ s ∷ [])) (sym (piece_alone v.merge (v.snaps ++ s ∷ []) alone)) (attached_push v.copies (size v.origin) v.snaps s wanted (subst (λ (n : ℕ). All (IsAttached v.copies (size v.origin) n) v.snaps) (piece_alone v.merge v.snaps alone) h.snaps) (record { origin = origin; chunk_is = refl; some = new.text.some; numbers = all_numbers }));
+        snaps = All-push (IsAttached v.copies (size v.origin)) v.snaps s h.snaps (record { origin = origin; allowed = allowed; some = new.text.some; numbers = all_numbers });
         counted = All-push IsCounted v.snaps s h.counted counts;
         apart = all_pairs_push SharesNone v.snaps s h.apart (λ k d lt i e within. subst (All (λ n. get_or (numbers_in (get_or v.snaps k d)) i e ≢ n)) (sym idle) (All-nil (λ n. get_or (numbers_in (get_or v.snaps k d)) i e ≢ n)));
         numbers = subst (AreNumbers (v.attached + 1)) (sym (numbers_push v.snaps s)) (record {

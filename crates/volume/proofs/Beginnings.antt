@@ -58,9 +58,9 @@ made_from {B = B} s number device state next pairs buffer number_is device_is st
     ∙ ap (λ ps. made s.number s.device s.state s.next ps) pairs_is
 
 -- what is kept for the others, of a list
-pub all_unkept : {B : Type 0} (number count : ℕ) (xs : List (Kept B)) → map unkept (map (kept_for number count) xs) ≡ map unkept xs
-all_unkept number count [] = refl
-all_unkept number count (x ∷ xs) = ap (λ y. y ∷ map unkept (map (kept_for number count) xs)) (kept_unkept number count x) ∙ ap (λ ys. unkept x ∷ ys) (all_unkept number count xs)
+pub all_unkept : {B : Type 0} (number count chunk : ℕ) (xs : List (Kept B)) → map unkept (map (kept_for number count chunk) xs) ≡ map unkept xs
+all_unkept number count chunk [] = refl
+all_unkept number count chunk (x ∷ xs) = ap (λ y. y ∷ map unkept (map (kept_for number count chunk) xs)) (kept_unkept number count chunk x) ∙ ap (λ ys. unkept x ∷ ys) (all_unkept number count chunk xs)
 
 pub twice_unkept : {B : Type 0} (xs : List (Kept B)) → map unkept (map unkept xs) ≡ map unkept xs
 twice_unkept [] = refl
@@ -99,7 +99,7 @@ module _ {B : Type 0} (v : Volumed B) (number k : ℕ) (admitted : begin_refusal
     unmarked_at = done_at.1
 
   -- all snapshots keep back what they do for its pairs, and it leaves them
-  module _ (count : ℕ) (snaps : List (Kept B)) (kept : snaps ≡ map (kept_for number count) v.snaps) (s : Kept B) (is : s ≡ get_or snaps k s) where
+  module _ (count chunk : ℕ) (snaps : List (Kept B)) (kept : snaps ≡ map (kept_for number count chunk) v.snaps) (s : Kept B) (is : s ≡ get_or snaps k s) where
     abbrev was : Kept B
     was = get_or v.snaps k s
 
@@ -107,7 +107,7 @@ module _ {B : Type 0} (v : Volumed B) (number k : ℕ) (admitted : begin_refusal
     was_is = get_or_default v.snaps k s was within
 
     same : map unkept snaps ≡ map unkept v.snaps
-    same = ap (map unkept) kept ∙ all_unkept number count v.snaps
+    same = ap (map unkept) kept ∙ all_unkept number count chunk v.snaps
 
     pub there : k < length snaps
     there = (let n = hidden_length unkept snaps v.snaps same in let w = within in omega (arith, w, n))
@@ -130,7 +130,7 @@ module _ {B : Type 0} (v : Volumed B) (number k : ℕ) (admitted : begin_refusal
     pub chunk_now : s.state.chunk ≡ was.state.chunk
     chunk_now = ap (λ (t : Kept B). t.state.chunk) like
 
-    module _ (contents : B → List ℕ) (layers : B → List Layer) (size : B → ℕ) (h : IsWhole contents layers size v) (buffer : List ℕ) (sized : length buffer ≡ 512 * s.state.chunk) (counts : count ≡ length was.pairs) where
+    module _ (contents : B → List ℕ) (layers : B → List Layer) (size : B → ℕ) (h : IsWhole contents layers size v) (buffer : List ℕ) (sized : length buffer ≡ 512 * s.state.chunk) (counts : count ≡ length was.pairs) (chunks : chunk ≡ was.state.chunk) where
       abbrev kept_volume : Volumed B
       kept_volume = record v { snaps = snaps }
 
@@ -146,12 +146,16 @@ module _ {B : Type 0} (v : Volumed B) (number k : ℕ) (admitted : begin_refusal
       pairs_now : count ≡ length s.pairs
       pairs_now = counts ∙ sym (ap (λ (t : Kept B). length t.pairs) like)
 
-      keeps : All (KeepsFor s.number (length s.pairs)) snaps
+      chunks_now : chunk ≡ s.state.chunk
+      chunks_now = chunks ∙ sym chunk_now
+
+      keeps : All (KeepsFor s.number (length s.pairs) s.state.chunk) snaps
       keeps =
-          subst (λ (xs : List (Kept B)). All (KeepsFor s.number (length s.pairs)) xs) (sym kept)
-          (subst (λ n. All (KeepsFor n (length s.pairs)) (map (kept_for number count) v.snaps)) (sym number_now)
-          (subst (λ n. All (KeepsFor number n) (map (kept_for number count) v.snaps)) pairs_now
-          (All-map (KeepsFor number count) (kept_for number count) v.snaps (λ j d lt. kept_keeps number count (get_or v.snaps j d)))))
+          subst (λ (xs : List (Kept B)). All (KeepsFor s.number (length s.pairs) s.state.chunk) xs) (sym kept)
+          (subst (λ n. All (KeepsFor n (length s.pairs) s.state.chunk) (map (kept_for number count chunk) v.snaps)) (sym number_now)
+          (subst (λ n. All (KeepsFor number n s.state.chunk) (map (kept_for number count chunk) v.snaps)) pairs_now
+          (subst (λ n. All (KeepsFor number count n) (map (kept_for number count chunk) v.snaps)) chunks_now
+          (All-map (KeepsFor number count chunk) (kept_for number count chunk) v.snaps (λ j d lt. kept_keeps number count chunk (get_or v.snaps j d))))))
 
       pub whole_after : IsWhole contents layers size (record v { snaps = remove snaps k; merge = Some (merging_from s buffer) })
       whole_after = whole_begun contents layers size kept_volume k s buffer there is whole_now alone none live_now idle_now sized keeps
@@ -195,7 +199,8 @@ module _ {B : Type 0} (v : Volumed B) (number k : ℕ) (admitted : begin_refusal
             is = was_is;
             becomes =
                 ap (λ (xs : List (Kept B)). made (remove xs k) (merging_from s buffer)) kept
-                ∙ ap (λ (xs : List (Kept B)). made xs (merging_from s buffer)) (sym (map-remove (kept_for number count) v.snaps k))
-                ∙ ap (λ n. made (map (kept_for number n) (remove v.snaps k)) (merging_from s buffer)) counts
-                ∙ ap (λ (t : Kept B). made (map (kept_for number (length was.pairs)) (remove v.snaps k)) (merging_from t buffer)) like;
+                ∙ ap (λ (xs : List (Kept B)). made xs (merging_from s buffer)) (sym (map-remove (kept_for number count chunk) v.snaps k))
+                ∙ ap (λ n. made (map (kept_for number n chunk) (remove v.snaps k)) (merging_from s buffer)) counts
+                ∙ ap (λ n. made (map (kept_for number (length was.pairs) n) (remove v.snaps k)) (merging_from s buffer)) chunks
+                ∙ ap (λ (t : Kept B). made (map (kept_for number (length was.pairs) was.state.chunk) (remove v.snaps k)) (merging_from t buffer)) like;
           }

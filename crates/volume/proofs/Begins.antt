@@ -8,6 +8,7 @@ use Rattle.std.proofs.lemmas.List.Elements.{All-set, All-weaker, All-push}
 use Rattle.std.proofs.lemmas.List.Quantifiers.{all_pairs_push}
 use Rattle.std.proofs.lemmas.List.Sums.{sum_by-set}
 use Rattle.std.proofs.Math.Seq.{map-set_same}
+use Rattle.chunk.specs.Sizes.{is_chunk}
 use Rattle.device.specs.Layers.{Layer}
 use Rattle.pending.specs.Due.{number_of_copy, number_of_mark}
 use Rattle.pending.specs.declared.copies.ChunkCopy.{ChunkCopy}
@@ -19,10 +20,10 @@ use Rattle.snapshot.specs.Kept.{Kept}
 use Rattle.snapshot.specs.Calls.{StartsAt}
 use Rattle.snapshots.specs.Starting.{spoilt_of}
 use Rattle.merge_beside.specs.Rooms.{room_of}
-use Rattle.volume.specs.Volumed.{Volumed, books_of, piece_with}
+use Rattle.volume.specs.Volumed.{Volumed, books_of}
 use Rattle.snapshots.specs.Numbers.{number_of_snap, numbers_in, count_in, merged_count}
 use Rattle.volume.specs.Whole.{AreNumbers, SharesNone, IsAttached, IsWhole, IsCounted, starts_left}
-use Rattle.volume.proofs.Changing.{piece_beside, goes_changed}
+use Rattle.volume.proofs.Changing.{goes_changed}
 
 map_push : {X : Type 0} (f : X → ℕ) (xs : List X) (x : X) → map f (xs ++ x ∷ []) ≡ map f xs ++ f x ∷ []
 map_push f [] x = refl
@@ -50,10 +51,10 @@ all_pairs_set_in P R xs k s s' within is known left right all i j d lt inside =
     ]
 
 -- more numbers may have been given
-pub given_more : {B : Type 0} (n m sectors chunk : ℕ) (s : Kept B) → n ≤ m → IsAttached n sectors chunk s → IsAttached m sectors chunk s
-given_more n m sectors chunk s le h = record {
+pub given_more : {B : Type 0} (n m sectors : ℕ) (s : Kept B) → n ≤ m → IsAttached n sectors s → IsAttached m sectors s
+given_more n m sectors s le h = record {
   origin = h.origin;
-  chunk_is = h.chunk_is;
+  allowed = h.allowed;
   some = h.some;
   numbers = record { given = All-weaker (λ x. x ≤ n) (λ x. x ≤ m) (λ x below. omega (arith, below, le)) (numbers_in s) h.numbers.given; ascending = h.numbers.ascending };
 }
@@ -69,22 +70,21 @@ module _ {B : Type 0} (contents : B → List ℕ) (layers : B → List Layer) (s
   pub whole_begun : IsWhole contents layers size v → s'.number ≡ s.number → s'.state.chunk ≡ s.state.chunk → s'.state.origin ≡ s.state.origin → numbers_in s' ≡ numbers_in s ++ (v.copies + 1) ∷ [] → s'.merging ≡ s.merging → (IsCounted s → IsCounted s') → starts_left s' + 1 ≤ starts_left s → sum_by count_in v.snaps < 256
       → Holds (books_of contents layers size begun) → Waits (books_of contents layers size begun) → KeepsRoom (room_of contents layers s) (room_of contents layers s') → IsWhole contents layers size begun
   whole_begun h number chunk origin numbers merging counts fewer room holds waits keeps =
-      let old : IsAttached v.copies (size v.origin) (piece_with v.merge v.snaps) s = subst (IsAttached v.copies (size v.origin) (piece_with v.merge v.snaps)) (sym is) (h.snaps k s within) in
-      let piece : piece_with v.merge (set v.snaps k s') ≡ piece_with v.merge v.snaps = piece_beside v.merge v.snaps k s s' is chunk in
+      let old : IsAttached v.copies (size v.origin) s = subst (IsAttached v.copies (size v.origin)) (sym is) (h.snaps k s within) in
       let more : v.copies ≤ v.copies + 1 = omega arith in
       let below : All (λ x. x ≤ v.copies + 1) (numbers_in s) = All-weaker (λ x. x ≤ v.copies) (λ x. x ≤ v.copies + 1) (λ x le. omega (arith, le)) (numbers_in s) old.numbers.given in
       let under : All (λ x. x < v.copies + 1) (numbers_in s) = All-weaker (λ x. x ≤ v.copies) (λ x. x < v.copies + 1) (λ x le. omega (arith, le)) (numbers_in s) old.numbers.given in
-      let mine : IsAttached (v.copies + 1) (size v.origin) (piece_with v.merge v.snaps) s' = record {
+      let mine : IsAttached (v.copies + 1) (size v.origin) s' = record {
         origin = origin ∙ old.origin;
-        chunk_is = chunk ∙ old.chunk_is;
+        allowed = ap is_chunk chunk ∙ old.allowed;
         some = subst (λ n. 0 < n) (sym chunk) old.some;
         numbers = subst (AreNumbers (v.copies + 1)) (sym numbers) (record {
           given = All-push (λ x. x ≤ v.copies + 1) (numbers_in s) (v.copies + 1) below (omega arith);
           ascending = all_pairs_push (λ m n. m < n) (numbers_in s) (v.copies + 1) old.numbers.ascending under;
         });
       } in
-      let all : All (IsAttached (v.copies + 1) (size v.origin) (piece_with v.merge v.snaps)) v.snaps =
-      All-weaker (IsAttached v.copies (size v.origin) (piece_with v.merge v.snaps)) (IsAttached (v.copies + 1) (size v.origin) (piece_with v.merge v.snaps)) (λ x. given_more v.copies (v.copies + 1) (size v.origin) (piece_with v.merge v.snaps) x more) v.snaps h.snaps in
+      let all : All (IsAttached (v.copies + 1) (size v.origin)) v.snaps =
+      All-weaker (IsAttached v.copies (size v.origin)) (IsAttached (v.copies + 1) (size v.origin)) (λ x. given_more v.copies (v.copies + 1) (size v.origin) x more) v.snaps h.snaps in
       let sums = sum_by-set count_in v.snaps k s' s within in
       let lefts = sum_by-set starts_left v.snaps k s' s within in
       let left : starts_left (get_or v.snaps k s) ≡ starts_left s = ap starts_left (sym is) in
@@ -94,9 +94,9 @@ module _ {B : Type 0} (contents : B → List ℕ) (layers : B → List Layer) (s
         holds = holds;
         waits = waits;
         merge = goes_changed contents layers size v begun v.merge k s s' within is refl refl refl number keeps h.merge;
-        snaps = subst (λ n. All (IsAttached (v.copies + 1) (size v.origin) n) (set v.snaps k s')) (sym piece) (All-set (IsAttached (v.copies + 1) (size v.origin) (piece_with v.merge v.snaps)) v.snaps k s' mine all);
+        snaps = All-set (IsAttached (v.copies + 1) (size v.origin)) v.snaps k s' mine all;
         counted = All-set IsCounted v.snaps k s' (counts (subst IsCounted (sym is) (h.counted k s within))) h.counted;
-        apart = all_pairs_set_in (IsAttached v.copies (size v.origin) (piece_with v.merge v.snaps)) SharesNone v.snaps k s s' within is h.snaps
+        apart = all_pairs_set_in (IsAttached v.copies (size v.origin)) SharesNone v.snaps k s s' within is h.snaps
             (λ t known none. subst (All (λ m. All (λ n. m ≢ n) (numbers_in t))) (sym numbers)
             (All-push (λ m. All (λ n. m ≢ n) (numbers_in t)) (numbers_in s) (v.copies + 1) none
             (All-weaker (λ x. x ≤ v.copies) (λ n. v.copies + 1 ≢ n) (λ x le e. absurd (omega (arith, le, e))) (numbers_in t) known.numbers.given)))

@@ -1,6 +1,6 @@
 -- A merge begins in a quiet volume.
 use Rattle.std.proofs.Common.{◌≡◌, ◌≢◌, ℕ, zero, suc, ◌*◌, ◌/◌, ◌<◌, ◌≤◌, Bool, true, false, List, [], ◌∷◌, Option, Some, None, length, get_or, map, inl, inr, refl, sym, ◌∙◌, ap, subst, arith, nat_eq, if◌then◌else◌}
-use Rattle.std.specs.Prelude.{◌&&◌, ◌==◌, not, is_some}
+use Rattle.std.specs.Prelude.{◌&&◌, ◌==◌, not, max, is_some}
 use Rattle.std.specs.List.{All, remove, list_all}
 use Rattle.std.proofs.lemmas.Bool.{cases_Bool, eqb-true, false≢true}
 use Rattle.std.proofs.lemmas.List.{append-nil, length-map, get_or-map}
@@ -16,6 +16,7 @@ use Rattle.pending.specs.Copies.{pair_of}
 use Rattle.pending.specs.declared.flights.Flight.{Flight}
 use Rattle.volume_laws.specs.Books.{SnapBooks, MergeBooks}
 use Rattle.volume_laws.specs.MergeRooms.{KeepsBack, RoomSnap}
+use Rattle.volume_laws.specs.Touched.{touched_by}
 use Rattle.volume_laws.specs.MergeWaits.{IsSavedIn, IsSavedSoon, MergeGoes}
 use Rattle.volume_laws.specs.Whole.{Holds, plain_of as plain_books}
 use Rattle.volume_laws.proofs.Lists.{All-remove, map-remove}
@@ -35,26 +36,26 @@ use Rattle.merge.specs.Merging.{Merging, due_of as merging_due}
 use Rattle.merge_beside.specs.Keeping.{kept_back, kept_for}
 use Rattle.merge_beside.specs.Rooms.{merge_books, room_of}
 use Rattle.volume.specs.Beginning.{merging_from}
-use Rattle.volume.specs.Volumed.{Volumed, books_of, is_loud_in_all, is_loud_with, piece_with, plain_of}
+use Rattle.volume.specs.Volumed.{Volumed, books_of, is_loud_in_all, is_loud_with, plain_of}
 use Rattle.volume.specs.Whole.{AreNumbers, SharesNone, IsAttached, IsCounted, IsMerged, IsWhole, starts_left}
 use Rattle.volume.specs.Moved.{held_of, merge_seen, moving_of}
 use Rattle.volume.proofs.MovedLists.{IsFirst, first_is, if_false, if_true, without_seen}
 use Rattle.volume.proofs.Removed.{all_removed, sum_left}
 use Rattle.volume.proofs.Shown.{and_right, shown}
 
--- what a snapshot keeps back for so many pairs
-pub record KeepsCount {B : Type 0} (count : ℕ) (t : Kept B) : Type 0 where
-  pub nodes : t.kept_back ≡ count
+-- what a snapshot keeps back for so many pairs, in chunks of so many sectors
+pub record KeepsCount {B : Type 0} (count chunk : ℕ) (t : Kept B) : Type 0 where
+  pub nodes : t.kept_back ≡ count * max 1 (chunk / t.state.chunk)
   pub spare : t.spare ≡ true
   pub idle : t.merging ≡ None
 
-abbrev pub KeepsFor : {B : Type 0} → ℕ → ℕ → Kept B → Type 0
-KeepsFor number count t = t.live ≡ true → t.number ≢ number → KeepsCount count t
+abbrev pub KeepsFor : {B : Type 0} → ℕ → ℕ → ℕ → Kept B → Type 0
+KeepsFor number count chunk t = t.live ≡ true → t.number ≢ number → KeepsCount count chunk t
 
-pub kept_keeps : {B : Type 0} (number count : ℕ) (t : Kept B) → KeepsFor number count (kept_for number count t)
-kept_keeps number count t = by_test (t.live && not (nat_eq t.number number)) refl
+pub kept_keeps : {B : Type 0} (number count chunk : ℕ) (t : Kept B) → KeepsFor number count chunk (kept_for number count chunk t)
+kept_keeps number count chunk t = by_test (t.live && not (nat_eq t.number number)) refl
   where
-    by_test : (b : Bool) → (t.live && not (nat_eq t.number number)) ≡ b → KeepsFor number count (if b then kept_back count t else t)
+    by_test : (b : Bool) → (t.live && not (nat_eq t.number number)) ≡ b → KeepsFor number count chunk (if b then kept_back (count * max 1 (chunk / t.state.chunk)) t else t)
     by_test true e = λ live other. record { nodes = refl; spare = refl; idle = refl }
     by_test false e = λ live other. elim (cases_Bool (nat_eq t.number number)) [
       | inl same ↦ absurd (other (eqb-true t.number number same))
@@ -91,8 +92,8 @@ module _ {B : Type 0} (contents : B → List ℕ) (layers : B → List Layer) (s
   abbrev o : List ℕ
   o = contents v.origin
 
-  attached : IsAttached v.copies (size v.origin) (piece_with v.merge v.snaps) s
-  attached = subst (IsAttached v.copies (size v.origin) (piece_with v.merge v.snaps)) (sym is) (h.snaps k s within)
+  attached : IsAttached v.copies (size v.origin) s
+  attached = subst (IsAttached v.copies (size v.origin)) (sym is) (h.snaps k s within)
 
   counted : IsCounted s
   counted = subst IsCounted (sym is) (h.counted k s within)
@@ -158,26 +159,32 @@ module _ {B : Type 0} (contents : B → List ℕ) (layers : B → List Layer) (s
     };
     ending = (s.pairs, sym (append-nil s.pairs));
     area = counted.count;
-    next = All-nil (IsSavedSoon s.state.chunk (map sb (remove v.snaps k)));
+    next = All-nil (IsSavedSoon s.state.chunk s.state.origin (map sb (remove v.snaps k)));
     saved = All-nil (IsSavedIn s.state.chunk s.state.origin (map sb (remove v.snaps k)));
   }
 
-  module _ (keeps : All (KeepsFor s.number (length s.pairs)) v.snaps) where
-    kept : All (λ t. t.live ≡ true → KeepsBack s.state.chunk s.pairs (room_of contents layers t)) (remove v.snaps k)
+  module _ (keeps : All (KeepsFor s.number (length s.pairs) s.state.chunk) v.snaps) where
+    -- the chunks of all of them have allowed sizes
+    sizes_left : All (IsAttached v.copies (size v.origin)) (remove v.snaps k)
+    sizes_left = All-remove (IsAttached v.copies (size v.origin)) v.snaps k h.snaps
+
+    kept : All (λ t. t.live ≡ true → KeepsBack (touched_by t.state.chunk s.state.chunk s.state.origin s.pairs) (room_of contents layers t)) (remove v.snaps k)
     kept = λ j d lt alive.
         (let t : Kept B = get_or (remove v.snaps k) j d in
-        let its = All-remove (KeepsFor s.number (length s.pairs)) v.snaps k keeps j d lt alive (apart j d lt) in
-        room_begun s.state.chunk s.pairs (room_of contents layers t) (let few = few_lacking s.state.chunk s.pairs (sb t) in omega (arith, few, its.nodes)) its.spare its.idle)
+        let its = All-remove (KeepsFor s.number (length s.pairs) s.state.chunk) v.snaps k keeps j d lt alive (apart j d lt) in
+        let few = few_lacking s.state.chunk s.state.origin s.pairs (sb t) (sizes_left j d lt).allowed attached.allowed in
+        room_begun (touched_by t.state.chunk s.state.chunk s.state.origin s.pairs) (room_of contents layers t) (omega (arith, few, its.nodes)) its.spare its.idle)
 
     merged : IsMerged contents layers size m with_merge
     merged = record {
       origin = attached.origin;
+      allowed = attached.allowed;
       apart = apart;
       given = (let at : get_or (map number_of_snap v.snaps) k s.number ≡ s.number = get_or-map number_of_snap v.snaps k s s.number within ∙ ap number_of_snap (sym is) in
           let most = h.numbers.given k s.number (omega (arith, within, length-map v.snaps number_of_snap)) in omega (arith, at, most));
       few = (let fewer = length-remove v.snaps k within in omega (arith, h.few, fewer, within));
       goes = goes;
-      rooms = All-map (λ (r : RoomSnap). r.books.live ≡ true → KeepsBack s.state.chunk s.pairs r) (room_of contents layers) (remove v.snaps k) kept;
+      rooms = All-map (λ (r : RoomSnap). r.books.live ≡ true → KeepsBack (touched_by r.books.chunk s.state.chunk s.state.origin s.pairs) r) (room_of contents layers) (remove v.snaps k) kept;
     }
 
     pub whole_begun : IsWhole contents layers size with_merge
@@ -189,7 +196,7 @@ module _ {B : Type 0} (contents : B → List ℕ) (layers : B → List Layer) (s
           holds = new_holds;
           waits = waits_none (books_of contents layers size with_merge) none;
           merge = merged;
-          snaps = subst (λ n. All (IsAttached v.copies (size v.origin) n) (remove v.snaps k)) (sym attached.chunk_is) (All-remove (IsAttached v.copies (size v.origin) (piece_with v.merge v.snaps)) v.snaps k h.snaps);
+          snaps = All-remove (IsAttached v.copies (size v.origin)) v.snaps k h.snaps;
           counted = All-remove IsCounted v.snaps k h.counted;
           apart = all_pairs_remove SharesNone v.snaps k within h.apart;
           numbers = subst (AreNumbers v.attached) (sym (map-remove number_of_snap v.snaps k)) (record {

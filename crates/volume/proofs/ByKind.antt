@@ -23,6 +23,7 @@ use Rattle.volume.specs.Whole.{IsWhole}
 use Rattle.volume.specs.Submitting.{IsAsked, entered_of}
 use Rattle.volume.proofs.Changing.{books_within, books_is}
 use Rattle.volume.proofs.Enters.{accepts, fresh, pieces_all}
+use Rattle.volume.proofs.Least.{piece_in_merge}
 use Rattle.volume.proofs.MergeRoutes.{piece_beside_is, numbered_apart}
 
 module _ {B : Type 0} (contents : B → List ℕ) (layers : B → List Layer) (size : B → ℕ) (v0 u : Volumed B) (which : List ℕ) (p : IsPrepared which (books_of contents layers size v0) (books_of contents layers size u)) (h : IsWhole contents layers size u)
@@ -32,7 +33,7 @@ module _ {B : Type 0} (contents : B → List ℕ) (layers : B → List Layer) (s
 
   -- a merge, as the books have it
   piece_in : (m : MergeBooks) → (books_of contents layers size u).merge ≡ Some m → IsPiece m.chunk f.request.range
-  piece_in m is = piece_beside_is contents layers (is_loud (layers u.origin)) u.merge u.snaps f.request.range asked.piece m is
+  piece_in m is = piece_beside_is contents layers (is_loud (layers u.origin)) u.merge f.request.range (piece_in_merge contents layers size u h f.request.range asked.piece) m is
 
   pub origin_read_enters : kind_of f.request ≡ OriginRead → f.route ≡ read_route_of (merged_place (books_of contents layers size u).merge f) → IsTakenIn which f.number f.request (books_of contents layers size v0) (books_of contents layers size (entered_of f u))
   origin_read_enters kind route = origin_read_taken which f (books_of contents layers size v0) (books_of contents layers size u) (books_of contents layers size (entered_of f u)) p (accepts contents layers size u f h number) one

@@ -1,33 +1,37 @@
 -- One snapshot of a volume changes, and with it maybe what its requests wait for.
 use Rattle.std.proofs.Common.{◌≡◌, ◌≢◌, Option, None, Some, Bool, ℕ, zero, suc, ◌+◌, ◌*◌, ◌<◌, ◌≤◌, List, [], ◌∷◌, length, get_or, set, map, refl, sym, ◌∙◌, ap, subst, arith}
-use Rattle.std.specs.Prelude.{◌&&◌, AllPairs, sum_by}
+use Rattle.std.specs.Prelude.{◌&&◌, AllPairs, min, sum_by}
 use Rattle.std.specs.List.{All, list_all}
 use Rattle.std.proofs.lemmas.List.{map-set, length-map, get_or-map, length-set}
 use Rattle.std.proofs.lemmas.List.Elements.{All-set, All-weaker}
 use Rattle.std.proofs.lemmas.List.Sums.{sum_by-set}
 use Rattle.std.proofs.Math.Seq.{map-set_same}
+use Rattle.chunk.specs.Sizes.{is_chunk}
 use Rattle.device.specs.Layers.{Layer, is_loud}
 use Rattle.pending.specs.Due.{number_of_flight}
 use Rattle.pending.specs.Routes.{refused_of}
 use Rattle.pending.specs.declared.flights.Flight.{Flight}
 use Rattle.volume_laws.specs.Books.{SnapBooks}
-use Rattle.volume_laws.specs.Due.{left_in, left_of}
+use Rattle.volume_laws.specs.Due.{left_in, left_of, books_of as due_in}
+use Rattle.volume_laws.specs.MergeDue.{DueMerge, left_beside}
 use Rattle.volume_laws.specs.Steps.{ChangesSnap, SpoilsOne, SpoilsSnap}
 use Rattle.volume_laws.specs.Whole.{Holds}
 use Rattle.volume_laws.specs.Waits.{Waits}
 use Rattle.volume_laws.specs.MergeRooms.{RoomSnap, KeepBack}
 use Rattle.volume_laws.specs.MergeWaits.{MergeGoes}
 use Rattle.volume_laws.proofs.Left.{one_left}
+use Rattle.volume_laws.proofs.MergeBeside.{beside_set}
 use Rattle.volume_laws.proofs.MergeRooms.{KeepsRoom}
 use Rattle.volume_laws.proofs.MergeRoomEvents.{rooms_changed}
-use Rattle.volume_laws.proofs.MergeSaved.{goes_changed as goes_set}
+use Rattle.volume_laws.proofs.MergeSaved.{KeepsSaved, goes_changed as goes_set}
 use Rattle.merge.specs.Merging.{Merging, due_of as merging_due}
 use Rattle.snapshot.specs.Kept.{Kept, books_of as snap_books, due_of_kept}
 use Rattle.merge_beside.specs.Rooms.{merge_books, room_of}
-use Rattle.volume.specs.Volumed.{Volumed, books_of, piece_of, piece_with, is_loud_in_all, left_in_all, dues_of, is_loud_with}
+use Rattle.volume.specs.Volumed.{Volumed, books_of, piece_of, piece_with, is_loud_in_all, left_by, left_in_all, merge_due, dues_of, is_loud_with}
 use Rattle.snapshots.specs.Numbers.{number_of_snap, numbers_in, count_in, merged_count}
 use Rattle.volume.specs.Whole.{AreNumbers, SharesNone, IsAttached, IsWhole, GoesOn, IsCounted, starts_left}
 use Rattle.volume.proofs.Lists.{all_pairs_set, list_all_set, IsFewer, fewer_all, fewer_pairs}
+use Rattle.volume.proofs.Shown.{due_books}
 
 -- an origin disk that holds the same
 pub record SameDisk {B : Type 0} (contents : B → List ℕ) (layers : B → List Layer) (size : B → ℕ) (o o' : B) : Type 0 where
@@ -67,17 +71,17 @@ changed v o k s flights = record v { origin = o; snaps = set v.snaps k s; flight
 
 pub piece_set : {B : Type 0} (snaps : List (Kept B)) (k : ℕ) (s s' : Kept B) → s ≡ get_or snaps k s → s'.state.chunk ≡ s.state.chunk → piece_of (set snaps k s') ≡ piece_of snaps
 piece_set [] k s s' is same = refl
-piece_set (x ∷ xs) zero s s' is same = same ∙ ap (λ (y : Kept _). y.state.chunk) is
-piece_set (x ∷ xs) (suc k) s s' is same = refl
+piece_set (x ∷ xs) zero s s' is same = ap (λ n. min n (piece_of xs)) (same ∙ ap (λ (y : Kept _). y.state.chunk) is)
+piece_set (x ∷ xs) (suc k) s s' is same = ap (min x.state.chunk) (piece_set xs k s s' is same)
 
 -- beside a merge
 pub piece_beside : {B : Type 0} (merge : Option (Merging B)) (snaps : List (Kept B)) (k : ℕ) (s s' : Kept B) → s ≡ get_or snaps k s → s'.state.chunk ≡ s.state.chunk → piece_with merge (set snaps k s') ≡ piece_with merge snaps
 piece_beside None snaps k s s' is same = piece_set snaps k s s' is same
-piece_beside (Some m) snaps k s s' is same = refl
+piece_beside (Some m) snaps k s s' is same = ap (min m.state.chunk) (piece_set snaps k s s' is same)
 
--- what a volume's snapshots keep among themselves, beside a merge
-pub record SnapsFit {B : Type 0} (copies attached sectors : ℕ) (merge : Option (Merging B)) (all : List (Kept B)) : Type 0 where
-  pub snaps : All (IsAttached copies sectors (piece_with merge all)) all
+-- what a volume's snapshots keep among themselves
+pub record SnapsFit {B : Type 0} (copies attached sectors : ℕ) (all : List (Kept B)) : Type 0 where
+  pub snaps : All (IsAttached copies sectors) all
   pub counted : All IsCounted all
   pub apart : AllPairs SharesNone all
   pub numbers : AreNumbers attached (map number_of_snap all)
@@ -85,9 +89,9 @@ pub record SnapsFit {B : Type 0} (copies attached sectors : ℕ) (merge : Option
   pub few_copies : sum_by count_in all ≤ 256
   pub numbers_left : copies + sum_by starts_left all ≤ 16_777_216 * attached
 
-pub snaps_fit : {B : Type 0} (contents : B → List ℕ) (layers : B → List Layer) (size : B → ℕ) (v : Volumed B) (sectors : ℕ) → IsWhole contents layers size v → sectors ≡ size v.origin → SnapsFit v.copies v.attached sectors v.merge v.snaps
+pub snaps_fit : {B : Type 0} (contents : B → List ℕ) (layers : B → List Layer) (size : B → ℕ) (v : Volumed B) (sectors : ℕ) → IsWhole contents layers size v → sectors ≡ size v.origin → SnapsFit v.copies v.attached sectors v.snaps
 snaps_fit contents layers size v sectors h same = record {
-  snaps = subst (λ n. All (IsAttached v.copies n (piece_with v.merge v.snaps)) v.snaps) (sym same) h.snaps;
+  snaps = subst (λ n. All (IsAttached v.copies n) v.snaps) (sym same) h.snaps;
   counted = h.counted;
   apart = h.apart;
   numbers = h.numbers;
@@ -102,11 +106,12 @@ pub goes_same : {B : Type 0} (contents : B → List ℕ) (layers : B → List La
 goes_same contents layers size v w None sectors snaps attached h = h
 goes_same contents layers size v w (Some m) sectors snaps attached h = record {
   origin = h.origin ∙ sym sectors;
+  allowed = h.allowed;
   apart = subst (λ (xs : List (Kept _)). All (λ x. x.number ≢ m.number) xs) (sym snaps) h.apart;
   given = subst (λ n. m.number ≤ n) (sym attached) h.given;
   few = subst (λ (xs : List (Kept _)). length xs ≤ 7) (sym snaps) h.few;
   goes = λ loud. subst (λ (xs : List (Kept _)). MergeGoes (map (snap_books contents layers) xs) (merging_due contents loud m)) (sym snaps) (h.goes loud);
-  rooms = subst (λ (xs : List (Kept _)). KeepBack m.state.chunk m.pairs (map (room_of contents layers) xs)) (sym snaps) h.rooms;
+  rooms = subst (λ (xs : List (Kept _)). KeepBack m.state.chunk m.state.origin m.pairs (map (room_of contents layers) xs)) (sym snaps) h.rooms;
 }
 
 -- And where one snapshot changes that keeps back what it has to.
@@ -122,17 +127,18 @@ goes_changed {B = B} contents layers size v w (Some m) k s s' within is sectors 
     All-set (λ (x : Kept B). x.number ≢ m.number) v.snaps k s' (subst (λ n. n ≢ m.number) (sym mine) (h.apart k s within)) h.apart in
     let goes : (loud : Bool) → MergeGoes (map sb (set v.snaps k s')) (merging_due contents loud m) = λ loud.
     subst (λ xs. MergeGoes xs (merging_due contents loud m)) (sym (map-set sb v.snaps k s'))
-    (goes_set (map sb v.snaps) k (sb s) (sb s') (omega (arith, within, length-map v.snaps sb)) (ap sb is ∙ sym (get_or-map sb v.snaps k s (sb s) within)) keeps.saved (merging_due contents loud m) (h.goes loud)) in
-    let rooms : KeepBack m.state.chunk m.pairs (map room (set v.snaps k s')) =
-    subst (KeepBack m.state.chunk m.pairs) (sym (map-set room v.snaps k s'))
-    (rooms_changed m.state.chunk m.pairs (map room v.snaps) k (room s) (room s') (omega (arith, within, length-map v.snaps room)) (ap room is ∙ sym (get_or-map room v.snaps k s (room s) within)) keeps h.rooms) in
+    (goes_set (map sb v.snaps) k (sb s) (sb s') (omega (arith, within, length-map v.snaps sb)) (ap sb is ∙ sym (get_or-map sb v.snaps k s (sb s) within)) keeps.next (merging_due contents loud m) (h.goes loud)) in
+    let rooms : KeepBack m.state.chunk m.state.origin m.pairs (map room (set v.snaps k s')) =
+    subst (KeepBack m.state.chunk m.state.origin m.pairs) (sym (map-set room v.snaps k s'))
+    (rooms_changed m.state.chunk m.state.origin m.pairs (map room v.snaps) k (room s) (room s') (omega (arith, within, length-map v.snaps room)) (ap room is ∙ sym (get_or-map room v.snaps k s (room s) within)) keeps.space h.rooms) in
     record {
       origin = h.origin ∙ sym sectors;
+      allowed = h.allowed;
       apart = subst (λ (xs : List (Kept B)). All (λ x. x.number ≢ m.number) xs) (sym snaps) apart;
       given = subst (λ n. m.number ≤ n) (sym attached) h.given;
       few = omega (arith, h.few, ap length snaps, length-set v.snaps k s');
       goes = λ loud. subst (λ (xs : List (Kept B)). MergeGoes (map sb xs) (merging_due contents loud m)) (sym snaps) (goes loud);
-      rooms = subst (λ (xs : List (Kept B)). KeepBack m.state.chunk m.pairs (map room xs)) (sym snaps) rooms;
+      rooms = subst (λ (xs : List (Kept B)). KeepBack m.state.chunk m.state.origin m.pairs (map room xs)) (sym snaps) rooms;
     }
 
 module _ {B : Type 0} (contents : B → List ℕ) (layers : B → List Layer) (size : B → ℕ) (v : Volumed B) (o' : B) (k : ℕ) (s s' : Kept B) (within : k < length v.snaps) (is : s ≡ get_or v.snaps k s) where
@@ -172,13 +178,12 @@ module _ {B : Type 0} (contents : B → List ℕ) (layers : B → List Layer) (s
   }
 
   -- the snapshots fit the volume again
-  pub snaps_changed : IsWhole contents layers size v → SameDisk contents layers size v.origin o' → StaysAttached s s' → SnapsFit v.copies v.attached (size o') v.merge (set v.snaps k s')
+  pub snaps_changed : IsWhole contents layers size v → SameDisk contents layers size v.origin o' → StaysAttached s s' → SnapsFit v.copies v.attached (size o') (set v.snaps k s')
   snaps_changed h same stays =
-      let old : IsAttached v.copies (size v.origin) (piece_with v.merge v.snaps) s = subst (IsAttached v.copies (size v.origin) (piece_with v.merge v.snaps)) (sym is) (h.snaps k s within) in
-      let piece : piece_with v.merge (set v.snaps k s') ≡ piece_with v.merge v.snaps = piece_beside v.merge v.snaps k s s' is stays.chunk_is in
-      let mine : IsAttached v.copies (size v.origin) (piece_with v.merge v.snaps) s' = record {
+      let old : IsAttached v.copies (size v.origin) s = subst (IsAttached v.copies (size v.origin)) (sym is) (h.snaps k s within) in
+      let mine : IsAttached v.copies (size v.origin) s' = record {
         origin = stays.origin ∙ old.origin;
-        chunk_is = stays.chunk_is ∙ old.chunk_is;
+        allowed = ap is_chunk stays.chunk_is ∙ old.allowed;
         some = subst (λ n. 0 < n) (sym stays.chunk_is) old.some;
         numbers = record {
           given = fewer_all (λ n. n ≤ v.copies) (numbers_in s) (numbers_in s') stays.numbers old.numbers.given;
@@ -191,8 +196,7 @@ module _ {B : Type 0} (contents : B → List ℕ) (layers : B → List Layer) (s
       let lefts = sum_by-set starts_left v.snaps k s' s within in
       let left : starts_left (get_or v.snaps k s) ≡ starts_left s = ap starts_left (sym is) in
       record {
-        snaps = subst (λ n. All (IsAttached v.copies n (piece_with v.merge (set v.snaps k s'))) (set v.snaps k s')) (sym same.sectors)
-            (subst (λ n. All (IsAttached v.copies (size v.origin) n) (set v.snaps k s')) (sym piece) (All-set (IsAttached v.copies (size v.origin) (piece_with v.merge v.snaps)) v.snaps k s' mine h.snaps));
+        snaps = subst (λ n. All (IsAttached v.copies n) (set v.snaps k s')) (sym same.sectors) (All-set (IsAttached v.copies (size v.origin)) v.snaps k s' mine h.snaps);
         counted = All-set IsCounted v.snaps k s' (stays.counted (subst IsCounted (sym is) (h.counted k s within))) h.counted;
         apart = all_pairs_set SharesNone v.snaps k s s' within is
             (λ t none. fewer_all (λ m. All (λ n. m ≢ n) (numbers_in t)) (numbers_in s) (numbers_in s') stays.numbers none)
@@ -204,15 +208,15 @@ module _ {B : Type 0} (contents : B → List ℕ) (layers : B → List Layer) (s
         numbers_left = omega (arith, lefts, left, stays.left, h.numbers_left);
       }
 
-  -- the volume is whole again
-  pub whole_changed : (flights : List Flight) → IsWhole contents layers size v → SameDisk contents layers size v.origin o' → StaysAttached s s' → map number_of_flight flights ≡ map number_of_flight v.flights
-      → Holds (books_of contents layers size (changed v o' k s' flights)) → Waits (books_of contents layers size (changed v o' k s' flights)) → KeepsRoom (room_of contents layers s) (room_of contents layers s') → IsWhole contents layers size (changed v o' k s' flights)
-  whole_changed flights h same stays numbers holds waits keeps =
+  -- the volume is whole again, where its merge goes on
+  pub whole_with : (flights : List Flight) → IsWhole contents layers size v → SameDisk contents layers size v.origin o' → StaysAttached s s' → map number_of_flight flights ≡ map number_of_flight v.flights
+      → Holds (books_of contents layers size (changed v o' k s' flights)) → Waits (books_of contents layers size (changed v o' k s' flights)) → GoesOn contents layers size v.merge (changed v o' k s' flights) → IsWhole contents layers size (changed v o' k s' flights)
+  whole_with flights h same stays numbers holds waits goes =
       let fit = snaps_changed h same stays in
       record {
         holds = holds;
         waits = waits;
-        merge = goes_changed contents layers size v (changed v o' k s' flights) v.merge k s s' within is same.sectors refl refl stays.number keeps h.merge;
+        merge = goes;
         snaps = fit.snaps;
         counted = fit.counted;
         apart = fit.apart;
@@ -224,14 +228,31 @@ module _ {B : Type 0} (contents : B → List ℕ) (layers : B → List Layer) (s
         few_requests = omega (arith, h.few_requests, ap length numbers, length-map flights number_of_flight, length-map v.flights number_of_flight);
       }
 
-  pub lower_changed : (flights : List Flight) → length flights ≡ length v.flights → left_in (due_of_kept contents layers s') < left_in (due_of_kept contents layers s)
+  pub whole_changed : (flights : List Flight) → IsWhole contents layers size v → SameDisk contents layers size v.origin o' → StaysAttached s s' → map number_of_flight flights ≡ map number_of_flight v.flights
+      → Holds (books_of contents layers size (changed v o' k s' flights)) → Waits (books_of contents layers size (changed v o' k s' flights)) → KeepsRoom (room_of contents layers s) (room_of contents layers s') → IsWhole contents layers size (changed v o' k s' flights)
+  whole_changed flights h same stays numbers holds waits keeps =
+      whole_with flights h same stays numbers holds waits (goes_changed contents layers size v (changed v o' k s' flights) v.merge k s s' within is same.sectors refl refl stays.number keeps h.merge)
+
+  -- the copies that a merge is to start are no more
+  pub beside_changed : KeepsSaved (snap_books contents layers s) (snap_books contents layers s') → (d : Option DueMerge) → left_by (map (due_of_kept contents layers) (set v.snaps k s')) d ≤ left_by (map (due_of_kept contents layers) v.snaps) d
+  beside_changed keeps None = omega arith
+  beside_changed keeps (Some d) =
+      let sb : Kept B → SnapBooks = snap_books contents layers in
+      let old : left_beside (map due_in (map (due_of_kept contents layers) v.snaps)) d ≡ left_beside (map sb v.snaps) d = ap (λ xs. left_beside xs d) (due_books contents layers v.snaps) in
+      let new : left_beside (map due_in (map (due_of_kept contents layers) (set v.snaps k s'))) d ≡ left_beside (set (map sb v.snaps) k (sb s')) d =
+      ap (λ xs. left_beside xs d) (due_books contents layers (set v.snaps k s') ∙ map-set sb v.snaps k s') in
+      let less = beside_set (map sb v.snaps) k (sb s) (sb s') d books_within books_is keeps in
+      omega (arith, old, new, less)
+
+  pub lower_changed : (flights : List Flight) → length flights ≡ length v.flights → left_in (due_of_kept contents layers s') < left_in (due_of_kept contents layers s) → KeepsSaved (snap_books contents layers s) (snap_books contents layers s')
       → left_in_all contents layers (changed v o' k s' flights) < left_in_all contents layers v
-  lower_changed flights same less =
+  lower_changed flights same less keeps =
       let due = due_of_kept contents layers in
       let e = one_left (map due v.snaps) k (due s) (due s') v.flights (omega (arith, within, length-map v.snaps due)) (ap due is ∙ sym (get_or-map due v.snaps k s (due s) within)) less in
       let at : left_of (dues_of contents layers (changed v o' k s' flights)) flights ≡ left_of (set (map due v.snaps) k (due s')) v.flights =
       ap (λ xs. sum_by left_in xs + length flights) (map-set due v.snaps k s') ∙ ap (λ n. sum_by left_in (set (map due v.snaps) k (due s')) + n) same in
-      omega (arith, e, at)
+      let beside = beside_changed keeps (merge_due contents v.merge) in
+      omega (arith, e, at, beside)
 
   pub loud_changed : (flights : List Flight) → SameDisk contents layers size v.origin o' → is_loud (layers s'.device) ≡ is_loud (layers s.device) → is_loud_in_all layers (changed v o' k s' flights) ≡ is_loud_in_all layers v
   loud_changed flights same loud = ap (is_loud_with layers v.merge) (ap (λ b. b && list_all (λ x. is_loud (layers x.device)) (set v.snaps k s')) same.loud

@@ -36,7 +36,7 @@ use Rattle.snapshots.proofs.Finds.{position_within}
 use Rattle.volume.specs.Flying.{Fits}
 use Rattle.volume.proofs.Changing.{goes_same, snaps_fit}
 use Rattle.volume.proofs.Good.{IsGood}
-use Rattle.volume.proofs.IssueEvents.{reply_good, taken_out, fits_read, fits_write}
+use Rattle.volume.proofs.IssueEvents.{no_more, reply_good, taken_out, fits_read, fits_write}
 use Rattle.volume.proofs.MergeIssues.{any_read_disk, any_write_disk}
 use Rattle.volume.proofs.Counting.{counted_among, within_among}
 
@@ -81,7 +81,7 @@ module _ {B : Type 0} (contents : B → List ℕ) (layers : B → List Layer) (s
 
   good : (reply : Reply) → IsReply number reply vb wb → HasReplied faults number reply v issued → IsOneAtMost done v issued → Fits r.request.op r.request.range reply → IsGood contents layers size faults done (Issue number) (Replied number reply) v issued
   good reply answered cause one fits = reply_good contents layers size faults done v issued h number place reply in_list refl refl refl refl (snaps_fit contents layers size v (size o') h same_size)
-      (goes_same contents layers size v issued v.merge same_size refl refl h.merge) refl refl refl
+      (goes_same contents layers size v issued v.merge same_size refl refl h.merge) refl (no_more _) refl
       (ap (λ b. is_loud_with layers v.merge (b && list_all (λ (s : Kept B). is_loud (layers s.device)) v.snaps)) same_loud)
       (record { attached = refl; numbers = refl; chunks = refl; merged = refl; sizes = ap (λ n. counts_with size v.merge (n ∷ map (λ (s : Kept B). size s.device) v.snaps)) same_size }) refl answered waits cause one (taken_out number place reply r vb wb out fits)
 

@@ -18,6 +18,7 @@ use Rattle.volume_laws.proofs.Routed.{ArePieces}
 use Rattle.volume_laws.specs.Accepting.{IsTakenIn}
 use Rattle.snapshot.specs.Kept.{books_of as snap_books}
 use Rattle.volume.specs.Volumed.{Volumed, books_of, piece_with, plain_of, is_loud_in_all}
+use Rattle.volume.proofs.Least.{piece_in_each}
 use Rattle.volume.specs.Whole.{AreNumbers, IsWhole}
 use Rattle.volume.proofs.Changing.{goes_same}
 use Rattle.volume.proofs.Shown.{shown, loud_books}
@@ -66,7 +67,7 @@ module _ {B : Type 0} (contents : B → List ℕ) (layers : B → List Layer) (s
   -- the range lies inside a chunk of each snapshot
   pub pieces_all : IsPiece (piece_with u.merge u.snaps) f.request.range → ArePieces f (books_of contents layers size u).snaps
   pieces_all piece = All-map (λ (x : SnapBooks). x.live ≡ true → IsPiece x.chunk f.request.range) (snap_books contents layers) u.snaps
-      (λ k d lt live. subst (λ n. IsPiece n f.request.range) (sym (h.snaps k d lt).chunk_is) piece)
+      (λ k d lt live. piece_in_each contents layers size u h f.request.range piece k d lt)
 
 pub plain_entered : {B : Type 0} (contents : B → List ℕ) (layers : B → List Layer) (size : B → ℕ) (v0 w : Volumed B) (which : List ℕ) (number : ℕ) (request : Request) → IsTakenIn which number request (books_of contents layers size v0) (books_of contents layers size w)
     → is_loud_in_all layers v0 ≡ true → IsSubmitted which (plain_of contents layers v0) number request (plain_of contents layers w)

@@ -1,5 +1,5 @@
 -- Each handler's calls make its event exact: the facts of a volume that is whole, with what the calls promise.
-use Rattle.std.proofs.Common.{◌≡◌, ℕ, zero, suc, ◌+◌, ◌*◌, ◌<◌, ◌≤◌, Bool, true, false, List, [], ◌∷◌, ◌++◌, Some, length, get_or, set, map, take, drop, replicate, refl, sym, ◌∙◌, ap, subst, arith}
+use Rattle.std.proofs.Common.{◌≡◌, ℕ, zero, suc, ◌+◌, ◌*◌, ◌<◌, ◌≤◌, Bool, true, false, List, [], ◌∷◌, ◌++◌, Option, Some, length, get_or, set, map, take, drop, replicate, refl, sym, ◌∙◌, ap, subst, arith}
 use Rattle.std.specs.Prelude.{◌==◌, ◌&&◌, not}
 use Rattle.std.specs.List.{list_all, position, remove}
 use Rattle.std.proofs.lemmas.Bool.{eqb-true, false≢true}
@@ -12,6 +12,7 @@ use Rattle.model.specs.Places.{area_place}
 use Rattle.model.specs.NextPlace.{LacksArea}
 use Rattle.plain.specs.declared.event.Event.TheVariants.{CopyRead, CopyWrite, ZeroNext, WriteArea, Publish, WriteInvalid}
 use Rattle.plain.specs.declared.event.Outcome.TheVariants.{Done, Fault}
+use Rattle.plain.specs.declared.request.Reply.{Reply}
 use Rattle.pending.specs.Copies.{count_of, pair_of}
 use Rattle.pending.specs.Due.{front_written}
 use Rattle.pending.specs.Routes.{refused_of}
@@ -26,6 +27,8 @@ use Rattle.volume_laws.specs.Again.{again_of, placed_of}
 use Rattle.volume_laws.specs.Held.{LiveHolds, SnapHolds}
 use Rattle.volume_laws.specs.Published.{is_clear as is_clear_in}
 use Rattle.volume_laws.specs.Steps.{mark_of}
+use Rattle.event_machine.specs.Seen.{going_of}
+use Rattle.event_machine.specs.Stepping.{first_that, publishes, stepped}
 use Rattle.snapshot.specs.Kept.{Kept, books_of as snap_books, batch_of, needs_area, spare_after, unpublished}
 use Rattle.snapshot.specs.Calls.{ReadsAt, StaysAt, WritesAt}
 use Rattle.merge_beside.specs.Rooms.{merge_books}
@@ -33,13 +36,14 @@ use Rattle.volume.specs.Volumed.{Volumed, is_loud_in_all}
 use Rattle.volume.specs.Whole.{IsWhole, IsCounted}
 use Rattle.snapshots.specs.Finding.{is_copy_of, is_mark_of, is_trying, is_committing, is_zeroing}
 use Rattle.volume.specs.Exact.{IsExact}
-use Rattle.volume.proofs.MovedLists.{IsFirst, first_position}
+use Rattle.volume.specs.Moved.{held_of, moving_of}
+use Rattle.volume.proofs.MovedLists.{IsFirst, first_is, first_position}
 use Rattle.volume.proofs.MovedDue.{front_lives}
 use Rattle.volume.proofs.MovedSnaps.{changed, spoilt}
 use Rattle.volume.proofs.MovedFound.{snap_first, copy_first, mark_first, mark_number}
 use Rattle.volume.proofs.MovedCopies.{copy_read_done, copy_read_fault, copy_write_done, copy_write_fault}
 use Rattle.volume.proofs.MovedStores.{write_area_done, write_area_fault, zero_next_done, zero_next_fault, zero_next_lacks}
-use Rattle.volume.proofs.MovedMarks.{write_invalid_is, publish_is}
+use Rattle.volume.proofs.MovedMarks.{write_invalid_is, publish_is, publishes_first}
 use Rattle.volume.proofs.Shown.{loud_others}
 
 and_left : (a b : Bool) → (a && b) ≡ true → a ≡ true
@@ -201,10 +205,13 @@ module _ {B : Type 0} (contents : B → List ℕ) (layers : B → List Layer) (s
           step = λ loud replied. write_invalid_is contents layers replied v n k s trying_first false s' flights faults faults' done done' s'.device one same fields routed;
         }
 
-    -- Publish
-    pub publish_exact : (s' : Kept B) (j : ℕ) (m : Mark) (flights : List Flight) → position (is_mark_of s v.flights n) s.marks ≡ Some j → m ≡ get_or s.marks j m → s' ≡ record s { marks = remove s.marks j; merging = unpublished m.number s.merging }
+    -- Publish, before the copies are started that a merge waits for
+    pub publish_stepped : (s' : Kept B) (j : ℕ) (m : Mark) (flights : List Flight) → position (is_mark_of s v.flights n) s.marks ≡ Some j → m ≡ get_or s.marks j m → s' ≡ record s { marks = remove s.marks j; merging = unpublished m.number s.merging }
         → flights ≡ map (again_of (merge_books contents layers true v.merge) (is_clear_in (map (snap_books contents layers) (set v.snaps k s')))) (map (placed_of (snap_books contents layers s')) v.flights)
-        → IsExact contents layers (Publish n) Done v (changed v v.origin k s' flights)
-    publish_exact s' j m flights found at fields routed = record {
-      step = λ loud replied. publish_is contents layers replied v n k s (mark_first contents layers size v h n k s within is j found) j m (mark_number contents layers size v h n k s within is j m found at) s' flights fields routed;
-    }
+        → (replied : Option Reply) → stepped (Publish n) (moving_of contents layers replied v) ≡ moving_of contents layers replied (changed v v.origin k s' flights)
+    publish_stepped s' j m flights found at fields routed replied =
+        publish_is contents layers replied v n k s (mark_first contents layers size v h n k s within is j found) j m (mark_number contents layers size v h n k s within is j m found at) s' flights fields routed
+
+    pub publish_found : (j : ℕ) (replied : Option Reply) → position (is_mark_of s v.flights n) s.marks ≡ Some j → first_that (publishes (map going_of v.flights) n) (map (held_of contents layers) v.snaps) ≡ Some (held_of contents layers s)
+    publish_found j replied found =
+        first_is (held_of contents layers) (publishes (map going_of v.flights) n) k s v.snaps (publishes_first contents layers replied v n k s (mark_first contents layers size v h n k s within is j found))

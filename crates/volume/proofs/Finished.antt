@@ -31,12 +31,11 @@ use Rattle.merge_beside.specs.Keeping.{unkept}
 use Rattle.merge_beside.specs.Rooms.{merge_books}
 use Rattle.volume.specs.Finishing.{finish_refusal, finish_with}
 use Rattle.volume.specs.Leaving.{is_quiet_of}
-use Rattle.volume.specs.Volumed.{Volumed, books_of, is_loud_in_all, piece_with, plain_of}
+use Rattle.volume.specs.Volumed.{Volumed, books_of, is_loud_in_all, plain_of}
 use Rattle.volume.specs.Whole.{IsWhole}
 use Rattle.volume.specs.Moved.{merge_seen, moving_of}
 use Rattle.volume.proofs.Beginnings.{twice_unkept}
 use Rattle.volume.proofs.KeptBack.{whole_kept, plain_kept, moving_kept, loud_kept}
-use Rattle.volume.proofs.Leaves.{piece_left}
 use Rattle.volume.proofs.MovedLists.{if_true}
 use Rattle.volume.proofs.Quieted.{quiet_flights, quiet_done, no_group}
 use Rattle.volume.proofs.Shown.{and_left, and_right, loud_books, shown}
@@ -94,7 +93,7 @@ module _ {B : Type 0} (v : Volumed B) (m : Merging B) (is : v.merge ≡ Some m) 
       holds = out_holds;
       waits = waits_none (books_of contents layers size out) none;
       merge = tt;
-      snaps = piece_left v.copies (size v.origin) (piece_with v.merge v.snaps) v.snaps h.snaps;
+      snaps = h.snaps;
       counted = h.counted;
       apart = h.apart;
       numbers = h.numbers;

@@ -1,5 +1,5 @@
 -- An origin write is accepted, once the copies of its chunk are started.
-use Rattle.std.specs.Prelude.{if◌then◌else◌, ◌&&◌, sum_by, count_by}
+use Rattle.std.specs.Prelude.{if◌then◌else◌, ◌&&◌, min, sum_by, count_by}
 use Rattle.std.proofs.Common.{◌≡◌, inl, inr, ℕ, ◌+◌, ◌<◌, ◌≤◌, Bool, true, false, List, [], ◌∷◌, ◌++◌, Option, Some, None, length, map, take, drop, refl, sym, ◌∙◌, ap, subst, arith}
 use Rattle.std.specs.List.{All, list_all}
 use Rattle.std.proofs.lemmas.Bool.{cases_Bool, MatchBool-at_true, MatchBool-at_false}
@@ -26,7 +26,7 @@ use Rattle.merge_beside.specs.Routing.{is_merged_at}
 use Rattle.volume.specs.Volumed.{Volumed, books_of, piece_of, piece_with, plain_of, is_loud_in_all, is_loud_with}
 use Rattle.snapshots.specs.Numbers.{count_in}
 use Rattle.volume.specs.Whole.{IsWhole}
-use Rattle.snapshots.specs.Starting.{unroomed, starts, overflows, overflowing, IsSavedIn, AreSavedIn}
+use Rattle.snapshots.specs.Starting.{unroomed, starts, overflows, overflowing, IsSavedIn, AreSavedIn, own_of}
 use Rattle.snapshots.proofs.Overflowing.{overflowing_roomed, saved_lives}
 use Rattle.snapshots.proofs.Roomed.{roomed}
 use Rattle.volume.specs.Submitting.{IsAsked, IsAcceptedAs, entered_of, lives_after, spoiled_by}
@@ -45,7 +45,7 @@ use Rattle.volume.proofs.MovedSubmits.{IsSized}
 use Rattle.volume.proofs.Submitted.{sized_all}
 
 module _ {B : Type 0} (contents : B → List ℕ) (layers : B → List Layer) (first : ℕ) where
-  same_chunk : (s t : Kept B) (n m : ℕ) (fs gs : List Flight) → IsSavedIn contents layers first s t n m fs gs → t.state.chunk ≡ s.state.chunk
+  same_chunk : (s t : Kept B) (n m : ℕ) (fs gs : List Flight) → IsSavedIn contents layers (own_of first s) s t n m fs gs → t.state.chunk ≡ s.state.chunk
   same_chunk s t n m fs gs e = elim (cases_Bool (starts first s)) [
     | inl begins ↦ (let (buffer, at, m_is, g) = MatchBool-at_true _ _ begins e in ap (λ (x : Kept B). x.state.chunk) at.fields)
     | inr unsaid ↦ elim (cases_Bool (overflows first s)) [
@@ -54,7 +54,7 @@ module _ {B : Type 0} (contents : B → List ℕ) (layers : B → List Layer) (f
     ]
   ]
 
-  same_loud : (s t : Kept B) (n m : ℕ) (fs gs : List Flight) → IsSavedIn contents layers first s t n m fs gs → is_loud (layers t.device) ≡ is_loud (layers s.device)
+  same_loud : (s t : Kept B) (n m : ℕ) (fs gs : List Flight) → IsSavedIn contents layers (own_of first s) s t n m fs gs → is_loud (layers t.device) ≡ is_loud (layers s.device)
   same_loud s t n m fs gs e = elim (cases_Bool (starts first s)) [
     | inl begins ↦ (let (buffer, at, m_is, g) = MatchBool-at_true _ _ begins e in ap (λ (x : Kept B). is_loud (layers x.device)) at.fields)
     | inr unsaid ↦ elim (cases_Bool (overflows first s)) [
@@ -64,24 +64,24 @@ module _ {B : Type 0} (contents : B → List ℕ) (layers : B → List Layer) (f
   ]
 
   -- the devices are as loud as they were
-  pub saved_loud : (ss ts : List (Kept B)) (n m : ℕ) (fs gs : List Flight) → AreSavedIn contents layers first ss ts n m fs gs → list_all (λ s. is_loud (layers s.device)) ts ≡ list_all (λ s. is_loud (layers s.device)) ss
+  pub saved_loud : (ss ts : List (Kept B)) (n m : ℕ) (fs gs : List Flight) → AreSavedIn contents layers (own_of first) ss ts n m fs gs → list_all (λ s. is_loud (layers s.device)) ts ≡ list_all (λ s. is_loud (layers s.device)) ss
   saved_loud [] [] n m fs gs e = refl
   saved_loud [] (t ∷ ts) n m fs gs e = absurd e
   saved_loud (s ∷ ss) [] n m fs gs e = absurd e
   saved_loud (s ∷ ss) (t ∷ ts) n m fs gs (k, hs, one, rest) = ap (λ b. b && list_all (λ x. is_loud (layers x.device)) ts) (same_loud s t n k fs hs one)
       ∙ ap (λ b. is_loud (layers s.device) && b) (saved_loud ss ts k m hs gs rest)
 
-  pub saved_piece : (ss ts : List (Kept B)) (n m : ℕ) (fs gs : List Flight) → AreSavedIn contents layers first ss ts n m fs gs → piece_of ts ≡ piece_of ss
+  pub saved_piece : (ss ts : List (Kept B)) (n m : ℕ) (fs gs : List Flight) → AreSavedIn contents layers (own_of first) ss ts n m fs gs → piece_of ts ≡ piece_of ss
   saved_piece [] [] n m fs gs e = refl
   saved_piece [] (t ∷ ts) n m fs gs e = absurd e
   saved_piece (s ∷ ss) [] n m fs gs e = absurd e
-  saved_piece (s ∷ ss) (t ∷ ts) n m fs gs (k, hs, one, rest) = same_chunk s t n k fs hs one
+  saved_piece (s ∷ ss) (t ∷ ts) n m fs gs (k, hs, one, rest) = ap (λ c. min c (piece_of ts)) (same_chunk s t n k fs hs one) ∙ ap (min s.state.chunk) (saved_piece ss ts k m hs gs rest)
 
-  pub saved_beside : (merge : Option (Merging B)) (ss ts : List (Kept B)) (n m : ℕ) (fs gs : List Flight) → AreSavedIn contents layers first ss ts n m fs gs → piece_with merge ts ≡ piece_with merge ss
+  pub saved_beside : (merge : Option (Merging B)) (ss ts : List (Kept B)) (n m : ℕ) (fs gs : List Flight) → AreSavedIn contents layers (own_of first) ss ts n m fs gs → piece_with merge ts ≡ piece_with merge ss
   saved_beside None ss ts n m fs gs e = saved_piece ss ts n m fs gs e
-  saved_beside (Some x) ss ts n m fs gs e = refl
+  saved_beside (Some x) ss ts n m fs gs e = ap (min x.state.chunk) (saved_piece ss ts n m fs gs e)
 
-  pub saved_length : (ss ts : List (Kept B)) (n m : ℕ) (fs gs : List Flight) → AreSavedIn contents layers first ss ts n m fs gs → length ts ≡ length ss
+  pub saved_length : (ss ts : List (Kept B)) (n m : ℕ) (fs gs : List Flight) → AreSavedIn contents layers (own_of first) ss ts n m fs gs → length ts ≡ length ss
   saved_length [] [] n m fs gs e = refl
   saved_length [] (t ∷ ts) n m fs gs e = absurd e
   saved_length (s ∷ ss) [] n m fs gs e = absurd e
@@ -103,7 +103,7 @@ module _ {B : Type 0} (contents : B → List ℕ) (layers : B → List Layer) (s
       (sym (unseen_all (λ s. is_loud (layers s.device)) snaps (λ s. refl)) ∙ ap (list_all (λ s. is_loud (layers s.device))) e ∙ unseen_all (λ s. is_loud (layers s.device)) v.snaps (λ s. refl))
 
 module _ {B : Type 0} (contents : B → List ℕ) (layers : B → List Layer) (size : B → ℕ) (v : Volumed B) (h : IsWhole contents layers size v) (before after : List (Kept B)) (e : map unroomed before ≡ map unroomed v.snaps) (m : ℕ) (gs : List Flight) (f : Flight)
-    (at : AreSavedIn contents layers f.request.range.first before after v.copies m v.flights gs) (few : sum_by count_in v.snaps + count_by (starts f.request.range.first) v.snaps ≤ 256)
+    (at : AreSavedIn contents layers (own_of f.request.range.first) before after v.copies m v.flights gs) (few : sum_by count_in v.snaps + count_by (starts f.request.range.first) v.snaps ≤ 256)
     (number : f.number ≡ v.requests + 1) (asked : IsAsked (size v.origin) (piece_with v.merge v.snaps) f.request) (room : length f.room.items ≡ room_of f.request) (kind : kind_of f.request ≡ OriginWrite)
     (route : f.route ≡ write_route_of false None (is_clear (map (snap_books contents layers) after) f.request.range.first)) (space : length v.flights < 64) (unmerged : is_merged_at f.request.range.first v.merge ≡ false) where
   abbrev roomy : Volumed B
@@ -119,7 +119,7 @@ module _ {B : Type 0} (contents : B → List ℕ) (layers : B → List Layer) (s
   roomy_whole = whole_roomed contents layers size v before e h
 
   abbrev which : List ℕ
-  which = overflowing f.request.range.first before
+  which = overflowing (own_of f.request.range.first) before
 
   done : AreDone contents layers size f.request.range.first (length {A = Kept B} [] + length before) which roomy saved
   done =
@@ -166,12 +166,12 @@ module _ {B : Type 0} (contents : B → List ℕ) (layers : B → List Layer) (s
     legal = λ loud.
         (let first = f.request.range.first in
         subst (λ (ns : List ℕ). IsSubmitted ns (plain_of contents layers v) f.number f.request (plain_of contents layers written))
-        (overflowing_roomed first before v.snaps e ∙ sym (ap (λ (q : Kind). spoiled_by q first v.merge v.snaps) kind ∙ if_false (is_merged_at first v.merge) [] (overflowing first v.snaps) unmerged))
+        (overflowing_roomed (own_of first) before v.snaps (λ s. refl) e ∙ sym (ap (λ (q : Kind). spoiled_by q first v.merge v.snaps) kind ∙ if_false (is_merged_at first v.merge) [] (overflowing (own_of first) v.snaps) unmerged))
         (subst (λ (p : Plain). IsSubmitted which p f.number f.request (plain_of contents layers written)) (plain_roomed contents layers size v before e)
         (plain_entered contents layers size roomy written which f.number f.request taken (loud_roomed contents layers size v before e ∙ loud))));
     lives =
         (let first = f.request.range.first in
-        saved_lives contents layers first before after v.copies m v.flights gs at
+        saved_lives contents layers (own_of first) before after v.copies m v.flights gs at
         ∙ roomed (λ (s : Kept B). if overflows first s then false else s.live) before v.snaps e (λ s. refl)
         ∙ sym (ap (λ (q : Kind). lives_after q first v.merge v.snaps) kind ∙ if_false (is_merged_at first v.merge) (map (λ (s : Kept B). s.live) v.snaps) (map (λ (s : Kept B). if overflows first s then false else s.live) v.snaps) unmerged));
     flown = entered_flown v.flights gs f done.prepared.requests;
@@ -191,10 +191,10 @@ module _ {B : Type 0} (contents : B → List ℕ) (layers : B → List Layer) (s
       let a = (whole_roomed contents layers size v before e h).snaps k d lt in
       omega (arith, a.origin, some, inside)
 
-  pub some_all : (first : ℕ) (after : List (Kept B)) (n m : ℕ) (fs gs : List Flight) → AreSavedIn contents layers first before after n m fs gs → All (λ s. 0 < s.state.chunk) after
+  pub some_all : (first : ℕ) (after : List (Kept B)) (n m : ℕ) (fs gs : List Flight) → AreSavedIn contents layers (own_of first) before after n m fs gs → All (λ s. 0 < s.state.chunk) after
   some_all first after n m fs gs at = saved_some first before after n m fs gs at (λ k d lt. ((whole_roomed contents layers size v before e h).snaps k d lt).some)
     where
-      saved_some : (first : ℕ) (ss ts : List (Kept B)) (n m : ℕ) (fs gs : List Flight) → AreSavedIn contents layers first ss ts n m fs gs → All (λ s. 0 < s.state.chunk) ss → All (λ s. 0 < s.state.chunk) ts
+      saved_some : (first : ℕ) (ss ts : List (Kept B)) (n m : ℕ) (fs gs : List Flight) → AreSavedIn contents layers (own_of first) ss ts n m fs gs → All (λ s. 0 < s.state.chunk) ss → All (λ s. 0 < s.state.chunk) ts
       saved_some first [] [] n m fs gs at all = All-nil (λ s. 0 < s.state.chunk)
       saved_some first [] (t ∷ ts) n m fs gs at all = absurd at
       saved_some first (s ∷ ss) [] n m fs gs at all = absurd at

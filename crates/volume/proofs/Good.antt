@@ -25,7 +25,7 @@ use Rattle.volume_laws.proofs.MergeRooms.{KeepsRoom}
 use Rattle.volume_laws.proofs.MergeRoomEvents.{spoil_room}
 use Rattle.merge_beside.specs.Rooms.{room_of}
 use Rattle.snapshot.specs.Kept.{Kept, books_of as snap_books, due_of_kept}
-use Rattle.volume.specs.Volumed.{Volumed, books_of, plain_of, is_loud_in_all}
+use Rattle.volume.specs.Volumed.{Volumed, books_of, plain_of, is_loud_in_all, left_in_all}
 use Rattle.snapshots.specs.Numbers.{numbers_in}
 use Rattle.volume.specs.Whole.{IsWhole, IsCounted}
 use Rattle.volume.specs.Causes.{HasCause, IsOneAtMost}
@@ -90,22 +90,20 @@ module _ {B : Type 0} (contents : B → List ℕ) (layers : B → List Layer) (s
   overflows_kept : s'.overflow ≡ s.overflow → map (λ (x : Kept B). x.overflow) (set v.snaps k s') ≡ map (λ (x : Kept B). x.overflow) v.snaps
   overflows_kept one = map-set_same (λ (x : Kept B). x.overflow) v.snaps k s' s (one ∙ ap (λ (x : Kept B). x.overflow) is)
 
-  -- nothing is seen of it
-  pub silent_good : (flights : List Flight) → map in_flight flights ≡ map in_flight v.flights → StaysAttached s s' → s'.overflow ≡ s.overflow
-      → IsSilent (books_of contents layers size v) (books_of contents layers size (changed v o' k s' flights)) → Waits (books_of contents layers size (changed v o' k s' flights))
-      → left_in (due_of_kept contents layers s') < left_in (due_of_kept contents layers s)
-      → HasCause faults event outcome v (changed v o' k s' flights) → IsOneAtMost done v (changed v o' k s' flights) → KeepsRoom (room_of contents layers s) (room_of contents layers s')
+  -- nothing is seen of it, where the volume is whole and less is left
+  pub silent_with : (flights : List Flight) → map in_flight flights ≡ map in_flight v.flights → StaysAttached s s' → s'.overflow ≡ s.overflow
+      → IsSilent (books_of contents layers size v) (books_of contents layers size (changed v o' k s' flights)) → IsWhole contents layers size (changed v o' k s' flights)
+      → left_in_all contents layers (changed v o' k s' flights) < left_in_all contents layers v
+      → HasCause faults event outcome v (changed v o' k s' flights) → IsOneAtMost done v (changed v o' k s' flights)
       → IsGood contents layers size faults done event outcome v (changed v o' k s' flights)
-  silent_good flights same_flights stays overflow silent waits less cause one keeps =
-      let numbers = same_numbers v.flights flights same_flights in
+  silent_with flights same_flights stays overflow silent whole lower cause one =
       let w = changed v o' k s' flights in
-      let count : length flights ≡ length v.flights = omega (arith, ap length numbers, length-map flights number_of_flight, length-map v.flights number_of_flight) in
       record {
-        whole = whole_changed contents layers size v o' k s s' within is flights h same stays numbers silent.holds waits keeps;
+        whole = whole;
         stepped = record {
           legal = λ l. told (plain_of contents layers v) (plain_of contents layers w) (legal_by contents layers size v w [] silent.step l);
           flown = still (map in_flight v.flights) (map in_flight w.flights) same_flights;
-          lower = lower_changed contents layers size v o' k s s' within is flights count less;
+          lower = lower;
           loud = loud_changed contents layers size v o' k s s' within is flights same loud;
           cause = cause;
           one = one;
@@ -117,6 +115,17 @@ module _ {B : Type 0} (contents : B → List ℕ) (layers : B → List Layer) (s
           failed = sym (calm (has_failed v.merge));
         };
       }
+
+  pub silent_good : (flights : List Flight) → map in_flight flights ≡ map in_flight v.flights → StaysAttached s s' → s'.overflow ≡ s.overflow
+      → IsSilent (books_of contents layers size v) (books_of contents layers size (changed v o' k s' flights)) → Waits (books_of contents layers size (changed v o' k s' flights))
+      → left_in (due_of_kept contents layers s') < left_in (due_of_kept contents layers s)
+      → HasCause faults event outcome v (changed v o' k s' flights) → IsOneAtMost done v (changed v o' k s' flights) → KeepsRoom (room_of contents layers s) (room_of contents layers s')
+      → IsGood contents layers size faults done event outcome v (changed v o' k s' flights)
+  silent_good flights same_flights stays overflow silent waits less cause one keeps =
+      let numbers = same_numbers v.flights flights same_flights in
+      let count : length flights ≡ length v.flights = omega (arith, ap length numbers, length-map flights number_of_flight, length-map v.flights number_of_flight) in
+      silent_with flights same_flights stays overflow silent (whole_changed contents layers size v o' k s s' within is flights h same stays numbers silent.holds waits keeps)
+      (lower_changed contents layers size v o' k s s' within is flights count less keeps.space.saved) cause one
 
   -- the snapshot is spoiled, and its requests refused
   pub spoilt_good : s.live ≡ true → 0 < length s.copies → SpoiltTo s s'
@@ -138,7 +147,7 @@ module _ {B : Type 0} (contents : B → List ℕ) (layers : B → List Layer) (s
         stepped = record {
           legal = λ l. told (plain_of contents layers v) (plain_of contents layers w) (legal_by contents layers size v w (s.number ∷ []) spoil.step l);
           flown = still (map in_flight v.flights) (map in_flight w.flights) (refused_in_flight (s.number ∷ []) v.flights);
-          lower = lower_changed contents layers size v o' k s s' within is flights count (spoil_left (due_of_kept contents layers s) (due_of_kept contents layers s') spoils some);
+          lower = lower_changed contents layers size v o' k s s' within is flights count (spoil_left (due_of_kept contents layers s) (due_of_kept contents layers s') spoils some) (spoil_room (room_of contents layers s) (room_of contents layers s') spoils).space.saved;
           loud = loud_changed contents layers size v o' k s s' within is flights same loud;
           cause = cause;
           one = one;

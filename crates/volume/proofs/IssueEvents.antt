@@ -26,7 +26,7 @@ use Rattle.volume_laws.specs.Held.{RequestHolds}
 use Rattle.volume_laws.specs.Waits.{Waits}
 use Rattle.volume_laws.specs.Outcomes.{IsReply}
 use Rattle.volume_laws.proofs.Lists.{All-remove, map-remove}
-use Rattle.volume.specs.Volumed.{Volumed, books_of, plain_of, dues_of, piece_with, is_loud_in_all, merge_due, left_by}
+use Rattle.volume.specs.Volumed.{Volumed, books_of, plain_of, dues_of, is_loud_in_all, merge_due, left_by}
 use Rattle.snapshot.specs.Kept.{Kept}
 use Rattle.snapshots.specs.Numbers.{number_of_snap}
 use Rattle.volume.specs.Whole.{AreNumbers, GoesOn, IsAttached, IsWhole, starts_left}
@@ -36,6 +36,10 @@ use Rattle.volume.proofs.Shown.{shown, loud_books}
 use Rattle.volume.proofs.Changing.{SnapsFit}
 use Rattle.volume.proofs.Good.{IsGood}
 
+-- as much
+pub no_more : (n : ℕ) → n ≤ n
+no_more n = omega arith
+
 -- one number fewer
 fewer_numbers : (most : ℕ) (rs : List Flight) (k : ℕ) → k < length rs → AreNumbers most (map number_of_flight rs) → AreNumbers most (map number_of_flight (remove rs k))
 fewer_numbers most rs k lt h = subst (AreNumbers most) (sym (map-remove number_of_flight rs k)) (record {
@@ -44,8 +48,8 @@ fewer_numbers most rs k lt h = subst (AreNumbers most) (sym (map-remove number_o
 })
 
 module _ {B : Type 0} (contents : B → List ℕ) (layers : B → List Layer) (size faults done : B → ℕ) (v w : Volumed B) (h : IsWhole contents layers size v) (number place : ℕ) (reply : Reply) (in_list : place < length v.flights)
-    (flights : w.flights ≡ remove v.flights place) (requests : w.requests ≡ v.requests) (copies : w.copies ≡ v.copies) (attached : w.attached ≡ v.attached) (fit : SnapsFit v.copies v.attached (size w.origin) w.merge w.snaps)
-    (goes : GoesOn contents layers size w.merge w) (failed : has_failed w.merge ≡ has_failed v.merge) (left : left_by (merge_due contents w.merge) ≡ left_by (merge_due contents v.merge))
+    (flights : w.flights ≡ remove v.flights place) (requests : w.requests ≡ v.requests) (copies : w.copies ≡ v.copies) (attached : w.attached ≡ v.attached) (fit : SnapsFit v.copies v.attached (size w.origin) w.snaps)
+    (goes : GoesOn contents layers size w.merge w) (failed : has_failed w.merge ≡ has_failed v.merge) (left : left_by (dues_of contents layers w) (merge_due contents w.merge) ≤ left_by (dues_of contents layers v) (merge_due contents v.merge))
     (lefts : sum_by left_in (dues_of contents layers w) ≡ sum_by left_in (dues_of contents layers v)) (loud : is_loud_in_all layers w ≡ is_loud_in_all layers v) (kept : KeepsAll size v w)
     (overflows : map (λ (s : Kept B). s.overflow) w.snaps ≡ map (λ (s : Kept B). s.overflow) v.snaps) where
   pub reply_good : IsReply number reply (books_of contents layers size v) (books_of contents layers size w) → Waits (books_of contents layers size w) → HasReplied faults number reply v w → IsOneAtMost done v w
@@ -58,7 +62,7 @@ module _ {B : Type 0} (contents : B → List ℕ) (layers : B → List Layer) (s
           holds = answered.holds;
           waits = waits;
           merge = goes;
-          snaps = subst (λ n. All (IsAttached n (size w.origin) (piece_with w.merge w.snaps)) w.snaps) (sym copies) fit.snaps;
+          snaps = subst (λ n. All (IsAttached n (size w.origin)) w.snaps) (sym copies) fit.snaps;
           counted = fit.counted;
           apart = fit.apart;
           numbers = subst (λ n. AreNumbers n (map number_of_snap w.snaps)) (sym attached) fit.numbers;

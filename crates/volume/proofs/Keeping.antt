@@ -15,7 +15,7 @@ use Rattle.snapshots.specs.Numbers.{number_of_snap}
 use Rattle.volume.specs.Causes.{counts_with}
 use Rattle.volume.specs.Stepping.{KeepsAll, KeepsDevices, merged_of}
 use Rattle.plain.specs.declared.request.Overflowing.TheVariants.{Did}
-use Rattle.snapshots.specs.Starting.{unroomed, starts, overflows, spoilt_of, IsSavedIn, AreSavedIn}
+use Rattle.snapshots.specs.Starting.{unroomed, starts, overflows, spoilt_of, IsSavedIn, AreSavedIn, own_of}
 use Rattle.volume.specs.Submitting.{entered_of, SameButRoom, IsFoundFull, IsOverflown, IsRefusedAs}
 use Rattle.snapshots.proofs.Roomed.{roomed}
 
@@ -54,7 +54,7 @@ module _ {B : Type 0} (contents : B → List ℕ) (layers : B → List Layer) wh
   fixed_chunk = record { room = λ s. refl; begun = λ s t p at. ap (λ (x : Kept B). x.state.chunk) at.fields; spoilt = λ s. refl }
 
   module _ {X : Type 0} (f : Kept B → X) (fixed : IsFixed contents layers f) where
-    one_fixed : (first : ℕ) (s t : Kept B) (n m : ℕ) (fs gs : List Flight) → IsSavedIn contents layers first s t n m fs gs → f t ≡ f s
+    one_fixed : (first : ℕ) (s t : Kept B) (n m : ℕ) (fs gs : List Flight) → IsSavedIn contents layers (own_of first s) s t n m fs gs → f t ≡ f s
     one_fixed first s t n m fs gs e = elim (cases_Bool (starts first s)) [
       | inl begins ↦ (let (buffer, at, m_is, g) = MatchBool-at_true _ _ begins e in fixed.begun s t (started (n + 1) (first / s.state.chunk) s.next buffer) at)
       | inr unsaid ↦ elim (cases_Bool (overflows first s)) [
@@ -63,7 +63,7 @@ module _ {B : Type 0} (contents : B → List ℕ) (layers : B → List Layer) wh
       ]
     ]
 
-    all_fixed : (first : ℕ) (ss ts : List (Kept B)) (n m : ℕ) (fs gs : List Flight) → AreSavedIn contents layers first ss ts n m fs gs → map f ts ≡ map f ss
+    all_fixed : (first : ℕ) (ss ts : List (Kept B)) (n m : ℕ) (fs gs : List Flight) → AreSavedIn contents layers (own_of first) ss ts n m fs gs → map f ts ≡ map f ss
     all_fixed first [] [] n m fs gs e = refl
     all_fixed first [] (t ∷ ts) n m fs gs e = absurd e
     all_fixed first (s ∷ ss) [] n m fs gs e = absurd e
@@ -77,7 +77,7 @@ module _ {B : Type 0} (contents : B → List ℕ) (layers : B → List Layer) wh
   fixed_overflow = record { room = λ s. refl; begun = λ s t p at. ap (λ (x : Kept B). x.overflow) at.fields; spoilt = λ s. refl }
 
   -- what a full store does to each stays where a request is accepted
-  pub overflows_saved : (first n m : ℕ) (snaps before after : List (Kept B)) (fs gs : List Flight) → map unroomed before ≡ map unroomed snaps → AreSavedIn contents layers first before after n m fs gs
+  pub overflows_saved : (first n m : ℕ) (snaps before after : List (Kept B)) (fs gs : List Flight) → map unroomed before ≡ map unroomed snaps → AreSavedIn contents layers (own_of first) before after n m fs gs
       → map (λ (s : Kept B). s.overflow) after ≡ map (λ (s : Kept B). s.overflow) snaps
   overflows_saved first n m snaps before after fs gs room saved =
       all_fixed (λ (s : Kept B). s.overflow) fixed_overflow first before after n m fs gs saved ∙ roomed (λ (s : Kept B). s.overflow) before snaps room (λ s. refl)
@@ -105,7 +105,7 @@ module _ {B : Type 0} (contents : B → List ℕ) (layers : B → List Layer) wh
   keeps_entered v w f e = subst (λ (x : Volumed B). KeepsDevices v x) (sym e) (keeps_by v (entered_of f v) refl refl refl (λ X g fixed. refl))
 
   -- room was made, and copies were started
-  pub keeps_saved : (v w : Volumed B) (first n m : ℕ) (before : List (Kept B)) (fs gs : List Flight) → w.origin ≡ v.origin → w.merge ≡ v.merge → w.attached ≡ v.attached → map unroomed before ≡ map unroomed v.snaps → AreSavedIn contents layers first before w.snaps n m fs gs → KeepsDevices v w
+  pub keeps_saved : (v w : Volumed B) (first n m : ℕ) (before : List (Kept B)) (fs gs : List Flight) → w.origin ≡ v.origin → w.merge ≡ v.merge → w.attached ≡ v.attached → map unroomed before ≡ map unroomed v.snaps → AreSavedIn contents layers (own_of first) before w.snaps n m fs gs → KeepsDevices v w
   keeps_saved v w first n m before fs gs origin merge attached room saved = keeps_by v w origin merge attached (λ X f fixed. all_fixed f fixed first before w.snaps n m fs gs saved ∙ roomed f before v.snaps room fixed.room)
 
   -- in one of them

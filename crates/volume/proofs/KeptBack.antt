@@ -1,5 +1,5 @@
 -- What snapshots keep back for a merge changes in a quiet volume, and nothing else.
-use Rattle.std.proofs.Common.{◌≡◌, ℕ, suc, ◌<◌, ◌≤◌, true, List, [], ◌∷◌, Option, Some, None, length, get_or, map, refl, sym, ◌∙◌, ap, subst, arith, nat_eq}
+use Rattle.std.proofs.Common.{◌≡◌, ℕ, suc, ◌<◌, ◌≤◌, true, List, [], ◌∷◌, Option, None, length, get_or, map, refl, sym, ◌∙◌, ap, subst, arith, nat_eq}
 use Rattle.std.specs.Prelude.{sum_by, ◌&&◌, not}
 use Rattle.std.specs.List.{All, list_all}
 use Rattle.std.proofs.lemmas.Bool.{eqb-true}
@@ -15,7 +15,7 @@ use Rattle.snapshot.specs.Kept.{Kept, books_of as snap_books}
 use Rattle.snapshots.specs.Numbers.{number_of_snap, numbers_in, count_in}
 use Rattle.merge.specs.Merging.{Merging}
 use Rattle.merge_beside.specs.Keeping.{unkept}
-use Rattle.volume.specs.Volumed.{Volumed, books_of, piece_of, piece_with, plain_of, is_loud_in_all, is_loud_with}
+use Rattle.volume.specs.Volumed.{Volumed, books_of, plain_of, is_loud_in_all, is_loud_with}
 use Rattle.volume.specs.Whole.{AreNumbers, SharesNone, IsAttached, IsWhole, IsCounted, GoesOn, starts_left}
 use Rattle.volume.specs.Moved.{held_of, moving_of}
 use Rattle.volume.specs.Leaving.{is_done_of}
@@ -47,14 +47,6 @@ fewer_counts {B = B} (s ∷ ss) =
     let less : count_in s ≤ length (numbers_in s) = omega arith in
     omega (arith, sum_cons count_in s ss, sum_cons (λ (t : Kept B). length (numbers_in t)) s ss, less, fewer_counts ss)
 
-piece_kept : {B : Type 0} (m : Option (Merging B)) (xs ys : List (Kept B)) → map unkept xs ≡ map unkept ys → piece_with m xs ≡ piece_with m ys
-piece_kept (Some m) xs ys e = refl
-piece_kept None xs ys e = sym (unseen_piece xs) ∙ ap piece_of e ∙ unseen_piece ys
-  where
-    unseen_piece : {B : Type 0} (xs : List (Kept B)) → piece_of (map unkept xs) ≡ piece_of xs
-    unseen_piece [] = refl
-    unseen_piece (x ∷ xs) = refl
-
 module _ {B : Type 0} (contents : B → List ℕ) (layers : B → List Layer) (size : B → ℕ) (v : Volumed B) (snaps : List (Kept B)) (e : map unkept snaps ≡ map unkept v.snaps) where
   abbrev with_kept : Volumed B
   with_kept = record v { snaps = snaps }
@@ -84,7 +76,6 @@ module _ {B : Type 0} (contents : B → List ℕ) (layers : B → List Layer) (s
   pub whole_kept : v.merge ≡ None → list_all is_done_of v.snaps ≡ true → IsWhole contents layers size v → IsWhole contents layers size (record v { snaps = snaps })
   whole_kept alone done h =
       let bs = books_of contents layers size v in
-      let piece = piece_kept v.merge snaps v.snaps e in
       let len = hidden_length unkept snaps v.snaps e in
       let counts = hidden_sum unkept snaps v.snaps e (λ (s : Kept B). length (numbers_in s)) (λ s. refl) in
       let none = none_counts v.snaps (all_done v.snaps done) in
@@ -93,10 +84,8 @@ module _ {B : Type 0} (contents : B → List ℕ) (layers : B → List Layer) (s
         holds = subst (λ (xs : List SnapBooks). let b : Books = record bs { snaps = xs } in Holds b) (sym books_kept) h.holds;
         waits = subst (λ (xs : List SnapBooks). let b : Books = record bs { snaps = xs } in Waits b) (sym books_kept) h.waits;
         merge = subst (λ (m : Option (Merging B)). GoesOn contents layers size m with_kept) (sym alone) tt;
-        snaps = λ k d lt. subst (λ (n : ℕ). IsAttached v.copies (size v.origin) n (get_or snaps k d)) (sym piece)
-            (seen v.copies (size v.origin) (piece_with v.merge v.snaps) (get_or snaps k d)
-            (subst (IsAttached v.copies (size v.origin) (piece_with v.merge v.snaps)) (hidden_at unkept snaps v.snaps e k d lt)
-            (unseen v.copies (size v.origin) (piece_with v.merge v.snaps) (get_or v.snaps k d) (h.snaps k d (omega (arith, lt, len))))));
+        snaps = λ k d lt. seen v.copies (size v.origin) (get_or snaps k d)
+            (subst (IsAttached v.copies (size v.origin)) (hidden_at unkept snaps v.snaps e k d lt) (unseen v.copies (size v.origin) (get_or v.snaps k d) (h.snaps k d (omega (arith, lt, len)))));
         counted = λ k d lt. seen_counts (get_or snaps k d)
             (subst IsCounted (hidden_at unkept snaps v.snaps e k d lt) (unseen_counts (get_or v.snaps k d) (h.counted k d (omega (arith, lt, len)))));
         apart = λ i j d lt inside.
@@ -113,14 +102,14 @@ module _ {B : Type 0} (contents : B → List ℕ) (layers : B → List Layer) (s
         numbers_left = omega (arith, h.numbers_left, lefts);
       }
     where
-      unseen : (copies sectors chunk : ℕ) (s : Kept B) → IsAttached copies sectors chunk s → IsAttached copies sectors chunk (unkept s)
-      unseen copies sectors chunk s a = record { origin = a.origin; chunk_is = a.chunk_is; some = a.some; numbers = a.numbers }
+      unseen : (copies sectors : ℕ) (s : Kept B) → IsAttached copies sectors s → IsAttached copies sectors (unkept s)
+      unseen copies sectors s a = record { origin = a.origin; allowed = a.allowed; some = a.some; numbers = a.numbers }
 
       unseen_counts : (s : Kept B) → IsCounted s → IsCounted (unkept s)
       unseen_counts s a = record { some = a.some; count = a.count; fits = a.fits; idle = a.idle }
 
-      seen : (copies sectors chunk : ℕ) (s : Kept B) → IsAttached copies sectors chunk (unkept s) → IsAttached copies sectors chunk s
-      seen copies sectors chunk s a = record { origin = a.origin; chunk_is = a.chunk_is; some = a.some; numbers = a.numbers }
+      seen : (copies sectors : ℕ) (s : Kept B) → IsAttached copies sectors (unkept s) → IsAttached copies sectors s
+      seen copies sectors s a = record { origin = a.origin; allowed = a.allowed; some = a.some; numbers = a.numbers }
 
       seen_counts : (s : Kept B) → IsCounted (unkept s) → IsCounted s
       seen_counts s a = record { some = a.some; count = a.count; fits = a.fits; idle = a.idle }

@@ -1,32 +1,28 @@
 -- A snapshot leaves a quiet volume.
-use Rattle.std.proofs.Common.{◌≡◌, ◌≢◌, ℕ, ◌*◌, ◌/◌, ◌<◌, ◌≤◌, List, [], ◌∷◌, ◌++◌, length, get_or, map, refl, sym, ◌∙◌, ap, subst, arith, nat_eq, Bool, true, false, Option, Some, None}
+use Rattle.std.proofs.Common.{◌≡◌, ◌≢◌, ℕ, ◌<◌, ◌≤◌, List, [], length, get_or, map, refl, sym, ◌∙◌, ap, subst, arith, nat_eq, Bool, true, false, Option, Some, None}
 use Rattle.std.specs.Prelude.{◌&&◌}
-use Rattle.std.specs.List.{All, remove, list_all}
+use Rattle.std.specs.List.{remove, list_all}
 use Rattle.std.proofs.lemmas.Bool.{eqb-true}
 use Rattle.std.proofs.lemmas.List.{length-map}
 use Rattle.std.proofs.lemmas.List.Edits.{length-remove}
-use Rattle.std.proofs.lemmas.List.Elements.{All-nil, All-weaker}
 use Rattle.std.proofs.lemmas.List.Quantifiers.{all_pairs_remove}
 use Rattle.device.specs.Layers.{Layer, is_loud}
 use Rattle.plain.specs.Legal.{IsDetached}
-use Rattle.pending.specs.Copies.{count_of}
 use Rattle.volume_laws.specs.Books.{SnapBooks}
-use Rattle.volume_laws.specs.MergeDue.{DueMerge}
 use Rattle.volume_laws.specs.MergeRooms.{KeepBack}
-use Rattle.volume_laws.specs.MergeWaits.{MergeGoes, IsSavedSoon, IsSavedIn, next_in}
-use Rattle.volume_laws.specs.Published.{IsSavedOver}
-use Rattle.volume_laws.specs.Waits.{IsSaving}
+use Rattle.volume_laws.specs.MergeWaits.{MergeGoes}
 use Rattle.volume_laws.specs.Steps.{Detaches}
 use Rattle.volume_laws.specs.Whole.{plain_of as plain_books}
 use Rattle.volume_laws.proofs.Attaching.{detach_event}
 use Rattle.volume_laws.proofs.Lists.{All-remove, map-remove}
 use Rattle.volume_laws.proofs.MergeRoomEvents.{rooms_detached}
+use Rattle.volume_laws.proofs.MergeSaved.{goes_detached}
 use Rattle.volume_laws.proofs.Waiting.{waits_none}
 use Rattle.merge.specs.Merging.{Merging, due_of as merging_due}
 use Rattle.merge_beside.specs.Rooms.{room_of}
 use Rattle.snapshot.specs.Kept.{Kept, books_of as snap_books}
 use Rattle.snapshot.specs.declared.opening.StoreDev.{StoreDev}
-use Rattle.volume.specs.Volumed.{Volumed, books_of, is_loud_in_all, piece_of, piece_with, plain_of, is_loud_with}
+use Rattle.volume.specs.Volumed.{Volumed, books_of, is_loud_in_all, plain_of, is_loud_with}
 use Rattle.snapshots.specs.Numbers.{number_of_snap, count_in}
 use Rattle.volume.specs.Whole.{AreNumbers, SharesNone, IsAttached, IsWhole, GoesOn, IsCounted, starts_left}
 use Rattle.volume.proofs.Changing.{books_within, books_is}
@@ -35,26 +31,6 @@ use Rattle.volume.specs.Leaving.{IsWithout}
 use Rattle.std.proofs.lemmas.List.Quantifiers.{position-Some}
 use Rattle.volume.proofs.Shown.{shown, one_loud}
 use Rattle.volume.proofs.Removed.{all_removed, sum_left}
-
--- the piece goes by the first that is left
-pub piece_left : {B : Type 0} (copies sectors chunk : ℕ) (xs : List (Kept B)) → All (IsAttached copies sectors chunk) xs → All (IsAttached copies sectors (piece_of xs)) xs
-piece_left copies sectors chunk [] all = All-nil (IsAttached copies sectors 1024)
-piece_left copies sectors chunk (x ∷ xs) all = subst (λ n. All (IsAttached copies sectors n) (x ∷ xs)) (sym (all 0 x (omega arith)).chunk_is) all
-
--- and beside a merge by that
-piece_left_with : {B : Type 0} (merge : Option (Merging B)) (copies sectors : ℕ) (all xs : List (Kept B)) → All (IsAttached copies sectors (piece_with merge all)) xs → All (IsAttached copies sectors (piece_with merge xs)) xs
-piece_left_with None copies sectors all xs h = piece_left copies sectors (piece_of all) xs h
-piece_left_with (Some m) copies sectors all xs h = h
-
--- the merge goes on among those that are left
-pub goes_removed : (snaps : List SnapBooks) (k : ℕ) (d : DueMerge) → MergeGoes snaps d → MergeGoes (remove snaps k) d
-goes_removed snaps k d h = record {
-  staged = h.staged;
-  ending = h.ending;
-  area = h.area;
-  next = All-weaker (IsSavedSoon d.books.chunk snaps) (IsSavedSoon d.books.chunk (remove snaps k)) (λ q all. All-remove (λ (s : SnapBooks). s.live ≡ true → IsSaving (d.books.chunk * q.old / s.chunk) s) snaps k all) (next_in d.books) h.next;
-  saved = All-weaker (IsSavedIn d.books.chunk d.books.sectors snaps) (IsSavedIn d.books.chunk d.books.sectors (remove snaps k)) (λ q all. All-remove (IsSavedOver (d.books.chunk * q.old) (count_of d.books.chunk d.books.sectors q.old)) snaps k all) (d.books.copied ++ d.books.released) h.saved;
-}
 
 module _ {B : Type 0} (contents : B → List ℕ) (layers : B → List Layer) (size : B → ℕ) (v : Volumed B) (k : ℕ) (s : Kept B) (within : k < length v.snaps) (is : s ≡ get_or v.snaps k s) (none : v.flights ≡ []) where
   abbrev pub left : Volumed B
@@ -77,11 +53,12 @@ module _ {B : Type 0} (contents : B → List ℕ) (layers : B → List Layer) (s
   goes_left None h = tt
   goes_left (Some m) h = record {
     origin = h.origin;
+    allowed = h.allowed;
     apart = All-remove (λ (x : Kept B). x.number ≢ m.number) v.snaps k h.apart;
     given = h.given;
     few = let fewer = length-remove v.snaps k within in omega (arith, fewer, h.few);
-    goes = λ loud. subst (λ (xs : List SnapBooks). MergeGoes xs (merging_due contents loud m)) (sym (map-remove (snap_books contents layers) v.snaps k)) (goes_removed (map (snap_books contents layers) v.snaps) k (merging_due contents loud m) (h.goes loud));
-    rooms = subst (KeepBack m.state.chunk m.pairs) (sym (map-remove (room_of contents layers) v.snaps k)) (rooms_detached m.state.chunk m.pairs (map (room_of contents layers) v.snaps) k h.rooms);
+    goes = λ loud. subst (λ (xs : List SnapBooks). MergeGoes xs (merging_due contents loud m)) (sym (map-remove (snap_books contents layers) v.snaps k)) (goes_detached (map (snap_books contents layers) v.snaps) k (merging_due contents loud m) (h.goes loud));
+    rooms = subst (KeepBack m.state.chunk m.state.origin m.pairs) (sym (map-remove (room_of contents layers) v.snaps k)) (rooms_detached m.state.chunk m.state.origin m.pairs (map (room_of contents layers) v.snaps) k h.rooms);
   }
 
   pub whole_left : IsWhole contents layers size v → IsWhole contents layers size left
@@ -93,7 +70,7 @@ module _ {B : Type 0} (contents : B → List ℕ) (layers : B → List Layer) (s
         merge = goes_left v.merge h.merge;
         holds = (detach_event k (snap_books contents layers s) (books_of contents layers size v) (books_of contents layers size left) h.holds detaches).0;
         waits = waits_none (books_of contents layers size left) none;
-        snaps = piece_left_with v.merge v.copies (size v.origin) v.snaps (remove v.snaps k) (All-remove (IsAttached v.copies (size v.origin) (piece_with v.merge v.snaps)) v.snaps k h.snaps);
+        snaps = All-remove (IsAttached v.copies (size v.origin)) v.snaps k h.snaps;
         counted = All-remove IsCounted v.snaps k h.counted;
         apart = all_pairs_remove SharesNone v.snaps k within h.apart;
         numbers = subst (AreNumbers v.attached) (sym (map-remove number_of_snap v.snaps k)) (record {

@@ -81,9 +81,13 @@ pub mod Resumed
 pub mod Removed
 pub mod Begun
 pub mod NextSaved
+pub mod OneNext
+pub mod Filled
 pub mod NextFit
 pub mod MergeSaves
 pub mod MergeGroups
+pub mod NextPublished
+pub mod PublishMoved
 pub mod MovedGroups
 pub mod Beginnings
 pub mod Finished
@@ -94,6 +98,7 @@ pub mod StopMoves
 pub mod StopGiven
 pub mod StopIssues
 pub mod StopShown
+pub mod Beneath
 pub mod StopUntried
 pub mod StopSteps
 pub mod StopOwn

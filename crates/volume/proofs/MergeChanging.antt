@@ -1,9 +1,10 @@
 -- The merge of a volume changes, and with it maybe the origin disk and where requests go: the volume stays whole, and the
 -- event does what a step promises.
-use Rattle.std.proofs.Common.{◌≡◌, ℕ, ◌<◌, ◌≤◌, Bool, true, List, [], ◌∷◌, ◌++◌, Option, Some, length, map, refl, sym, ◌∙◌, ap, subst, arith}
+use Rattle.std.proofs.Common.{◌≡◌, ℕ, ◌+◌, ◌<◌, ◌≤◌, Bool, true, List, [], ◌∷◌, ◌++◌, Option, Some, length, map, refl, sym, ◌∙◌, ap, subst, arith}
 use Rattle.std.specs.Prelude.{◌&&◌}
 use Rattle.std.specs.List.{All, list_all}
 use Rattle.std.proofs.lemmas.List.{length-map}
+use Rattle.chunk.specs.Sizes.{is_chunk}
 use Rattle.device.specs.Layers.{Layer, is_loud}
 use Rattle.plain.specs.declared.event.Event.{Event}
 use Rattle.plain.specs.declared.event.Outcome.{Outcome}
@@ -11,7 +12,8 @@ use Rattle.pending.specs.Due.{number_of_flight}
 use Rattle.pending.specs.Kinds.{in_flight}
 use Rattle.pending.specs.declared.flights.Flight.{Flight}
 use Rattle.volume_laws.specs.Books.{SnapBooks}
-use Rattle.volume_laws.specs.MergeDue.{left_in_merge}
+use Rattle.volume_laws.specs.Due.{books_of as due_in}
+use Rattle.volume_laws.specs.MergeDue.{left_beside, left_in_merge}
 use Rattle.volume_laws.specs.MergeRooms.{KeepBack}
 use Rattle.volume_laws.specs.MergeSteps.{ChangesMerge}
 use Rattle.volume_laws.specs.MergeWaits.{MergeGoes}
@@ -21,11 +23,12 @@ use Rattle.volume_laws.proofs.MergeSteps.{IsMergeStep}
 use Rattle.snapshot.specs.Kept.{Kept, books_of as snap_books}
 use Rattle.merge.specs.Merging.{Merging, books_of as merging_books, due_of as merging_due}
 use Rattle.merge_beside.specs.Rooms.{merge_books, room_of}
-use Rattle.volume.specs.Volumed.{Volumed, books_of, plain_of, piece_with, is_loud_with, is_loud_in_all, left_in_all, left_by, merge_due}
+use Rattle.volume.specs.Volumed.{Volumed, books_of, plain_of, is_loud_with, is_loud_in_all, dues_of, left_in_all, left_by, merge_due}
 use Rattle.volume.specs.Whole.{AreNumbers, IsAttached, IsMerged, GoesOn, IsWhole}
 use Rattle.volume.specs.Causes.{HasCause, IsOneAtMost, counts_of}
 use Rattle.volume.specs.Stepping.{KeepsAll, merged_of, has_failed, failed_by}
 use Rattle.volume.proofs.Good.{IsGood, Spoiling, Staying, same_numbers, legal_by}
+use Rattle.volume.proofs.Shown.{due_books}
 
 -- whether writes are done changes nothing of what a merge needs to go on
 pub goes_any : {B : Type 0} (contents : B → List ℕ) (snaps : List SnapBooks) (m : Merging B) (a b : Bool) → MergeGoes snaps (merging_due contents a m) → MergeGoes snaps (merging_due contents b m)
@@ -90,13 +93,13 @@ module _ {B : Type 0} (contents : B → List ℕ) (layers : B → List Layer) (s
     -- the volume is whole again
     pub whole_merged : (flights : List Flight) → IsWhole contents layers size v → map number_of_flight flights ≡ map number_of_flight v.flights
         → Holds (books_of contents layers size (merged_to v o' m' flights)) → Waits (books_of contents layers size (merged_to v o' m' flights))
-        → ((loud : Bool) → MergeGoes (map (snap_books contents layers) v.snaps) (merging_due contents loud m')) → KeepBack m'.state.chunk m'.pairs (map (room_of contents layers) v.snaps)
+        → ((loud : Bool) → MergeGoes (map (snap_books contents layers) v.snaps) (merging_due contents loud m')) → KeepBack m'.state.chunk m'.state.origin m'.pairs (map (room_of contents layers) v.snaps)
         → IsWhole contents layers size (merged_to v o' m' flights)
     whole_merged flights h numbers holds waits goes rooms =
         let one = merged_in h in
-        let piece : piece_with v.merge v.snaps ≡ m'.state.chunk = ap (λ (x : Option (Merging B)). piece_with x v.snaps) was ∙ sym stays.chunk_is in
         let merge : IsMerged contents layers size m' (merged_to v o' m' flights) = record {
           origin = stays.origin ∙ one.origin ∙ sym disk.sectors;
+          allowed = ap is_chunk stays.chunk_is ∙ one.allowed;
           apart = subst (λ n. All (λ s. s.number ≡ n → ⊥) v.snaps) (sym stays.number) one.apart;
           given = subst (λ n. n ≤ v.attached) (sym stays.number) one.given;
           few = one.few;
@@ -107,7 +110,7 @@ module _ {B : Type 0} (contents : B → List ℕ) (layers : B → List Layer) (s
           holds = holds;
           waits = waits;
           merge = merge;
-          snaps = subst (λ n. All (IsAttached v.copies n m'.state.chunk) v.snaps) (sym disk.sectors) (subst (λ n. All (IsAttached v.copies (size v.origin) n) v.snaps) piece h.snaps);
+          snaps = subst (λ n. All (IsAttached v.copies n) v.snaps) (sym disk.sectors) h.snaps;
           counted = h.counted;
           apart = h.apart;
           numbers = h.numbers;
@@ -119,12 +122,18 @@ module _ {B : Type 0} (contents : B → List ℕ) (layers : B → List Layer) (s
         }
 
     pub lower_merged : (flights : List Flight) → length flights ≡ length v.flights → left_in_merge (merging_due contents loudness m') < left_in_merge (merging_due contents loudness m)
+        → left_beside (map (snap_books contents layers) v.snaps) (merging_due contents loudness m') ≤ left_beside (map (snap_books contents layers) v.snaps) (merging_due contents loudness m)
         → left_in_all contents layers (merged_to v o' m' flights) < left_in_all contents layers v
-    lower_merged flights same less =
-        let at : left_by (merge_due contents v.merge) ≡ left_in_merge (merging_due contents true m) = ap (λ (x : Option (Merging B)). left_by (merge_due contents x)) was in
+    lower_merged flights same less beside =
+        let at : left_by (dues_of contents layers v) (merge_due contents v.merge) ≡ left_in_merge (merging_due contents true m) + left_beside (map due_in (dues_of contents layers v)) (merging_due contents true m) =
+        ap (λ (x : Option (Merging B)). left_by (dues_of contents layers v) (merge_due contents x)) was in
         let before : left_in_merge (merging_due contents true m) ≡ left_in_merge (merging_due contents loudness m) = refl in
         let after : left_in_merge (merging_due contents true m') ≡ left_in_merge (merging_due contents loudness m') = refl in
-        omega (arith, same, less, at, before, after)
+        let old : left_beside (map due_in (dues_of contents layers v)) (merging_due contents true m) ≡ left_beside (map (snap_books contents layers) v.snaps) (merging_due contents loudness m) =
+        ap (λ xs. left_beside xs (merging_due contents true m)) (due_books contents layers v.snaps) in
+        let new : left_beside (map due_in (dues_of contents layers v)) (merging_due contents true m') ≡ left_beside (map (snap_books contents layers) v.snaps) (merging_due contents loudness m') =
+        ap (λ xs. left_beside xs (merging_due contents true m')) (due_books contents layers v.snaps) in
+        omega (arith, same, less, beside, at, before, after, old, new)
 
     pub loud_merged : (flights : List Flight) → is_loud_in_all layers (merged_to v o' m' flights) ≡ is_loud_in_all layers v
     loud_merged flights =
@@ -147,7 +156,7 @@ module _ {B : Type 0} (contents : B → List ℕ) (layers : B → List Layer) (s
     module _ (faults done : B → ℕ) (h : IsWhole contents layers size v) (event : Event) (outcome : Outcome) (told : Spoiling event outcome) (still : Staying event outcome) where
       pub merged_good : (flights : List Flight) → map in_flight flights ≡ map in_flight v.flights
           → IsMergeStep (books_of contents layers size v) (books_of contents layers size (merged_to v o' m' flights)) (merging_due contents loudness m) (merging_due contents loudness m')
-          → KeepBack m'.state.chunk m'.pairs (map (room_of contents layers) v.snaps)
+          → KeepBack m'.state.chunk m'.state.origin m'.pairs (map (room_of contents layers) v.snaps)
           → m'.failed ≡ failed_by event outcome m.failed
           → HasCause faults event outcome v (merged_to v o' m' flights) → IsOneAtMost done v (merged_to v o' m' flights)
           → IsGood contents layers size faults done event outcome v (merged_to v o' m' flights)
@@ -159,7 +168,7 @@ module _ {B : Type 0} (contents : B → List ℕ) (layers : B → List Layer) (s
             whole = whole_merged flights h numbers step.change.silent.holds step.change.waits (λ loud. goes_any contents (map (snap_books contents layers) v.snaps) m' loudness loud step.goes) rooms;
             stepped = record {
               legal = λ l. told (plain_of contents layers v) (plain_of contents layers w) (legal_by contents layers size v w [] step.change.silent.step l);
-              lower = lower_merged flights count step.less;
+              lower = lower_merged flights count step.less step.beside;
               loud = loud_merged flights;
               cause = cause;
               failed = failed ∙ ap (failed_by event outcome) (sym (ap has_failed was));

@@ -1,5 +1,5 @@
 -- What is due of a volume with a merge: of its snapshots and requests first, and then of the merge.
-use Rattle.std.proofs.Common.{◌≡◌, ◌⊎◌, inl, inr, ℕ, ◌*◌, ◌^◌, ◌<◌, ◌≤◌, Bool, true, List, [], ◌∷◌, ◌++◌, Option, Some, None, map, refl, sym, ap, ◌∙◌, subst, arith}
+use Rattle.std.proofs.Common.{◌≡◌, ◌⊎◌, inl, inr, ℕ, ◌*◌, ◌/◌, ◌^◌, ◌<◌, ◌≤◌, Bool, true, List, [], ◌∷◌, ◌++◌, Option, Some, None, length, map, refl, sym, ap, ◌∙◌, subst, arith}
 use Rattle.std.specs.Prelude.{◌&&◌, not}
 use Rattle.std.specs.List.{All}
 use Rattle.std.proofs.lemmas.List.Elements.{All-head}
@@ -33,6 +33,7 @@ use Rattle.volume.specs.Whole.{IsWhole, IsMerged, GoesOn}
 use Rattle.volume.specs.Asking.{IsMergeStill}
 use Rattle.volume.specs.Moved.{held_of, moving_of, seen_of, merge_seen}
 use Rattle.volume.proofs.Alone.{alone_books}
+use Rattle.volume.proofs.MovedCopies.{sectors_is}
 use Rattle.volume.proofs.MovedDue.{due_is}
 use Rattle.volume.proofs.Quieted.{no_group}
 use Rattle.volume.proofs.Shown.{due_books}
@@ -69,24 +70,25 @@ module _ {B : Type 0} (contents : B → List ℕ) (layers : B → List Layer) wh
   books_seen [] = refl
   books_seen (s ∷ ss) = ap (λ xs. snap_books contents layers s ∷ xs) (books_seen ss)
 
-  merging_tied : (snaps : List (Kept B)) (rs : List Flight) (m : Merging B) → MergeGoes (map (snap_books contents layers) snaps) (merging_due contents true m)
-      → due_in_machine (map (held_of contents layers) snaps) (map going_of rs) (held_in (merge_seen contents layers (Some m))) ≡ due_of_merge (map books_due (map (due_of_kept contents layers) snaps)) rs (merging_due contents true m)
-  merging_tied snaps rs m goes =
+  merging_tied : (sectors : ℕ) (snaps : List (Kept B)) (rs : List Flight) (m : Merging B) → sectors ≡ m.state.origin → MergeGoes (map (snap_books contents layers) snaps) (merging_due contents true m)
+      → due_in_machine sectors (map (held_of contents layers) snaps) (map going_of rs) (held_in (merge_seen contents layers (Some m))) ≡ due_of_merge (map books_due (map (due_of_kept contents layers) snaps)) rs (merging_due contents true m)
+  merging_tied sectors snaps rs m same goes =
       let s : MergeSeen = record { due = merging_due contents true m; layers = layers m.device; next = m.next } in
-      ap (λ hs. due_in_machine hs (map going_of rs) (held_in (Some s))) (sym (helds snaps))
+      ap (λ n. due_in_machine n (map (held_of contents layers) snaps) (map going_of rs) (held_in (Some s))) same
+      ∙ ap (λ hs. due_in_machine m.state.origin hs (map going_of rs) (held_in (Some s))) (sym (helds snaps))
       ∙ merge_due_tied s (map (seen_of contents layers) snaps) rs goes.area
       ∙ ap (λ bs. due_of_merge bs rs (merging_due contents true m)) (books_seen snaps)
 
   module _ (size : B → ℕ) (v : Volumed B) (h : IsWhole contents layers size v) where
     -- the event that is due first is the machine's
     tied_by : (merge : Option (Merging B)) → GoesOn contents layers size merge v →
-        due_or (due_of (dues_of contents layers v) v.flights) (due_in_machine (map (held_of contents layers) v.snaps) (map going_of v.flights) (held_in (merge_seen contents layers merge))) ≡ due_by (dues_of contents layers v) v.flights (merge_due contents merge)
+        due_or (due_of (dues_of contents layers v) v.flights) (due_in_machine (length (contents v.origin) / 512) (map (held_of contents layers) v.snaps) (map going_of v.flights) (held_in (merge_seen contents layers merge))) ≡ due_by (dues_of contents layers v) v.flights (merge_due contents merge)
     tied_by None goes = or_none (due_of (dues_of contents layers v) v.flights)
-    tied_by (Some m) goes = ap (due_or (due_of (dues_of contents layers v) v.flights)) (merging_tied v.snaps v.flights m (goes.goes true))
+    tied_by (Some m) goes = ap (due_or (due_of (dues_of contents layers v) v.flights)) (merging_tied (length (contents v.origin) / 512) v.snaps v.flights m (sectors_is (contents v.origin) m.state.origin (h.holds.whole ∙ ap (λ n. 512 * n) (sym goes.origin))) (goes.goes true))
 
     pub due_all_is : (replied : Option Reply) → due_all (moving_of contents layers replied v) ≡ next_of contents layers v
     due_all_is replied =
-        ap (λ o. due_or o (due_in_machine (map (held_of contents layers) v.snaps) (map going_of v.flights) (held_in (merge_seen contents layers v.merge)))) (due_is contents layers replied v h.counted)
+        ap (λ o. due_or o (due_in_machine (length (contents v.origin) / 512) (map (held_of contents layers) v.snaps) (map going_of v.flights) (held_in (merge_seen contents layers v.merge)))) (due_is contents layers replied v h.counted)
         ∙ tied_by v.merge h.merge
 
     pub merged : (m : Merging B) → v.merge ≡ Some m → IsMerged contents layers size m v
@@ -106,6 +108,10 @@ module _ {B : Type 0} (contents : B → List ℕ) (layers : B → List Layer) wh
         let pairs : All P m.pairs = All-front P m.pairs b.released holds.text.inside in
         let last : All P (b.reading ++ b.copied) = All-back P b.waiting (b.reading ++ b.copied) (All-back P ending.0 (b.waiting ++ (b.reading ++ b.copied)) (subst (All P) ending.1 pairs)) in
         All-head P q [] (subst (All P) (full_is m.group ∙ ap option_pairs full) (All-front P b.reading b.copied last))
+
+    -- its chunk begins inside the origin
+    pub full_starts : (m : Merging B) (q : Pair) → v.merge ≡ Some m → full_of m.group ≡ Some q → m.state.chunk * q.old < m.state.origin
+    full_starts m q is full = (full_inside m q is full).old
 
     -- its first sector is counted in 64 bits
     pub full_begins : size v.origin ≤ 16_777_216 → (m : Merging B) (q : Pair) → v.merge ≡ Some m → full_of m.group ≡ Some q → m.state.chunk * q.old < 2 ^ 64

@@ -94,7 +94,7 @@ module _ {B : Type 0} (contents : B → List ℕ) (layers : B → List Layer) (s
   goes_true : MergeGoes (map (snap_books contents layers) v.snaps) (merging_due contents true m)
   goes_true = (merged_in contents layers size v m was h).goes true
 
-  rooms : KeepBack m.state.chunk m.pairs (map (room_of contents layers) v.snaps)
+  rooms : KeepBack m.state.chunk m.state.origin m.pairs (map (room_of contents layers) v.snaps)
   rooms = (merged_in contents layers size v m was h).rooms
 
   -- a merge of which an event is due runs, and has pairs left, but for the release
@@ -121,7 +121,7 @@ module _ {B : Type 0} (contents : B → List ℕ) (layers : B → List Layer) (s
     changes : ChangesMerge (merging_books contents sound m) (merging_books contents sound m') before_in after_in
     changes = merge_changes contents layers size v m was v.origin m' stays (disk_stays layers size v.origin)
 
-    good : (event : Event) → Spoiling event Done → Staying event Done → IsMergeStep before_in after_in before after → KeepBack m'.state.chunk m'.pairs (map (room_of contents layers) v.snaps) → m'.failed ≡ failed_by event Done m.failed
+    good : (event : Event) → Spoiling event Done → Staying event Done → IsMergeStep before_in after_in before after → KeepBack m'.state.chunk m'.state.origin m'.pairs (map (room_of contents layers) v.snaps) → m'.failed ≡ failed_by event Done m.failed
         → HasCause faults event Done v here → done m'.device ≡ next_count (done m.device) → IsGood contents layers size faults done event Done v here
     good event told still step kept failed cause counts =
         merged_good contents layers size v m was v.origin m' stays (disk_stays layers size v.origin) faults done h event Done told still v.flights refl step kept failed cause
@@ -158,7 +158,7 @@ module _ {B : Type 0} (contents : B → List ℕ) (layers : B → List Layer) (s
         good MergeCommit (λ p q x. x) (λ xs ys e. e)
         (commit_step before_in after_in before after h.holds h.waits goes changes m'.pairs m.state.current (contents m'.device) s.0 refl s.1.only s.1.stored)
         (rooms_committed (contents v.origin) v.flights (map (room_of contents layers) v.snaps) m'.pairs (contents m'.device) before after s.0
-        (subst (All (SnapHolds (contents v.origin) v.flights)) (sym seen) h.holds.snaps) holds_merge (subst (λ (xs : List SnapBooks). MergeGoes xs before) (sym seen) goes) rooms)
+        (subst (All (SnapHolds (contents v.origin) v.flights)) (sym seen) h.holds.snaps) (subst (λ (xs : List SnapBooks). MergeGoes xs before) (sym seen) goes) rooms)
         (s.0.failed ∙ sym s.0.running) (faultless same) counts
 
   -- MergeFlush

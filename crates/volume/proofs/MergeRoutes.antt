@@ -20,8 +20,8 @@ use Rattle.event_machine.specs.MergeSeen.{held_in}
 use Rattle.merge.specs.Merging.{Merging, books_of as merging_books}
 use Rattle.merge_beside.specs.Rooms.{merge_books}
 use Rattle.merge_beside.specs.Routing.{is_grouped_at, place_at, is_merged_at}
-use Rattle.snapshot.specs.Kept.{Kept, books_of as snap_books}
-use Rattle.volume.specs.Volumed.{Volumed, piece_with}
+use Rattle.snapshot.specs.Kept.{books_of as snap_books}
+use Rattle.volume.specs.Volumed.{Volumed}
 use Rattle.volume.specs.Moved.{merge_seen}
 use Rattle.volume.specs.Whole.{GoesOn}
 
@@ -65,11 +65,11 @@ module _ {B : Type 0} (contents : B → List ℕ) (layers : B → List Layer) wh
   place_held_is (Some m) first = refl
 
   -- a request lies inside one chunk of the merge
-  pub piece_beside_is : (loud : Bool) (merge : Option (Merging B)) (snaps : List (Kept B)) (range : Range) → IsPiece (piece_with merge snaps) range → (m : MergeBooks) → merge_books contents layers loud merge ≡ Some m → IsPiece m.chunk range
-  piece_beside_is loud None snaps range piece m is = absurd (cc)
-  piece_beside_is loud (Some x) snaps range piece m is =
+  pub piece_beside_is : (loud : Bool) (merge : Option (Merging B)) (range : Range) → ((x : Merging B) → merge ≡ Some x → IsPiece x.state.chunk range) → (m : MergeBooks) → merge_books contents layers loud merge ≡ Some m → IsPiece m.chunk range
+  piece_beside_is loud None range piece m is = absurd (cc)
+  piece_beside_is loud (Some x) range piece m is =
       let same : merging_books contents (loud && is_loud (layers x.device)) x ≡ m = cc in
-      subst (λ (b : MergeBooks). IsPiece b.chunk range) same piece
+      subst (λ (b : MergeBooks). IsPiece b.chunk range) same (piece x refl)
 
   -- the merged snapshot's number is none of the others'
   pub numbered_apart : (size : B → ℕ) (loud : Bool) (merge : Option (Merging B)) (v : Volumed B) → GoesOn contents layers size merge v → IsNumberedApart (merge_books contents layers loud merge) (map (snap_books contents layers) v.snaps)

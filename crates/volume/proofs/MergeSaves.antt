@@ -1,6 +1,6 @@
--- A merge changes, and starts the copies of the chunk that it copies next: the volume is whole again, and the event does what a
--- step promises.
-use Rattle.std.proofs.Common.{◌≡◌, ◌≢◌, inl, inr, ℕ, ◌+◌, ◌*◌, ◌<◌, ◌≤◌, Bool, true, List, [], ◌∷◌, ◌++◌, Option, None, Some, length, get_or, map, refl, sym, ◌∙◌, ap, subst, arith}
+-- A merge changes, and starts the copies that it waits for next: the volume is whole again, and the event does what a step
+-- promises.
+use Rattle.std.proofs.Common.{◌≡◌, ◌≢◌, inl, inr, ℕ, ◌+◌, ◌*◌, ◌<◌, ◌≤◌, Bool, true, false, List, [], ◌∷◌, ◌++◌, Option, None, Some, length, get_or, map, refl, sym, ◌∙◌, ap, subst, arith, if◌then◌else◌}
 use Rattle.std.specs.Prelude.{◌&&◌, sum_by}
 use Rattle.std.specs.List.{All, list_all}
 use Rattle.std.proofs.lemmas.List.{length-map, get_or-map}
@@ -9,16 +9,19 @@ use Rattle.sector.specs.declared.pair.Pair.{Pair}
 use Rattle.device.specs.Layers.{Layer, is_loud}
 use Rattle.plain.specs.declared.event.Event.{Event}
 use Rattle.plain.specs.declared.event.Outcome.TheVariants.{Done}
+use Rattle.pending.specs.Copies.{count_of}
 use Rattle.pending.specs.Due.{number_of_flight}
 use Rattle.pending.specs.Kinds.{in_flight}
 use Rattle.pending.specs.declared.flights.Flight.{Flight}
-use Rattle.volume_laws.specs.Due.{left_in}
-use Rattle.volume_laws.specs.MergeDue.{last_of, per_copy, per_pair, left_in_merge}
-use Rattle.volume_laws.specs.MergeRooms.{KeepBack}
+use Rattle.volume_laws.specs.Books.{MergeBooks, SnapBooks}
+use Rattle.volume_laws.specs.Due.{left_in, books_of as due_in}
+use Rattle.volume_laws.specs.MergeDue.{last_of, lacking_in, lacking_of, left_beside, left_in_merge, per_copy}
+use Rattle.volume_laws.specs.MergeRooms.{KeepBack, room_books}
+use Rattle.volume_laws.specs.Published.{next_over}
 use Rattle.volume_laws.specs.MergeWaits.{IsSavedSoon, next_pairs}
 use Rattle.volume_laws.specs.Waits.{Waits}
 use Rattle.volume_laws.specs.Whole.{Holds}
-use Rattle.volume_laws.proofs.MergeLeft.{with_left}
+use Rattle.volume_laws.proofs.MergeBeside.{spoil_weighs, start_weighs, weigh, weigh_sum}
 use Rattle.volume_laws.proofs.MergeRoomStarts.{HaveRoom}
 use Rattle.volume_laws.proofs.MergeSaved.{keeps_all_same}
 use Rattle.volume_laws.proofs.MergeStarts.{AreStarting, starting_none, starting_done}
@@ -26,51 +29,76 @@ use Rattle.volume_laws.proofs.MergeSteps.{IsMergeStart, StartsCopies, starts_by}
 use Rattle.volume_laws.proofs.Preparing.{prepared_none}
 use Rattle.snapshot.specs.Kept.{Kept, books_of as snap_books, due_of_kept}
 use Rattle.snapshots.specs.Numbers.{number_of_snap}
-use Rattle.snapshots.specs.Starting.{overflowing}
+use Rattle.snapshots.specs.Starting.{spoilt_of}
 use Rattle.merge.specs.Lists.{waiting_of}
-use Rattle.merge.specs.Merging.{Merging, due_of as merging_due}
+use Rattle.merge.specs.Merging.{Merging, books_of as merging_books, due_of as merging_due}
 use Rattle.merge.specs.declared.group.Group.{Group}
 use Rattle.merge_beside.specs.Rooms.{room_of}
-use Rattle.merge_beside.specs.Starting.{IsNextSaved, AreNextSavedIn}
-use Rattle.volume.specs.Volumed.{Volumed, books_of, plain_of, piece_with, is_loud_with, is_loud_in_all, left_in_all, left_by, dues_of, merge_due}
-use Rattle.volume.specs.Whole.{AreNumbers, IsAttached, IsMerged, IsWhole}
+use Rattle.merge_beside.specs.Starting.{IsNextSaved, AreNextSavedIn, next_for}
+use Rattle.volume.specs.Volumed.{Volumed, books_of, plain_of, is_loud_with, is_loud_in_all, left_in_all, left_by, dues_of, merge_due}
+use Rattle.volume.specs.Whole.{AreNumbers, IsMerged, IsWhole}
 use Rattle.volume.specs.Causes.{HasCause, IsOneAtMost, SavesNext, counts_of, lives_saved}
 use Rattle.volume.specs.Stepping.{merged_of, has_failed, failed_by, starts_by as copies_by}
 use Rattle.volume.proofs.Changing.{SnapsFit, snaps_fit}
 use Rattle.volume.proofs.Good.{IsGood, Spoiling, Staying, same_numbers, legal_by}
 use Rattle.volume.proofs.MergeChanging.{DiskStays, merged_to, loudness, merged_in, goes_any}
 use Rattle.volume.proofs.NextFit.{AreNext, next_all}
-use Rattle.volume.proofs.NextSaved.{next_lives, next_same, next_few, next_given, next_left}
+use Rattle.volume.proofs.NextSaved.{IsWeighed, losing, lacking_books, lacking_live, next_few, next_given, next_left, next_lives, next_same}
+use Rattle.volume.proofs.Shown.{due_books}
 
 -- the merge with another group
 abbrev pub regrouped : {B : Type 0} → Merging B → Option Group → Merging B
 regrouped m g = record m { group = g }
 
--- what starting the copies of the next pair's chunk makes of the snapshots, of the numbers and of the requests
+-- what starting the copies that the next pair waits for makes of the snapshots, of the numbers and of the requests
 pub record IsNextDone {B : Type 0} (contents : B → List ℕ) (layers : B → List Layer) (size : B → ℕ) (m : Merging B) (o : Option Pair) (u w : Volumed B) : Type 0 where
   pub which : List ℕ
   pub starts : StartsCopies which (books_of contents layers size u) (books_of contents layers size w)
-  pub soon : All (IsSavedSoon m.state.chunk (map (snap_books contents layers) w.snaps)) (next_pairs [] o)
-  pub fit : SnapsFit w.copies w.attached (size w.origin) w.merge w.snaps
-  pub rooms : KeepBack m.state.chunk m.pairs (map (room_of contents layers) w.snaps)
+  pub soon : All (IsSavedSoon m.state.chunk m.state.origin (map (snap_books contents layers) w.snaps)) (next_pairs [] o)
+  pub fit : SnapsFit w.copies w.attached (size w.origin) w.snaps
+  pub rooms : KeepBack m.state.chunk m.state.origin m.pairs (map (room_of contents layers) w.snaps)
   pub flights : map in_flight w.flights ≡ map in_flight u.flights
   pub numbers : map number_of_snap w.snaps ≡ map number_of_snap u.snaps
   pub overflows : map (λ (s : Kept B). s.overflow) w.snaps ≡ map (λ (s : Kept B). s.overflow) u.snaps
   pub chunks : map (λ (s : Kept B). s.state.chunk) w.snaps ≡ map (λ (s : Kept B). s.state.chunk) u.snaps
   pub counts : (count : B → ℕ) → map (λ (s : Kept B). count s.device) w.snaps ≡ map (λ (s : Kept B). count s.device) u.snaps
   pub loud : map (λ (s : Kept B). is_loud (layers s.device)) w.snaps ≡ map (λ (s : Kept B). is_loud (layers s.device)) u.snaps
-  pub lives : map (λ (s : Kept B). s.live) w.snaps ≡ lives_saved m.state.chunk o u.snaps
-  pub left : sum_by left_in (dues_of contents layers w) ≤ sum_by left_in (dues_of contents layers u) + per_copy * length u.snaps
+  pub lives : map (λ (s : Kept B). s.live) w.snaps ≡ lives_saved m.state.chunk m.state.origin o u.snaps
+  pub left : sum_by left_in (dues_of contents layers w) + left_beside (map (snap_books contents layers) w.snaps) (merging_due contents true m) ≤ sum_by left_in (dues_of contents layers u) + left_beside (map (snap_books contents layers) u.snaps) (merging_due contents true m)
   pub few : w.copies ≤ u.copies + length u.snaps
   pub given : u.copies ≤ w.copies
 
+-- Where pair q comes next, the copy that is started in a snapshot, and the loss of one, leave no more than before.
+all_weighed : {B : Type 0} (contents : B → List ℕ) (layers : B → List Layer) (m : Merging B) (q : Pair) (snaps : List (Kept B)) → All (λ (s : Kept B). 0 < s.state.chunk) snaps → HaveRoom m.state.chunk m.state.origin m.pairs q (map (room_of contents layers) snaps)
+    → All (IsWeighed contents layers (next_for m.state.chunk m.state.origin q) m.state.chunk m.state.origin m.pairs) snaps
+all_weighed {B = B} contents layers m q snaps some room k d lt =
+    let s : Kept B = get_or snaps k d in
+    let books : List SnapBooks = map room_books (map (room_of contents layers) snaps) in
+    let c : ℕ = next_for m.state.chunk m.state.origin q s in
+    record {
+      start = λ lacks p t e old zeroed. start_weighs m.state.chunk m.state.origin m.pairs books q room.next (due_of_kept contents layers s) (due_of_kept contents layers t) (lacking_live c s lacks) (some k d lt) (lacking_books contents layers c s lacks) p e old zeroed;
+      spoil = λ lacks e. spoil_weighs m.state.chunk m.state.origin m.pairs books q room.next (due_of_kept contents layers s) (due_of_kept contents layers (spoilt_of s)) (lacking_live c s lacks) (some k d lt) (lacking_books contents layers c s lacks) e;
+    }
+
+-- what is left beside a merge that runs
+beside_is : {B : Type 0} (contents : B → List ℕ) (layers : B → List Layer) (m : Merging B) (snaps : List (Kept B)) → m.failed ≡ false
+    → sum_by (weigh m.state.chunk m.state.origin m.pairs) (map (due_of_kept contents layers) snaps) ≡ sum_by left_in (map (due_of_kept contents layers) snaps) + left_beside (map (snap_books contents layers) snaps) (merging_due contents true m)
+beside_is {B = B} contents layers m snaps running =
+    let g : MergeBooks = merging_books contents true m in
+    let all = weigh_sum m.state.chunk m.state.origin m.pairs (map (due_of_kept contents layers) snaps) in
+    let seen : sum_by (lacking_of m.state.chunk m.state.origin m.pairs) (map due_in (map (due_of_kept contents layers) snaps)) ≡ sum_by (lacking_in (merging_books contents true m)) (map (snap_books contents layers) snaps) =
+    ap (sum_by (lacking_of m.state.chunk m.state.origin m.pairs)) (due_books contents layers snaps) in
+    let beside : left_beside (map (snap_books contents layers) snaps) (merging_due contents true m) ≡ per_copy * sum_by (lacking_in (merging_books contents true m)) (map (snap_books contents layers) snaps) =
+    ap (λ (b : Bool). if b then 0 else per_copy * sum_by (lacking_in (merging_books contents true m)) (map (snap_books contents layers) snaps)) running in
+    omega (arith, all, seen, beside)
+
 module _ {B : Type 0} (contents : B → List ℕ) (layers : B → List Layer) (size : B → ℕ) (m : Merging B) (u : Volumed B) (holds : Holds (books_of contents layers size u)) (waits : Waits (books_of contents layers size u))
-    (fit : SnapsFit u.copies u.attached (size u.origin) u.merge u.snaps) (kept : KeepBack m.state.chunk m.pairs (map (room_of contents layers) u.snaps)) where
+    (fit : SnapsFit u.copies u.attached (size u.origin) u.snaps) (kept : KeepBack m.state.chunk m.state.origin m.pairs (map (room_of contents layers) u.snaps)) where
   next_none : IsNextDone contents layers size m None u u
   next_none = record {
     which = [];
     starts = starts_by [] (books_of contents layers size u) (books_of contents layers size u) (prepared_none (books_of contents layers size u) holds waits) (keeps_all_same (map (snap_books contents layers) u.snaps));
-    soon = All-nil (IsSavedSoon m.state.chunk (map (snap_books contents layers) u.snaps));
+    soon = All-nil (IsSavedSoon m.state.chunk m.state.origin (map (snap_books contents layers) u.snaps));
     fit = fit;
     rooms = kept;
     flights = refl;
@@ -85,52 +113,58 @@ module _ {B : Type 0} (contents : B → List ℕ) (layers : B → List Layer) (s
     given = omega arith;
   }
 
-  next_some : (q : Pair) → HaveRoom m.state.chunk m.pairs q (map (room_of contents layers) u.snaps) → (ts : List (Kept B)) (n : ℕ) (gs : List Flight) → AreNextSavedIn contents layers (m.state.chunk * q.old) u.snaps ts u.copies n u.flights gs
+  next_some : (q : Pair) → m.failed ≡ false → HaveRoom m.state.chunk m.state.origin m.pairs q (map (room_of contents layers) u.snaps) → (ts : List (Kept B)) (n : ℕ) (gs : List Flight) → AreNextSavedIn contents layers (next_for m.state.chunk m.state.origin q) u.snaps ts u.copies n u.flights gs
       → IsNextDone contents layers size m (Some q) u (record u { snaps = ts; copies = n; flights = gs })
-  next_some q room ts n gs saved =
-      let first : ℕ = m.state.chunk * q.old in
+  next_some q running room ts n gs saved =
+      let at : Kept B → ℕ = next_for m.state.chunk m.state.origin q in
+      let want : SnapBooks → ℕ = next_over (m.state.chunk * q.old) (count_of m.state.chunk m.state.origin q.old) in
       let w : Volumed B = record u { snaps = ts; copies = n; flights = gs } in
-      let begin : AreNext contents layers size m.state.chunk m.pairs q u 0 [] u = record { fit = fit; starting = starting_none (m.state.chunk * q.old) (books_of contents layers size u) holds waits; room = room } in
-      let all = next_all contents layers size m.state.chunk m.pairs q u u.snaps ts [] u [] n gs refl saved begin in
-      let len : length ts ≡ length u.snaps = sym (length-map ts number_of_snap) ∙ ap length (next_same contents layers (m.state.chunk * q.old) number_of_snap (λ s a b c d e f. refl) (λ s. refl) u.snaps ts u.copies n u.flights gs saved) ∙ length-map u.snaps number_of_snap in
+      let begin : AreNext contents layers size m.state.chunk m.state.origin m.pairs q u 0 [] u = record { fit = fit; starting = starting_none want (books_of contents layers size u) holds waits; room = room } in
+      let all = next_all contents layers size m.state.chunk m.state.origin m.pairs q u u.snaps ts [] u [] n gs refl saved begin in
+      let len : length ts ≡ length u.snaps = sym (length-map ts number_of_snap) ∙ ap length (next_same contents layers at number_of_snap (λ s a b c d e f. refl) (λ s. refl) u.snaps ts u.copies n u.flights gs saved) ∙ length-map u.snaps number_of_snap in
       let long : 0 + length u.snaps ≡ length (map (snap_books contents layers) ts) = omega (arith, len, length-map ts (snap_books contents layers)) in
-      let done = starting_done (overflowing (m.state.chunk * q.old) u.snaps) (books_of contents layers size u) (books_of contents layers size w) m.state.chunk q
-      (subst (λ i. AreStarting (m.state.chunk * q.old) i (overflowing (m.state.chunk * q.old) u.snaps) (books_of contents layers size u) (books_of contents layers size w)) long all.starting) in
+      let done = starting_done (losing at u.snaps) (books_of contents layers size u) (books_of contents layers size w) m.state.chunk m.state.origin q
+      (subst (λ i. AreStarting want i (losing at u.snaps) (books_of contents layers size u) (books_of contents layers size w)) long all.starting) in
+      let some : All (λ (s : Kept B). 0 < s.state.chunk) u.snaps = λ k d lt. (fit.snaps k d lt).some in
+      let less = next_left contents layers at m.state.chunk m.state.origin m.pairs u.snaps ts u.copies n u.flights gs (all_weighed contents layers m q u.snaps some room) saved in
+      let before = beside_is contents layers m u.snaps running in
+      let after = beside_is contents layers m ts running in
       record {
-        which = overflowing (m.state.chunk * q.old) u.snaps;
+        which = losing at u.snaps;
         starts = done.0;
-        soon = All-cons (IsSavedSoon m.state.chunk (map (snap_books contents layers) ts)) q [] done.1 (All-nil (IsSavedSoon m.state.chunk (map (snap_books contents layers) ts)));
+        soon = All-cons (IsSavedSoon m.state.chunk m.state.origin (map (snap_books contents layers) ts)) q [] done.1 (All-nil (IsSavedSoon m.state.chunk m.state.origin (map (snap_books contents layers) ts)));
         fit = all.fit;
         rooms = all.room.kept;
         flights = all.starting.prepared.requests;
-        numbers = next_same contents layers (m.state.chunk * q.old) number_of_snap (λ s a b c d e f. refl) (λ s. refl) u.snaps ts u.copies n u.flights gs saved;
-        overflows = next_same contents layers (m.state.chunk * q.old) (λ (s : Kept B). s.overflow) (λ s a b c d e f. refl) (λ s. refl) u.snaps ts u.copies n u.flights gs saved;
-        chunks = next_same contents layers (m.state.chunk * q.old) (λ (s : Kept B). s.state.chunk) (λ s a b c d e f. refl) (λ s. refl) u.snaps ts u.copies n u.flights gs saved;
-        counts = λ count. next_same contents layers (m.state.chunk * q.old) (λ (s : Kept B). count s.device) (λ s a b c d e f. refl) (λ s. refl) u.snaps ts u.copies n u.flights gs saved;
-        loud = next_same contents layers (m.state.chunk * q.old) (λ (s : Kept B). is_loud (layers s.device)) (λ s a b c d e f. refl) (λ s. refl) u.snaps ts u.copies n u.flights gs saved;
-        lives = next_lives contents layers (m.state.chunk * q.old) u.snaps ts u.copies n u.flights gs saved;
-        left = next_left contents layers (m.state.chunk * q.old) u.snaps ts u.copies n u.flights gs saved;
-        few = next_few contents layers (m.state.chunk * q.old) u.snaps ts u.copies n u.flights gs saved;
-        given = next_given contents layers (m.state.chunk * q.old) u.snaps ts u.copies n u.flights gs saved;
+        numbers = next_same contents layers at number_of_snap (λ s a b c d e f. refl) (λ s. refl) u.snaps ts u.copies n u.flights gs saved;
+        overflows = next_same contents layers at (λ (s : Kept B). s.overflow) (λ s a b c d e f. refl) (λ s. refl) u.snaps ts u.copies n u.flights gs saved;
+        chunks = next_same contents layers at (λ (s : Kept B). s.state.chunk) (λ s a b c d e f. refl) (λ s. refl) u.snaps ts u.copies n u.flights gs saved;
+        counts = λ count. next_same contents layers at (λ (s : Kept B). count s.device) (λ s a b c d e f. refl) (λ s. refl) u.snaps ts u.copies n u.flights gs saved;
+        loud = next_same contents layers at (λ (s : Kept B). is_loud (layers s.device)) (λ s a b c d e f. refl) (λ s. refl) u.snaps ts u.copies n u.flights gs saved;
+        lives = next_lives contents layers at u.snaps ts u.copies n u.flights gs saved;
+        left = omega (arith, less, before, after);
+        few = next_few contents layers at u.snaps ts u.copies n u.flights gs saved;
+        given = next_given contents layers at u.snaps ts u.copies n u.flights gs saved;
       }
 
-  pub next_done : (o : Option Pair) → ((q : Pair) → o ≡ Some q → HaveRoom m.state.chunk m.pairs q (map (room_of contents layers) u.snaps)) → (ts : List (Kept B)) (n : ℕ) (gs : List Flight) → IsNextSaved contents layers m.state.chunk o u.snaps ts u.copies n u.flights gs
+  pub next_done : (o : Option Pair) → ((q : Pair) → o ≡ Some q → m.failed ≡ false) → ((q : Pair) → o ≡ Some q → HaveRoom m.state.chunk m.state.origin m.pairs q (map (room_of contents layers) u.snaps)) → (ts : List (Kept B)) (n : ℕ) (gs : List Flight)
+      → IsNextSaved contents layers m.state.chunk m.state.origin o u.snaps ts u.copies n u.flights gs
       → IsNextDone contents layers size m o u (record u { snaps = ts; copies = n; flights = gs })
-  next_done None room ts n gs (same, count, requests) =
+  next_done None running room ts n gs (same, count, requests) =
       subst (λ (x : List (Kept B)). IsNextDone contents layers size m None u (record u { snaps = x; copies = n; flights = gs })) (sym same)
       (subst (λ (x : ℕ). IsNextDone contents layers size m None u (record u { snaps = u.snaps; copies = x; flights = gs })) (sym count)
       (subst (λ (x : List Flight). IsNextDone contents layers size m None u (record u { snaps = u.snaps; copies = u.copies; flights = x })) (sym requests) next_none))
-  next_done (Some q) room ts n gs saved = next_some q (room q refl) ts n gs saved
+  next_done (Some q) running room ts n gs saved = next_some q (running q refl) (room q refl) ts n gs saved
 
 -- snapshots of the same numbers are apart from the merged one as well
-still_apart : {B : Type 0} (n : ℕ) (ss ts : List (Kept B)) → map number_of_snap ts ≡ map number_of_snap ss → All (λ s. s.number ≢ n) ss → All (λ s. s.number ≢ n) ts
+pub still_apart : {B : Type 0} (n : ℕ) (ss ts : List (Kept B)) → map number_of_snap ts ≡ map number_of_snap ss → All (λ s. s.number ≢ n) ss → All (λ s. s.number ≢ n) ts
 still_apart n ss ts same apart k d lt =
     let len : length ts ≡ length ss = sym (length-map ts number_of_snap) ∙ ap length same ∙ length-map ss number_of_snap in
     let within : k < length ss = omega (arith, lt, len) in
     let at : (get_or ts k d).number ≡ (get_or ss k d).number = sym (get_or-map number_of_snap ts k d 0 lt) ∙ ap (λ xs. get_or xs k 0) same ∙ get_or-map number_of_snap ss k d 0 within in
     subst (λ x. x ≢ n) (sym at) (apart k d within)
 
-all_mapped : {X : Type 0} (f : X → Bool) (xs : List X) → list_all f xs ≡ list_all (λ b. b) (map f xs)
+pub all_mapped : {X : Type 0} (f : X → Bool) (xs : List X) → list_all f xs ≡ list_all (λ b. b) (map f xs)
 all_mapped f [] = refl
 all_mapped f (x ∷ xs) = ap (λ b. f x && b) (all_mapped f xs)
 
@@ -142,18 +176,8 @@ module _ {B : Type 0} (contents : B → List ℕ) (layers : B → List Layer) (s
   abbrev sound : Bool
   sound = loudness contents layers size v m was
 
-  pub grouped_fit : SnapsFit v.copies v.attached (size o') (Some (regrouped m g)) v.snaps
-  grouped_fit =
-      let fit = snaps_fit contents layers size v (size o') h disk.sectors in
-      record {
-        snaps = subst (λ n. All (IsAttached v.copies (size o') n) v.snaps) (ap (λ (x : Option (Merging B)). piece_with x v.snaps) was) fit.snaps;
-        counted = fit.counted;
-        apart = fit.apart;
-        numbers = fit.numbers;
-        few = fit.few;
-        few_copies = fit.few_copies;
-        numbers_left = fit.numbers_left;
-      }
+  pub grouped_fit : SnapsFit v.copies v.attached (size o') v.snaps
+  grouped_fit = snaps_fit contents layers size v (size o') h disk.sectors
 
   module _ (ts : List (Kept B)) (n : ℕ) (gs : List Flight) where
     abbrev pub saved_to : Volumed B
@@ -172,6 +196,7 @@ module _ {B : Type 0} (contents : B → List ℕ) (layers : B → List Layer) (s
           let numbers : map number_of_flight gs ≡ map number_of_flight v.flights = same_numbers v.flights gs done.flights in
           let merge : IsMerged contents layers size (regrouped m g) saved_to = record {
             origin = one.origin ∙ sym disk.sectors;
+            allowed = one.allowed;
             apart = still_apart m.number v.snaps ts done.numbers one.apart;
             given = one.given;
             few = omega (arith, one.few, length_saved);
@@ -193,20 +218,20 @@ module _ {B : Type 0} (contents : B → List ℕ) (layers : B → List Layer) (s
             numbers_left = done.fit.numbers_left;
           }
 
-      lower_saved : left_in_merge (merging_due contents sound (regrouped m g)) + (per_pair + 1) ≤ left_in_merge (merging_due contents sound m) → left_in_all contents layers saved_to < left_in_all contents layers v
+      lower_saved : left_in_merge (merging_due contents sound (regrouped m g)) < left_in_merge (merging_due contents sound m) → left_in_all contents layers saved_to < left_in_all contents layers v
       lower_saved less =
-          let one = merged_in contents layers size v m was h in
           let numbers : map number_of_flight gs ≡ map number_of_flight v.flights = same_numbers v.flights gs done.flights in
           let same : length gs ≡ length v.flights = omega (arith, ap length numbers, length-map gs number_of_flight, length-map v.flights number_of_flight) in
-          let long : length (dues_of contents layers v) ≡ length v.snaps = length-map v.snaps (due_of_kept contents layers) in
-          let few : length (dues_of contents layers v) ≤ 7 = omega (arith, long, one.few) in
-          let more : sum_by left_in (dues_of contents layers saved_to) ≤ sum_by left_in (dues_of contents layers v) + per_copy * length (dues_of contents layers v) =
-          subst (λ i. sum_by left_in (dues_of contents layers saved_to) ≤ sum_by left_in (dues_of contents layers v) + per_copy * i) (sym long) done.left in
-          let all = with_left (dues_of contents layers v) (dues_of contents layers saved_to) v.flights gs (merging_due contents sound m) (merging_due contents sound (regrouped m g)) few more same less in
-          let at : left_by (merge_due contents v.merge) ≡ left_in_merge (merging_due contents true m) = ap (λ (x : Option (Merging B)). left_by (merge_due contents x)) was in
+          let at : left_by (dues_of contents layers v) (merge_due contents v.merge) ≡ left_in_merge (merging_due contents true m) + left_beside (map due_in (dues_of contents layers v)) (merging_due contents true m) =
+          ap (λ (x : Option (Merging B)). left_by (dues_of contents layers v) (merge_due contents x)) was in
+          let old : left_beside (map due_in (dues_of contents layers v)) (merging_due contents true m) ≡ left_beside (map (snap_books contents layers) v.snaps) (merging_due contents true m) =
+          ap (λ xs. left_beside xs (merging_due contents true m)) (due_books contents layers v.snaps) in
+          let new : left_beside (map due_in (dues_of contents layers saved_to)) (merging_due contents true m) ≡ left_beside (map (snap_books contents layers) ts) (merging_due contents true m) =
+          ap (λ xs. left_beside xs (merging_due contents true m)) (due_books contents layers ts) in
           let before : left_in_merge (merging_due contents true m) ≡ left_in_merge (merging_due contents sound m) = refl in
           let after : left_in_merge (merging_due contents true (regrouped m g)) ≡ left_in_merge (merging_due contents sound (regrouped m g)) = refl in
-          omega (arith, all, at, before, after)
+          let beside : left_beside (map due_in (dues_of contents layers saved_to)) (merging_due contents true (regrouped m g)) ≡ left_beside (map due_in (dues_of contents layers saved_to)) (merging_due contents true m) = refl in
+          omega (arith, done.left, same, at, old, new, before, after, beside, less)
 
       loud_saved : is_loud_in_all layers saved_to ≡ is_loud_in_all layers v
       loud_saved =
@@ -230,7 +255,7 @@ module _ {B : Type 0} (contents : B → List ℕ) (layers : B → List Layer) (s
               merge = regrouped m g;
               is = refl;
               counts = counts_saved faults ∙ calm;
-              lives = done.lives ∙ ap (λ x. lives_saved m.state.chunk x v.snaps) next;
+              lives = done.lives ∙ ap (λ x. lives_saved m.state.chunk m.state.origin x v.snaps) next;
             });
             failed = sym (steady (has_failed v.merge) ∙ ap has_failed was);
             flown = still (map in_flight v.flights) (map in_flight gs) done.flights;

@@ -13,7 +13,7 @@ use Rattle.volume_laws.specs.Published.{is_clear}
 use Rattle.volume_laws.proofs.Preparing.{prepared_none}
 use Rattle.merge_beside.specs.Routing.{is_grouped_at, place_at, is_merged_at}
 use Rattle.snapshot.specs.Kept.{Kept, books_of as snap_books}
-use Rattle.snapshots.specs.Starting.{starts, overflows, overflowing}
+use Rattle.snapshots.specs.Starting.{own_of, starts, overflows, overflowing}
 use Rattle.volume.specs.Volumed.{Volumed, books_of, piece_with}
 use Rattle.volume.specs.Whole.{IsWhole}
 use Rattle.volume.specs.Submitting.{IsAsked, IsEntered, IsAcceptedAs, entered_of, starting}
@@ -50,7 +50,7 @@ pub merged_accepted : {B : Type 0} (contents : B → List ℕ) (layers : B → L
 merged_accepted {B = B} contents layers size request route number v w h kind merged to e =
     let first : ℕ = request.range.first in
     entered_accepted contents layers request route number v w OriginWrite kind
-    (if_true (is_merged_at first v.merge) [] (overflowing first v.snaps) merged)
+    (if_true (is_merged_at first v.merge) [] (overflowing (own_of first) v.snaps) merged)
     (sym (if_true (is_merged_at first v.merge) (map (λ (s : Kept B). s.live) v.snaps) (map (λ (s : Kept B). if overflows first s then false else s.live) v.snaps) merged))
     e (merged_write_submitted contents layers size v h request route number w e kind merged to)
 

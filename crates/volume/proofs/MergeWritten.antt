@@ -1,8 +1,7 @@
--- MergeWrite: the chunk in the buffer is written to the origin disk, and the copies of the chunk that is copied next are started.
-use Rattle.std.proofs.Common.{◌≡◌, inr, ℕ, zero, suc, ◌*◌, ◌<◌, ◌≤◌, Bool, true, List, [], ◌∷◌, Option, Some, length, get_or, take, map, refl, sym, ◌∙◌, ap, subst, arith}
+-- MergeWrite: the chunk in the buffer is written to the origin disk, and the copies that the next one waits for are started.
+use Rattle.std.proofs.Common.{◌≡◌, inr, ℕ, ◌+◌, ◌*◌, ◌<◌, ◌≤◌, Bool, true, List, [], ◌∷◌, Option, Some, take, map, refl, sym, ◌∙◌, ap, subst, arith}
 use Rattle.std.specs.List.{All}
-use Rattle.std.specs.Prelude.{IsTrue}
-use Rattle.std.proofs.lemmas.List.{length-map}
+use Rattle.std.specs.Prelude.{◌&&◌, IsTrue}
 use Rattle.sector.specs.Bytes.{next_count, with_sectors}
 use Rattle.sector.specs.declared.pair.Pair.{Pair}
 use Rattle.device.specs.Layers.{Layer, is_loud}
@@ -13,12 +12,14 @@ use Rattle.pending.specs.Copies.{count_of}
 use Rattle.pending.specs.declared.flights.Flight.{Flight}
 use Rattle.store.specs.Operations.{IsOneOperation}
 use Rattle.volume_laws.specs.Books.{SnapBooks, MergeBooks}
-use Rattle.volume_laws.specs.MergeDue.{DueMerge, can_write, is_writable, last_of}
+use Rattle.volume_laws.specs.MergeDue.{DueMerge, can_write, is_writable, last_of, next_pair}
+use Rattle.volume_laws.specs.MergeRooms.{room_books}
 use Rattle.volume_laws.specs.MergeSteps.{WritesBack}
-use Rattle.volume_laws.specs.MergeWaits.{HaveChunk, IsSavedIn, IsSavedSoon, MergeGoes, next_pairs}
-use Rattle.volume_laws.specs.Published.{IsSaved, is_clear}
-use Rattle.volume_laws.proofs.MergeRoomStarts.{HaveRoom, room_written}
-use Rattle.volume_laws.proofs.MergeSaved.{pieces_of, saved_everywhere}
+use Rattle.volume_laws.specs.MergeWaits.{IsSavedIn, IsSavedSoon, MergeSteady, next_pairs}
+use Rattle.volume_laws.specs.Merging.{MergeHolds}
+use Rattle.volume_laws.specs.Published.{is_clear_over}
+use Rattle.volume_laws.proofs.MergeRoomStarts.{HaveRoom, room_next}
+use Rattle.volume_laws.proofs.MergeSaved.{goes_steady, steady_written}
 use Rattle.volume_laws.proofs.MergeSteps.{IsMergeChange, IsMergeStart, write_change, write_step}
 use Rattle.volume_laws.proofs.MergeTests.{write_test}
 use Rattle.snapshot.specs.Kept.{Kept, books_of as snap_books}
@@ -30,19 +31,24 @@ use Rattle.merge.specs.Steps.{WritesOrigin}
 use Rattle.merge.specs.declared.group.Group.{Group}
 use Rattle.merge_beside.specs.Rooms.{room_of}
 use Rattle.merge_beside.specs.Starting.{IsNextSaved, CanSaveNext}
-use Rattle.volume.specs.Volumed.{Volumed, books_of, piece_with, is_due_of, is_loud_in_all}
-use Rattle.volume.specs.Whole.{IsWhole}
+use Rattle.volume.specs.Volumed.{Volumed, books_of, is_due_of, is_loud_in_all}
+use Rattle.volume.specs.Whole.{IsAttached, IsWhole}
 use Rattle.volume.specs.Exact.{IsExact}
 use Rattle.volume.proofs.Good.{IsGood}
+use Rattle.volume.proofs.Chunks.{chunks_books}
 use Rattle.volume.proofs.MergeChanging.{StaysMerged, DiskStays, merged_to, loudness, merged_in, goes_here, merge_changes}
 use Rattle.volume.proofs.MergeCounting.{merged_same, merged_disk, disk_within}
 use Rattle.volume.proofs.MergeDues.{due_beside}
-use Rattle.volume.proofs.MergeGroups.{can_save, room_kept}
+use Rattle.volume.proofs.MergeGroups.{can_save_in, held_in, room_kept}
 use Rattle.volume.proofs.MergeOperations.{holds_merge, rooms_seen}
 use Rattle.volume.proofs.MergeSaves.{regrouped, grouped_fit, saved_to, IsNextDone, next_done, saved_good}
 use Rattle.volume.proofs.MovedGroups.{stores_sized}
 use Rattle.volume.proofs.MovedWrites.{write_moved}
 use Rattle.volume.proofs.Shown.{and_left, due_books, loud_books}
+
+-- a chunk that begins on the origin ends on it, its last one short
+pub count_fits : (chunk sectors old : ℕ) → chunk * old < sectors → chunk * old + count_of chunk sectors old ≤ sectors
+count_fits chunk sectors old begins = omega (arith, begins)
 
 -- the first of two lists of one pair each that are the same
 only_pair : (p q : Pair) → p ∷ [] ≡ q ∷ [] → p ≡ q
@@ -62,27 +68,12 @@ module _ {B : Type 0} (contents : B → List ℕ) (layers : B → List Layer) (s
   pub write_due : is_due_of contents layers v MergeWrite ≡ can_write (map (snap_books contents layers) v.snaps) (merging_books contents true m)
   write_due = due_beside contents layers v m was MergeWrite ∙ ap (λ xs. can_write xs (merging_books contents true m)) (due_books contents layers v.snaps)
 
-  pub write_tested : LooksAgree contents true m → (q : Pair) → full_of m.group ≡ Some q → (b : Bool) (ss : List (Kept B)) (n : ℕ) → ss ≡ v.snaps → n ≡ m.state.chunk → b ≡ is_clear (map (snap_books contents layers) ss) (n * q.old)
+  pub write_tested : LooksAgree contents true m → (q : Pair) → full_of m.group ≡ Some q → (b : Bool) (ss : List (Kept B)) (n count : ℕ) → ss ≡ v.snaps → n ≡ m.state.chunk → count ≡ count_of m.state.chunk m.state.origin q.old → b ≡ is_clear_over (map (snap_books contents layers) ss) (n * q.old) count
       → can_write (map (snap_books contents layers) v.snaps) (merging_books contents true m) ≡ b
-  write_tested looks q full b ss n snaps chunk test =
+  write_tested looks q full b ss n count snaps chunk counts test =
       looks.write (map (snap_books contents layers) v.snaps)
-      ∙ ap (λ o. is_writable (map (snap_books contents layers) v.snaps) m.state.chunk (option_pairs o)) full
-      ∙ sym (test ∙ ap (λ (xs : List (Kept B)). is_clear (map (snap_books contents layers) xs) (n * q.old)) snaps ∙ ap (λ k. is_clear (map (snap_books contents layers) v.snaps) (k * q.old)) chunk)
-
-  -- all snapshots have chunks as large as the merged one's
-  same_chunks : HaveChunk m.state.chunk (map (snap_books contents layers) v.snaps)
-  same_chunks k d lt live =
-      let within : k < length v.snaps = omega (arith, lt, length-map v.snaps (snap_books contents layers)) in
-      let is = ap (λ (x : Option (Merging B)). piece_with x v.snaps) was in
-      at k d within (λ e. (h.snaps k e within).chunk_is ∙ is)
-    where
-      at : (i : ℕ) (d : SnapBooks) → i < length v.snaps → ((e : Kept B) → (get_or v.snaps i e).state.chunk ≡ m.state.chunk) → (get_or (map (snap_books contents layers) v.snaps) i d).chunk ≡ m.state.chunk
-      at i d within same = by v.snaps i within same
-        where
-          by : (ss : List (Kept B)) (j : ℕ) → j < length ss → ((e : Kept B) → (get_or ss j e).state.chunk ≡ m.state.chunk) → (get_or (map (snap_books contents layers) ss) j d).chunk ≡ m.state.chunk
-          by [] j lt f = absurd (omega (arith, lt))
-          by (s ∷ ss) zero lt f = f s
-          by (s ∷ ss) (suc j) lt f = by ss j (omega (arith, lt)) f
+      ∙ ap (λ o. is_writable (map (snap_books contents layers) v.snaps) m.state.chunk m.state.origin (option_pairs o)) full
+      ∙ sym (test ∙ ap (λ (xs : List (Kept B)). is_clear_over (map (snap_books contents layers) xs) (n * q.old) count) snaps ∙ ap (λ k. is_clear_over (map (snap_books contents layers) v.snaps) (k * q.old) count) chunk ∙ ap (is_clear_over (map (snap_books contents layers) v.snaps) (m.state.chunk * q.old)) counts)
 
   module _ (o' : B) (disk : DiskStays layers size v.origin o') (g : Option Group) (q : Pair) (due : can_write (map (snap_books contents layers) v.snaps) (merging_books contents true m) ≡ true)
       (step : (loud : Bool) → (loud ≡ true → is_loud (layers v.origin) ≡ true) → WritesBack q (merging_due contents loud m) (merging_due contents loud (regrouped m g)) × WritesOrigin q (contents v.origin) (contents o') (merging_books contents loud m)) where
@@ -104,29 +95,36 @@ module _ {B : Type 0} (contents : B → List ℕ) (layers : B → List Layer) (s
     reading_none : reading_of g ≡ []
     reading_none = ap (λ (x : MergeBooks). x.reading) stepped_as.0.books
 
-    -- each live snapshot has published where the chunk begins, and so all of it
-    began : All (IsSaved (m.state.chunk * q.old)) (map (snap_books contents layers) v.snaps)
-    began =
-        let (p, may) = write_test (map (snap_books contents layers) v.snaps) (merging_due contents true m) ((merged_in contents layers size v m was h).goes true).staged due in
-        let one : p ≡ q = only_pair p q (sym may.full ∙ stepped_as.0.full) in
-        subst (λ (x : Pair). All (IsSaved (m.state.chunk * x.old)) (map (snap_books contents layers) v.snaps)) one may.published
-
+    -- each live snapshot has published all chunks that it touches
     published : IsSavedIn m.state.chunk m.state.origin (map (snap_books contents layers) v.snaps) q
     published =
-        let some = (holds_merge contents layers size (λ x. 0) (λ x. 0) v h m was).text.some in
-        saved_everywhere m.state.chunk m.state.origin (map (snap_books contents layers) v.snaps) q (λ k d lt live. subst (λ n. 0 < n) (sym (same_chunks k d lt live)) some) (pieces_of m.state.chunk m.state.origin (map (snap_books contents layers) v.snaps) q some same_chunks) began
+        let (p, may) = write_test (map (snap_books contents layers) v.snaps) (merging_due contents true m) ((merged_in contents layers size v m was h).goes true).staged due in
+        let one : p ≡ q = only_pair p q (sym may.full ∙ stepped_as.0.full) in
+        subst (λ (x : Pair). IsSavedIn m.state.chunk m.state.origin (map (snap_books contents layers) v.snaps) x) one (may.published (chunks_books contents layers size v h))
 
-    pub write_room : (p : Pair) → last_of (waiting_of g) ≡ Some p → HaveRoom m.state.chunk m.pairs p (map (room_of contents layers) v.snaps)
+    abbrev written_in : Volumed B
+    written_in = merged_to v o' (regrouped m g) v.flights
+
+    write_changed : IsMergeChange (books_of contents layers size v) (books_of contents layers size written_in)
+    write_changed = write_change (books_of contents layers size v) (books_of contents layers size written_in) before after h.holds h.waits (goes_here contents layers size v m was h)
+        (merge_changes contents layers size v m was o' (regrouped m g) stays disk) q stepped_as.0 stepped_as.1.disk stepped_as.1.written published
+
+    pub write_room : (p : Pair) → last_of (waiting_of g) ≡ Some p → HaveRoom m.state.chunk m.state.origin m.pairs p (map (room_of contents layers) v.snaps)
     write_room p last =
         let seen = rooms_seen contents layers v.snaps in
-        room_written (contents v.origin) v.flights (map (room_of contents layers) v.snaps) q p before after stepped_as.0 (holds_merge contents layers size (λ x. 0) (λ x. 0) v h m was)
-        (subst (λ (xs : List SnapBooks). MergeGoes xs (merging_due contents sound m)) (sym seen) (goes_here contents layers size v m was h))
-        (subst (All (IsSaved (m.state.chunk * q.old))) (sym seen) began) (ap last_of (sym waiting_same) ∙ last) (room_kept contents layers size v h m was)
+        let sectors : size v.origin ≡ size o' = sym disk.sectors in
+        let goes : MergeSteady (map (snap_books contents layers) v.snaps) before = goes_steady (map (snap_books contents layers) v.snaps) before (goes_here contents layers size v m was h) in
+        room_next (contents o') v.flights (map (room_of contents layers) v.snaps) after
+        (subst (λ b. MergeHolds (contents o') v.flights (merging_books contents b (regrouped m g))) (ap (λ b. b && is_loud (layers m.device)) disk.loud)
+        (held_in contents layers size written_in write_changed.silent.holds (regrouped m g) refl ((merged_in contents layers size v m was h).origin ∙ sectors) (subst (λ n. All (IsAttached v.copies n) v.snaps) sectors h.snaps)))
+        (steady_written (map room_books (map (room_of contents layers) v.snaps)) q before after stepped_as.0 (subst (λ (xs : List SnapBooks). MergeSteady xs before) (sym seen) goes)
+        (subst (λ (xs : List SnapBooks). IsSavedIn m.state.chunk m.state.origin xs q) (sym seen) published))
+        (room_kept contents layers size v h m was) p (ap (λ ps. next_pair ps (waiting_of g)) reading_none ∙ last)
 
-    pub write_can_save : size v.origin ≤ 16_777_216 → (p : Pair) → last_of (waiting_of g) ≡ Some p → CanSaveNext m.state.chunk v.copies v.snaps p
-    write_can_save small p last = can_save contents layers size v h m was small p (write_room p last)
+    pub write_can_save : (p : Pair) → last_of (waiting_of g) ≡ Some p → CanSaveNext m.state.chunk m.state.origin v.copies v.snaps p
+    write_can_save p last = can_save_in contents layers size v h m was p (write_room p last)
 
-    pub write_good : (faults did : B → ℕ) → faults o' ≡ faults v.origin → did o' ≡ next_count (did v.origin) → (ts : List (Kept B)) (n : ℕ) (gs : List Flight) → IsNextSaved contents layers m.state.chunk (last_of (waiting_of g)) v.snaps ts v.copies n v.flights gs
+    pub write_good : (faults did : B → ℕ) → faults o' ≡ faults v.origin → did o' ≡ next_count (did v.origin) → (ts : List (Kept B)) (n : ℕ) (gs : List Flight) → IsNextSaved contents layers m.state.chunk m.state.origin (last_of (waiting_of g)) v.snaps ts v.copies n v.flights gs
         → IsGood contents layers size faults did MergeWrite Done v (saved_to contents layers size v h m was o' disk g ts n gs)
     write_good faults did calm counts ts n gs saved =
         let u : Volumed B = merged_to v o' (regrouped m g) v.flights in
@@ -134,12 +132,10 @@ module _ {B : Type 0} (contents : B → List ℕ) (layers : B → List Layer) (s
         let changes = merge_changes contents layers size v m was o' (regrouped m g) stays disk in
         let goes = goes_here contents layers size v m was h in
         let s = stepped_as in
-        let change : IsMergeChange (books_of contents layers size v) (books_of contents layers size u) =
-        write_change (books_of contents layers size v) (books_of contents layers size u) before after h.holds h.waits goes changes q s.0 s.1.disk s.1.written published in
         let done : IsNextDone contents layers size m (last_of (waiting_of g)) u w =
-        next_done contents layers size m u change.silent.holds change.waits (grouped_fit contents layers size v h m was o' disk g) (room_kept contents layers size v h m was) (last_of (waiting_of g)) write_room ts n gs saved in
-        let soon : All (IsSavedSoon m.state.chunk (map (snap_books contents layers) ts)) (next_pairs (reading_of g) (last_of (waiting_of g))) =
-        subst (λ ps. All (IsSavedSoon m.state.chunk (map (snap_books contents layers) ts)) (next_pairs ps (last_of (waiting_of g)))) (sym reading_none) done.soon in
+        next_done contents layers size m u write_changed.silent.holds write_changed.waits (grouped_fit contents layers size v h m was o' disk g) (room_kept contents layers size v h m was) (last_of (waiting_of g)) (λ p e. s.0.running) write_room ts n gs saved in
+        let soon : All (IsSavedSoon m.state.chunk m.state.origin (map (snap_books contents layers) ts)) (next_pairs (reading_of g) (last_of (waiting_of g))) =
+        subst (λ ps. All (IsSavedSoon m.state.chunk m.state.origin (map (snap_books contents layers) ts)) (next_pairs ps (last_of (waiting_of g)))) (sym reading_none) done.soon in
         let start : IsMergeStart done.which (books_of contents layers size v) (books_of contents layers size w) before after =
         write_step (books_of contents layers size v) (books_of contents layers size u) before after h.holds h.waits goes changes done.which (books_of contents layers size w) done.starts soon q s.0 s.1.disk s.1.written published in
         saved_good contents layers size v h m was o' disk g ts n gs (last_of (waiting_of g)) done faults did MergeWrite (λ p r x. x) (λ xs ys e. e) (λ b. refl) refl start (λ c. c) refl
@@ -148,14 +144,14 @@ module _ {B : Type 0} (contents : B → List ℕ) (layers : B → List Layer) (s
 
     pub write_exact : full_of m.group ≡ Some q → (faults faults' counts counts' : ℕ) → IsOneOperation (Writes (m.state.chunk * q.old) (count_of m.state.chunk m.state.origin q.old)) true (layers v.origin) (layers o') faults faults' counts counts'
         → (IsTrue (is_loud (layers v.origin)) → contents o' ≡ with_sectors (contents v.origin) (m.state.chunk * q.old) (take (512 * count_of m.state.chunk m.state.origin q.old) m.buffer))
-        → (ts : List (Kept B)) (n : ℕ) (gs : List Flight) → IsNextSaved contents layers m.state.chunk (last_of (waiting_of g)) v.snaps ts v.copies n v.flights gs
+        → (ts : List (Kept B)) (n : ℕ) (gs : List Flight) → IsNextSaved contents layers m.state.chunk m.state.origin (last_of (waiting_of g)) v.snaps ts v.copies n v.flights gs
         → IsExact contents layers MergeWrite Done v (record v { origin = o'; snaps = ts; merge = Some (regrouped m g); flights = gs; copies = n })
     write_exact full faults faults' counts counts' one wrote ts n gs saved = record {
       step = λ loud replied.
           (let s = (step true (λ _. disk_loud loud)).0 in
           let sized = (holds_merge contents layers size (λ x. 0) (λ x. 0) v h m was).fits in
-          write_moved contents layers replied v m was faults faults' counts counts' q full due sized o' g s one (wrote (disk_loud loud)) (stores_sized contents layers size v h) ts n gs
-          (subst (λ (ps : List Pair). IsNextSaved contents layers m.state.chunk (last_of ps) v.snaps ts v.copies n v.flights gs) waiting_same saved));
+          write_moved contents layers replied v m was faults faults' counts counts' q full due sized o' g s one (wrote (disk_loud loud)) ((step true (λ _. disk_loud loud)).1.disk.len ∙ sized) (stores_sized contents layers size v h) ts n gs
+          (subst (λ (ps : List Pair). IsNextSaved contents layers m.state.chunk m.state.origin (last_of ps) v.snaps ts v.copies n v.flights gs) waiting_same saved));
     }
       where
         disk_loud : is_loud_in_all layers v ≡ true → is_loud (layers v.origin) ≡ true
@@ -163,20 +159,20 @@ module _ {B : Type 0} (contents : B → List ℕ) (layers : B → List Layer) (s
 
     -- the merge after write_chunk
     module _ (m' : Merging B) (same : m' ≡ regrouped m g) where
-      pub written_can_save : size v.origin ≤ 16_777_216 → (p : Pair) → last_of (waiting_of m'.group) ≡ Some p → CanSaveNext m'.state.chunk v.copies v.snaps p
-      written_can_save small = subst (λ (x : Merging B). (p : Pair) → last_of (waiting_of x.group) ≡ Some p → CanSaveNext x.state.chunk v.copies v.snaps p) (sym same) (write_can_save small)
+      pub written_can_save : (p : Pair) → last_of (waiting_of m'.group) ≡ Some p → CanSaveNext m'.state.chunk m'.state.origin v.copies v.snaps p
+      written_can_save = subst (λ (x : Merging B). (p : Pair) → last_of (waiting_of x.group) ≡ Some p → CanSaveNext x.state.chunk x.state.origin v.copies v.snaps p) (sym same) write_can_save
 
-      saved_as : (ts : List (Kept B)) (n : ℕ) (gs : List Flight) → IsNextSaved contents layers m'.state.chunk (last_of (waiting_of m'.group)) v.snaps ts v.copies n v.flights gs → IsNextSaved contents layers m.state.chunk (last_of (waiting_of g)) v.snaps ts v.copies n v.flights gs
-      saved_as ts n gs saved = subst (λ (x : Merging B). IsNextSaved contents layers x.state.chunk (last_of (waiting_of x.group)) v.snaps ts v.copies n v.flights gs) same saved
+      saved_as : (ts : List (Kept B)) (n : ℕ) (gs : List Flight) → IsNextSaved contents layers m'.state.chunk m'.state.origin (last_of (waiting_of m'.group)) v.snaps ts v.copies n v.flights gs → IsNextSaved contents layers m.state.chunk m.state.origin (last_of (waiting_of g)) v.snaps ts v.copies n v.flights gs
+      saved_as ts n gs saved = subst (λ (x : Merging B). IsNextSaved contents layers x.state.chunk x.state.origin (last_of (waiting_of x.group)) v.snaps ts v.copies n v.flights gs) same saved
 
-      pub written_good : (faults did : B → ℕ) → faults o' ≡ faults v.origin → did o' ≡ next_count (did v.origin) → (ts : List (Kept B)) (n : ℕ) (gs : List Flight) → IsNextSaved contents layers m'.state.chunk (last_of (waiting_of m'.group)) v.snaps ts v.copies n v.flights gs
+      pub written_good : (faults did : B → ℕ) → faults o' ≡ faults v.origin → did o' ≡ next_count (did v.origin) → (ts : List (Kept B)) (n : ℕ) (gs : List Flight) → IsNextSaved contents layers m'.state.chunk m'.state.origin (last_of (waiting_of m'.group)) v.snaps ts v.copies n v.flights gs
           → IsGood contents layers size faults did MergeWrite Done v (record v { origin = o'; snaps = ts; merge = Some m'; flights = gs; copies = n })
       written_good faults did calm counts ts n gs saved =
           subst (λ (x : Merging B). IsGood contents layers size faults did MergeWrite Done v (record v { origin = o'; snaps = ts; merge = Some x; flights = gs; copies = n })) (sym same) (write_good faults did calm counts ts n gs (saved_as ts n gs saved))
 
       pub written_exact : full_of m.group ≡ Some q → (faults faults' counts counts' : ℕ) → IsOneOperation (Writes (m.state.chunk * q.old) (count_of m.state.chunk m.state.origin q.old)) true (layers v.origin) (layers o') faults faults' counts counts'
           → (IsTrue (is_loud (layers v.origin)) → contents o' ≡ with_sectors (contents v.origin) (m.state.chunk * q.old) (take (512 * count_of m.state.chunk m.state.origin q.old) m.buffer))
-          → (ts : List (Kept B)) (n : ℕ) (gs : List Flight) → IsNextSaved contents layers m'.state.chunk (last_of (waiting_of m'.group)) v.snaps ts v.copies n v.flights gs
+          → (ts : List (Kept B)) (n : ℕ) (gs : List Flight) → IsNextSaved contents layers m'.state.chunk m'.state.origin (last_of (waiting_of m'.group)) v.snaps ts v.copies n v.flights gs
           → IsExact contents layers MergeWrite Done v (record v { origin = o'; snaps = ts; merge = Some m'; flights = gs; copies = n })
       written_exact full faults faults' counts counts' one wrote ts n gs saved =
           subst (λ (x : Merging B). IsExact contents layers MergeWrite Done v (record v { origin = o'; snaps = ts; merge = Some x; flights = gs; copies = n })) (sym same) (write_exact full faults faults' counts counts' one wrote ts n gs (saved_as ts n gs saved))

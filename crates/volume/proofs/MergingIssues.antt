@@ -1,7 +1,7 @@
 -- A request of the origin is issued at the merging store.
-use Rattle.std.proofs.Common.{◌≡◌, ◌≢◌, ◌⊎◌, inl, inr, ℕ, ◌+◌, ◌*◌, ◌%◌, ◌<◌, ◌≤◌, Bool, true, List, ◌++◌, None, Some, length, get_or, map, refl, sym, ◌∙◌, ap, subst, nat_eq}
+use Rattle.std.proofs.Common.{◌≡◌, ◌≢◌, ◌⊎◌, inl, inr, ℕ, ◌+◌, ◌*◌, ◌%◌, ◌<◌, ◌≤◌, Bool, true, List, ◌++◌, None, Some, length, get_or, map, refl, sym, ◌∙◌, ap, subst, arith, nat_eq}
 use Rattle.std.specs.Prelude.{◌&&◌}
-use Rattle.std.specs.List.{All, remove, position}
+use Rattle.std.specs.List.{remove, position}
 use Rattle.std.proofs.lemmas.Bool.{eqb-true}
 use Rattle.std.proofs.lemmas.List.Quantifiers.{position-Some}
 use Rattle.sector.specs.Bytes.{sectors_at, next_count}
@@ -21,6 +21,8 @@ use Rattle.pending.specs.declared.flights.Flight.{Flight}
 use Rattle.pending.specs.declared.flights.Kind.TheVariants.{OriginRead, OriginWrite}
 use Rattle.pending.specs.declared.flights.Route.TheVariants.{Store}
 use Rattle.volume_laws.specs.Books.{MergeBooks, Books, listed, taken}
+use Rattle.volume_laws.specs.Due.{books_of as due_in}
+use Rattle.volume_laws.specs.MergeDue.{left_beside, left_in_merge}
 use Rattle.volume_laws.specs.Published.{chunk_of}
 use Rattle.volume_laws.specs.Merging.{MergeHolds, MergeRouteHolds}
 use Rattle.volume_laws.specs.MergeSteps.{WritesStore}
@@ -38,8 +40,8 @@ use Rattle.merge.specs.Steps.{WritesPlaceOf}
 use Rattle.merge_beside.specs.Rooms.{merge_books}
 use Rattle.snapshot.specs.Kept.{books_of as snap_books}
 use Rattle.snapshots.proofs.Finds.{position_within}
-use Rattle.volume.specs.Volumed.{Volumed, books_of, is_loud_in_all, merge_due, left_by, piece_with}
-use Rattle.volume.specs.Whole.{IsAttached, IsMerged, IsWhole}
+use Rattle.volume.specs.Volumed.{Volumed, books_of, dues_of, is_loud_in_all, merge_due, left_by}
+use Rattle.volume.specs.Whole.{IsMerged, IsWhole}
 use Rattle.volume.specs.Causes.{HasReplied, IsFaultless, FailsAlone, GoesTo, merging_device}
 use Rattle.volume.specs.Flying.{Fits}
 use Rattle.volume.specs.Stepping.{KeepsAll, has_failed}
@@ -127,9 +129,9 @@ module _ {B : Type 0} (contents : B → List ℕ) (layers : B → List Layer) (s
       stays : StaysMerged layers size m (on_device m d)
       stays = record { number = refl; chunk_is = refl; origin = refl; loud = loud; sized = sized }
 
-      fit : SnapsFit v.copies v.attached (size v.origin) (Some (on_device m d)) v.snaps
+      fit : SnapsFit v.copies v.attached (size v.origin) v.snaps
       fit = record {
-        snaps = subst (λ x. All (IsAttached v.copies (size v.origin) (piece_with x v.snaps)) v.snaps) begun h.snaps;
+        snaps = h.snaps;
         counted = h.counted;
         apart = h.apart;
         numbers = h.numbers;
@@ -143,6 +145,7 @@ module _ {B : Type 0} (contents : B → List ℕ) (layers : B → List Layer) (s
           let one : IsMerged contents layers size m v = merged_in contents layers size v m begun h in
           record {
             origin = one.origin;
+            allowed = one.allowed;
             apart = one.apart;
             given = one.given;
             few = one.few;
@@ -150,8 +153,13 @@ module _ {B : Type 0} (contents : B → List ℕ) (layers : B → List Layer) (s
             rooms = one.rooms;
           }
 
-      left : left_by (merge_due contents (Some (on_device m d))) ≡ left_by (merge_due contents v.merge)
-      left = stored_left (contents d) (merging_due contents true m) (merging_due contents true (on_device m d)) (stores contents layers size true m d) ∙ ap (λ x. left_by (merge_due contents x)) (sym begun)
+      left : left_by (dues_of contents layers v) (merge_due contents (Some (on_device m d))) ≤ left_by (dues_of contents layers v) (merge_due contents v.merge)
+      left =
+          let same = stored_left (contents d) (merging_due contents true m) (merging_due contents true (on_device m d)) (stores contents layers size true m d) in
+          let at : left_by (dues_of contents layers v) (merge_due contents v.merge) ≡ left_in_merge (merging_due contents true m) + left_beside (map due_in (dues_of contents layers v)) (merging_due contents true m) =
+          ap (λ x. left_by (dues_of contents layers v) (merge_due contents x)) begun in
+          let beside : left_beside (map due_in (dues_of contents layers v)) (merging_due contents true (on_device m d)) ≡ left_beside (map due_in (dues_of contents layers v)) (merging_due contents true m) = refl in
+          omega (arith, same, at, beside)
 
       loud_now : is_loud_in_all layers issued ≡ is_loud_in_all layers v
       loud_now = loud_merged contents layers size v m begun v.origin (on_device m d) stays (disk_stays layers size v.origin) (remove v.flights place)

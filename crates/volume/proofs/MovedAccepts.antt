@@ -24,11 +24,11 @@ use Rattle.event_machine.specs.Again.{is_clear, is_grouped, merged_place, write_
 use Rattle.event_machine.specs.MergeSeen.{held_in}
 use Rattle.event_machine.specs.Seen.{going_of}
 use Rattle.event_machine.specs.Stepping.{for_some, put, spoil}
-use Rattle.event_machine.specs.Submitting.{accepted, declined, started_all, started_by, refused_by, is_filled, needs_none, with_copy, read_snap, write_placed, write_open, write_snap, shuts, overflown, start_copies, submitted, submitted_as}
+use Rattle.event_machine.specs.Submitting.{accepted, chunk_at, declined, started_all, started_by, refused_by, is_filled, needs_none, with_copy, read_snap, write_placed, write_open, write_snap, shuts, overflown, start_copies, submitted, submitted_as}
 use Rattle.volume_laws.specs.Published.{is_clear as is_clear_in}
 use Rattle.snapshot.specs.Kept.{Kept, books_of as snap_books}
 use Rattle.volume.specs.Volumed.{Volumed}
-use Rattle.snapshots.specs.Starting.{unroomed, lacks, is_full_of, spoilt_of, AreSavedIn}
+use Rattle.snapshots.specs.Starting.{unroomed, lacks, is_full_of, own_of, spoilt_of, AreSavedIn}
 use Rattle.volume.specs.Submitting.{entered_of}
 use Rattle.merge_beside.specs.Routing.{is_grouped_at, place_at, is_merged_at}
 use Rattle.volume.specs.Moved.{held_of, merge_seen, moving_of}
@@ -85,12 +85,12 @@ module _ {B : Type 0} (contents : B → List ℕ) (layers : B → List Layer) wh
           let first : ℕ = request.range.first in
           let to : Moving → Moving = λ (x : Moving). accepted number request (write_route x.merge x.snaps first) x in
           ap (λ (x : Kind). submitted_as x number request m) kind
-          ∙ ap to (if_true (is_grouped m.merge first || is_some (merged_place m.merge first)) m (start_copies first m) (merged_held true merged))
+          ∙ ap to (if_true (is_grouped m.merge first || is_some (merged_place m.merge first)) m (start_copies (chunk_at first) m) (merged_held true merged))
           ∙ accepted_is v w (write_route m.merge m.snaps first) (is ∙ merged_route_is first v.merge merged false (is_clear m.snaps first) ∙ sym (write_route_held m.snaps)) becomes
 
       -- the copies that it waits for were started, over snapshots that are seen as those of the volume
       pub origin_write_is : (m : ℕ) (before after : List (Kept B)) (gs : List Flight) → kind_of request ≡ OriginWrite → is_merged_at request.range.first v.merge ≡ false → map unroomed before ≡ map unroomed v.snaps
-          → All (IsSized contents) before → AreSavedIn contents layers request.range.first before after v.copies m v.flights gs
+          → All (IsSized contents) before → AreSavedIn contents layers (own_of request.range.first) before after v.copies m v.flights gs
           → f.route ≡ write_route_of false None (is_clear_in (map (snap_books contents layers) after) request.range.first) → w ≡ entered_of f (record v { snaps = after; flights = gs; copies = m })
           → submitted number request (moving_of contents layers replied v) ≡ moving_of contents layers replied w
       origin_write_is m before after gs kind unmerged roomed sized saved is becomes =
@@ -98,15 +98,15 @@ module _ {B : Type 0} (contents : B → List ℕ) (layers : B → List Layer) wh
           let m0 : Moving = moving_of contents layers replied v in
           let first : ℕ = request.range.first in
           let u : Volumed B = record v { snaps = after; flights = gs; copies = m } in
-          let all : AreAll contents layers first before after v.copies m v.flights gs = all_are contents layers first before after v.copies m v.flights gs sized saved in
+          let all : AreAll contents layers (chunk_at first) before after v.copies m v.flights gs = all_are contents layers (own_of first) (chunk_at first) (λ s. refl) before after v.copies m v.flights gs sized saved in
           let route : Route = write_route m0.merge (map held after) first in
           let to : Moving → Moving = λ (x : Moving). accepted number request (write_route x.merge x.snaps first) x in
           let made : List Held → List Going → ℕ → Moving = λ (hs : List Held) (rs : List Going) (j : ℕ). accepted number request (write_route m0.merge hs first) (record m0 { snaps = hs; requests = rs; started = j }) in
           ap (λ (x : Kind). submitted_as x number request m0) kind
-          ∙ ap to (if_false (is_grouped m0.merge first || is_some (merged_place m0.merge first)) m0 (start_copies first m0) (merged_held false unmerged))
-          ∙ ap (λ (xs : List Held). made (started_all first v.copies xs) (refused_by first xs (map going_of v.flights)) (started_by first v.copies xs)) (sym (unroomed_seen before v.snaps roomed))
-          ∙ ap (λ (hs : List Held). made hs (refused_by first (map held before) (map going_of v.flights)) (started_by first v.copies (map held before))) all.seen
-          ∙ ap (λ (rs : List Going). made (map held after) rs (started_by first v.copies (map held before))) all.requests
+          ∙ ap to (if_false (is_grouped m0.merge first || is_some (merged_place m0.merge first)) m0 (start_copies (chunk_at first) m0) (merged_held false unmerged))
+          ∙ ap (λ (xs : List Held). made (started_all (chunk_at first) v.copies xs) (refused_by (chunk_at first) xs (map going_of v.flights)) (started_by (chunk_at first) v.copies xs)) (sym (unroomed_seen before v.snaps roomed))
+          ∙ ap (λ (hs : List Held). made hs (refused_by (chunk_at first) (map held before) (map going_of v.flights)) (started_by (chunk_at first) v.copies (map held before))) all.seen
+          ∙ ap (λ (rs : List Going). made (map held after) rs (started_by (chunk_at first) v.copies (map held before))) all.requests
           ∙ ap (made (map held after) (map going_of gs)) all.count
           ∙ accepted_is u w route (is ∙ ap (write_route_of false None) (sym (clear_seen contents layers first after)) ∙ sym (unmerged_route first v.merge unmerged (is_clear (map held after) first)) ∙ sym (write_route_held (map held after))) becomes
 
@@ -149,7 +149,7 @@ module _ {B : Type 0} (contents : B → List ℕ) (layers : B → List Layer) wh
             let h' : Held = with_copy (v.copies + 1) (request.range.first / s.state.chunk) h in
             write_found kind live (has_open contents layers request.range.first s did has) None at
             ∙ if_true (needs_none (request.range.first / s.state.chunk) h) (accepted number request Waits m) (if is_filled h then declined Invalid (spoil test h m) else accepted number request Waits (put test h' (record m { started = v.copies + 1 })))
-            (yes_of (needs_none (request.range.first / s.state.chunk) h) (lacks request.range.first s) (needs_is contents layers request.range.first s) has)
+            (yes_of (needs_none (request.range.first / s.state.chunk) h) (lacks request.range.first s) (needs_is contents layers (own_of request.range.first s) s) has)
             ∙ accepted_is v w Waits is becomes
 
         -- of one that it lacks: a copy is started, and the write waits
@@ -163,11 +163,11 @@ module _ {B : Type 0} (contents : B → List ℕ) (layers : B → List Layer) wh
             let test : Held → Bool = λ (x : Held). x.snap.number == n in
             let h' : Held = with_copy (v.copies + 1) (request.range.first / s.state.chunk) h in
             let u : Volumed B = record v { snaps = set v.snaps k t; copies = v.copies + 1 } in
-            let live : s.live ≡ true = lacks_live request.range.first s lacking in
+            let live : s.live ≡ true = lacks_live (own_of request.range.first s) s lacking in
             write_found kind live (room_open contents layers request.range.first s did sized lacking room) None at
             ∙ if_false (needs_none (request.range.first / s.state.chunk) h) (accepted number request Waits m) (if is_filled h then declined Invalid (spoil test h m) else accepted number request Waits (put test h' (record m { started = v.copies + 1 })))
-            (not_of (needs_none (request.range.first / s.state.chunk) h) (lacks request.range.first s) (needs_is contents layers request.range.first s) lacking)
-            ∙ if_false (is_filled h) (declined Invalid (spoil test h m)) (accepted number request Waits (put test h' (record m { started = v.copies + 1 }))) (filled_is contents layers request.range.first s sized live ∙ room)
+            (not_of (needs_none (request.range.first / s.state.chunk) h) (lacks request.range.first s) (needs_is contents layers (own_of request.range.first s) s) lacking)
+            ∙ if_false (is_filled h) (declined Invalid (spoil test h m)) (accepted number request Waits (put test h' (record m { started = v.copies + 1 }))) (filled_is contents layers s sized live ∙ room)
             ∙ ap (λ (x : Held). accepted number request Waits (put test x (record m { started = v.copies + 1 }))) (sym copy)
             ∙ ap (λ (hs : List Held). accepted number request Waits (record m { snaps = hs; started = v.copies + 1 })) (with_is (held_of contents layers) test k s t v.snaps found)
             ∙ accepted_is u w Waits is becomes
@@ -198,15 +198,15 @@ module _ {B : Type 0} (contents : B → List ℕ) (layers : B → List Layer) wh
         let h : Held = held_of contents layers s in
         let test : Held → Bool = λ (x : Held). x.snap.number == n in
         let h' : Held = with_copy (v.copies + 1) (request.range.first / s.state.chunk) h in
-        let live : s.live ≡ true = lacks_live request.range.first s lacking in
+        let live : s.live ≡ true = lacks_live (own_of request.range.first s) s lacking in
         ap (λ (x : Kind). submitted_as x number request m) kind
         ∙ ap (λ (x : Option Held). for_some x (λ y. write_snap number request test y m) (declined Invalid m)) (first_is (held_of contents layers) test k s v.snaps found)
         ∙ if_false (shuts (request.range.first / s.state.chunk) h) (declined Overflow (put test (overflown h) m)) (write_open number request test h m) (never_open contents layers request.range.first s never)
         ∙ if_true s.live (write_placed number request test h (published_place s.pairs s.marks (request.range.first / s.state.chunk)) m) (declined Invalid m) live
         ∙ ap (λ (x : Option ℕ). write_placed number request test h x m) at
         ∙ if_false (needs_none (request.range.first / s.state.chunk) h) (accepted number request Waits m) (if is_filled h then declined Invalid (spoil test h m) else accepted number request Waits (put test h' (record m { started = v.copies + 1 })))
-        (not_of (needs_none (request.range.first / s.state.chunk) h) (lacks request.range.first s) (needs_is contents layers request.range.first s) lacking)
-        ∙ if_true (is_filled h) (declined Invalid (spoil test h m)) (accepted number request Waits (put test h' (record m { started = v.copies + 1 }))) (filled_is contents layers request.range.first s sized live ∙ full)
+        (not_of (needs_none (request.range.first / s.state.chunk) h) (lacks request.range.first s) (needs_is contents layers (own_of request.range.first s) s) lacking)
+        ∙ if_true (is_filled h) (declined Invalid (spoil test h m)) (accepted number request Waits (put test h' (record m { started = v.copies + 1 }))) (filled_is contents layers s sized live ∙ full)
         ∙ ap (declined Invalid) (spoil_is contents layers replied v k s test found v.origin m.origin (spoilt_of s) h refl refl refl)
 
     -- a live snapshot that takes no write: it is marked, its requests stay, and this one is refused

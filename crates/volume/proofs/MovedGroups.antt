@@ -9,6 +9,7 @@ use Rattle.device.specs.Layers.{Layer}
 use Rattle.plain.specs.declared.event.Event.{Event}
 use Rattle.plain.specs.declared.event.Event.TheVariants.{MergeGroup}
 use Rattle.plain.specs.declared.request.Reply.{Reply}
+use Rattle.pending.specs.Copies.{count_of}
 use Rattle.pending.specs.declared.flights.Flight.{Flight}
 use Rattle.store.specs.Grouping.{IsGroup, run_at}
 use Rattle.volume_laws.specs.Held.{SnapHolds}
@@ -20,7 +21,8 @@ use Rattle.event_machine.specs.MergeDue.{in_area}
 use Rattle.event_machine.specs.Seen.{going_of}
 use Rattle.event_machine.specs.MergeSeen.{MergeSeen, merge_held_of}
 use Rattle.event_machine.specs.MergeStepping.{stepped_all, start_next}
-use Rattle.event_machine.specs.Submitting.{started_by, refused_by}
+use Rattle.event_machine.specs.Again.{next_over as next_held}
+use Rattle.event_machine.specs.Submitting.{start_copies, started_by, refused_by}
 use Rattle.event_machine.proofs.Grouped.{group_is}
 use Rattle.event_machine.proofs.MergeMoves.{formed_is}
 use Rattle.event_machine.proofs.MergeTied.{group_same}
@@ -29,12 +31,13 @@ use Rattle.merge.specs.Due.{has_group_of, can_group_of}
 use Rattle.merge.specs.Lists.{formed}
 use Rattle.merge.specs.Merging.{Merging, due_of as merging_due, flushed_of}
 use Rattle.merge.specs.declared.group.Group.{Group}
-use Rattle.merge_beside.specs.Starting.{IsNextSaved}
+use Rattle.merge_beside.specs.Starting.{IsNextSaved, next_for}
 use Rattle.volume.specs.Volumed.{Volumed}
 use Rattle.volume.specs.Whole.{IsWhole}
 use Rattle.volume.specs.Moved.{held_of, moving_of}
 use Rattle.volume.proofs.MergeChanging.{merged_to}
 use Rattle.volume.proofs.MergeSaves.{regrouped}
+use Rattle.volume.proofs.MovedCopies.{sectors_is}
 use Rattle.volume.proofs.MovedSubmits.{IsSized, AreAll, all_are}
 use Rattle.volume.proofs.NextSaved.{as_saved}
 
@@ -57,21 +60,24 @@ stores_sized contents layers size v h k d lt = record {
 }
 
 module _ {B : Type 0} (contents : B → List ℕ) (layers : B → List Layer) (replied : Option Reply) where
-  -- the copies of the next pair's chunk are started
-  pub next_moved : (u : Volumed B) (chunk : ℕ) (o : Option Pair) → All (IsSized contents) u.snaps → (ts : List (Kept B)) (n : ℕ) (gs : List Flight) → IsNextSaved contents layers chunk o u.snaps ts u.copies n u.flights gs
+  -- the copies that the next pair waits for are started, on an origin disk of so many sectors
+  pub next_moved : (u : Volumed B) (chunk sectors : ℕ) (o : Option Pair) → length (contents u.origin) ≡ 512 * sectors → All (IsSized contents) u.snaps → (ts : List (Kept B)) (n : ℕ) (gs : List Flight) → IsNextSaved contents layers chunk sectors o u.snaps ts u.copies n u.flights gs
       → start_next chunk o (moving_of contents layers replied u) ≡ moving_of contents layers replied (record u { snaps = ts; copies = n; flights = gs })
-  next_moved u chunk None sized ts n gs (same, count, requests) =
+  next_moved u chunk sectors None disk sized ts n gs (same, count, requests) =
       sym (ap (λ (x : List (Kept B)). moving_of contents layers replied (record u { snaps = x; copies = n; flights = gs })) same
       ∙ ap (λ (x : ℕ). moving_of contents layers replied (record u { copies = x; flights = gs })) count
       ∙ ap (λ (x : List Flight). moving_of contents layers replied (record u { flights = x })) requests)
-  next_moved u chunk (Some q) sized ts n gs saved =
-      let (us, h) = as_saved contents layers (chunk * q.old) u.snaps ts u.copies n u.flights gs saved in
-      let all : AreAll contents layers (chunk * q.old) u.snaps us u.copies n u.flights gs = all_are contents layers (chunk * q.old) u.snaps us u.copies n u.flights gs sized h.saved in
+  next_moved u chunk sectors (Some q) disk sized ts n gs saved =
+      let at : Kept B → ℕ = next_for chunk sectors q in
+      let here : ℕ → Held → ℕ = λ (k : ℕ). next_held (chunk * q.old) (count_of chunk k q.old) in
+      let (us, h) = as_saved contents layers (next_for chunk sectors q) u.snaps ts u.copies n u.flights gs saved in
+      let all : AreAll contents layers (here sectors) u.snaps us u.copies n u.flights gs = all_are contents layers (next_for chunk sectors q) (here sectors) (λ s. refl) u.snaps us u.copies n u.flights gs sized h.saved in
       let hs : List Held = map (held_of contents layers) u.snaps in
       let rs : List Going = map going_of u.flights in
       let machine : Moving = moving_of contents layers replied u in
-      ap (λ (x : List Held). record machine { snaps = x; requests = refused_by (chunk * q.old) hs rs; started = started_by (chunk * q.old) u.copies hs }) (all.seen ∙ h.held)
-      ∙ ap (λ (x : List Going). record machine { snaps = map (held_of contents layers) ts; requests = x; started = started_by (chunk * q.old) u.copies hs }) all.requests
+      ap (λ (k : ℕ). start_copies (here k) machine) (sectors_is (contents u.origin) sectors disk)
+      ∙ ap (λ (x : List Held). record machine { snaps = x; requests = refused_by (here sectors) hs rs; started = started_by (here sectors) u.copies hs }) (all.seen ∙ h.held)
+      ∙ ap (λ (x : List Going). record machine { snaps = map (held_of contents layers) ts; requests = x; started = started_by (here sectors) u.copies hs }) all.requests
       ∙ ap (λ (x : ℕ). record machine { snaps = map (held_of contents layers) ts; requests = map going_of gs; started = x }) all.count
 
   module _ (v : Volumed B) (m : Merging B) (was : v.merge ≡ Some m) where
@@ -101,11 +107,11 @@ module _ {B : Type 0} (contents : B → List ℕ) (layers : B → List Layer) (r
     -- MergeGroup
     pub group_moved : (first : Pair) (count : ℕ) → IsGroup m.state.filled m.pairs first count → can_group_of m ≡ true → can_group (merging_due contents true m) ≡ true → length m.pairs ≡ m.state.current * (32 * m.state.chunk) + m.state.filled
         → (kept : List Pair) → FormsGroup kept (run_at first 0 count) (merging_due contents true m) (merging_due contents true (regrouped m (Some (formed first count))))
-        → All (IsSized contents) v.snaps → (ts : List (Kept B)) (n : ℕ) (gs : List Flight) → IsNextSaved contents layers m.state.chunk (last_of (run_at first 0 count)) v.snaps ts v.copies n v.flights gs
+        → length (contents v.origin) ≡ 512 * m.state.origin → All (IsSized contents) v.snaps → (ts : List (Kept B)) (n : ℕ) (gs : List Flight) → IsNextSaved contents layers m.state.chunk m.state.origin (last_of (run_at first 0 count)) v.snaps ts v.copies n v.flights gs
         → stepped_all MergeGroup (moving_of contents layers replied v) ≡ moving_of contents layers replied (record (merged_to v v.origin (regrouped m (Some (formed first count))) v.flights) { snaps = ts; copies = n; flights = gs })
-    group_moved first count i free due filled kept step sized ts n gs saved =
+    group_moved first count i free due filled kept step disk sized ts n gs saved =
         let m' : Merging B = regrouped m (Some (formed first count)) in
         machine_is MergeGroup
         ∙ cond-true _ _ _ (group_same (seen m) filled ∙ due)
         ∙ formed_is (seen m) (seen m') machine kept (run_at first 0 count) step (runs first count i filled) (group_free m free) refl refl
-        ∙ next_moved (merged_to v v.origin m' v.flights) m.state.chunk (last_of (run_at first 0 count)) sized ts n gs saved
+        ∙ next_moved (merged_to v v.origin m' v.flights) m.state.chunk m.state.origin (last_of (run_at first 0 count)) disk sized ts n gs saved

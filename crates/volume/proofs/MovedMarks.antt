@@ -17,13 +17,13 @@ use Rattle.pending.specs.declared.flights.Route.{Route}
 use Rattle.store.specs.Operations.{IsOneOperation}
 use Rattle.volume_laws.specs.Again.{again_of, new_route, placed_of}
 use Rattle.volume_laws.specs.Books.{SnapBooks}
-use Rattle.volume_laws.specs.Published.{is_clear as is_clear_in, is_saved as is_saved_in}
+use Rattle.volume_laws.specs.Published.{is_clear as is_clear_in, is_clear_over as is_clear_over_in, is_saved as is_saved_in, is_saved_over as is_saved_over_in}
 use Rattle.settled.specs.Saves.{marked}
 use Rattle.settled.specs.Devices.{Device, answers, written_by}
 use Rattle.event_machine.specs.Held.{Held, Going, MergeHeld, Moving, is_untried}
 use Rattle.event_machine.specs.Due.{is_publishable}
-use Rattle.event_machine.specs.Again.{is_saved, is_clear, is_grouped, merged_place, write_route, again, placed, rerouted}
-use Rattle.event_machine.specs.Stepping.{with_first, without_first, publish, mark_invalid, stepped}
+use Rattle.event_machine.specs.Again.{is_saved, is_saved_over, is_clear, is_clear_over, is_grouped, merged_place, write_route, again, placed, rerouted}
+use Rattle.event_machine.specs.Stepping.{with_first, without_first, publish, publishes, mark_invalid, stepped}
 use Rattle.event_machine.specs.Seen.{going_of}
 use Rattle.event_machine.specs.MergeSeen.{MergeSeen, merge_held_of, held_in, books_in}
 use Rattle.event_machine.proofs.Tied.{seen_alike}
@@ -55,6 +55,16 @@ module _ {B : Type 0} (contents : B → List ℕ) (layers : B → List Layer) wh
   clear_seen first snaps =
       ap (λ b. b && not (list_any is_untried (map (held_of contents layers) snaps))) (saved_seen first snaps)
       ∙ ap (λ b. list_all (is_saved_in first) (map (snap_books contents layers) snaps) && not b) (untried_seen snaps)
+
+  -- and so many sectors of a merged chunk
+  saved_over_seen : (first count : ℕ) (snaps : List (Kept B)) → list_all (is_saved_over first count) (map (held_of contents layers) snaps) ≡ list_all (is_saved_over_in first count) (map (snap_books contents layers) snaps)
+  saved_over_seen first count [] = refl
+  saved_over_seen first count (s ∷ snaps) = ap (λ b. is_saved_over_in first count (snap_books contents layers s) && b) (saved_over_seen first count snaps)
+
+  pub clear_over_seen : (first count : ℕ) (snaps : List (Kept B)) → is_clear_over (map (held_of contents layers) snaps) first count ≡ is_clear_over_in (map (snap_books contents layers) snaps) first count
+  clear_over_seen first count snaps =
+      ap (λ b. b && not (list_any is_untried (map (held_of contents layers) snaps))) (saved_over_seen first count snaps)
+      ∙ ap (λ b. list_all (is_saved_over_in first count) (map (snap_books contents layers) snaps) && not b) (untried_seen snaps)
 
   -- held origin writes are routed again, beside a merge or without one
   pub route_seen : (merge : Option MergeSeen) (snaps : List (Kept B)) (f : Flight)
@@ -116,6 +126,14 @@ module _ {B : Type 0} (contents : B → List ℕ) (layers : B → List Layer) wh
         ∙ ap rerouted (put_is contents layers replied v k s test found v.origin m.origin s' after refl h_is)
         ∙ rerouted_is (changed v v.origin k s' v.flights) flights routed
 
+    -- the snapshot whose mark it is is found
+    pub publishes_first : IsFirst (λ (x : Kept B). has_mark_at v.flights n x) k s v.snaps → IsFirst (λ (x : Kept B). publishes (map going_of v.flights) n (held_of contents layers x)) k s v.snaps
+    publishes_first found =
+        let test : Held → Bool = publishes (map going_of v.flights) n in
+        first_by_test (λ (x : Kept B). has_mark_at v.flights n x) (λ (x : Kept B). test (held_of contents layers x)) k s v.snaps
+        (λ x. any_alike (is_mark_of x v.flights n) (λ (y : Mark). (y.number == n) && is_publishable (map going_of v.flights) (held_of contents layers x) y) x.marks
+        (λ y. ap (λ b. (y.number == n) && b) (sym (publishable_same contents layers x v.flights y)))) found
+
     -- a mark is taken away
     pub publish_is : IsFirst (λ (x : Kept B). has_mark_at v.flights n x) k s v.snaps → (j : ℕ) (m : Mark) → IsFirst (λ (x : Mark). x.number == n) j m s.marks → (s' : Kept B) (flights : List Flight)
         → s' ≡ record s { marks = remove s.marks j; merging = unpublished m.number s.merging }
@@ -124,11 +142,8 @@ module _ {B : Type 0} (contents : B → List ℕ) (layers : B → List Layer) wh
     publish_is found j m mine s' flights is routed =
         let w : Moving = moving_of contents layers replied v in
         let h : Held = held_of contents layers s in
-        let test : Held → Bool = λ (x : Held). list_any (λ (y : Mark). (y.number == n) && is_publishable (map going_of v.flights) x y) x.marks in
-        let seen : IsFirst (λ (x : Kept B). test (held_of contents layers x)) k s v.snaps =
-        first_by_test (λ (x : Kept B). has_mark_at v.flights n x) (λ (x : Kept B). test (held_of contents layers x)) k s v.snaps
-        (λ x. any_alike (is_mark_of x v.flights n) (λ (y : Mark). (y.number == n) && is_publishable (map going_of v.flights) (held_of contents layers x) y) x.marks
-        (λ y. ap (λ b. (y.number == n) && b) (sym (publishable_same contents layers x v.flights y)))) found in
+        let test : Held → Bool = publishes (map going_of v.flights) n in
+        let seen : IsFirst (λ (x : Kept B). test (held_of contents layers x)) k s v.snaps = publishes_first found in
         let after : Held = record h { marks = without_first (λ (x : Mark). x.number == n) s.marks } in
         let h_is : after ≡ held_of contents layers s' =
         ap (λ (ms : List Mark). record h { marks = ms }) (without_is (λ (x : Mark). x.number == n) j m s.marks mine) ∙ sym (ap (held_of contents layers) is) in

@@ -8,7 +8,7 @@ use Rattle.plain.specs.declared.request.Overflowing.TheVariants.{Never, May, Did
 use Rattle.plain.specs.Plain.{did_overflow, may_overflow}
 use Rattle.event_machine.specs.Submitting.{is_filled, needs_none, shuts}
 use Rattle.snapshot.specs.Kept.{Kept}
-use Rattle.snapshots.specs.Starting.{lacks, is_full_of}
+use Rattle.snapshots.specs.Starting.{lacks, is_full_of, own_of}
 use Rattle.volume.specs.Moved.{held_of}
 use Rattle.volume.proofs.MovedSubmits.{IsSized, lacks_live, needs_is, filled_is, not_of, yes_of}
 
@@ -59,11 +59,11 @@ module _ {B : Type 0} (contents : B → List ℕ) (layers : B → List Layer) (f
 
   pub has_open : did_overflow s.overflow ≡ false → lacks first s ≡ false → shuts c (held_of contents layers s) ≡ false
   has_open did has = open_needless s.live (did_overflow s.overflow) (may_overflow s.overflow) (needs_none c (held_of contents layers s)) (is_filled (held_of contents layers s)) did
-      (yes_of (needs_none c (held_of contents layers s)) (lacks first s) (needs_is contents layers first s) has)
+      (yes_of (needs_none c (held_of contents layers s)) (lacks first s) (needs_is contents layers (own_of first s) s) has)
 
   pub room_open : did_overflow s.overflow ≡ false → IsSized contents s → lacks first s ≡ true → is_full_of s ≡ false → shuts c (held_of contents layers s) ≡ false
   room_open did sized lacking room = open_free s.live (did_overflow s.overflow) (may_overflow s.overflow) (needs_none c (held_of contents layers s)) (is_filled (held_of contents layers s)) did
-      (filled_is contents layers first s sized (lacks_live first s lacking) ∙ room)
+      (filled_is contents layers s sized (lacks_live (own_of first s) s lacking) ∙ room)
 
   pub never_open : s.overflow ≡ Never → shuts c (held_of contents layers s) ≡ false
   never_open never = open_never s.live (did_overflow s.overflow) (may_overflow s.overflow) (not (needs_none c (held_of contents layers s)) && is_filled (held_of contents layers s)) (ap did_overflow never) (ap may_overflow never)
@@ -76,6 +76,6 @@ module _ {B : Type 0} (contents : B → List ℕ) (layers : B → List Layer) (f
 
   pub full_shut : s.overflow ≡ May → IsSized contents s → lacks first s ≡ true → is_full_of s ≡ true → shuts c (held_of contents layers s) ≡ true
   full_shut may sized lacking full =
-      let live : s.live ≡ true = lacks_live first s lacking in
+      let live : s.live ≡ true = lacks_live (own_of first s) s lacking in
       shut_full s.live (did_overflow s.overflow) (may_overflow s.overflow) (needs_none c (held_of contents layers s)) (is_filled (held_of contents layers s)) live (ap may_overflow may)
-      (not_of (needs_none c (held_of contents layers s)) (lacks first s) (needs_is contents layers first s) lacking) (filled_is contents layers first s sized live ∙ full)
+      (not_of (needs_none c (held_of contents layers s)) (lacks first s) (needs_is contents layers (own_of first s) s) lacking) (filled_is contents layers s sized live ∙ full)

@@ -1,5 +1,5 @@
 -- The copies that an origin write starts in all snapshots, as the event machine has them.
-use Rattle.std.proofs.Common.{◌≡◌, ℕ, ◌+◌, ◌*◌, ◌/◌, ◌<◌, ◌≤◌, Bool, true, false, List, [], ◌∷◌, length, map, nat_lt, refl, sym, ◌∙◌, ap, arith, inl, inr}
+use Rattle.std.proofs.Common.{◌≡◌, ℕ, ◌+◌, ◌*◌, ◌<◌, ◌≤◌, Bool, true, false, List, [], ◌∷◌, length, map, nat_lt, refl, sym, ◌∙◌, ap, subst, arith, inl, inr}
 use Rattle.std.specs.Prelude.{◌==◌, ◌&&◌, ◌||◌, not, MatchBool, if◌then◌else◌}
 use Rattle.std.specs.List.{All, list_any}
 use Rattle.std.specs.Option.{is_some}
@@ -19,7 +19,7 @@ use Rattle.event_machine.specs.Seen.{copying_of, going_of}
 use Rattle.event_machine.specs.Submitting.{is_filled, with_copy, needs_none, started_all, started_by, refused_by}
 use Rattle.snapshot.specs.Kept.{Kept}
 use Rattle.snapshot.specs.Calls.{StartsAt, started}
-use Rattle.snapshots.specs.Starting.{lacks, is_full_of, overflows, spoilt_of, IsSavedIn, AreSavedIn}
+use Rattle.snapshots.specs.Starting.{lacks_chunk, is_full_of, overflows_chunk, spoilt_of, IsSavedIn, AreSavedIn}
 use Rattle.volume.specs.Moved.{held_of}
 use Rattle.volume.proofs.MovedLists.{any_seen, if_true, if_false}
 use Rattle.volume.proofs.MovedSnaps.{refused_seen}
@@ -72,46 +72,46 @@ either_then : (a b c : Bool) → a ≡ false → b ≡ c → (a || b) ≡ c
 either_then a b c p q = ap (λ x. x || b) p ∙ q
 
 -- one that lacks its chunk is live
-pub lacks_live : {B : Type 0} (first : ℕ) (s : Kept B) → lacks first s ≡ true → s.live ≡ true
-lacks_live first s e = first_of s.live (not (is_some (place_of s.pairs (first / s.state.chunk)))) (first_of (s.live && not (is_some (place_of s.pairs (first / s.state.chunk)))) (not (list_any (λ p. p.pair.old == first / s.state.chunk) s.copies)) e)
+pub lacks_live : {B : Type 0} (c : ℕ) (s : Kept B) → lacks_chunk c s ≡ true → s.live ≡ true
+lacks_live c s e = first_of s.live (not (is_some (place_of s.pairs c))) (first_of (s.live && not (is_some (place_of s.pairs c))) (not (list_any (λ p. p.pair.old == c) s.copies)) e)
 
 -- what becomes of a snapshot, before the others
 abbrev one_of : ℕ → ℕ → Held → (ℕ → List Held) → List Held
-one_of first n h rest =
-    if needs_none (first / h.snap.chunk) h then h ∷ rest n
+one_of c n h rest =
+    if needs_none c h then h ∷ rest n
     else (if is_filled h then spoiled h ∷ rest n
-    else with_copy (n + 1) (first / h.snap.chunk) h ∷ rest (n + 1))
+    else with_copy (n + 1) c h ∷ rest (n + 1))
 
 -- of the numbers
 abbrev count_one : ℕ → ℕ → Held → (ℕ → ℕ) → ℕ
-count_one first n h rest = if needs_none (first / h.snap.chunk) h || is_filled h then rest n else rest (n + 1)
+count_one c n h rest = if needs_none c h || is_filled h then rest n else rest (n + 1)
 
 -- and of the requests
 abbrev refuse_one : ℕ → Held → List Going → (List Going → List Going) → List Going
-refuse_one first h rs rest = if needs_none (first / h.snap.chunk) h || not (is_filled h) then rest rs else rest (map (refused h.snap.number) rs)
+refuse_one c h rs rest = if needs_none c h || not (is_filled h) then rest rs else rest (map (refused h.snap.number) rs)
 
-module _ {B : Type 0} (contents : B → List ℕ) (layers : B → List Layer) (first : ℕ) where
+module _ {B : Type 0} (contents : B → List ℕ) (layers : B → List Layer) where
   abbrev held : Kept B → Held
   held = held_of contents layers
 
-  pub needs_is : (s : Kept B) → needs_none (first / s.state.chunk) (held s) ≡ not (lacks first s)
-  needs_is s =
-      ap (λ b. not s.live || is_some (place_of s.pairs (first / s.state.chunk)) || b) (any_seen copying_of (λ (p : Copying). p.pair.old == first / s.state.chunk) (λ (p : ChunkCopy). p.pair.old == first / s.state.chunk) s.copies (λ p. refl))
-      ∙ needs_lacks s.live (is_some (place_of s.pairs (first / s.state.chunk))) (list_any (λ p. p.pair.old == first / s.state.chunk) s.copies)
+  pub needs_is : (c : ℕ) (s : Kept B) → needs_none c (held s) ≡ not (lacks_chunk c s)
+  needs_is c s =
+      ap (λ b. not s.live || is_some (place_of s.pairs c) || b) (any_seen copying_of (λ (p : Copying). p.pair.old == c) (λ (p : ChunkCopy). p.pair.old == c) s.copies (λ p. refl))
+      ∙ needs_lacks s.live (is_some (place_of s.pairs c)) (list_any (λ p. p.pair.old == c) s.copies)
 
   pub filled_is : (s : Kept B) → IsSized contents s → s.live ≡ true → is_filled (held s) ≡ is_full_of s
   filled_is s i live = full_alike (length (contents s.device)) s.state.size (s.state.chunk * (s.next + 1)) (i.sized live)
 
   -- a copy is started
-  pub with_copy_is : (s t : Kept B) (n : ℕ) (buffer : Vec ℕ) → StartsAt contents layers (started (n + 1) (first / s.state.chunk) s.next buffer) s t → with_copy (n + 1) (first / s.state.chunk) (held s) ≡ held t
-  with_copy_is s t n buffer starts_at =
-      let p : ChunkCopy = started (n + 1) (first / s.state.chunk) s.next buffer in
+  pub with_copy_is : (c : ℕ) (s t : Kept B) (n : ℕ) (buffer : Vec ℕ) → StartsAt contents layers (started (n + 1) c s.next buffer) s t → with_copy (n + 1) c (held s) ≡ held t
+  with_copy_is c s t n buffer starts_at =
+      let p : ChunkCopy = started (n + 1) c s.next buffer in
       let next : ℕ = stepped_place s.state.chunk (s.next + 1) in
       ap (λ (cs : List Copying). record (held s) { next = next; copies = cs }) (sym (map-append copying_of s.copies (p ∷ [])))
       ∙ sym (ap (held_of contents layers) starts_at.fields)
 
-  abbrev Starts : Kept B → Kept B → ℕ → ℕ → List Flight → List Flight → Type 0
-  Starts s t n k fs gs = (buffer : Vec ℕ) × StartsAt contents layers (started (n + 1) (first / s.state.chunk) s.next buffer) s t × (k ≡ n + 1) × (gs ≡ fs)
+  abbrev Starts : ℕ → Kept B → Kept B → ℕ → ℕ → List Flight → List Flight → Type 0
+  Starts c s t n k fs gs = (buffer : Vec ℕ) × StartsAt contents layers (started (n + 1) c s.next buffer) s t × (k ≡ n + 1) × (gs ≡ fs)
 
   abbrev Spoils : Kept B → Kept B → ℕ → ℕ → List Flight → List Flight → Type 0
   Spoils s t n k fs gs = (t ≡ spoilt_of s) × (k ≡ n) × (gs ≡ map (refused_of (s.number ∷ [])) fs)
@@ -120,14 +120,14 @@ module _ {B : Type 0} (contents : B → List ℕ) (layers : B → List Layer) (f
   Stays s t n k fs gs = (t ≡ s) × (k ≡ n) × (gs ≡ fs)
 
   -- what it is seen as, which number was given last then, and the requests
-  pub record IsOne (s t : Kept B) (n k : ℕ) (fs gs : List Flight) (rest : ℕ → List Held) (more : ℕ → ℕ) (next : List Going → List Going) : Type 0 where
-    pub seen : one_of first n (held s) rest ≡ held t ∷ rest k
-    pub count : count_one first n (held s) more ≡ more k
-    pub requests : refuse_one first (held s) (map going_of fs) next ≡ next (map going_of gs)
+  pub record IsOne (c : ℕ) (s t : Kept B) (n k : ℕ) (fs gs : List Flight) (rest : ℕ → List Held) (more : ℕ → ℕ) (next : List Going → List Going) : Type 0 where
+    pub seen : one_of c n (held s) rest ≡ held t ∷ rest k
+    pub count : count_one c n (held s) more ≡ more k
+    pub requests : refuse_one c (held s) (map going_of fs) next ≡ next (map going_of gs)
 
-  module _ (s t : Kept B) (n k : ℕ) (fs gs : List Flight) (rest : ℕ → List Held) (more : ℕ → ℕ) (next : List Going → List Going) (i : IsSized contents s) where
+  module _ (c : ℕ) (s t : Kept B) (n k : ℕ) (fs gs : List Flight) (rest : ℕ → List Held) (more : ℕ → ℕ) (next : List Going → List Going) (i : IsSized contents s) where
     abbrev needs : Bool
-    needs = needs_none (first / s.state.chunk) (held s)
+    needs = needs_none c (held s)
 
     abbrev filled : Bool
     filled = is_filled (held s)
@@ -135,73 +135,76 @@ module _ {B : Type 0} (contents : B → List ℕ) (layers : B → List Layer) (f
     abbrev rs : List Going
     rs = map going_of fs
 
-    one_started : lacks first s ≡ true → is_full_of s ≡ false → Starts s t n k fs gs → IsOne s t n k fs gs rest more next
+    one_started : lacks_chunk c s ≡ true → is_full_of s ≡ false → Starts c s t n k fs gs → IsOne c s t n k fs gs rest more next
     one_started lacking room h =
-        let some : needs ≡ false = not_of needs (lacks first s) (needs_is s) lacking in
-        let free : filled ≡ false = filled_is s i (lacks_live first s lacking) ∙ room in
+        let some : needs ≡ false = not_of needs (lacks_chunk c s) (needs_is c s) lacking in
+        let free : filled ≡ false = filled_is s i (lacks_live c s lacking) ∙ room in
         record {
-          seen = if_false needs (held s ∷ rest n) (if filled then spoiled (held s) ∷ rest n else with_copy (n + 1) (first / s.state.chunk) (held s) ∷ rest (n + 1)) some
-              ∙ if_false filled (spoiled (held s) ∷ rest n) (with_copy (n + 1) (first / s.state.chunk) (held s) ∷ rest (n + 1)) free
-              ∙ ap (λ (x : Held). x ∷ rest (n + 1)) (with_copy_is s t n h.0 h.1) ∙ ap (λ j. held t ∷ rest j) (sym h.2);
+          seen = if_false needs (held s ∷ rest n) (if filled then spoiled (held s) ∷ rest n else with_copy (n + 1) c (held s) ∷ rest (n + 1)) some
+              ∙ if_false filled (spoiled (held s) ∷ rest n) (with_copy (n + 1) c (held s) ∷ rest (n + 1)) free
+              ∙ ap (λ (x : Held). x ∷ rest (n + 1)) (with_copy_is c s t n h.0 h.1) ∙ ap (λ j. held t ∷ rest j) (sym h.2);
           count = if_false (needs || filled) (more n) (more (n + 1)) (either_then needs filled false some free) ∙ ap more (sym h.2);
           requests = if_true (needs || not filled) (next rs) (next (map (refused s.number) rs)) (either_then needs (not filled) true some (ap not free)) ∙ ap (λ (xs : List Flight). next (map going_of xs)) (sym h.3);
         }
 
-    one_spoilt : lacks first s ≡ true → is_full_of s ≡ true → Spoils s t n k fs gs → IsOne s t n k fs gs rest more next
+    one_spoilt : lacks_chunk c s ≡ true → is_full_of s ≡ true → Spoils s t n k fs gs → IsOne c s t n k fs gs rest more next
     one_spoilt lacking full h =
-        let some : needs ≡ false = not_of needs (lacks first s) (needs_is s) lacking in
-        let none : filled ≡ true = filled_is s i (lacks_live first s lacking) ∙ full in
+        let some : needs ≡ false = not_of needs (lacks_chunk c s) (needs_is c s) lacking in
+        let none : filled ≡ true = filled_is s i (lacks_live c s lacking) ∙ full in
         record {
-          seen = if_false needs (held s ∷ rest n) (if filled then spoiled (held s) ∷ rest n else with_copy (n + 1) (first / s.state.chunk) (held s) ∷ rest (n + 1)) some
-              ∙ if_true filled (spoiled (held s) ∷ rest n) (with_copy (n + 1) (first / s.state.chunk) (held s) ∷ rest (n + 1)) none
+          seen = if_false needs (held s ∷ rest n) (if filled then spoiled (held s) ∷ rest n else with_copy (n + 1) c (held s) ∷ rest (n + 1)) some
+              ∙ if_true filled (spoiled (held s) ∷ rest n) (with_copy (n + 1) c (held s) ∷ rest (n + 1)) none
               ∙ ap (λ (x : Kept B). held x ∷ rest n) (sym h.0) ∙ ap (λ j. held t ∷ rest j) (sym h.1);
           count = if_true (needs || filled) (more n) (more (n + 1)) (either_then needs filled true some none) ∙ ap more (sym h.1);
           requests = if_false (needs || not filled) (next rs) (next (map (refused s.number) rs)) (either_then needs (not filled) false some (ap not none))
               ∙ ap next (refused_seen contents layers s.number fs) ∙ ap (λ (xs : List Flight). next (map going_of xs)) (sym h.2);
         }
 
-    one_stays : lacks first s ≡ false → Stays s t n k fs gs → IsOne s t n k fs gs rest more next
+    one_stays : lacks_chunk c s ≡ false → Stays s t n k fs gs → IsOne c s t n k fs gs rest more next
     one_stays has h =
-        let none : needs ≡ true = yes_of needs (lacks first s) (needs_is s) has in
+        let none : needs ≡ true = yes_of needs (lacks_chunk c s) (needs_is c s) has in
         record {
-          seen = if_true needs (held s ∷ rest n) (if filled then spoiled (held s) ∷ rest n else with_copy (n + 1) (first / s.state.chunk) (held s) ∷ rest (n + 1)) none
+          seen = if_true needs (held s ∷ rest n) (if filled then spoiled (held s) ∷ rest n else with_copy (n + 1) c (held s) ∷ rest (n + 1)) none
               ∙ ap (λ (x : Kept B). held x ∷ rest n) (sym h.0) ∙ ap (λ j. held t ∷ rest j) (sym h.1);
           count = if_true (needs || filled) (more n) (more (n + 1)) (either_first needs filled none) ∙ ap more (sym h.1);
           requests = if_true (needs || not filled) (next rs) (next (map (refused s.number) rs)) (either_first needs (not filled) none) ∙ ap (λ (xs : List Flight). next (map going_of xs)) (sym h.2);
         }
 
-    one_is : IsSavedIn contents layers first s t n k fs gs → IsOne s t n k fs gs rest more next
+    one_is : IsSavedIn contents layers c s t n k fs gs → IsOne c s t n k fs gs rest more next
     one_is saved =
-        let or_else : Type 0 = MatchBool (overflows first s) (Spoils s t n k fs gs) (Stays s t n k fs gs) in
-        elim (cases_Bool (lacks first s)) [
+        let or_else : Type 0 = MatchBool (overflows_chunk c s) (Spoils s t n k fs gs) (Stays s t n k fs gs) in
+        elim (cases_Bool (lacks_chunk c s)) [
           | inl lacking ↦ elim (cases_Bool (is_full_of s)) [
             | inl full ↦ one_spoilt lacking full
-                (MatchBool-at_true (Spoils s t n k fs gs) (Stays s t n k fs gs) (both (lacks first s) (is_full_of s) lacking full)
-                (MatchBool-at_false (Starts s t n k fs gs) or_else (then_no (lacks first s) (not (is_full_of s)) lacking (ap not full)) saved))
+                (MatchBool-at_true (Spoils s t n k fs gs) (Stays s t n k fs gs) (both (lacks_chunk c s) (is_full_of s) lacking full)
+                (MatchBool-at_false (Starts c s t n k fs gs) or_else (then_no (lacks_chunk c s) (not (is_full_of s)) lacking (ap not full)) saved))
             | inr room ↦ one_started lacking room
-                (MatchBool-at_true (Starts s t n k fs gs) or_else (both (lacks first s) (not (is_full_of s)) lacking (ap not room)) saved)
+                (MatchBool-at_true (Starts c s t n k fs gs) or_else (both (lacks_chunk c s) (not (is_full_of s)) lacking (ap not room)) saved)
           ]
           | inr has ↦ one_stays has
-              (MatchBool-at_false (Spoils s t n k fs gs) (Stays s t n k fs gs) (first_no (lacks first s) (is_full_of s) has)
-              (MatchBool-at_false (Starts s t n k fs gs) or_else (first_no (lacks first s) (not (is_full_of s)) has) saved))
+              (MatchBool-at_false (Spoils s t n k fs gs) (Stays s t n k fs gs) (first_no (lacks_chunk c s) (is_full_of s) has)
+              (MatchBool-at_false (Starts c s t n k fs gs) or_else (first_no (lacks_chunk c s) (not (is_full_of s)) has) saved))
         ]
 
-  -- all snapshots, what they are seen as, which number was given last, and the requests
-  pub record AreAll (snaps snaps' : List (Kept B)) (n m : ℕ) (fs gs : List Flight) : Type 0 where
-    pub seen : started_all first n (map held snaps) ≡ map held snaps'
-    pub count : started_by first n (map held snaps) ≡ m
-    pub requests : refused_by first (map held snaps) (map going_of fs) ≡ map going_of gs
+  -- All snapshots, what they are seen as, which number was given last, and the requests. at: the chunk that is wanted of each;
+  -- here: the same, of the machine's.
+  pub record AreAll (here : Held → ℕ) (snaps snaps' : List (Kept B)) (n m : ℕ) (fs gs : List Flight) : Type 0 where
+    pub seen : started_all here n (map held snaps) ≡ map held snaps'
+    pub count : started_by here n (map held snaps) ≡ m
+    pub requests : refused_by here (map held snaps) (map going_of fs) ≡ map going_of gs
 
-  pub all_are : (snaps snaps' : List (Kept B)) (n m : ℕ) (fs gs : List Flight) → All (IsSized contents) snaps → AreSavedIn contents layers first snaps snaps' n m fs gs → AreAll snaps snaps' n m fs gs
-  all_are [] [] n m fs gs sized saved = record { seen = refl; count = sym saved.0; requests = ap (map going_of) (sym saved.1) }
-  all_are [] (t ∷ ts) n m fs gs sized saved = absurd saved
-  all_are (s ∷ ss) [] n m fs gs sized saved = absurd saved
-  all_are (s ∷ ss) (t ∷ ts) n m fs gs sized saved =
-      let k : ℕ = saved.0 in
-      let hs : List Flight = saved.1 in
-      let rest : ℕ → List Held = λ j. started_all first j (map held ss) in
-      let more : ℕ → ℕ = λ j. started_by first j (map held ss) in
-      let next : List Going → List Going = λ xs. refused_by first (map held ss) xs in
-      let here : IsOne s t n k fs hs rest more next = one_is s t n k fs hs rest more next (All-head (IsSized contents) s ss sized) saved.2 in
-      let later : AreAll ss ts k m hs gs = all_are ss ts k m hs gs (All-tail (IsSized contents) s ss sized) saved.3 in
-      record { seen = here.seen ∙ ap (λ (xs : List Held). held t ∷ xs) later.seen; count = here.count ∙ later.count; requests = here.requests ∙ later.requests }
+  module _ (at : Kept B → ℕ) (here : Held → ℕ) (same : (s : Kept B) → here (held_of contents layers s) ≡ at s) where
+    pub all_are : (snaps snaps' : List (Kept B)) (n m : ℕ) (fs gs : List Flight) → All (IsSized contents) snaps → AreSavedIn contents layers at snaps snaps' n m fs gs → AreAll here snaps snaps' n m fs gs
+    all_are [] [] n m fs gs sized saved = record { seen = refl; count = sym saved.0; requests = ap (map going_of) (sym saved.1) }
+    all_are [] (t ∷ ts) n m fs gs sized saved = absurd saved
+    all_are (s ∷ ss) [] n m fs gs sized saved = absurd saved
+    all_are (s ∷ ss) (t ∷ ts) n m fs gs sized saved =
+        let k : ℕ = saved.0 in
+        let hs : List Flight = saved.1 in
+        let rest : ℕ → List Held = λ j. started_all here j (map held ss) in
+        let more : ℕ → ℕ = λ j. started_by here j (map held ss) in
+        let next : List Going → List Going = λ xs. refused_by here (map held ss) xs in
+        let one : IsOne (here (held s)) s t n k fs hs rest more next =
+        one_is (here (held s)) s t n k fs hs rest more next (All-head (IsSized contents) s ss sized) (subst (λ c. IsSavedIn contents layers c s t n k fs hs) (sym (same s)) saved.2) in
+        let later : AreAll here ss ts k m hs gs = all_are ss ts k m hs gs (All-tail (IsSized contents) s ss sized) saved.3 in
+        record { seen = one.seen ∙ ap (λ (xs : List Held). held t ∷ xs) later.seen; count = one.count ∙ later.count; requests = one.requests ∙ later.requests }

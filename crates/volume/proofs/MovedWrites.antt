@@ -37,7 +37,7 @@ use Rattle.volume.proofs.MergeChanging.{merged_to}
 use Rattle.volume.proofs.MergeSaves.{regrouped}
 use Rattle.volume.proofs.MovedCopies.{sectors_is}
 use Rattle.volume.proofs.MovedGroups.{next_moved}
-use Rattle.volume.proofs.MovedMarks.{clear_seen}
+use Rattle.volume.proofs.MovedMarks.{clear_over_seen}
 use Rattle.volume.proofs.MovedMerges.{rerouted_merged}
 use Rattle.volume.proofs.MovedSnaps.{wrote_is, failed_is}
 use Rattle.volume.proofs.MovedSubmits.{IsSized}
@@ -70,28 +70,28 @@ module _ {B : Type 0} (contents : B → List ℕ) (layers : B → List Layer) (r
   sectors : sectors_of (device_of contents layers v.origin) ≡ m.state.origin
   sectors = sectors_is (contents v.origin) m.state.origin sized
 
-  writable_seen : (pairs : List Pair) → is_writable_held (map (held_of contents layers) v.snaps) m.state.chunk pairs ≡ is_writable (map (snap_books contents layers) v.snaps) m.state.chunk pairs
+  writable_seen : (pairs : List Pair) → is_writable_held (map (held_of contents layers) v.snaps) m.state.chunk m.state.origin pairs ≡ is_writable (map (snap_books contents layers) v.snaps) m.state.chunk m.state.origin pairs
   writable_seen [] = refl
-  writable_seen (p ∷ ps) = clear_seen contents layers (m.state.chunk * p.old) v.snaps
+  writable_seen (p ∷ ps) = clear_over_seen contents layers (m.state.chunk * p.old) (count_of m.state.chunk m.state.origin p.old) v.snaps
 
   write_starts : stepped_all MergeWrite (moving_of contents layers replied v) ≡ write_chunk (reading_of m.group) held machine
   write_starts =
       ap (λ (x : Option (Merging B)). stepped_all MergeWrite (moving_of contents layers replied (record v { merge = x }))) was
-      ∙ cond-true _ _ _ (writable_seen (reading_of m.group) ∙ due)
+      ∙ cond-true _ _ _ (ap (λ n. is_writable_held (map (held_of contents layers) v.snaps) m.state.chunk n (reading_of m.group)) sectors ∙ writable_seen (reading_of m.group) ∙ due)
 
   pub write_moved : (g : Option Group) → WritesBack q (merging_due contents true m) (merging_due contents true (regrouped m g))
       → IsOneOperation (Writes (m.state.chunk * q.old) (count_of m.state.chunk m.state.origin q.old)) true (layers v.origin) (layers o') faults faults' counts counts'
       → contents o' ≡ with_sectors (contents v.origin) (m.state.chunk * q.old) (take (512 * count_of m.state.chunk m.state.origin q.old) m.buffer)
-      → All (IsSized contents) v.snaps → (ts : List (Kept B)) (n : ℕ) (gs : List Flight) → IsNextSaved contents layers m.state.chunk (last_of (waiting_of m.group)) v.snaps ts v.copies n v.flights gs
+      → length (contents o') ≡ 512 * m.state.origin → All (IsSized contents) v.snaps → (ts : List (Kept B)) (n : ℕ) (gs : List Flight) → IsNextSaved contents layers m.state.chunk m.state.origin (last_of (waiting_of m.group)) v.snaps ts v.copies n v.flights gs
       → stepped_all MergeWrite (moving_of contents layers replied v) ≡ moving_of contents layers replied (record (merged_to v o' (regrouped m g) v.flights) { snaps = ts; copies = n; flights = gs })
-  write_moved g step one wrote all ts n gs saved =
+  write_moved g step one wrote disk all ts n gs saved =
       let m' : Merging B = regrouped m g in
       let bytes : List ℕ = with_sectors (contents v.origin) (m.state.chunk * q.old) (take (512 * count_of m.state.chunk m.state.origin q.old) m.buffer) in
       write_starts
       ∙ write_is (seen m) (seen m') machine q step (device_of contents layers o') (full_unflushed m.group q full)
       (ap (λ k. answers (device_of contents layers v.origin) (op_of k)) sectors ∙ sym one.answer)
       (ap (λ k. written_by (device_of contents layers v.origin) (op_of k) bytes) sectors ∙ wrote_is contents layers (op_of m.state.origin) bytes faults faults' counts counts' v.origin o' one wrote) refl refl
-      ∙ next_moved contents layers replied (merged_to v o' m' v.flights) m.state.chunk (last_of (waiting_of m.group)) all ts n gs saved
+      ∙ next_moved contents layers replied (merged_to v o' m' v.flights) m.state.chunk m.state.origin (last_of (waiting_of m.group)) disk all ts n gs saved
 
   pub write_stopped : reading_of m.group ≡ q ∷ [] → contents o' ≡ contents v.origin
       → IsOneOperation (Writes (m.state.chunk * q.old) (count_of m.state.chunk m.state.origin q.old)) false (layers v.origin) (layers o') faults faults' counts counts'

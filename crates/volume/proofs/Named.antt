@@ -33,7 +33,7 @@ use Rattle.merge.specs.Merging.{Merging}
 use Rattle.volume.specs.Volumed.{Volumed, books_of, piece_with}
 use Rattle.volume.specs.Whole.{IsWhole}
 use Rattle.snapshots.specs.Finding.{place_of_snap}
-use Rattle.snapshots.specs.Starting.{lacks}
+use Rattle.snapshots.specs.Starting.{lacks, own_of}
 use Rattle.volume.specs.Submitting.{IsAsked, entered_of, refusal_at, dev_refusal, is_merging, shut_at}
 use Rattle.volume.proofs.ByKind.{snap_read_enters, snap_write_held_enters, snap_write_placed_enters}
 use Rattle.volume.proofs.Savings.{not_lacking}
@@ -154,7 +154,7 @@ copying_held contents layers first s live unpublished has = at (place_of s.pairs
           | inl any ↦ (let (k, m, lt, m_is, same) = Any-from_list_any (λ m. nat_eq m.chunk c) s.marks any in inr ((λ none. some_ne_none n (sym is ∙ none)), (k, m, lt, m_is, eqb-true m.chunk c same)))
           | inr free ↦ (let got : is_published s.pairs s.marks c ≡ true = rw (is, free) refl in absurd (true≢false (sym got ∙ unpublished)))
         ]
-    at None is = elim (not_lacking first s has live) [ inl placed ↦ absurd (placed is) | inr any ↦ inl any ]
+    at None is = elim (not_lacking (own_of first s) s has live) [ inl placed ↦ absurd (placed is) | inr any ↦ inl any ]
 
 module _ {B : Type 0} (contents : B → List ℕ) (layers : B → List Layer) (size : B → ℕ) (v : Volumed B) (h : IsWhole contents layers size v) (f : Flight) (number : f.number ≡ v.requests + 1) (asked : IsAsked (size v.origin) (piece_with v.merge v.snaps) f.request)
     (room : length f.room.items ≡ room_of f.request) (id k : ℕ) (s : Kept B) (n : IsNamed v id k s) where

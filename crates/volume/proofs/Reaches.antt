@@ -1,32 +1,24 @@
 -- A volume that does what is due until nothing is, gets where the event machine settles.
-use Rattle.std.proofs.Common.{◌≡◌, ℕ, zero, suc, ◌+◌, true, List, [], ◌∷◌, Option, Some, None, map, refl, sym, ◌∙◌, ap, subst, arith}
-use Rattle.std.specs.List.{All}
+use Rattle.std.proofs.Common.{◌≡◌, ℕ, zero, suc, ◌+◌, true, List, Option, Some, None, refl, sym, ◌∙◌, ap, subst, arith}
 use Rattle.device.specs.Layers.{Layer}
 use Rattle.plain.specs.declared.event.Event.{Event}
-use Rattle.plain.specs.declared.event.Event.TheVariants.{Issue, CopyRead, CopyWrite, ZeroNext, WriteArea, Publish, WriteInvalid}
 use Rattle.plain.specs.declared.event.Outcome.{Outcome}
 use Rattle.plain.specs.declared.request.Reply.{Reply}
-use Rattle.settled.specs.Snaps.{Snap}
 use Rattle.settled.specs.Merges.{Merged, Replied}
-use Rattle.event_machine.specs.Held.{Held, Moving}
+use Rattle.event_machine.specs.Held.{Moving}
 use Rattle.event_machine.specs.Due.{due}
 use Rattle.event_machine.specs.MergeDue.{due_all}
-use Rattle.event_machine.specs.MergeRest.{merged_of, in_big_steps, IsBetween, IsMergedAtRest}
+use Rattle.event_machine.specs.MergeRest.{merged_of, IsBetween}
 use Rattle.event_machine.specs.MergeSettles.{SettlesToMerged, SettlesToReplied}
 use Rattle.event_machine.specs.MergeStepping.{stepped_all}
 use Rattle.settled.specs.Pieces.{Answered}
 use Rattle.event_machine.specs.Seen.{replied_by}
 use Rattle.event_machine.specs.Stepping.{for_some, stepped}
-use Rattle.event_machine.specs.Rest.{IsAtRest}
 use Rattle.event_machine.specs.Settles.{settle_by, SettlesTo}
-use Rattle.snapshot.specs.Kept.{Kept}
-use Rattle.volume.specs.Volumed.{Volumed, dues_of, is_loud_in_all}
-use Rattle.volume.specs.Whole.{IsCounted}
-use Rattle.volume.specs.Moved.{held_of, moving_of}
+use Rattle.volume.specs.Volumed.{Volumed, is_loud_in_all}
+use Rattle.volume.specs.Moved.{moving_of}
 use Rattle.volume.specs.Exact.{IsExact}
-use Rattle.volume.specs.Reaching.{ReachesBy, Reaches, ReachesAll, IsRun, IsRunAll, IsAnswered, IsReplied, IsMergedTo}
-use Rattle.volume.proofs.MovedDue.{due_is}
-use Rattle.volume_laws.specs.Due.{due_of, event_or}
+use Rattle.volume.specs.Reaching.{ReachesBy, Reaches, ReachesAll, IsRunAll, IsMergedTo}
 
 -- by events that are chosen in some way
 module _ (choose : Moving → Option Event) (step : Event → Moving → Moving) where
@@ -57,30 +49,9 @@ reaches_none m = none_by due stepped m
 pub reaches_none_all : (m : Moving) → ReachesAll m m
 reaches_none_all m = none_by due_all stepped_all m
 
--- an event of snapshots and requests is none of a merge
-abbrev IsBeside : Event → Type 0
-IsBeside event = (v : Moving) → stepped_all event v ≡ stepped event v
-
-chosen_beside : (o : Option ℕ) (f : ℕ → Event) (others : Option Event) (event : Event) → ((n : ℕ) → IsBeside (f n)) → (others ≡ Some event → IsBeside event) → event_or o f others ≡ Some event → IsBeside event
-chosen_beside None f others event mine rest is = rest is
-chosen_beside (Some n) f others event mine rest is = (let same : f n ≡ event = cc in subst IsBeside same (mine n))
-
-none_beside : (event : Event) → None ≡ Some event → IsBeside event
-none_beside event is = absurd (cc)
-
-due_beside : (w : Moving) (event : Event) → due w ≡ Some event → IsBeside event
-due_beside w event =
-    chosen_beside _ WriteInvalid _ event (λ n v. refl)
-    (chosen_beside _ Publish _ event (λ n v. refl)
-    (chosen_beside _ WriteArea _ event (λ n v. refl)
-    (chosen_beside _ ZeroNext _ event (λ n v. refl)
-    (chosen_beside _ CopyWrite _ event (λ n v. refl)
-    (chosen_beside _ CopyRead _ event (λ n v. refl)
-    (chosen_beside _ Issue _ event (λ n v. refl) (none_beside event)))))))
-
 -- one event more
-pub reaches_more : (m w u : Moving) (event : Event) → Reaches m w → due w ≡ Some event → stepped_all event w ≡ u → Reaches m u
-reaches_more m w u event r first step = more_by due stepped m w u event r first (sym (due_beside w event first w) ∙ step)
+pub reaches_more : (m w u : Moving) (event : Event) → Reaches m w → due w ≡ Some event → stepped event w ≡ u → Reaches m u
+reaches_more m w u event r first step = more_by due stepped m w u event r first step
 
 pub reaches_more_all : (m w u : Moving) (event : Event) → ReachesAll m w → due_all w ≡ Some event → stepped_all event w ≡ u → ReachesAll m u
 reaches_more_all m w u event r first step = more_by due_all stepped_all m w u event r first step
@@ -96,19 +67,7 @@ pub reaches_merged : (sectors : ℕ) (answer : Merged) (m w : Moving) (t : Settl
 reaches_merged sectors answer m w t r none = end_by due_all stepped_all m w t.last t.fuel t.ends r none
 
 module _ {B : Type 0} (contents : B → List ℕ) (layers : B → List Layer) where
-  pub run_none : (replied : Option Reply) (v : Volumed B) → IsRun contents layers replied replied v v
-  run_none replied v = record { reaches = λ loud. reaches_none (moving_of contents layers replied v); loud = refl }
-
-  -- one event more, that was due
-  pub run_more : (before after : Option Reply) (v w u : Volumed B) (event : Event) (outcome : Outcome) → IsRun contents layers before after v w → All IsCounted w.snaps → due_of (dues_of contents layers w) w.flights ≡ Some event
-      → IsExact contents layers event outcome w u → is_loud_in_all layers u ≡ is_loud_in_all layers w → IsRun contents layers before (replied_by outcome after) v u
-  run_more before after v w u event outcome r counted next e loud = record {
-    reaches = λ all. reaches_more (moving_of contents layers before v) (moving_of contents layers after w) (moving_of contents layers (replied_by outcome after) u) event (r.reaches all)
-        (due_is contents layers after w counted ∙ next) (e.step (r.loud ∙ all) after);
-    loud = loud ∙ r.loud;
-  }
-
-  -- of the merge too
+  -- events of snapshots, requests and the merge
   pub run_none_all : (replied : Option Reply) (v : Volumed B) → IsRunAll contents layers replied replied v v
   run_none_all replied v = record { reaches = λ loud. reaches_none_all (moving_of contents layers replied v); loud = refl }
 
@@ -129,38 +88,3 @@ module _ {B : Type 0} (contents : B → List ℕ) (layers : B → List Layer) wh
         silent = ap (λ (m : Moving). m.replied) last ∙ t.silent;
         rest = subst (IsBetween sectors) (sym last) t.rest;
       }
-
-  -- a request beside a merge
-  pub run_replies : (sectors : ℕ) (answer : Replied) (before after : Option Reply) (v w : Volumed B) → is_loud_in_all layers v ≡ true → SettlesToReplied sectors (moving_of contents layers before v) answer
-      → IsRun contents layers before after v w → due (moving_of contents layers after w) ≡ None → IsReplied contents layers sectors after w answer
-  run_replies sectors answer before after v w loud t r none =
-      let last : moving_of contents layers after w ≡ t.last = reaches_replied sectors answer (moving_of contents layers before v) (moving_of contents layers after w) t (r.reaches loud) none in
-      record {
-        held = t.held;
-        is = ap (in_big_steps t.held) last ∙ t.is;
-        reply_is = ap (λ (m : Moving). m.replied) last ∙ t.reply;
-        rest = subst (IsMergedAtRest sectors t.held) (sym last) t.rest;
-      }
-
-  snaps_of : (xs : List (Kept B)) → map (λ (h : Held). h.snap) (map (held_of contents layers) xs) ≡ map (λ (s : Kept B). (held_of contents layers s).snap) xs
-  snaps_of [] = refl
-  snaps_of (x ∷ xs) = ap (λ (ys : List Snap). (held_of contents layers x).snap ∷ ys) (snaps_of xs)
-
-  -- until none is due: the volume's devices and snapshots, and the reply, are those of the big step
-  pub run_answers : (sectors : ℕ) (answer : Answered) (before after : Option Reply) (v w : Volumed B) → is_loud_in_all layers v ≡ true → SettlesTo sectors (moving_of contents layers before v) answer
-      → IsRun contents layers before after v w → All IsCounted w.snaps → due_of (dues_of contents layers w) w.flights ≡ None → IsAnswered contents layers sectors after w answer
-  run_answers sectors answer before after v w loud t r counted none =
-      let last : moving_of contents layers after w ≡ t.last =
-      reaches_end sectors answer (moving_of contents layers before v) (moving_of contents layers after w) t (r.reaches loud) (due_is contents layers after w counted ∙ none) in
-      record {
-        origin = ap (λ (m : Moving). m.origin) last ∙ t.origin;
-        snaps = sym (snaps_of w.snaps) ∙ ap (λ (m : Moving). map (λ (h : Held). h.snap) m.snaps) last ∙ t.snaps;
-        reply_is = ap (λ (m : Moving). m.replied) last ∙ t.reply;
-        rest = subst (IsAtRest sectors) (sym last) t.rest;
-      }
-
-  -- a request that was submitted, and then run until nothing is due
-  pub request_answers : (sectors : ℕ) (answer : Answered) (before after : Option Reply) (m : Moving) (v w : Volumed B) → is_loud_in_all layers v ≡ true → SettlesTo sectors m answer → m ≡ moving_of contents layers before v
-      → IsRun contents layers before after v w → All IsCounted w.snaps → due_of (dues_of contents layers w) w.flights ≡ None → IsAnswered contents layers sectors after w answer
-  request_answers sectors answer before after m v w loud t is r counted none =
-      run_answers sectors answer before after v w loud (subst (λ (x : Moving). SettlesTo sectors x answer) is t) r counted none

@@ -5,6 +5,7 @@ use Rattle.std.specs.List.{sum}
 use Rattle.std.proofs.lemmas.List.Sums.{sum-map}
 use Rattle.std.proofs.lemmas.List.{get_or-set_same, get_or-set_other, length-set, get_or_default}
 use Rattle.std.proofs.lemmas.Bool.{cases_eq}
+use Rattle.chunk.specs.Sizes.{is_chunk}
 use Rattle.device.specs.Layers.{Layer, is_loud}
 use Rattle.layers.specs.Ticks.{layers_ticked}
 use Rattle.layers.specs.Loudness.{loud_ticked}
@@ -22,7 +23,7 @@ use Rattle.pending.specs.Due.{number_of_flight}
 use Rattle.volume_laws.specs.Waits.{Waits}
 use Rattle.snapshot.specs.Kept.{Kept, books_of as snap_books, due_of_kept}
 use Rattle.merge_beside.specs.Rooms.{merge_books, room_of}
-use Rattle.volume.specs.Volumed.{Volumed, books_of, dues_of, piece_of, piece_with, is_loud_with}
+use Rattle.volume.specs.Volumed.{Volumed, books_of, dues_of, is_loud_with}
 use Rattle.snapshots.specs.Numbers.{number_of_snap, count_in}
 use Rattle.volume.specs.Whole.{IsWhole, IsAttached, IsCounted, IsMerged, GoesOn, SharesNone, AreNumbers, starts_left}
 use Rattle.volume.specs.Moved.{moving_of, held_of, merge_seen}
@@ -125,26 +126,14 @@ module _ {B : Type 0} (contents : B → List ℕ) (layers : B → List Layer) (s
       let mk : SnapBooks → RoomSnap = λ b. record (room_of contents layers s) { books = b } in
       ap (room_of contents layers) h.same ∙ ap (λ (x : Kept B). mk (snap_books contents layers x)) (sym h.same) ∙ ap mk (books_alike s t h)
 
-  attached_alike : (copies sectors chunk : ℕ) (s t : Kept B) → IsSnapAlike s t → IsAttached copies sectors chunk s → IsAttached copies sectors chunk t
-  attached_alike copies sectors chunk s t h a = subst (IsAttached copies sectors chunk) (sym h.same) (record { origin = a.origin; chunk_is = a.chunk_is; some = a.some; numbers = a.numbers })
+  attached_alike : (copies sectors : ℕ) (s t : Kept B) → IsSnapAlike s t → IsAttached copies sectors s → IsAttached copies sectors t
+  attached_alike copies sectors s t h a = subst (IsAttached copies sectors) (sym h.same) (record { origin = a.origin; allowed = a.allowed; some = a.some; numbers = a.numbers })
 
   counted_alike : (s t : Kept B) → IsSnapAlike s t → IsCounted s → IsCounted t
   counted_alike s t h c = subst IsCounted (sym h.same) (record { some = c.some; count = c.count; fits = c.fits; idle = c.idle })
 
   shares_alike : (s s' t t' : Kept B) → IsSnapAlike s s' → IsSnapAlike t t' → SharesNone s t → SharesNone s' t'
   shares_alike s s' t t' h k apart = subst (λ (x : Kept B). SharesNone x t') (sym h.same) (subst (SharesNone (record s { device = s'.device })) (sym k.same) apart)
-
-  piece_alike : (xs ys : List (Kept B)) → length ys ≡ length xs → ((k : ℕ) (d : Kept B) → k < length xs → IsSnapAlike (get_or xs k d) (get_or ys k d)) → piece_of ys ≡ piece_of xs
-  piece_alike [] [] len each = refl
-  piece_alike [] (y ∷ ys) len each = absurd (omega (arith, len))
-  piece_alike (x ∷ xs) [] len each = absurd (omega (arith, len))
-  piece_alike (x ∷ xs) (y ∷ ys) len each = let h : IsSnapAlike x y = each 0 x (omega arith) in ap (λ (z : Kept B). z.state.chunk) h.same
-
-  pieces_alike : (xs ys : List (Kept B)) (x y : Option (Merging B)) → IsMergeAlike x y → piece_of ys ≡ piece_of xs → piece_with y ys ≡ piece_with x xs
-  pieces_alike xs ys None None h same = same
-  pieces_alike xs ys None (Some y) h same = absurd h
-  pieces_alike xs ys (Some x) None h same = absurd h
-  pieces_alike xs ys (Some x) (Some y) h same = ap (λ (z : Merging B). z.state.chunk) h.1
 
   module _ (v w : Volumed B) (h : IsVolumeAlike v w) where
     books_map : map (snap_books contents layers) w.snaps ≡ map (snap_books contents layers) v.snaps
@@ -188,14 +177,15 @@ module _ {B : Type 0} (contents : B → List ℕ) (layers : B → List Layer) (s
           subst (λ (ss : List SnapBooks). MergeGoes ss (merging_due contents loud y)) (sym books_map)
           (subst (MergeGoes (map (snap_books contents layers) v.snaps)) (sym (merge_due_alike loud x y near same)) (g.goes loud))
 
-      merged_rooms : KeepBack y.state.chunk y.pairs (map (room_of contents layers) w.snaps)
+      merged_rooms : KeepBack y.state.chunk y.state.origin y.pairs (map (room_of contents layers) w.snaps)
       merged_rooms =
-          subst (λ (z : Merging B). KeepBack z.state.chunk z.pairs (map (room_of contents layers) w.snaps)) (sym same)
-          (subst (KeepBack x.state.chunk x.pairs) (sym rooms_map) g.rooms)
+          subst (λ (z : Merging B). KeepBack z.state.chunk z.state.origin z.pairs (map (room_of contents layers) w.snaps)) (sym same)
+          (subst (KeepBack x.state.chunk x.state.origin x.pairs) (sym rooms_map) g.rooms)
 
       merged_on : IsMerged contents layers size y w
       merged_on = record {
         origin = ap (λ (z : Merging B). z.state.origin) same ∙ g.origin ∙ sym h.origin.sectors;
+        allowed = ap (λ (z : Merging B). is_chunk z.state.chunk) same ∙ g.allowed;
         apart = other_number;
         given = omega (arith, ap (λ (z : Merging B). z.number) same, ap (λ (z : Volumed B). z.attached) h.becomes, g.given);
         few = omega (arith, h.count, g.few);
@@ -209,18 +199,14 @@ module _ {B : Type 0} (contents : B → List ℕ) (layers : B → List Layer) (s
     goes_alike (Some x) None e g = absurd e
     goes_alike (Some x) (Some y) e g = merged_on x y e.0 e.1 g
 
-    piece_same : piece_with w.merge w.snaps ≡ piece_with v.merge v.snaps
-    piece_same = pieces_alike v.snaps w.snaps v.merge w.merge h.merge (piece_alike v.snaps w.snaps h.count h.snaps)
-
     pub whole_alike : IsWhole contents layers size v → IsWhole contents layers size w
     whole_alike whole = record {
       merge = goes_alike v.merge w.merge h.merge whole.merge;
       holds = subst Holds (sym books_of_alike) whole.holds;
       waits = subst Waits (sym books_of_alike) whole.waits;
-      snaps = λ k d lt. subst (λ (n : ℕ). IsAttached n (size w.origin) (piece_with w.merge w.snaps) (get_or w.snaps k d)) (sym (ap (λ (x : Volumed B). x.copies) h.becomes))
-          (subst (λ (n : ℕ). IsAttached v.copies n (piece_with w.merge w.snaps) (get_or w.snaps k d)) (sym h.origin.sectors)
-          (subst (λ (n : ℕ). IsAttached v.copies (size v.origin) n (get_or w.snaps k d)) (sym piece_same)
-          (attached_alike v.copies (size v.origin) (piece_with v.merge v.snaps) (get_or v.snaps k d) (get_or w.snaps k d) (h.snaps k d (inside k lt)) (whole.snaps k d (inside k lt)))));
+      snaps = λ k d lt. subst (λ (n : ℕ). IsAttached n (size w.origin) (get_or w.snaps k d)) (sym (ap (λ (x : Volumed B). x.copies) h.becomes))
+          (subst (λ (n : ℕ). IsAttached v.copies n (get_or w.snaps k d)) (sym h.origin.sectors)
+          (attached_alike v.copies (size v.origin) (get_or v.snaps k d) (get_or w.snaps k d) (h.snaps k d (inside k lt)) (whole.snaps k d (inside k lt))));
       counted = λ k d lt. counted_alike (get_or v.snaps k d) (get_or w.snaps k d) (h.snaps k d (inside k lt)) (whole.counted k d (inside k lt));
       apart = λ i j d lt within. shares_alike (get_or v.snaps i d) (get_or w.snaps i d) (get_or v.snaps j d) (get_or w.snaps j d) (h.snaps i d (omega (arith, lt, inside j within))) (h.snaps j d (inside j within)) (whole.apart i j d lt (inside j within));
       numbers = subst (AreNumbers w.attached) (sym numbers_map) (subst (λ (n : ℕ). AreNumbers n (map number_of_snap v.snaps)) (sym (ap (λ (x : Volumed B). x.attached) h.becomes)) whole.numbers);

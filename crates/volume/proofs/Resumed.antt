@@ -11,10 +11,9 @@ use Rattle.volume_laws.specs.Waits.{Waits}
 use Rattle.event_machine.specs.Merging.{resumed}
 use Rattle.merge.specs.Merging.{Merging, due_of as merging_due}
 use Rattle.merge_beside.specs.Rooms.{merge_books}
-use Rattle.volume.specs.Volumed.{Volumed, books_of, piece_with, plain_of, is_loud_in_all}
-use Rattle.volume.specs.Whole.{IsAttached, IsMerged, IsWhole, GoesOn}
+use Rattle.volume.specs.Volumed.{Volumed, books_of, plain_of, is_loud_in_all}
+use Rattle.volume.specs.Whole.{IsMerged, IsWhole, GoesOn}
 use Rattle.volume.specs.Moved.{moving_of}
-use Rattle.std.specs.List.{All}
 
 goes_again : (snaps : List SnapBooks) (d d' : DueMerge) → d' ≡ record d { failed = false } → MergeGoes snaps d → MergeGoes snaps d'
 goes_again snaps d d' is h = subst (MergeGoes snaps) (sym is) (record {
@@ -50,6 +49,7 @@ module _ {B : Type 0} (contents : B → List ℕ) (layers : B → List Layer) (s
   merged : IsMerged contents layers size m v → IsMerged contents layers size going again
   merged g = record {
     origin = g.origin;
+    allowed = g.allowed;
     apart = g.apart;
     given = g.given;
     few = g.few;
@@ -65,7 +65,7 @@ module _ {B : Type 0} (contents : B → List ℕ) (layers : B → List Layer) (s
         holds = subst (λ (o : Option (Merging B)). Holds (with_books o)) is h.holds;
         waits = subst (λ (o : Option (Merging B)). Waits (with_books o)) is h.waits;
         merge = merged (subst (λ (o : Option (Merging B)). GoesOn contents layers size o v) is h.merge);
-        snaps = subst (λ (o : Option (Merging B)). All (IsAttached v.copies (size v.origin) (piece_with o v.snaps)) v.snaps) is h.snaps;
+        snaps = h.snaps;
         counted = h.counted;
         apart = h.apart;
         numbers = h.numbers;

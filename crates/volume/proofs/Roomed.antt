@@ -1,6 +1,6 @@
 -- Room for copies is made, and nothing else changes.
 use Rattle.std.proofs.Common.{◌≡◌, ◌≢◌, Option, Some, None, ℕ, ◌+◌, ◌<◌, List, [], ◌∷◌, length, get_or, map, refl, sym, ◌∙◌, ap, subst, arith, if◌then◌else◌}
-use Rattle.std.specs.Prelude.{sum_by, count_by}
+use Rattle.std.specs.Prelude.{sum_by, count_by, min}
 use Rattle.device.specs.Layers.{Layer}
 use Rattle.volume_laws.specs.Books.{SnapBooks, Books}
 use Rattle.volume_laws.specs.Whole.{Holds}
@@ -29,12 +29,12 @@ roomed_piece xs ys e = sym (unseen_piece xs) ∙ ap piece_of e ∙ unseen_piece 
   where
     unseen_piece : {B : Type 0} (xs : List (Kept B)) → piece_of (map unroomed xs) ≡ piece_of xs
     unseen_piece [] = refl
-    unseen_piece (x ∷ xs) = refl
+    unseen_piece (x ∷ xs) = ap (min x.state.chunk) (unseen_piece xs)
 
 -- beside a merge
 pub roomed_beside : {B : Type 0} (merge : Option (Merging B)) (xs ys : List (Kept B)) → map unroomed xs ≡ map unroomed ys → piece_with merge xs ≡ piece_with merge ys
 roomed_beside None xs ys e = roomed_piece xs ys e
-roomed_beside (Some m) xs ys e = refl
+roomed_beside (Some m) xs ys e = ap (min m.state.chunk) (roomed_piece xs ys e)
 
 module _ {B : Type 0} (contents : B → List ℕ) (layers : B → List Layer) (size : B → ℕ) (v : Volumed B) (snaps : List (Kept B)) (e : map unroomed snaps ≡ map unroomed v.snaps) where
   pub books_roomed : map (snap_books contents layers) snaps ≡ map (snap_books contents layers) v.snaps
@@ -45,17 +45,17 @@ module _ {B : Type 0} (contents : B → List ℕ) (layers : B → List Layer) (s
   goes_roomed None h = h
   goes_roomed (Some m) h = record {
     origin = h.origin;
+    allowed = h.allowed;
     apart = λ k d lt. subst (λ (x : Kept B). x.number ≢ m.number) (roomed_at snaps v.snaps k d e lt) (h.apart k d (omega (arith, lt, roomed_length snaps v.snaps e)));
     given = h.given;
     few = omega (arith, h.few, roomed_length snaps v.snaps e);
     goes = λ loud. subst (λ (xs : List SnapBooks). MergeGoes xs (merging_due contents loud m)) (sym books_roomed) (h.goes loud);
-    rooms = subst (KeepBack m.state.chunk m.pairs) (sym (roomed (room_of contents layers) snaps v.snaps e (λ s. refl))) h.rooms;
+    rooms = subst (KeepBack m.state.chunk m.state.origin m.pairs) (sym (roomed (room_of contents layers) snaps v.snaps e (λ s. refl))) h.rooms;
   }
 
   pub whole_roomed : IsWhole contents layers size v → IsWhole contents layers size (record v { snaps = snaps })
   whole_roomed h =
       let bs = books_of contents layers size v in
-      let piece = roomed_beside v.merge snaps v.snaps e in
       let len = roomed_length snaps v.snaps e in
       let sums = roomed_sum count_in snaps v.snaps e (λ s. refl) in
       let lefts = roomed_sum starts_left snaps v.snaps e (λ s. refl) in
@@ -63,9 +63,8 @@ module _ {B : Type 0} (contents : B → List ℕ) (layers : B → List Layer) (s
         merge = goes_roomed v.merge h.merge;
         holds = subst (λ (xs : List SnapBooks). let b : Books = record bs { snaps = xs } in Holds b) (sym books_roomed) h.holds;
         waits = subst (λ (xs : List SnapBooks). let b : Books = record bs { snaps = xs } in Waits b) (sym books_roomed) h.waits;
-        snaps = λ k d lt. subst (λ (n : ℕ). IsAttached v.copies (size v.origin) n (get_or snaps k d)) (sym piece)
-            (seen v.copies (size v.origin) (piece_with v.merge v.snaps) (get_or snaps k d)
-            (subst (IsAttached v.copies (size v.origin) (piece_with v.merge v.snaps)) (roomed_at snaps v.snaps k d e lt) (hidden v.copies (size v.origin) (piece_with v.merge v.snaps) (get_or v.snaps k d) (h.snaps k d (omega (arith, lt, len))))));
+        snaps = λ k d lt. seen v.copies (size v.origin) (get_or snaps k d)
+            (subst (IsAttached v.copies (size v.origin)) (roomed_at snaps v.snaps k d e lt) (hidden v.copies (size v.origin) (get_or v.snaps k d) (h.snaps k d (omega (arith, lt, len)))));
         counted = λ k d lt. seen_counts (get_or snaps k d)
             (subst IsCounted (roomed_at snaps v.snaps k d e lt) (hidden_counts (get_or v.snaps k d) (h.counted k d (omega (arith, lt, len)))));
         apart = λ i j d lt inside.
@@ -82,8 +81,8 @@ module _ {B : Type 0} (contents : B → List ℕ) (layers : B → List Layer) (s
         numbers_left = omega (arith, h.numbers_left, lefts);
       }
     where
-      hidden : (copies sectors chunk : ℕ) (s : Kept B) → IsAttached copies sectors chunk s → IsAttached copies sectors chunk (unroomed s)
-      hidden copies sectors chunk s a = record { origin = a.origin; chunk_is = a.chunk_is; some = a.some; numbers = a.numbers }
+      hidden : (copies sectors : ℕ) (s : Kept B) → IsAttached copies sectors s → IsAttached copies sectors (unroomed s)
+      hidden copies sectors s a = record { origin = a.origin; allowed = a.allowed; some = a.some; numbers = a.numbers }
 
       hidden_counts : (s : Kept B) → IsCounted s → IsCounted (unroomed s)
       hidden_counts s a = record { some = a.some; count = a.count; fits = a.fits; idle = a.idle }
@@ -91,8 +90,8 @@ module _ {B : Type 0} (contents : B → List ℕ) (layers : B → List Layer) (s
       seen_counts : (s : Kept B) → IsCounted (unroomed s) → IsCounted s
       seen_counts s a = record { some = a.some; count = a.count; fits = a.fits; idle = a.idle }
 
-      seen : (copies sectors chunk : ℕ) (s : Kept B) → IsAttached copies sectors chunk (unroomed s) → IsAttached copies sectors chunk s
-      seen copies sectors chunk s a = record { origin = a.origin; chunk_is = a.chunk_is; some = a.some; numbers = a.numbers }
+      seen : (copies sectors : ℕ) (s : Kept B) → IsAttached copies sectors (unroomed s) → IsAttached copies sectors s
+      seen copies sectors s a = record { origin = a.origin; allowed = a.allowed; some = a.some; numbers = a.numbers }
 
   pub starts_roomed : (c : ℕ) → count_by (starts c) snaps ≡ count_by (starts c) v.snaps
   starts_roomed c = roomed_sum (λ s. if starts c s then 1 else 0) snaps v.snaps e (λ s. refl)

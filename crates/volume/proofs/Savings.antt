@@ -21,7 +21,7 @@ use Rattle.snapshot.specs.Calls.{StartsAt, started}
 use Rattle.volume.specs.Volumed.{Volumed, books_of}
 use Rattle.snapshots.specs.Numbers.{count_in}
 use Rattle.volume.specs.Whole.{IsWhole, IsCounted}
-use Rattle.snapshots.specs.Starting.{lacks, is_full_of, starts, overflows, overflowing, spoilt_of, IsSavedIn, AreSavedIn}
+use Rattle.snapshots.specs.Starting.{lacks, lacks_chunk, is_full_of, own_of, starts, overflows, overflows_chunk, overflowing, spoilt_of, IsSavedIn, AreSavedIn}
 use Rattle.snapshots.proofs.Overflowing.{overflowing_full, overflowing_fine, starts_fine}
 use Rattle.volume.proofs.Changing.{same_disk, changed, changes, spoils_one, whole_changed, books_within, books_is}
 use Rattle.volume.proofs.SavingAt.{AreSavingAt, saving_here_at, saving_set_at}
@@ -39,24 +39,24 @@ neither false b e f = refl
 neither true true e f = f
 neither true false e f = e
 
--- a live snapshot that does not lack its chunk of a sector has it, or a copy of it is under way
-pub not_lacking : {B : Type 0} (first : ℕ) (s : Kept B) → lacks first s ≡ false → s.live ≡ true → (place_of s.pairs (first / s.state.chunk) ≢ None) ⊎ Any (λ p. p.pair.old ≡ first / s.state.chunk) s.copies
-not_lacking first s e live = at (place_of s.pairs (first / s.state.chunk)) refl
+-- a live snapshot that does not lack a chunk has it, or a copy of it is under way
+pub not_lacking : {B : Type 0} (c : ℕ) (s : Kept B) → lacks_chunk c s ≡ false → s.live ≡ true → (place_of s.pairs c ≢ None) ⊎ Any (λ p. p.pair.old ≡ c) s.copies
+not_lacking c s e live = at (place_of s.pairs c) refl
   where
     some_ne_none : (n : ℕ) → Some n ≢ None
     some_ne_none n is = cc
 
-    at : (found : Option ℕ) → place_of s.pairs (first / s.state.chunk) ≡ found → (place_of s.pairs (first / s.state.chunk) ≢ None) ⊎ Any (λ p. p.pair.old ≡ first / s.state.chunk) s.copies
+    at : (found : Option ℕ) → place_of s.pairs c ≡ found → (place_of s.pairs c ≢ None) ⊎ Any (λ p. p.pair.old ≡ c) s.copies
     at (Some n) is = inl (λ none. some_ne_none n (sym is ∙ none))
-    at None is = inr (elim (cases_Bool (list_any (λ p. nat_eq p.pair.old (first / s.state.chunk)) s.copies)) [
-      | inl any ↦ (let (k, p, lt, p_is, same) = Any-from_list_any (λ p. nat_eq p.pair.old (first / s.state.chunk)) s.copies any in (k, p, lt, p_is, eqb-true p.pair.old (first / s.state.chunk) same))
-      | inr none ↦ (let here : lacks first s ≡ true = rw (live, is, none) refl in absurd (true≢false (sym here ∙ e)))
+    at None is = inr (elim (cases_Bool (list_any (λ p. nat_eq p.pair.old c) s.copies)) [
+      | inl any ↦ (let (k, p, lt, p_is, same) = Any-from_list_any (λ p. nat_eq p.pair.old c) s.copies any in (k, p, lt, p_is, eqb-true p.pair.old c same))
+      | inr none ↦ (let here : lacks_chunk c s ≡ true = rw (live, is, none) refl in absurd (true≢false (sym here ∙ e)))
     ])
 
 -- a snapshot whose store is found full is live
-pub overflows_live : {B : Type 0} (first : ℕ) (s : Kept B) → overflows first s ≡ true → s.live ≡ true
-overflows_live first s over =
-    and_first s.live (not (is_some (place_of s.pairs (first / s.state.chunk)))) (and_first (s.live && not (is_some (place_of s.pairs (first / s.state.chunk)))) (not (list_any (λ q. nat_eq q.pair.old (first / s.state.chunk)) s.copies)) (and_first (lacks first s) (is_full_of s) over))
+pub overflows_live : {B : Type 0} (c : ℕ) (s : Kept B) → overflows_chunk c s ≡ true → s.live ≡ true
+overflows_live c s over =
+    and_first s.live (not (is_some (place_of s.pairs c))) (and_first (s.live && not (is_some (place_of s.pairs c))) (not (list_any (λ q. nat_eq q.pair.old c) s.copies)) (and_first (lacks_chunk c s) (is_full_of s) over))
 
 pub refused_numbers : (which : List ℕ) (fs : List Flight) → map number_of_flight (map (refused_of which) fs) ≡ map number_of_flight fs
 refused_numbers which [] = refl
@@ -84,7 +84,7 @@ module _ {B : Type 0} (contents : B → List ℕ) (layers : B → List Layer) (s
         let prepared = prepared_start which k p (snap_books contents layers s) (snap_books contents layers t) (books_of contents layers size v0) (books_of contents layers size v) (books_of contents layers size (begun contents layers size v k s t within is)) h.prepared change at.event live in
         record {
           whole = whole_begun contents layers size v k s t within is h.whole (ap (λ (x : Kept B). x.number) at.fields) (ap (λ (x : Kept B). x.state.chunk) at.fields) (ap (λ (x : Kept B). x.state.origin) at.fields)
-              (numbers_pushed s t p (ap (λ (x : Kept B). x.marks) at.fields) (ap (λ (x : Kept B). x.copies) at.fields)) (ap (λ (x : Kept B). x.merging) at.fields) (λ counts. counted_begun contents layers s t p live at counts) (left_started contents layers first s t p (subst IsCounted (sym is) (h.whole.counted k s within)).some starting live at) room prepared.holds prepared.waits (room_begun contents layers p s t at);
+              (numbers_pushed s t p (ap (λ (x : Kept B). x.marks) at.fields) (ap (λ (x : Kept B). x.copies) at.fields)) (ap (λ (x : Kept B). x.merging) at.fields) (λ counts. counted_begun contents layers s t p live at counts) (left_started contents layers (own_of first s) s t p (subst IsCounted (sym is) (h.whole.counted k s within)).some starting live at) room prepared.holds prepared.waits (room_begun contents layers p s t at);
           prepared = prepared;
           saving = saved_now t (begun contents layers size v k s t within is) refl
               (saving_set_at first k (snap_books contents layers t) (map (snap_books contents layers) v.snaps) h.saving (books_within contents layers size v v.origin k s t within is) (λ _. saving_started (first / t.state.chunk) p (snap_books contents layers s) (snap_books contents layers t) at.event (ap (λ (x : Kept B). first / x.state.chunk) (sym at.fields))));
@@ -93,14 +93,14 @@ module _ {B : Type 0} (contents : B → List ℕ) (layers : B → List Layer) (s
     done_spoilt : overflows first s ≡ true → AreDone contents layers size first (k + 1) (which ++ s.number ∷ []) v0 (changed v v.origin k (spoilt_of s) (map (refused_of (s.number ∷ [])) v.flights))
     done_spoilt over =
         let x : Kept B = spoilt_of s in
-        let spoils : SpoilsSnap (snap_books contents layers s) (snap_books contents layers x) = record { number = refl; was = overflows_live first s over; live = refl; overflow = refl; chunk = refl; pairs = refl; copies = refl; marks = refl } in
+        let spoils : SpoilsSnap (snap_books contents layers s) (snap_books contents layers x) = record { number = refl; was = overflows_live (own_of first s) s over; live = refl; overflow = refl; chunk = refl; pairs = refl; copies = refl; marks = refl } in
         let same = same_disk contents layers size v.origin in
         let spoil = spoils_one contents layers size v v.origin k s x within is same spoils in
         let w : Volumed B = changed v v.origin k x (map (refused_of (s.number ∷ [])) v.flights) in
         let prepared = prepared_spoil which k (snap_books contents layers s) (snap_books contents layers x) (books_of contents layers size v0) (books_of contents layers size v) (books_of contents layers size w) h.prepared spoil refl refl in
         record {
           whole = whole_changed contents layers size v v.origin k s x within is (map (refused_of (s.number ∷ [])) v.flights) h.whole same (record { number = refl; chunk_is = refl; origin = refl; numbers = inr (inr refl); few = omega arith; counted = λ counts. counted_spoilt s counts; left = left_spoilt s x refl })
-              (refused_numbers (s.number ∷ []) v.flights) prepared.holds prepared.waits (room_spoilt contents layers s (overflows_live first s over));
+              (refused_numbers (s.number ∷ []) v.flights) prepared.holds prepared.waits (room_spoilt contents layers s (overflows_live (own_of first s) s over));
           prepared = prepared;
           saving = saved_now x w refl (saving_set_at first k (snap_books contents layers x) (map (snap_books contents layers) v.snaps) h.saving (books_within contents layers size v v.origin k s x within is) (λ live. absurd (false≢true live)));
         }
@@ -110,22 +110,22 @@ module _ {B : Type 0} (contents : B → List ℕ) (layers : B → List Layer) (s
       whole = h.whole;
       prepared = h.prepared;
       saving = saving_here_at first k (snap_books contents layers s) (map (snap_books contents layers) v.snaps) h.saving (omega (arith, within, length-map v.snaps (snap_books contents layers)))
-          (books_is contents layers size v v.origin k s s within is) (λ live. not_lacking first s has live);
+          (books_is contents layers size v v.origin k s s within is) (λ live. not_lacking (own_of first s) s has live);
     }
 
     -- which are spoiled, with this one
-    none_more : overflows first s ≡ false → which ++ overflowing first (s ∷ []) ≡ which
-    none_more fine = ap (λ ns. which ++ ns) (overflowing_fine first s [] fine) ∙ append-nil which
+    none_more : overflows first s ≡ false → which ++ overflowing (own_of first) (s ∷ []) ≡ which
+    none_more fine = ap (λ ns. which ++ ns) (overflowing_fine (own_of first) s [] fine) ∙ append-nil which
 
-    one_more : overflows first s ≡ true → which ++ overflowing first (s ∷ []) ≡ which ++ s.number ∷ []
-    one_more full = ap (λ ns. which ++ ns) (overflowing_full first s [] full)
+    one_more : overflows first s ≡ true → which ++ overflowing (own_of first) (s ∷ []) ≡ which ++ s.number ∷ []
+    one_more full = ap (λ ns. which ++ ns) (overflowing_full (own_of first) s [] full)
 
-    done_one : (n : ℕ) (hs : List Flight) → IsSavedIn contents layers first s t v.copies n v.flights hs → (starts first s ≡ true → sum_by count_in v.snaps < 256)
-        → AreDone contents layers size first (k + 1) (which ++ overflowing first (s ∷ [])) v0 (record v { snaps = set v.snaps k t; copies = n; flights = hs })
+    done_one : (n : ℕ) (hs : List Flight) → IsSavedIn contents layers (own_of first s) s t v.copies n v.flights hs → (starts first s ≡ true → sum_by count_in v.snaps < 256)
+        → AreDone contents layers size first (k + 1) (which ++ overflowing (own_of first) (s ∷ [])) v0 (record v { snaps = set v.snaps k t; copies = n; flights = hs })
     done_one n hs e room = elim (cases_Bool (starts first s)) [
       | inl begins ↦
           (let (buffer, at, m, g) = MatchBool-at_true _ _ begins e in
-          subst (λ (ns : List ℕ). AreDone contents layers size first (k + 1) ns v0 (record v { snaps = set v.snaps k t; copies = n; flights = hs })) (sym (none_more (starts_fine first s begins)))
+          subst (λ (ns : List ℕ). AreDone contents layers size first (k + 1) ns v0 (record v { snaps = set v.snaps k t; copies = n; flights = hs })) (sym (none_more (starts_fine (own_of first s) s begins)))
           (subst (λ (x : ℕ). AreDone contents layers size first (k + 1) which v0 (record v { snaps = set v.snaps k t; copies = x; flights = hs })) (sym m)
           (subst (λ (x : List Flight). AreDone contents layers size first (k + 1) which v0 (record v { snaps = set v.snaps k t; copies = v.copies + 1; flights = x })) (sym g) (done_started buffer begins at (room begins)))))
       | inr unsaid ↦ elim (cases_Bool (overflows first s)) [
@@ -146,7 +146,7 @@ module _ {B : Type 0} (contents : B → List ℕ) (layers : B → List Layer) (s
     ]
 
   -- at most one copy more
-  count_after : (s t : Kept B) (n m : ℕ) (fs gs : List Flight) → IsSavedIn contents layers first s t n m fs gs → count_in t ≤ count_in s + (if starts first s then 1 else 0)
+  count_after : (s t : Kept B) (n m : ℕ) (fs gs : List Flight) → IsSavedIn contents layers (own_of first s) s t n m fs gs → count_in t ≤ count_in s + (if starts first s then 1 else 0)
   count_after s t n m fs gs e = elim (cases_Bool (starts first s)) [
     | inl begins ↦
         (let (buffer, at, m_is, g) = MatchBool-at_true _ _ begins e in
@@ -163,15 +163,15 @@ module _ {B : Type 0} (contents : B → List ℕ) (layers : B → List Layer) (s
   set_after [] s t ss = refl
   set_after (x ∷ pre) s t ss = ap (λ xs. x ∷ xs) (set_after pre s t ss)
 
-  overflowing_cons : (s : Kept B) (ss : List (Kept B)) (which : List ℕ) → (which ++ overflowing first (s ∷ [])) ++ overflowing first ss ≡ which ++ overflowing first (s ∷ ss)
-  overflowing_cons s ss which = append_assoc which (overflowing first (s ∷ [])) (overflowing first ss) ∙ ap (λ ns. which ++ ns) (elim (cases_Bool (overflows first s)) [
-    | inl full ↦ ap (λ ns. ns ++ overflowing first ss) (overflowing_full first s [] full) ∙ sym (overflowing_full first s ss full)
-    | inr fine ↦ ap (λ ns. ns ++ overflowing first ss) (overflowing_fine first s [] fine) ∙ sym (overflowing_fine first s ss fine)
+  overflowing_cons : (s : Kept B) (ss : List (Kept B)) (which : List ℕ) → (which ++ overflowing (own_of first) (s ∷ [])) ++ overflowing (own_of first) ss ≡ which ++ overflowing (own_of first) (s ∷ ss)
+  overflowing_cons s ss which = append_assoc which (overflowing (own_of first) (s ∷ [])) (overflowing (own_of first) ss) ∙ ap (λ ns. which ++ ns) (elim (cases_Bool (overflows first s)) [
+    | inl full ↦ ap (λ ns. ns ++ overflowing (own_of first) ss) (overflowing_full (own_of first) s [] full) ∙ sym (overflowing_full (own_of first) s ss full)
+    | inr fine ↦ ap (λ ns. ns ++ overflowing (own_of first) ss) (overflowing_fine (own_of first) s [] fine) ∙ sym (overflowing_fine (own_of first) s ss fine)
   ])
 
   -- all that are left
-  pub done_all : (ss ts pre : List (Kept B)) (v : Volumed B) (which : List ℕ) (m : ℕ) (gs : List Flight) → v.snaps ≡ pre ++ ss → AreSavedIn contents layers first ss ts v.copies m v.flights gs → sum_by count_in v.snaps + count_by (starts first) ss ≤ 256
-      → AreDone contents layers size first (length pre) which v0 v → AreDone contents layers size first (length pre + length ss) (which ++ overflowing first ss) v0 (record v { snaps = pre ++ ts; copies = m; flights = gs })
+  pub done_all : (ss ts pre : List (Kept B)) (v : Volumed B) (which : List ℕ) (m : ℕ) (gs : List Flight) → v.snaps ≡ pre ++ ss → AreSavedIn contents layers (own_of first) ss ts v.copies m v.flights gs → sum_by count_in v.snaps + count_by (starts first) ss ≤ 256
+      → AreDone contents layers size first (length pre) which v0 v → AreDone contents layers size first (length pre + length ss) (which ++ overflowing (own_of first) ss) v0 (record v { snaps = pre ++ ts; copies = m; flights = gs })
   done_all [] [] pre v which m gs at (m_is, g_is) few h =
       let end : AreDone contents layers size first (length pre + 0) which v0 v = (let none : length pre ≡ length pre + 0 = omega arith in subst (λ (i : ℕ). AreDone contents layers size first i which v0 v) none h) in
       subst (λ (x : List (Kept B)). AreDone contents layers size first (length pre + 0) (which ++ []) v0 (record v { snaps = x; copies = m; flights = gs })) at
@@ -193,9 +193,9 @@ module _ {B : Type 0} (contents : B → List ℕ) (layers : B → List Layer) (s
       let few' : sum_by count_in (set v.snaps (length pre) t) + count_by (starts first) ss ≤ 256 = omega (arith, few, sums, was, after, count_cons (starts first) s ss) in
       let len : length (pre ++ t ∷ []) ≡ length pre + 1 = length-append pre (t ∷ []) in
       let u : Volumed B = record v { snaps = set v.snaps (length pre) t; copies = n; flights = hs } in
-      let both : List ℕ = which ++ overflowing first (s ∷ []) in
+      let both : List ℕ = which ++ overflowing (own_of first) (s ∷ []) in
       let more = done_all ss ts (pre ++ t ∷ []) u both m gs now rest few' (subst (λ (i : ℕ). AreDone contents layers size first i both v0 u) (sym len) done) in
       let count : length (pre ++ t ∷ []) + length ss ≡ length pre + length (s ∷ ss) = omega (arith, len) in
       subst (λ (ns : List ℕ). AreDone contents layers size first (length pre + length (s ∷ ss)) ns v0 (record v { snaps = pre ++ t ∷ ts; copies = m; flights = gs })) (overflowing_cons s ss which)
-      (subst (λ (x : List (Kept B)). AreDone contents layers size first (length pre + length (s ∷ ss)) (both ++ overflowing first ss) v0 (record v { snaps = x; copies = m; flights = gs })) (append_assoc pre (t ∷ []) ts)
-      (subst (λ (i : ℕ). AreDone contents layers size first i (both ++ overflowing first ss) v0 (record v { snaps = (pre ++ t ∷ []) ++ ts; copies = m; flights = gs })) count more))
+      (subst (λ (x : List (Kept B)). AreDone contents layers size first (length pre + length (s ∷ ss)) (both ++ overflowing (own_of first) ss) v0 (record v { snaps = x; copies = m; flights = gs })) (append_assoc pre (t ∷ []) ts)
+      (subst (λ (i : ℕ). AreDone contents layers size first i (both ++ overflowing (own_of first) ss) v0 (record v { snaps = (pre ++ t ∷ []) ++ ts; copies = m; flights = gs })) count more))

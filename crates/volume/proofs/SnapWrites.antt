@@ -38,7 +38,7 @@ use Rattle.event_machine.specs.Submitting.{submitted}
 use Rattle.volume.specs.Exact.{IsSubmittedAs}
 use Rattle.snapshots.specs.Finding.{place_of_snap}
 use Rattle.volume.specs.Moved.{moving_of}
-use Rattle.snapshots.specs.Starting.{lacks, is_full_of, starts, overflows, spoilt_of, unroomed, IsSavedIn}
+use Rattle.snapshots.specs.Starting.{lacks, is_full_of, own_of, starts, overflows, spoilt_of, unroomed, IsSavedIn}
 use Rattle.snapshots.proofs.Roomed.{roomed}
 use Rattle.volume.specs.Submitting.{IsAsked, IsAcceptedAs, IsFoundFull, IsOverflown, SameButRoom, entered_of, lives_after, spoiled_by}
 use Rattle.volume.proofs.Accepts.{entered_flown}
@@ -139,7 +139,7 @@ module _ {B : Type 0} (contents : B → List ℕ) (layers : B → List Layer) (s
     whole_copying : IsWhole contents layers size copying
     whole_copying = whole_begun contents layers size roomy k s1 t within_roomy is_roomy roomy_whole (ap (λ (x : Kept B). x.number) at.fields) (ap (λ (x : Kept B). x.state.chunk) at.fields) (ap (λ (x : Kept B). x.state.origin) at.fields)
         (numbers_pushed s1 t copy (ap (λ (x : Kept B). x.marks) at.fields) (ap (λ (x : Kept B). x.copies) at.fields)) (ap (λ (x : Kept B). x.merging) at.fields) (λ counts. counted_begun contents layers s1 t copy live_roomy at counts)
-        (left_started contents layers f.request.range.first s1 t copy (subst IsCounted (sym is_roomy) (roomy_whole.counted k s1 within_roomy)).some begins live_roomy at) few_copies prepared_copying.holds prepared_copying.waits (room_begun contents layers copy s1 t at)
+        (left_started contents layers (own_of f.request.range.first s1) s1 t copy (subst IsCounted (sym is_roomy) (roomy_whole.counted k s1 within_roomy)).some begins live_roomy at) few_copies prepared_copying.holds prepared_copying.waits (room_begun contents layers copy s1 t at)
 
     piece_copying : piece_with v.merge (set (set v.snaps k s1) k t) ≡ piece_with v.merge v.snaps
     piece_copying = piece_beside v.merge (set v.snaps k s1) k s1 t is_roomy (ap (λ (x : Kept B). x.state.chunk) at.fields) ∙ roomed_beside v.merge (set v.snaps k s1) v.snaps one_roomed
@@ -172,7 +172,7 @@ module _ {B : Type 0} (contents : B → List ℕ) (layers : B → List Layer) (s
         let sized : IsSized contents s1 = sized_at contents layers size roomy roomy_whole k s1 within_roomy is_roomy in
         ap (submitted f.number f.request) (moving_roomed replied)
         ∙ snap_write_held_is contents layers replied f.number f.request f refl refl roomy (entered_of f copying) id k s1 first_roomy t kind did_roomy
-        (lacking_unpublished f.request.range.first s1 lacking) sized lacking free (sym (with_copy_is contents layers f.request.range.first s1 t v.copies buffer at)) route refl
+        (lacking_unpublished f.request.range.first s1 lacking) sized lacking free (sym (with_copy_is contents layers (own_of f.request.range.first s1) s1 t v.copies buffer at)) route refl
 
     pub held_accepted : IsAcceptedAs contents layers f.request f.number v (entered_of f copying)
     held_accepted = record {
@@ -283,7 +283,7 @@ module _ {B : Type 0} (contents : B → List ℕ) (layers : B → List Layer) (s
         }
 
 -- a copy was started where a number was given
-pub saved_begins : {B : Type 0} (contents : B → List ℕ) (layers : B → List Layer) (c : ℕ) (s t : Kept B) (m l : ℕ) (fs gs : List Flight) → IsSavedIn contents layers c s t m l fs gs → l ≢ m → starts c s ≡ true
+pub saved_begins : {B : Type 0} (contents : B → List ℕ) (layers : B → List Layer) (c : ℕ) (s t : Kept B) (m l : ℕ) (fs gs : List Flight) → IsSavedIn contents layers (own_of c s) s t m l fs gs → l ≢ m → starts c s ≡ true
 saved_begins contents layers c s t m l fs gs e other = elim (cases_Bool (starts c s)) [
   | inl begins ↦ begins
   | inr unsaid ↦ elim (cases_Bool (overflows c s)) [
@@ -293,7 +293,7 @@ saved_begins contents layers c s t m l fs gs e other = elim (cases_Bool (starts 
 ]
 
 -- and else the store is full
-pub saved_full : {B : Type 0} (contents : B → List ℕ) (layers : B → List Layer) (c : ℕ) (s t : Kept B) (m l : ℕ) (fs gs : List Flight) → IsSavedIn contents layers c s t m l fs gs → lacks c s ≡ true → l ≡ m
+pub saved_full : {B : Type 0} (contents : B → List ℕ) (layers : B → List Layer) (c : ℕ) (s t : Kept B) (m l : ℕ) (fs gs : List Flight) → IsSavedIn contents layers (own_of c s) s t m l fs gs → lacks c s ≡ true → l ≡ m
     → (overflows c s ≡ true) × (t ≡ spoilt_of s) × (gs ≡ map (refused_of (s.number ∷ [])) fs)
 saved_full contents layers c s t m l fs gs e lacking same = elim (cases_Bool (starts c s)) [
   | inl begins ↦ (let (buffer, at, l_is, g) = MatchBool-at_true _ _ begins e in absurd (omega (arith, same, l_is)))
@@ -307,13 +307,13 @@ module _ {B : Type 0} (contents : B → List ℕ) (layers : B → List Layer) (s
   -- a number was given: the write is in flight
   pub held_done : (f : Flight) (request : Request) → f.request ≡ request → f.number ≡ v.requests + 1 → f.route ≡ Held → length v.flights < 64 → IsAsked (size v.origin) (piece_with v.merge v.snaps) request → length f.room.items ≡ room_of request → kind_of request ≡ SnapWrite id → did_overflow s.overflow ≡ false
       → sum_by count_in v.snaps + count_by (λ x. nat_eq x.number id && starts request.range.first x) v.snaps ≤ 256
-      → IsSavedIn contents layers request.range.first s1 t v.copies m v.flights gs → m ≢ v.copies
+      → IsSavedIn contents layers (own_of request.range.first s1) s1 t v.copies m v.flights gs → m ≢ v.copies
       → IsWhole contents layers size (entered_of f (record v { snaps = set (set v.snaps k s1) k t; copies = m; flights = gs }))
       × IsAcceptedAs contents layers request f.number v (entered_of f (record v { snaps = set (set v.snaps k s1) k t; copies = m; flights = gs }))
   held_done f request same number route space = subst
       (λ (r : Request). IsAsked (size v.origin) (piece_with v.merge v.snaps) r → length f.room.items ≡ room_of r → kind_of r ≡ SnapWrite id → did_overflow s.overflow ≡ false
       → sum_by count_in v.snaps + count_by (λ x. nat_eq x.number id && starts r.range.first x) v.snaps ≤ 256
-      → IsSavedIn contents layers r.range.first s1 t v.copies m v.flights gs → m ≢ v.copies
+      → IsSavedIn contents layers (own_of r.range.first s1) s1 t v.copies m v.flights gs → m ≢ v.copies
       → IsWhole contents layers size (entered_of f (record v { snaps = set (set v.snaps k s1) k t; copies = m; flights = gs }))
       × IsAcceptedAs contents layers r f.number v (entered_of f (record v { snaps = set (set v.snaps k s1) k t; copies = m; flights = gs })))
       same
@@ -329,7 +329,7 @@ module _ {B : Type 0} (contents : B → List ℕ) (layers : B → List Layer) (s
       ))))
 
   -- none was given: the snapshot is spoiled
-  pub full_done : (c : ℕ) → IsSavedIn contents layers c s1 t v.copies m v.flights gs → lacks c s ≡ true → m ≡ v.copies → s.overflow ≡ Never → place_of_snap id v.snaps ≡ Some k
+  pub full_done : (c : ℕ) → IsSavedIn contents layers (own_of c s1) s1 t v.copies m v.flights gs → lacks c s ≡ true → m ≡ v.copies → s.overflow ≡ Never → place_of_snap id v.snaps ≡ Some k
       → IsWhole contents layers size (record v { snaps = set (set v.snaps k s1) k t; flights = gs }) × IsFoundFull contents layers id c v (record v { snaps = set (set v.snaps k s1) k t; flights = gs })
   full_done c saved lacking none never found =
       let (over, t_is, g_is) = saved_full contents layers c s1 t v.copies m v.flights gs saved (ap (lacks c) e1 ∙ lacking) none in
@@ -347,7 +347,7 @@ module _ {B : Type 0} (contents : B → List ℕ) (layers : B → List Layer) (s
 -- what starting the copy says of a store that is full
 abbrev pub IsRefusedFull : {B : Type 0} → (B → List ℕ) → (B → List Layer) → ℕ → Refusal → Kept B → Kept B → ℕ → List Flight → List Flight → Type 0
 IsRefusedFull contents layers c refusal s t m fs gs =
-    ((refusal ≡ Invalid) × (s.overflow ≡ Never) × IsSavedIn contents layers c s t m m fs gs)
+    ((refusal ≡ Invalid) × (s.overflow ≡ Never) × IsSavedIn contents layers (own_of c s) s t m m fs gs)
     ⊎ ((refusal ≡ Overflow) × (s.overflow ≡ May) × (overflows c s ≡ true) × (t ≡ record s { overflow = Did }) × (gs ≡ fs))
 
 -- and why a write of a snapshot is refused then

@@ -3,7 +3,7 @@ use Rattle.std.proofs.Common.{◌≡◌, ℕ, ◌<◌, true, false, List, [], No
 use Rattle.device.specs.Layers.{Layer}
 use Rattle.pending.specs.declared.copies.ChunkCopy.{ChunkCopy}
 use Rattle.snapshot.specs.Kept.{Kept}
-use Rattle.volume.specs.Volumed.{Volumed, piece_with}
+use Rattle.volume.specs.Volumed.{Volumed}
 use Rattle.volume.specs.Whole.{IsAttached, IsWhole, IsCounted}
 use Rattle.volume.proofs.Good.{SpoiltTo}
 use Rattle.volume.proofs.MovedCounts.{counted_device, counted_spoilt}
@@ -49,5 +49,5 @@ spoilt_device s u s' d first then = (
 )
 
 module _ {B : Type 0} (contents : B → List ℕ) (layers : B → List Layer) (size : B → ℕ) (v : Volumed B) (h : IsWhole contents layers size v) where
-  pub attached_at : (k : ℕ) (s : Kept B) → k < length v.snaps → s ≡ get_or v.snaps k s → IsAttached v.copies (size v.origin) (piece_with v.merge v.snaps) s
-  attached_at k s within is = subst (IsAttached v.copies (size v.origin) (piece_with v.merge v.snaps)) (sym is) (h.snaps k s within)
+  pub attached_at : (k : ℕ) (s : Kept B) → k < length v.snaps → s ≡ get_or v.snaps k s → IsAttached v.copies (size v.origin) s
+  attached_at k s within is = subst (IsAttached v.copies (size v.origin)) (sym is) (h.snaps k s within)

@@ -8,7 +8,7 @@ use Rattle.model.specs.Places.{is_area_place}
 use Rattle.pending.specs.declared.copies.ChunkCopy.{ChunkCopy}
 use Rattle.snapshot.specs.Kept.{Kept}
 use Rattle.snapshot.specs.Calls.{StartsAt}
-use Rattle.snapshots.specs.Starting.{lacks, is_full_of, starts}
+use Rattle.snapshots.specs.Starting.{lacks_chunk, is_full_of, starts_chunk}
 use Rattle.volume.specs.Whole.{starts_left}
 
 pub left_same : {B : Type 0} (s t : Kept B) → t.live ≡ s.live → t.state.size ≡ s.state.size → t.next ≡ s.next → starts_left t ≤ starts_left s
@@ -43,9 +43,9 @@ later chunk n = elim (cases_Bool (is_area_place chunk n)) [
 ]
 
 -- a copy is started
-pub left_started : {B : Type 0} (contents : B → List ℕ) (layers : B → List Layer) (first : ℕ) (s t : Kept B) (p : ChunkCopy) → 0 < s.state.chunk → starts first s ≡ true → s.live ≡ true → StartsAt contents layers p s t → starts_left t + 1 ≤ starts_left s
-left_started contents layers first s t p some begins live at =
-    let room = ltb-false s.state.size (s.state.chunk * (s.next + 1)) (not_full (lacks first s) (is_full_of s) begins) in
+pub left_started : {B : Type 0} (contents : B → List ℕ) (layers : B → List Layer) (c : ℕ) (s t : Kept B) (p : ChunkCopy) → 0 < s.state.chunk → starts_chunk c s ≡ true → s.live ≡ true → StartsAt contents layers p s t → starts_left t + 1 ≤ starts_left s
+left_started contents layers c s t p some begins live at =
+    let room = ltb-false s.state.size (s.state.chunk * (s.next + 1)) (not_full (lacks_chunk c s) (is_full_of s) begins) in
     let inside = fits s.state.chunk s.next s.state.size some room in
     let next = ap (λ (x : Kept _). x.next) at.fields in
     let past = later s.state.chunk (s.next + 1) in

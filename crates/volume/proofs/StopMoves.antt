@@ -20,11 +20,11 @@ use Rattle.settled.specs.Saving.{lacks_area}
 use Rattle.settled.specs.Merges.{Merge, last_run}
 use Rattle.settled.specs.Devices.{Device, sectors_of, answers, met, written_by}
 use Rattle.event_machine.specs.Held.{Copying, Held, MergeHeld, Moving, with_store, spoiled, on_device, with_merge}
-use Rattle.event_machine.specs.Stepping.{for_some, first_that, with_first, without_first, put, spoil, store_write, read_copy, write_copy, zero_next, publish, is_copy, on_copy, on_snap}
-use Rattle.event_machine.specs.MergeStepping.{stepped_all, read_area, read_chunk, flush_origin, without_group, end_group, form_group, start_next, on_merge, stop, sectors_in, without_last}
+use Rattle.event_machine.specs.Stepping.{for_some, first_that, with_first, without_first, put, spoil, store_write, read_copy, write_copy, zero_next, publish, publishes, is_copy, on_copy, on_snap, stepped}
+use Rattle.event_machine.specs.MergeStepping.{stepped_all, read_area, read_chunk, flush_origin, without_group, end_group, form_group, start_next, start_waiting, on_merge, stop, sectors_in, without_last}
 use Rattle.event_machine.specs.Submitting.{started_all, needs_none, is_filled}
-use Rattle.event_machine.specs.Due.{is_front_written, needs_area, can_zero, is_publishable}
-use Rattle.event_machine.specs.MergeDue.{in_area, can_group, can_read_area, can_read, can_flush, can_release}
+use Rattle.event_machine.specs.Due.{is_front_written, needs_area, can_zero}
+use Rattle.event_machine.specs.MergeDue.{in_area, next_of, can_group, can_read_area, can_read, can_flush, can_release}
 use Rattle.volume.proofs.Shown.{and_left, and_right}
 
 -- two lists whose elements are so, one by one
@@ -129,11 +129,11 @@ front_some : (ps : List Copying) → is_front_written ps ≡ true → ps ≢ []
 front_some ps e none = false≢true (sym (ap is_front_written none) ∙ e)
 
 -- the merge of an event, in the list or beside it
-pub started_same : (first started : ℕ) (snaps : List Held) → Places SameBytes snaps (started_all first started snaps)
-started_same first started [] = tt
-started_same first started (h ∷ snaps) = by (λ n. started_same first n snaps) (needs_none (first / h.snap.chunk) h) (is_filled h) refl refl
+pub started_same : (at : Held → ℕ) (started : ℕ) (snaps : List Held) → Places SameBytes snaps (started_all at started snaps)
+started_same at started [] = tt
+started_same at started (h ∷ snaps) = by (λ n. started_same at n snaps) (needs_none (at h) h) (is_filled h) refl refl
   where
-    by : ((n : ℕ) → Places SameBytes snaps (started_all first n snaps)) → (b c : Bool) → needs_none (first / h.snap.chunk) h ≡ b → is_filled h ≡ c → Places SameBytes (h ∷ snaps) (started_all first started (h ∷ snaps))
+    by : ((n : ℕ) → Places SameBytes snaps (started_all at n snaps)) → (b c : Bool) → needs_none (at h) h ≡ b → is_filled h ≡ c → Places SameBytes (h ∷ snaps) (started_all at started (h ∷ snaps))
     by rest true c x y = subst (λ zs. Places SameBytes (h ∷ snaps) zs) (sym (cond-true _ _ _ x)) (refl, rest started)
     by rest false true x y = subst (λ zs. Places SameBytes (h ∷ snaps) zs) (sym (cond-false _ _ _ x ∙ cond-true _ _ _ y)) (refl, rest started)
     by rest false false x y = subst (λ zs. Places SameBytes (h ∷ snaps) zs) (sym (cond-false _ _ _ x ∙ cond-false _ _ _ y)) (refl, rest (started + 1))
@@ -143,10 +143,24 @@ to_moves [] ys p = tt
 to_moves (x ∷ xs) [] p = absurd p
 to_moves (x ∷ xs) (y ∷ ys) p = (inl p.0, to_moves xs ys p.1)
 
-next_started : (chunk : ℕ) (o : Option Pair) (v w : Moving) → w.origin.bytes ≡ v.origin.bytes → w.snaps ≡ v.snaps → SameStore v.merge w.merge → Steps v (start_next chunk o w)
-next_started chunk None v w origin snaps merge = record { origin = origin; snaps = subst (λ zs. Places Moves v.snaps zs) (sym snaps) (places_same Moves same_moves v.snaps); merge = merge }
-next_started chunk (Some q) v w origin snaps merge =
-    record { origin = origin; snaps = subst (λ zs. Places Moves zs (started_all (chunk * q.old) w.started w.snaps)) snaps (to_moves w.snaps _ (started_same (chunk * q.old) w.started w.snaps)); merge = merge }
+bytes_then : (xs ys zs : List Held) → Places SameBytes xs ys → Places SameBytes ys zs → Places SameBytes xs zs
+bytes_then [] ys zs p q = tt
+bytes_then (x ∷ xs) [] zs p q = absurd p
+bytes_then (x ∷ xs) (y ∷ ys) [] p q = absurd q
+bytes_then (x ∷ xs) (y ∷ ys) (z ∷ zs) p q = (q.0 ∙ p.0, bytes_then xs ys zs p.1 q.1)
+
+pub next_bytes : (chunk : ℕ) (o : Option Pair) (xs : List Held) (w : Moving) → Places SameBytes xs w.snaps → Places SameBytes xs (start_next chunk o w).snaps
+next_bytes chunk None xs w snaps = snaps
+next_bytes chunk (Some q) xs w snaps = bytes_then xs w.snaps (start_next chunk (Some q) w).snaps snaps (started_same _ w.started w.snaps)
+
+next_started : (chunk : ℕ) (o : Option Pair) (v w : Moving) → w.origin.bytes ≡ v.origin.bytes → Places SameBytes v.snaps w.snaps → SameStore v.merge w.merge → Steps v (start_next chunk o w)
+next_started chunk None v w origin snaps merge = record { origin = origin; snaps = to_moves v.snaps w.snaps snaps; merge = merge }
+next_started chunk (Some q) v w origin snaps merge = record { origin = origin; snaps = to_moves v.snaps (start_next chunk (Some q) w).snaps (next_bytes chunk (Some q) v.snaps w snaps); merge = merge }
+
+-- and where the merge waits for a copy then
+waiting_started : (o : Option MergeHeld) (v w : Moving) → w.origin.bytes ≡ v.origin.bytes → Places SameBytes v.snaps w.snaps → SameStore v.merge w.merge → Steps v (for_some o (λ m. start_next m.merge.chunk (next_of m) w) w)
+waiting_started None v w origin snaps merge = record { origin = origin; snaps = to_moves v.snaps w.snaps snaps; merge = merge }
+waiting_started (Some m) v w origin snaps merge = next_started m.merge.chunk (next_of m) v w origin snaps merge
 
 -- the merge with another that has the same store, over an origin disk that has the same bytes
 with_steps : (m m' : MergeHeld) (o : Device) (v : Moving) → v.merge ≡ Some m → o.bytes ≡ v.origin.bytes → m'.merge.store.bytes ≡ m.merge.store.bytes → Steps v (with_merge m' (record v { origin = o }))
@@ -183,7 +197,7 @@ flushed_steps m v is =
 formed_steps : (m : MergeHeld) (v : Moving) → v.merge ≡ Some m → Steps v (form_group m v)
 formed_steps m v is =
     let now : MergeHeld = record m { waiting = last_run (in_area m) } in
-    next_started m.merge.chunk (last_of (last_run (in_area m))) v (with_merge now v) refl refl (merge_store v.merge m now is refl)
+    next_started m.merge.chunk (last_of (last_run (in_area m))) v (with_merge now v) refl (places_same SameBytes (λ h. refl) v.snaps) (merge_store v.merge m now is refl)
 
 -- whether an event of the machine is one that these say something of
 abbrev pub is_still : Event → Bool
@@ -251,8 +265,10 @@ zero_steps test h v is some =
     (λ lacks. put_steps test h (spoiled h) v (spoil test h v) is (inl refl) refl refl refl)
     (λ fits. store_steps test h op text next v is some (λ k. refl) (λ k. refl))
 
-publish_steps : (test : Held → Bool) (mine : Mark → Bool) (h : Held) (v : Moving) → first_that test v.snaps ≡ Some h → Steps v (publish test mine h v)
-publish_steps test mine h v is = put_steps test h (record h { marks = without_first mine h.marks }) v (publish test mine h v) is (inl refl) refl refl refl
+publish_steps : (test : Held → Bool) (mine : Mark → Bool) (o : Option Held) (v : Moving) → ((h : Held) → o ≡ Some h → first_that test v.snaps ≡ Some h) → Steps v (start_waiting (for_some o (λ h. publish test mine h v) v))
+publish_steps test mine None v found = waiting_started v.merge v v refl (places_same SameBytes (λ h. refl) v.snaps) (same_store v.merge)
+publish_steps test mine (Some h) v found =
+    waiting_started v.merge v (publish test mine h v) refl (first_places SameBytes (λ k. refl) test h (record h { marks = without_first mine h.marks }) v.snaps (found h refl) refl) (same_store v.merge)
 
 zeroes : (n : ℕ) (h : Held) → ((h.snap.number == n) && can_zero h) ≡ true → h.copies ≢ []
 zeroes n h e = front_some h.copies (and_left (is_front_written h.copies) (needs_area h) (and_right (h.snap.number == n) (can_zero h) e))
@@ -262,8 +278,8 @@ steps_by (CopyRead n) v e = on_copies Waiting n read_copy v (λ h p is here. cop
 steps_by (CopyWrite n) v e = on_copies Read n write_copy v (λ h p is here. copy_write_steps (λ k. list_any (is_copy Read n) k.copies) (is_copy Read n) h p v is (copies_some (is_copy Read n) p h.copies here))
 steps_by (ZeroNext n) v e = on_snaps (λ h. (h.snap.number == n) && can_zero h) zero_next v (λ h is. zero_steps (λ h. (h.snap.number == n) && can_zero h) h v is (zeroes n h (first_passes (λ h. (h.snap.number == n) && can_zero h) v.snaps h is)))
 steps_by (Publish n) v e =
-    on_snaps (λ h. list_any (λ m. (m.number == n) && is_publishable v.requests h m) h.marks) (λ test h. publish test (λ m. m.number == n) h) v
-    (λ h is. publish_steps (λ h. list_any (λ m. (m.number == n) && is_publishable v.requests h m) h.marks) (λ m. m.number == n) h v is)
+    some_steps (first_that (publishes v.requests n) v.snaps) (λ h. start_waiting (stepped (Publish n) v)) v
+    (λ h is. publish_steps (publishes v.requests n) (λ m. m.number == n) (first_that (publishes v.requests n) v.snaps) v (λ k same. same))
 steps_by MergeGroup v e = on_merging can_group form_group v (λ m is. formed_steps m v is)
 steps_by MergeAreaRead v e = on_merging can_read_area read_area v (λ m is. area_back m v is)
 steps_by MergeRead v e = on_merging (can_read v.requests) (λ m. read_chunk (last_of m.waiting) m) v (λ m is. read_back (last_of m.waiting) m v is)

@@ -11,7 +11,7 @@ use Rattle.sector.specs.Bytes.{sector_at, with_sectors}
 use Rattle.sector.proofs.Sectors.{kept_or_written, byte_outside}
 use Rattle.sector.specs.declared.range.Range.{Range}
 use Rattle.device.specs.Layers.{Layer, is_loud}
-use Rattle.model.specs.Picture.{picture, place_of, IsCopied}
+use Rattle.model.specs.Picture.{picture, IsCopied}
 use Rattle.model.proofs.Pictures.{length-picture}
 use Rattle.plain.specs.Plain.{Plain, asked_under}
 use Rattle.plain.specs.Legal.{IsLegalStep, Spoils}
@@ -36,18 +36,18 @@ use Rattle.stop_laws.specs.Stop.{HoldsNow, IsTorn}
 use Rattle.stop_laws.specs.Again.{LoadsAgain, IsRefusedAgain}
 use Rattle.stop_laws.specs.Clauses.{Given, Gives, OpensNone, StopsSnap}
 use Rattle.stop_laws.proofs.Clauses.{opens_none}
-use Rattle.stop_laws.proofs.Shown.{shown_under}
 use Rattle.volume_laws.specs.Held.{LiveHolds, SpoiltHolds, SnapHolds, CopyHolds, RequestHolds}
 use Rattle.volume_laws.specs.Shape.{shown_origin}
+use Rattle.volume_laws.specs.Steps.{WritesDisk}
 use Rattle.volume_laws.specs.Whole.{OriginHolds}
-use Rattle.volume_laws.specs.Published.{is_published}
-use Rattle.volume_laws.proofs.Clear.{published_true}
+use Rattle.volume_laws.specs.Published.{IsSavedOver, is_saved_over as saved_over_books}
+use Rattle.volume_laws.proofs.Nexts.{over_saved}
 use Rattle.volume_laws.proofs.WholeOne.{snap_holds}
-use Rattle.std.proofs.Math.Nat.{mul-div_cancel_left}
+use Rattle.settled.proofs.FaultlessAttaching.{size_of}
 use Rattle.sector.specs.declared.pair.Pair.{Pair}
 use Rattle.event_machine.specs.Seen.{replied_by}
-use Rattle.event_machine.specs.Held.{MergeHeld, is_untried}
-use Rattle.event_machine.specs.Again.{is_saved}
+use Rattle.event_machine.specs.Held.{Held, MergeHeld, is_untried}
+use Rattle.event_machine.specs.Again.{is_clear_over, is_saved_over}
 use Rattle.event_machine.specs.MergeSeen.{held_in, merge_held_of, buffered}
 use Rattle.store.specs.Shown.{StopsBetween, StopsInvalid}
 use Rattle.store.proofs.StopClauses.{between_stops, invalid_stops, merge_commit_stops}
@@ -57,7 +57,7 @@ use Rattle.snapshots.specs.Numbers.{number_of_snap}
 use Rattle.merge.specs.Lists.{copied_count, copied_of, reading_of, released_of}
 use Rattle.merge.specs.Merging.{Merging, due_of as merging_due}
 use Rattle.merge_beside.specs.Rooms.{merge_books}
-use Rattle.volume.specs.Volumed.{Volumed, books_of, plain_of, is_loud_in_all, is_loud_with, piece_with, merge_shape}
+use Rattle.volume.specs.Volumed.{Volumed, books_of, plain_of, is_loud_in_all, is_loud_with, merge_shape}
 use Rattle.volume.specs.Whole.{IsWhole, IsCounted, GoesOn}
 use Rattle.volume.specs.Causes.{counts_with}
 use Rattle.volume.specs.Exact.{IsExact}
@@ -71,9 +71,10 @@ use Rattle.volume.proofs.StopStill.{as_it_is, loads_snap, refuses_snap, ready_li
 use Rattle.volume.proofs.StopGiven.{live_given, dead_given, merge_given}
 use Rattle.volume.proofs.StopMoves.{SameBytes, seen_place, Moves, SameStore, Steps, is_still, steps_by}
 use Rattle.volume.proofs.StopIssues.{SamePairs, SameMergePairs, KeepsPairs, pairs_kept}
-use Rattle.volume.proofs.StopUntried.{IssueWrites, WritesUnder, Stays, writes_of, untouched, under}
+use Rattle.volume.proofs.StopUntried.{IssueWrites, Stays, writes_of, untouched, under}
+use Rattle.volume.proofs.Beneath.{StaysBeside, beside_written, shown_beneath}
 use Rattle.volume.proofs.MergeDue.{merged, full_inside}
-use Rattle.volume.proofs.StopWrites.{WriteSteps, write_steps, all_at, none_at, live_saved, reading_full}
+use Rattle.volume.proofs.StopWrites.{WriteSteps, write_steps, all_at, none_at, reading_full}
 use Rattle.volume.proofs.StopShown.{same_shown, kept_shown, changed_shown}
 
 no_issue : (event : Event) (number : ℕ) → is_still event ≡ true → event ≢ Issue number
@@ -227,28 +228,27 @@ module _ {B : Type 0} (contents : B → List ℕ) (layers : B → List Layer) (s
     still_stop : (given : Option Given) → contents w.origin ≡ contents v.origin → contents t.device ≡ contents s.device → StopsSnap (λ d. HoldsNow (contents d)) size given v.origin w.origin (stopping_of s) (stopping_of t)
     still_stop given disk here = still_snap contents layers size whole given v.origin w.origin disk s t (of_origin contents layers size whole v h loud k s lt is) now (loud_snap contents layers size whole v h loud k s lt is) here
 
-  -- the origin disk is written in one chunk, of which a snapshot has its copy, and that one's store is loaded again
-  under_opens : (k : ℕ) (s t : Kept B) (lt : k < length v.snaps) (at : s ≡ get_or v.snaps k s) (are : t ≡ get_or w.snaps k t) (given : Option Given) (q : ℕ) → (s.live || (s.untried || s.stale)) ≡ true → contents t.device ≡ contents s.device
-      → ((i : ℕ) → (i < 512 * (s.state.chunk * q)) ⊎ (512 * (s.state.chunk * q + s.state.chunk) ≤ i) → get_or (contents w.origin) i 0 ≡ get_or (contents v.origin) i 0) → place_of s.pairs q ≢ None
+  -- the origin disk is written in chunks of which a snapshot has its copies, and that one's store is loaded again
+  under_opens : (k : ℕ) (s t : Kept B) (lt : k < length v.snaps) (at : s ≡ get_or v.snaps k s) (are : t ≡ get_or w.snaps k t) (given : Option Given) → (s.live || (s.untried || s.stale)) ≡ true → contents t.device ≡ contents s.device
+      → StaysBeside s.state.chunk s.pairs (contents v.origin) (contents w.origin)
       → (b c : List ℕ) → IsTorn (size v.origin) (contents v.origin) (contents w.origin) b → IsTorn (size s.device) (contents s.device) (contents t.device) c
       → LoadsAgain s.state.chunk (size v.origin) (size s.device) c × OpensNone (λ d. HoldsNow (contents d)) size given (Some s.number) s.state.chunk v.origin s.device b c
-  under_opens k s t lt at are given q ready same rest placed b c left_b left_c =
+  under_opens k s t lt at are given ready same beside b c left_b left_c =
       let drops = loud_snap contents layers size whole v h loud k s lt at in
       let ec : c ≡ contents s.device = as_it_is contents layers size whole s.device t.device c same left_c in
       let shows : picture s.state.chunk b c ≡ picture s.state.chunk (contents v.origin) (contents s.device) =
       ap (picture s.state.chunk b) ec
-      ∙ shown_under (size v.origin) s.state.chunk q s.state.chunk (contents v.origin) (contents w.origin) b (contents s.device) s.pairs (some k s t lt at are) left_b (whole v.origin) (whole w.origin ∙ ap (λ n. 512 * n) sectors) rest (omega arith) ((now k s t lt at are).pairs drops) placed in
+      ∙ shown_beneath (size v.origin) s.state.chunk (contents v.origin) (contents w.origin) b (contents s.device) s.pairs left_b (whole v.origin) (whole w.origin ∙ ap (λ n. 512 * n) sectors) beside ((now k s t lt at are).pairs drops) in
       let loads = loads_snap contents layers size whole v.origin s (of_origin contents layers size whole v h loud k s lt at) (now k s t lt at are) drops ready in (
         subst (λ (z : List ℕ). LoadsAgain s.state.chunk (size v.origin) (size s.device) z) (sym ec) loads,
         opens_none contents size given (Some s.number) s.state.chunk v.origin s.device b c (whole v.origin) (whole s.device) (λ n below. inl (ap (λ z. sector_at z n) shows)),
       )
 
   -- a live one
-  under_stop : (k : ℕ) (s t : Kept B) (lt : k < length v.snaps) (at : s ≡ get_or v.snaps k s) (are : t ≡ get_or w.snaps k t) (q : ℕ) → s.live ≡ true → contents t.device ≡ contents s.device
-      → ((i : ℕ) → (i < 512 * (s.state.chunk * q)) ⊎ (512 * (s.state.chunk * q + s.state.chunk) ≤ i) → get_or (contents w.origin) i 0 ≡ get_or (contents v.origin) i 0) → place_of s.pairs q ≢ None
+  under_stop : (k : ℕ) (s t : Kept B) (lt : k < length v.snaps) (at : s ≡ get_or v.snaps k s) (are : t ≡ get_or w.snaps k t) → s.live ≡ true → contents t.device ≡ contents s.device → StaysBeside s.state.chunk s.pairs (contents v.origin) (contents w.origin)
       → StopsSnap (λ d. HoldsNow (contents d)) size None v.origin w.origin (stopping_of s) (stopping_of t)
-  under_stop k s t lt at are q live same rest placed = λ b c left_b left_c. (
-    λ _. under_opens k s t lt at are None q (ready_live s.live s.untried s.stale live) same rest placed b c left_b left_c,
+  under_stop k s t lt at are live same beside = λ b c left_b left_c. (
+    λ _. under_opens k s t lt at are None (ready_live s.live s.untried s.stale live) same beside b c left_b left_c,
     λ waits. absurd (false≢true (sym (alive k s t lt at are live).tried ∙ waits)),
     λ dead. absurd (false≢true (sym dead ∙ live)),
   )
@@ -267,10 +267,10 @@ module _ {B : Type 0} (contents : B → List ℕ) (layers : B → List Layer) (s
       let same : contents t.device ≡ contents s.device = elim stays [ inl e ↦ e | inr one ↦ absurd (untouched m n vb h.holds h.waits refl refl sb gone waits (held_of contents layers s) refl one) ] in
       elim writes.origin [
         | inl disk ↦ still_stop k s t lt at are given disk same
-        | inr one ↦ (let beneath : WritesUnder s.state.chunk s.pairs (contents v.origin) (contents w.origin) = under m n vb h.holds h.waits refl refl sb gone waits one in
+        | inr one ↦ (let beneath : StaysBeside s.state.chunk s.pairs (contents v.origin) (contents w.origin) = under m n vb h.holds h.waits refl refl sb gone waits (some k s t lt at are) one in
             λ b c left_b left_c. (
               λ live. absurd (false≢true (sym dead ∙ live)),
-              λ _. inr (under_opens k s t lt at are given beneath.at (ready_untried s.live s.untried s.stale waits) same beneath.rest beneath.placed b c left_b left_c),
+              λ _. inr (under_opens k s t lt at are given (ready_untried s.live s.untried s.stale waits) same beneath b c left_b left_c),
               λ _ tried. absurd (false≢true (sym tried ∙ waits)),
             ))
       ]
@@ -502,10 +502,10 @@ module _ {B : Type 0} (contents : B → List ℕ) (layers : B → List Layer) (s
   held_some None x e = absurd (cc)
   held_some (Some m) x e = (m, refl, cc)
 
-  -- the bytes beside that chunk
-  rest_same : (m : Merging B) (q : Pair) (rest : List Pair) → v.merge ≡ Some m → reading_of m.group ≡ q ∷ rest → contents w.origin ≡ with_sectors (contents v.origin) (m.state.chunk * q.old) (buffered m.state.chunk m.state.origin (reading_of m.group) m.buffer)
-      → (i : ℕ) → (i < 512 * (m.state.chunk * q.old)) ⊎ (512 * (m.state.chunk * q.old + m.state.chunk) ≤ i) → get_or (contents w.origin) i 0 ≡ get_or (contents v.origin) i 0
-  rest_same m q rest was reading bytes i side =
+  -- no other sectors of the origin disk are written than those of the merged chunk
+  disk_written : (m : Merging B) (q : Pair) (rest : List Pair) → v.merge ≡ Some m → reading_of m.group ≡ q ∷ rest → contents w.origin ≡ with_sectors (contents v.origin) (m.state.chunk * q.old) (buffered m.state.chunk m.state.origin (reading_of m.group) m.buffer)
+      → WritesDisk (m.state.chunk * q.old) (count_of m.state.chunk m.state.origin q.old) (contents v.origin) (contents w.origin)
+  disk_written m q rest was reading bytes =
       let inside = (full_inside contents layers size v h m q was (reading_full m.group q rest reading)).old in
       let origin = (merged contents layers size v h m was).origin in
       let count : ℕ = count_of m.state.chunk m.state.origin q.old in
@@ -513,11 +513,14 @@ module _ {B : Type 0} (contents : B → List ℕ) (layers : B → List Layer) (s
       let short = length-take (512 * count) m.buffer in
       let is : contents w.origin ≡ with_sectors (contents v.origin) (m.state.chunk * q.old) text = bytes ∙ ap (λ r. with_sectors (contents v.origin) (m.state.chunk * q.old) (buffered m.state.chunk m.state.origin r m.buffer)) reading in
       let all = whole v.origin in
-      ap (λ z. get_or z i 0) is
-      ∙ byte_outside (contents v.origin) (m.state.chunk * q.old) text i (omega arith) (elim side [
-        | inl below ↦ inl below
-        | inr past ↦ inr (omega arith)
-      ])
+      record {
+        len = whole w.origin ∙ ap (λ n. 512 * n) sectors ∙ sym (whole v.origin);
+        rest = λ i side. ap (λ z. get_or z i 0) is
+            ∙ byte_outside (contents v.origin) (m.state.chunk * q.old) text i (omega arith) (elim side [
+              | inl below ↦ inl below
+              | inr past ↦ inr (omega arith)
+            ]);
+      }
 
   back_event : (told : Bool → Bool) → WriteSteps (moving_of contents layers None v) (moving_of contents layers None w) → shown_origin contents w.origin (merge_shape w.merge) ≡ shown_origin contents v.origin (merge_shape v.merge) → StopsVolume contents size told None v w
   back_event told moved shown = record {
@@ -528,20 +531,25 @@ module _ {B : Type 0} (contents : B → List ℕ) (layers : B → List Layer) (s
           | inl disk ↦ still_stop k s t lt at are None disk same
           | inr back ↦ (let found = held_some v.merge back.merge back.is in
               let m = found.0 in
-              let first : ℕ = back.merge.merge.chunk * back.pair.old in
-              let chunk : m.state.chunk ≡ back.merge.merge.chunk = ap (λ x. x.merge.chunk) found.2 in
-              let mine : s.state.chunk ≡ m.state.chunk = ap (λ x. x.state.chunk) at ∙ (h.snaps k s lt).chunk_is ∙ ap (λ x. piece_with x v.snaps) found.1 in
+              let snaps : List Held = map (held_of contents layers) v.snaps in
+              let first : ℕ = m.state.chunk * back.pair.old in
+              let count : ℕ = count_of m.state.chunk m.state.origin back.pair.old in
+              let chunk : back.merge.merge.chunk ≡ m.state.chunk = sym (ap (λ x. x.merge.chunk) found.2) in
+              let disk : length (contents v.origin) / 512 ≡ m.state.origin = size_of (length (contents v.origin)) (size v.origin) (whole v.origin) ∙ sym (merged contents layers size v h m found.1).origin in
+              let clear : is_clear_over (map (held_of contents layers) v.snaps) (m.state.chunk * back.pair.old) (count_of m.state.chunk m.state.origin back.pair.old) ≡ true =
+              subst (λ n. is_clear_over (map (held_of contents layers) v.snaps) (m.state.chunk * back.pair.old) (count_of m.state.chunk n back.pair.old) ≡ true) disk
+              (subst (λ n. is_clear_over (map (held_of contents layers) v.snaps) (n * back.pair.old) (count_of n (length (contents v.origin) / 512) back.pair.old) ≡ true) chunk back.clear) in
               let reading : reading_of m.group ≡ back.pair ∷ back.rest = ap (λ x. x.reading) found.2 ∙ back.reading in
               let bytes : contents w.origin ≡ with_sectors (contents v.origin) (m.state.chunk * back.pair.old) (buffered m.state.chunk m.state.origin (reading_of m.group) m.buffer) =
               back.bytes ∙ ap (λ x. with_sectors (contents v.origin) (x.merge.chunk * back.pair.old) x.buffer) (sym found.2) in
-              let rest = rest_same m back.pair back.rest found.1 reading bytes in
-              let saved : (not s.live || is_published s.pairs s.marks (first / s.state.chunk)) ≡ true =
-              subst (λ x. is_saved first (held_of contents layers x) ≡ true) (sym at) (all_at (is_saved first) (held_of contents layers) v.snaps k s lt (and_left (list_all (is_saved first) (map (held_of contents layers) v.snaps)) (not (list_any is_untried (map (held_of contents layers) v.snaps))) back.clear)) in
-              let tried : s.untried ≡ false = subst (λ x. is_untried (held_of contents layers x) ≡ false) (sym at) (none_at is_untried (held_of contents layers) v.snaps k s lt (not_false (list_any is_untried (map (held_of contents layers) v.snaps)) (and_right (list_all (is_saved first) (map (held_of contents layers) v.snaps)) (not (list_any is_untried (map (held_of contents layers) v.snaps))) back.clear))) in
+              let written = disk_written m back.pair back.rest found.1 reading bytes in
+              let saved : saved_over_books (m.state.chunk * back.pair.old) (count_of m.state.chunk m.state.origin back.pair.old) (snap_books contents layers s) ≡ true =
+              subst (λ x. is_saved_over (m.state.chunk * back.pair.old) (count_of m.state.chunk m.state.origin back.pair.old) (held_of contents layers x) ≡ true) (sym at)
+              (all_at (is_saved_over first count) (held_of contents layers) v.snaps k s lt (and_left (list_all (is_saved_over first count) snaps) (not (list_any is_untried snaps)) clear)) in
+              let tried : s.untried ≡ false = subst (λ x. is_untried (held_of contents layers x) ≡ false) (sym at) (none_at is_untried (held_of contents layers) v.snaps k s lt (not_false (list_any is_untried snaps) (and_right (list_all (is_saved_over first count) snaps) (not (list_any is_untried snaps)) clear))) in
               elim (flag s.live) [
-                | inl live ↦ (let at_chunk : first / s.state.chunk ≡ back.pair.old = ap (λ n. n * back.pair.old / s.state.chunk) (sym (mine ∙ chunk)) ∙ mul-div_cancel_left back.pair.old (some k s t lt at are) in
-                    let placed : place_of s.pairs back.pair.old ≢ None = subst (λ n. place_of s.pairs n ≢ None) at_chunk (published_true s.pairs s.marks (first / s.state.chunk) (live_saved s.live (is_published s.pairs s.marks (first / s.state.chunk)) saved live)).placed in
-                    under_stop k s t lt at are back.pair.old live same (subst (λ n. (i : ℕ) → (i < 512 * (n * back.pair.old)) ⊎ (512 * (n * back.pair.old + n) ≤ i) → get_or (contents w.origin) i 0 ≡ get_or (contents v.origin) i 0) (sym mine) rest) placed)
+                | inl live ↦ (let over : IsSavedOver (m.state.chunk * back.pair.old) (count_of m.state.chunk m.state.origin back.pair.old) (snap_books contents layers s) = over_saved (m.state.chunk * back.pair.old) (count_of m.state.chunk m.state.origin back.pair.old) (snap_books contents layers s) (λ _. some k s t lt at are) saved in
+                    under_stop k s t lt at are live same (beside_written s.state.chunk (m.state.chunk * back.pair.old) (count_of m.state.chunk m.state.origin back.pair.old) (contents v.origin) (contents w.origin) s.pairs written (λ j less. (over j less live).placed)))
                 | inr dead ↦ refused_stop k s t lt at are dead tried same
               ])
         ];

@@ -5,10 +5,9 @@ use Rattle.std.specs.Prelude.{◌==◌, ◌&&◌}
 use Rattle.std.specs.List.{All}
 use Rattle.std.proofs.lemmas.Bool.{cases_Bool, cond-true, cond-false}
 use Rattle.std.proofs.lemmas.List.Elements.{All-map}
-use Rattle.std.proofs.lemmas.Nat.{div-add-mod'}
 use Rattle.sector.specs.Bytes.{with_sectors}
 use Rattle.sector.specs.declared.pair.Pair.{Pair}
-use Rattle.sector.proofs.Sectors.{byte_outside}
+use Rattle.sector.proofs.Sectors.{byte_outside, length-with_sectors}
 use Rattle.device.specs.declared.operation.Operation.TheVariants.{Reads, Writes}
 use Rattle.model.specs.Picture.{place_of}
 use Rattle.plain.specs.declared.request.Dev.{Dev}
@@ -25,12 +24,15 @@ use Rattle.volume_laws.specs.Published.{IsPiece}
 use Rattle.volume_laws.specs.Held.{SnapHolds, SpoiltHolds}
 use Rattle.volume_laws.specs.Whole.{Holds}
 use Rattle.volume_laws.specs.Waits.{Waits}
+use Rattle.volume_laws.specs.Steps.{WritesDisk}
+use Rattle.volume_laws.proofs.Bytes.{sector_in}
 use Rattle.settled.specs.Devices.{answers, met, written_by}
 use Rattle.event_machine.specs.Held.{Held, Going, MergeHeld, Moving, with_store}
 use Rattle.event_machine.specs.Seen.{going_of}
 use Rattle.event_machine.specs.Stepping.{for_some, first_that, issue, on_disk, on_store, on_merging, on_place}
 use Rattle.event_machine.specs.MergeStepping.{stepped_all}
 use Rattle.event_machine.specs.Due.{is_issuable}
+use Rattle.volume.proofs.Beneath.{StaysBeside, beside_written}
 use Rattle.volume.proofs.DiskIssues.{write_kinds}
 use Rattle.volume.proofs.StopMoves.{Places, places_same, first_places, first_passes, SameBytes}
 
@@ -143,12 +145,6 @@ origin_ne_refused c = cc
 store_ne_refused : (place : ℕ) → Store place ≢ Refused
 store_ne_refused place c = cc
 
--- one chunk of the origin disk is written at most, which is among the pairs
-pub record WritesUnder (chunk : ℕ) (pairs : List Pair) (old new : List ℕ) : Type 0 where
-  pub at : ℕ
-  pub rest : (i : ℕ) → (i < 512 * (chunk * at)) ⊎ (512 * (chunk * at + chunk) ≤ i) → get_or new i 0 ≡ get_or old i 0
-  pub placed : place_of pairs at ≢ None
-
 -- what is known of each request in flight, as the machine has it
 abbrev NoSnapWrite : Going → Type 0
 NoSnapWrite g = (n : ℕ) → kind_of g.request ≡ SnapWrite n → g.route ≢ Origin
@@ -199,8 +195,8 @@ module _ (m w : Moving) (v : Books) (h : Holds v) (waiting : Waits v) (seen : m.
         store_ne_refused one.chunk (sym one.route ∙ found_at (IsRefused s.number) one.place g all_refused one.within one.is kind)
 
     -- and the origin disk only where it has the chunk
-    pub under : DiskWrite m w → WritesUnder s.chunk s.pairs v.origin w.origin.bytes
-    under d =
+    pub under : 0 < s.chunk → DiskWrite m w → StaysBeside s.chunk s.pairs v.origin w.origin.bytes
+    under some d =
         let g = d.going in
         let first : ℕ = g.request.range.first in
         let count : ℕ = g.request.range.count in
@@ -214,12 +210,12 @@ module _ (m w : Moving) (v : Books) (h : Holds v) (waiting : Waits v) (seen : m.
         let inside : first + count ≤ v.sectors = fits.0 in
         let within : first + count ≤ s.chunk * (first / s.chunk) + s.chunk = held.0.within in
         let long : length v.origin ≡ 512 * v.sectors = h.whole in
-        let low : s.chunk * (first / s.chunk) + first % s.chunk ≡ first = grind (arith, div-add-mod' first s.chunk) in
-        record {
-          at = first / s.chunk;
-          rest = λ i side. ap (λ z. get_or z i 0) (d.after ∙ ap (λ z. with_sectors z first d.bytes) disk) ∙ byte_outside v.origin first d.bytes i (omega (arith, len, inside, long)) (elim side [
-            | inl below ↦ inl (omega (arith, below, low))
-            | inr past ↦ inr (omega (arith, past, len, within))
+        let is : w.origin.bytes ≡ with_sectors v.origin first d.bytes = d.after ∙ ap (λ z. with_sectors z first d.bytes) disk in
+        let written : WritesDisk first count v.origin w.origin.bytes = record {
+          len = ap length is ∙ length-with_sectors v.origin first d.bytes (omega (arith, len, inside, long));
+          rest = λ i side. ap (λ z. get_or z i 0) is ∙ byte_outside v.origin first d.bytes i (omega (arith, len, inside, long)) (elim side [
+            | inl below ↦ inl below
+            | inr past ↦ inr (omega (arith, past, len))
           ]);
-          placed = held.1;
-        }
+        } in
+        beside_written s.chunk first count v.origin w.origin.bytes s.pairs written (λ j lt none. held.1 (ap (place_of s.pairs) (sym (sector_in s.chunk first j some (omega (arith, lt, within)))) ∙ none))

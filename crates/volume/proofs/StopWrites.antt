@@ -1,6 +1,6 @@
 -- A MergeWrite of the machine: no store is written, and of the origin disk one chunk at most, which is clear.
 use Rattle.std.proofs.Common.{◌≡◌, ◌⊎◌, inl, inr, ℕ, zero, suc, ◌*◌, ◌<◌, Bool, true, false, List, [], ◌∷◌, length, get_or, map, Option, Some, None, refl, sym, subst, arith}
-use Rattle.std.specs.Prelude.{◌||◌, not, if◌then◌else◌}
+use Rattle.std.specs.Prelude.{◌||◌, if◌then◌else◌}
 use Rattle.std.specs.List.{list_all, list_any}
 use Rattle.std.proofs.lemmas.Bool.{cond-true, cond-false, false≢true}
 use Rattle.sector.specs.declared.pair.Pair.{Pair}
@@ -9,19 +9,19 @@ use Rattle.device.specs.declared.operation.Operation.{Operation}
 use Rattle.device.specs.declared.operation.Operation.TheVariants.{Writes}
 use Rattle.plain.specs.declared.event.Event.TheVariants.{MergeWrite}
 use Rattle.volume_laws.specs.MergeDue.{last_of}
-use Rattle.settled.specs.Devices.{answers, written_by}
+use Rattle.settled.specs.Devices.{answers, sectors_of, written_by}
 use Rattle.merge.specs.declared.group.Group.{Group}
 use Rattle.merge.specs.declared.group.Progress.{Progress}
 use Rattle.merge.specs.declared.group.Progress.TheVariants.{Open, Full, Flushed, Committed}
 use Rattle.merge.specs.Lists.{reading_of}
 use Rattle.merge.specs.Due.{full_of}
 use Rattle.event_machine.specs.Held.{Held, MergeHeld, Moving, with_merge}
-use Rattle.event_machine.specs.Again.{is_clear}
+use Rattle.event_machine.specs.Again.{is_clear_over}
 use Rattle.event_machine.specs.MergeDue.{is_writable, can_write}
 use Rattle.event_machine.specs.Stepping.{for_some}
 use Rattle.event_machine.specs.MergeStepping.{stepped_all, write_chunk, start_next, stop, sectors_in}
 use Rattle.volume.proofs.Shown.{and_left, and_right}
-use Rattle.volume.proofs.StopMoves.{Places, places_same, SameBytes, SameStore, merge_store, started_same}
+use Rattle.volume.proofs.StopMoves.{Places, places_same, SameBytes, SameStore, merge_store, next_bytes}
 use Rattle.volume.proofs.StopIssues.{SameMergePairs}
 
 pub record BackTo (v w : Moving) : Type 0 where
@@ -31,7 +31,7 @@ pub record BackTo (v w : Moving) : Type 0 where
   pub rest : List Pair
   pub reading : merge.reading ≡ pair ∷ rest
   pub bytes : w.origin.bytes ≡ with_sectors v.origin.bytes (merge.merge.chunk * pair.old) merge.buffer
-  pub clear : is_clear v.snaps (merge.merge.chunk * pair.old) ≡ true
+  pub clear : is_clear_over v.snaps (merge.merge.chunk * pair.old) (sectors_in pair merge v) ≡ true
 
 pub record WriteSteps (v w : Moving) : Type 0 where
   pub snaps : Places SameBytes v.snaps w.snaps
@@ -61,7 +61,7 @@ some_by : (o : Option MergeHeld) (f : MergeHeld → Moving) (v : Moving) → ((m
 some_by None f v each = stays v
 some_by (Some m) f v each = each m refl
 
-back_steps : (reading : List Pair) (m : MergeHeld) (v : Moving) → v.merge ≡ Some m → m.reading ≡ reading → is_writable v.snaps m.merge.chunk reading ≡ true → WriteSteps v (write_chunk reading m v)
+back_steps : (reading : List Pair) (m : MergeHeld) (v : Moving) → v.merge ≡ Some m → m.reading ≡ reading → is_writable v.snaps m.merge.chunk (sectors_of v.origin) reading ≡ true → WriteSteps v (write_chunk reading m v)
 back_steps [] m v is at clear = stays v
 back_steps (q ∷ pairs) m v is at clear =
     let first : ℕ = m.merge.chunk * q.old in
@@ -80,15 +80,15 @@ back_steps (q ∷ pairs) m v is at clear =
       origin = inr (record { merge = back.merge; is = back.is; pair = back.pair; rest = back.rest; reading = back.reading; bytes = back.bytes; clear = back.clear });
     }
     next (Some p) now w snaps store ps back = record {
-      snaps = subst (λ zs. Places SameBytes zs (start_next m.merge.chunk (Some p) (with_merge now w)).snaps) snaps (started_same (m.merge.chunk * p.old) w.started w.snaps);
+      snaps = next_bytes m.merge.chunk (Some p) v.snaps (with_merge now w) (subst (λ zs. Places SameBytes v.snaps zs) (sym snaps) (alike v.snaps));
       merge = merge_store v.merge m now is store;
       pairs = subst (λ (z : Option MergeHeld). SameMergePairs z (Some now)) (sym is) ps;
       origin = inr (record { merge = back.merge; is = back.is; pair = back.pair; rest = back.rest; reading = back.reading; bytes = back.bytes; clear = back.clear });
     }
 
 pub write_steps : (v : Moving) → WriteSteps v (stepped_all MergeWrite v)
-write_steps v = some_by v.merge (λ m. if can_write v.snaps m then write_chunk m.reading m v else v) v
-    (λ m is. if_by v (write_chunk m.reading m v) v (can_write v.snaps m) (λ can. back_steps m.reading m v is refl can) (λ no. stays v))
+write_steps v = some_by v.merge (λ m. if can_write (sectors_of v.origin) v.snaps m then write_chunk m.reading m v else v) v
+    (λ m is. if_by v (write_chunk m.reading m v) v (can_write (sectors_of v.origin) v.snaps m) (λ can. back_steps m.reading m v is refl can) (λ no. stays v))
 
 -- one of a list whose elements all pass, or none
 pub all_at : {X Y : Type 0} (p : Y → Bool) (f : X → Y) (xs : List X) (k : ℕ) (d : X) → k < length xs → list_all p (map f xs) ≡ true → p (f (get_or xs k d)) ≡ true
@@ -104,10 +104,6 @@ pub none_at : {X Y : Type 0} (p : Y → Bool) (f : X → Y) (xs : List X) (k : �
 none_at p f [] k d lt e = absurd (omega arith)
 none_at p f (x ∷ xs) zero d lt e = (either_none (p (f x)) (list_any p (map f xs)) e).0
 none_at p f (x ∷ xs) (suc k) d lt e = none_at p f xs k d (omega arith) (either_none (p (f x)) (list_any p (map f xs)) e).1
-
-pub live_saved : (live b : Bool) → (not live || b) ≡ true → live ≡ true → b ≡ true
-live_saved true b e live = e
-live_saved false b e live = absurd (false≢true live)
 
 -- the pair whose chunk is in the buffer
 pub reading_full : (group : Option Group) (q : Pair) (rest : List Pair) → reading_of group ≡ q ∷ rest → full_of group ≡ Some q

@@ -35,21 +35,22 @@ use Rattle.volume_laws.proofs.Same.{same_books}
 use Rattle.volume_laws.proofs.Waiting.{KeepsWaiting, waits_out, waits_changed}
 use Rattle.volume_laws.proofs.WholeOne.{snap_holds}
 use Rattle.volume_laws.proofs.MergeRooms.{KeepsRoom}
+use Rattle.volume_laws.proofs.MergeSaved.{KeepsSaved}
 use Rattle.volume_laws.proofs.Issuing.{io_snap_read_event, io_snap_write_event, snap_place_event, refused_read_event, refused_write_event}
 use Rattle.volume_laws.proofs.IssuingWrites.{snap_write_event}
 use Rattle.snapshot.specs.Kept.{Kept, books_of as snap_books, due_of_kept}
 use Rattle.merge_beside.specs.Rooms.{room_of}
 use Rattle.volume.specs.Flying.{Fits}
-use Rattle.volume.specs.Volumed.{Volumed, books_of, dues_of}
+use Rattle.volume.specs.Volumed.{Volumed, books_of, dues_of, merge_due}
 use Rattle.snapshots.specs.Numbers.{numbers_in}
 use Rattle.volume.specs.Whole.{IsWhole, IsCounted}
 use Rattle.volume.specs.Causes.{HasReplied, IsFaultless, FailsAlone, GoesTo}
 use Rattle.std.proofs.lemmas.List.Folds.{list_any-from_Any}
 use Rattle.snapshots.proofs.Finds.{position_within, any_of}
-use Rattle.volume.proofs.Changing.{same_disk, StaysAttached, few_same, changed, books_within, books_is, changes, goes_changed, goes_same, snaps_changed, snaps_fit, loud_changed}
+use Rattle.volume.proofs.Changing.{same_disk, StaysAttached, few_same, changed, beside_changed, books_within, books_is, changes, goes_changed, goes_same, snaps_changed, snaps_fit, loud_changed}
 use Rattle.volume.proofs.Counting.{counts_same, counts_store, store_within, lives_same, kept_changed}
 use Rattle.volume.proofs.Good.{IsGood}
-use Rattle.volume.proofs.IssueEvents.{reply_good, taken_out, fits_read, fits_write}
+use Rattle.volume.proofs.IssueEvents.{no_more, reply_good, taken_out, fits_read, fits_write}
 use Rattle.volume.proofs.DiskIssues.{read_kinds, write_kinds}
 use Rattle.volume.proofs.StartsLeft.{left_same}
 use Rattle.volume.proofs.MovedCounts.{counted_device}
@@ -96,7 +97,7 @@ module _ {B : Type 0} (contents : B → List ℕ) (layers : B → List Layer) (s
   -- it is answered Invalid
   pub refused_good : r.route ≡ Refused → IsGood contents layers size faults done (Issue number) (Replied number (IsRefused IsInvalid)) v (record v { flights = remove v.flights place })
   refused_good route = reply_good contents layers size faults done v w h number place (IsRefused IsInvalid) in_list refl refl refl refl (snaps_fit contents layers size v (size v.origin) h refl)
-      (goes_same contents layers size v w v.merge refl refl refl h.merge) refl refl refl refl (record { attached = refl; numbers = refl; chunks = refl; merged = refl; sizes = refl }) refl (by r.request.op refl)
+      (goes_same contents layers size v w v.merge refl refl refl h.merge) refl (no_more _) refl refl (record { attached = refl; numbers = refl; chunks = refl; merged = refl; sizes = refl }) refl (by r.request.op refl)
       (waits_out place vb wb h.waits in_list refl refl refl) (record { counts = refl; lives = refl }) (inl refl) (taken_out number place (IsRefused IsInvalid) r vb wb only.out tt)
     where
       w : Volumed B
@@ -178,7 +179,13 @@ module _ {B : Type 0} (contents : B → List ℕ) (layers : B → List Layer) (s
 
       rooms : KeepsRoom (room_of contents layers s) (room_of contents layers s')
       rooms = subst (λ (x : Kept B). KeepsRoom (room_of contents layers s) (room_of contents layers x)) (sym f)
-          (record { saved = record { live = λ e. e; chunk = λ _. refl; saving = λ _ c e. e; published = λ _ c e. e }; kept_back = λ _. omega arith; merging = λ _ n e. e; mine = λ _ n c same e. e; spare = λ _ none there _. there none })
+          (record {
+            space = record { saved = kept_saved; kept_back = λ _. omega arith; merging = λ _ n e. e; mine = λ _ n c same e. e; spare = λ _ none there _. there none };
+            next = record { saved = kept_saved; same = λ _ c. refl };
+          })
+        where
+          kept_saved : KeepsSaved (snap_books contents layers s) (snap_books contents layers (let x : Kept B = record s { device = d } in x))
+          kept_saved = record { live = λ e. e; chunk = λ _. refl; saving = λ _ c e. e; published = λ _ c e. e }
 
       waits : Waits wb
       waits = waits_out place ub wb
@@ -199,7 +206,7 @@ module _ {B : Type 0} (contents : B → List ℕ) (layers : B → List Layer) (s
       good : (reply : Reply) → IsReply number reply vb wb → HasReplied faults number reply v issued → Fits r.request.op r.request.range reply → IsGood contents layers size faults done (Issue number) (Replied number reply) v issued
       good reply answered cause fits = reply_good contents layers size faults done v issued h number place reply in_list refl refl refl refl
           (snaps_changed contents layers size v v.origin k s s' within is h (same_disk contents layers size v.origin) stays)
-          (goes_changed contents layers size v issued v.merge k s s' within is refl refl refl stays.number rooms h.merge) refl refl lefts
+          (goes_changed contents layers size v issued v.merge k s s' within is refl refl refl stays.number rooms h.merge) refl (beside_changed contents layers size v v.origin k s s' within is rooms.space.saved (merge_due contents v.merge)) lefts
           (loud_changed contents layers size v v.origin k s s' within is (remove v.flights place) (same_disk contents layers size v.origin) loud_now)
           (kept_changed size v v.origin k s s' (remove v.flights place) within is refl (ap size device ∙ sized) stays.number stays.chunk_is)
           (map-set_same (λ (x : Kept B). x.overflow) v.snaps k s' s (ap (λ (x : Kept B). x.overflow) f ∙ ap (λ (x : Kept B). x.overflow) is)) answered waits cause

@@ -3,6 +3,7 @@ use Rattle.std.proofs.Common.{◌≡◌, ℕ, ◌+◌, ◌*◌, ◌≤◌, Bool,
 use Rattle.std.specs.Prelude.{◌&&◌}
 use Rattle.std.specs.List.{All, list_all}
 use Rattle.std.proofs.lemmas.List.Elements.{All-cons, All-head, All-tail}
+use Rattle.chunk.specs.Sizes.{is_chunk}
 use Rattle.device.specs.Layers.{Layer, is_loud}
 use Rattle.model.specs.Pairs.{pairs_of, AreWellFormed}
 use Rattle.plain.specs.declared.request.Reply.{Reply}
@@ -17,7 +18,7 @@ use Rattle.merge.specs.InStep.{IsInStep}
 use Rattle.merge.specs.Merging.{Merging}
 use Rattle.volume.specs.Asking.{IsMergeInStep}
 use Rattle.volume.specs.Moved.{held_of, moving_of, merge_seen}
-use Rattle.volume.specs.Volumed.{Volumed, is_loud_in_all, is_loud_with, piece_with}
+use Rattle.volume.specs.Volumed.{Volumed, is_loud_in_all, is_loud_with}
 use Rattle.volume.specs.Whole.{IsAttached, IsWhole}
 use Rattle.volume.proofs.AtRest.{merge_seen_of}
 use Rattle.volume.proofs.MergeDue.{merged, merge_holds}
@@ -39,12 +40,12 @@ high_of : (current area filled pairs found : ℕ) → pairs ≡ current * area +
 high_of current area filled pairs found count fits same = omega (arith, count, fits, same)
 
 module _ {B : Type 0} (contents : B → List ℕ) (layers : B → List Layer) (size : B → ℕ) where
-  -- the chunks of the others are as large as the merge's
-  all_chunks : (copies sectors chunk : ℕ) (ss : List (Kept B)) → All (IsAttached copies sectors chunk) ss → All (λ (s : Snap). s.chunk ≡ chunk) (map (λ (h : Held). h.snap) (map (held_of contents layers) ss))
-  all_chunks copies sectors chunk [] all = λ k d below. absurd (omega (arith, below))
-  all_chunks copies sectors chunk (s ∷ ss) all =
-      All-cons (λ (x : Snap). x.chunk ≡ chunk) (held_of contents layers s).snap (map (λ (h : Held). h.snap) (map (held_of contents layers) ss)) (All-head (IsAttached copies sectors chunk) s ss all).chunk_is
-      (all_chunks copies sectors chunk ss (All-tail (IsAttached copies sectors chunk) s ss all))
+  -- the chunks of the others have allowed sizes
+  all_chunks : (copies sectors : ℕ) (ss : List (Kept B)) → All (IsAttached copies sectors) ss → All (λ (s : Snap). is_chunk s.chunk ≡ true) (map (λ (h : Held). h.snap) (map (held_of contents layers) ss))
+  all_chunks copies sectors [] all = λ k d below. absurd (omega (arith, below))
+  all_chunks copies sectors (s ∷ ss) all =
+      All-cons (λ (x : Snap). is_chunk x.chunk ≡ true) (held_of contents layers s).snap (map (λ (h : Held). h.snap) (map (held_of contents layers) ss)) (All-head (IsAttached copies sectors) s ss all).allowed
+      (all_chunks copies sectors ss (All-tail (IsAttached copies sectors) s ss all))
 
   module _ (v : Volumed B) (whole : IsWhole contents layers size v) (loud : is_loud_in_all layers v ≡ true) (replied : Option Reply) (between : IsBetween (size v.origin) (moving_of contents layers replied v)) where
     store_loud : (m : Merging B) → v.merge ≡ Some m → is_loud (layers m.device) ≡ true
@@ -71,8 +72,8 @@ module _ {B : Type 0} (contents : B → List ℕ) (layers : B → List Layer) (s
       whole = whole.holds.whole;
       merge = one_under m is step;
       snaps = all_well (size v.origin) (map (held_of contents layers) v.snaps) between.snaps;
-      chunks = subst (λ n. All (λ (s : Snap). s.chunk ≡ n) (map (λ (x : Held). x.snap) (map (held_of contents layers) v.snaps))) (ap (λ (x : Option (Merging B)). piece_with x v.snaps) is)
-          (all_chunks v.copies (size v.origin) (piece_with v.merge v.snaps) v.snaps whole.snaps);
+      chunks = all_chunks v.copies (size v.origin) v.snaps whole.snaps;
+      allowed = (merged contents layers size v whole m is).allowed;
     }
 
     under_by : (merge : Option (Merging B)) → v.merge ≡ merge → IsMergeInStep contents layers size merge → (h : MergeHeld) → held_in (merge_seen contents layers merge) ≡ Some h → IsMerging (size v.origin) (in_big_steps h (moving_of contents layers replied v))

@@ -17,6 +17,11 @@ abbrev pub merging_number : {B : Type 0} → Option (Merging B) → Option ℕ
 merging_number None = None
 merging_number (Some m) = Some m.number
 
+-- the sectors of its chunks
+abbrev pub merging_chunk_of : {B : Type 0} → Option (Merging B) → Option ℕ
+merging_chunk_of None = None
+merging_chunk_of (Some m) = Some m.state.chunk
+
 -- a merge is begun that has no pair left, and no group
 abbrev pub is_finished_in : {B : Type 0} → Option (Merging B) → Bool
 is_finished_in None = false

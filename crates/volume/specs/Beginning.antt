@@ -34,14 +34,14 @@ abbrev pub merging_from : {B : Type 0} → Kept B → List ℕ → Merging B
 merging_from s buffer = record { number = s.number; device = s.device; state = s.state; next = s.next; pairs = s.pairs; group = None; buffer = buffer; failed = false }
 
 -- The snapshot with a number is none of the others any more, and is merged; each other live one keeps back room for as
--- many copies as it has pairs.
+-- many copies as it has chunks that the pairs of the merged one touch, each pair's counted for itself.
 pub record IsMergeBegun {B : Type 0} (number : ℕ) (old new : Volumed B) : Type 0 where
   pub place : ℕ
   pub snap : Kept B
   pub buffer : List ℕ
   pub found : place_of_snap number old.snaps ≡ Some place
   pub is : snap ≡ slice_index_or old.snaps place snap
-  pub becomes : new ≡ record old { snaps = map (kept_for number (length snap.pairs)) (remove old.snaps place); merge = Some (merging_from snap buffer) }
+  pub becomes : new ≡ record old { snaps = map (kept_for number (length snap.pairs) snap.state.chunk) (remove old.snaps place); merge = Some (merging_from snap buffer) }
 
 -- nothing is changed, but that snapshots may keep nothing back for a merge any more
 pub record SameButKept {B : Type 0} (old new : Volumed B) : Type 0 where

@@ -2,26 +2,29 @@
 -- What made an event fail, and how many operations it did: which device's counts rose, and which snapshot was spoiled. The
 -- rules are this project's own, after the kernel's admin-guide page on snapshots: a store that fails makes its own
 -- snapshot invalid, and nothing else.
-use Rattle.std.specs.Prelude.{◌≡◌, ◌⊎◌, ℕ, suc, ◌+◌, ◌*◌, ◌<◌, Bool, true, false, List, [], ◌∷◌, ◌++◌, Option, Some, None, Any, length, map, slice_index, slice_index_or, slice_set, if◌then◌else◌}
+use Rattle.std.specs.Prelude.{◌≡◌, ◌⊎◌, ℕ, suc, ◌+◌, ◌<◌, Bool, true, false, List, [], ◌∷◌, ◌++◌, Option, Some, None, Any, length, map, slice_index, slice_index_or, slice_set, if◌then◌else◌}
+use Rattle.std.specs.List.{remove}
 use Rattle.sector.specs.Bytes.{next_count}
 use Rattle.model.specs.NextPlace.{LacksArea}
 use Rattle.sector.specs.declared.pair.Pair.{Pair}
 use Rattle.plain.specs.declared.event.Event.{Event}
-use Rattle.plain.specs.declared.event.Event.TheVariants.{CopyRead, CopyWrite, MergeAreaRead, MergeCommit, MergeFlush, MergeGroup, MergeRead, MergeWrite, ZeroNext, WriteArea, WriteInvalid}
+use Rattle.plain.specs.declared.event.Event.TheVariants.{CopyRead, CopyWrite, MergeAreaRead, MergeCommit, MergeFlush, MergeGroup, MergeRead, MergeWrite, Publish, ZeroNext, WriteArea, WriteInvalid}
 use Rattle.plain.specs.declared.event.Outcome.{Outcome}
 use Rattle.plain.specs.declared.event.Outcome.TheVariants.{Done, Fault, Reply as Replied}
 use Rattle.plain.specs.declared.request.Reply.{Reply}
 use Rattle.plain.specs.declared.request.Reply.TheVariants.{Refused}
 use Rattle.plain.specs.declared.request.Failure.TheVariants.{Io}
+use Rattle.pending.specs.declared.copies.Mark.{Mark}
 use Rattle.pending.specs.declared.flights.Flight.{Flight}
 use Rattle.pending.specs.declared.flights.Route.TheVariants.{Origin, Store}
 use Rattle.pending.specs.Kinds.{kind_of}
 use Rattle.pending.specs.declared.flights.Kind.TheVariants.{OriginRead, OriginWrite, SnapRead, SnapWrite}
 use Rattle.snapshot.specs.Kept.{Kept}
 use Rattle.volume_laws.specs.MergeDue.{last_of}
-use Rattle.merge.specs.Lists.{waiting_of}
+use Rattle.merge.specs.Lists.{next_of_group, waiting_of}
 use Rattle.merge.specs.Merging.{Merging}
-use Rattle.snapshots.specs.Starting.{overflows}
+use Rattle.snapshots.specs.Starting.{overflows_chunk}
+use Rattle.merge_beside.specs.Starting.{next_for}
 use Rattle.volume.specs.Volumed.{Volumed}
 
 -- what some devices counted, and then the merging store
@@ -127,19 +130,44 @@ pub record GoesTo {B : Type 0} (number device : ℕ) (v : Volumed B) : Type 0 wh
       ⊎ ((stored : ℕ) × (m : Merging B) × (flight.route ≡ Store stored) × (v.merge ≡ Some m) × (device ≡ merging_device v)
       × ((kind_of flight.request ≡ OriginRead) ⊎ (kind_of flight.request ≡ OriginWrite)))
 
--- which snapshots are live once the copies of a pair's chunk are started, of chunks of so many sectors: those that were, but
--- for those that lack it and have no place for it
-abbrev pub lives_saved : {B : Type 0} → ℕ → Option Pair → List (Kept B) → List Bool
-lives_saved chunk None snaps = map (λ s. s.live) snaps
-lives_saved chunk (Some q) snaps = map (λ s. if overflows (chunk * q.old) s then false else s.live) snaps
+-- whether a snapshot lacks the chunk that a pair waits for next in it, of merged chunks of so many sectors, on an origin of
+-- so many, and its store is full
+abbrev pub is_lost : {B : Type 0} → ℕ → ℕ → Pair → Kept B → Bool
+is_lost chunk sectors q s = overflows_chunk (next_for chunk sectors q s) s
 
--- No device failed, and the other snapshots save the chunk that the merge then copies next: those are spoiled that have no
--- place for it.
+-- which snapshots are live once the copies that a pair waits for are started, of merged chunks of so many sectors, on an
+-- origin of so many: those that were, but for those that lack theirs and have no place for it
+abbrev pub lives_saved : {B : Type 0} → ℕ → ℕ → Option Pair → List (Kept B) → List Bool
+lives_saved chunk sectors None snaps = map (λ s. s.live) snaps
+lives_saved chunk sectors (Some q) snaps = map (λ s. if is_lost chunk sectors q s then false else s.live) snaps
+
+-- No device failed, and the other snapshots save what the chunk waits for that the merge then copies next: those are spoiled
+-- that have no place for it.
 pub record SavesNext {B : Type 0} (faults : B → ℕ) (old new : Volumed B) : Type 0 where
   pub merge : Merging B
   pub is : new.merge ≡ Some merge
   pub counts : counts_of faults new ≡ counts_of faults old
-  pub lives : lives_of new ≡ lives_saved merge.state.chunk (last_of (waiting_of merge.group)) old.snaps
+  pub lives : lives_of new ≡ lives_saved merge.state.chunk merge.state.origin (last_of (waiting_of merge.group)) old.snaps
+
+-- a snapshot with one mark less
+abbrev pub unmarked : {B : Type 0} → ℕ → Kept B → Kept B
+unmarked index s = record s { marks = remove s.marks index }
+
+-- No device failed, and just the snapshot was spoiled whose copy was published: once it was, the chunk that the merge copies
+-- next waited for another copy there, and its store is full.
+pub record FillsUp {B : Type 0} (faults : B → ℕ) (number : ℕ) (old new : Volumed B) : Type 0 where
+  pub place : ℕ
+  pub snap : Kept B
+  pub at : IsAt place snap old
+  pub index : ℕ
+  pub mine : (m : Mark) → m ≡ slice_index_or snap.marks index m → m.number ≡ number
+  pub merge : Merging B
+  pub is : old.merge ≡ Some merge
+  pub pair : Pair
+  pub next : next_of_group merge.group ≡ Some pair
+  pub full : is_lost merge.state.chunk merge.state.origin pair (unmarked index snap) ≡ true
+  pub counts : counts_of faults new ≡ counts_of faults old
+  pub lives : lives_of new ≡ slice_set (lives_of old) place false
 
 -- what made an event fail that names no request
 abbrev pub HasFailed : {B : Type 0} → (B → ℕ) → Event → Volumed B → Volumed B → Type 0
@@ -155,10 +183,11 @@ HasFailed faults MergeFlush old new = MergeFails faults 0 old new
 HasFailed faults MergeCommit old new = MergeFails faults (merging_device old) old new
 HasFailed faults event old new = ⊥
 
--- an event that is done: one that zeroes an area spoils where the store has no room for it, and one of a merge that starts
--- copies where a store has no room for its copy
+-- an event that is done: one that zeroes an area spoils where the store has no room for it, and one that starts copies for a
+-- merge where a store has no room for its copy
 abbrev pub HasDone : {B : Type 0} → (B → ℕ) → Event → Volumed B → Volumed B → Type 0
 HasDone faults (ZeroNext number) old new = IsFaultless faults old new ⊎ LacksNext faults number old new
+HasDone faults (Publish number) old new = IsFaultless faults old new ⊎ FillsUp faults number old new
 HasDone faults MergeGroup old new = SavesNext faults old new
 HasDone faults MergeWrite old new = SavesNext faults old new
 HasDone faults event old new = IsFaultless faults old new

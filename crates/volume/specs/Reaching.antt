@@ -1,21 +1,19 @@
 -- Events that are done one after another, each of them the one that is due first: how far the event machine gets by them,
 -- and what a volume has answered when none is left.
-use Rattle.std.specs.Prelude.{◌≡◌, ℕ, ◌+◌, true, List, Option, Some, map}
+use Rattle.std.specs.Prelude.{◌≡◌, ℕ, ◌+◌, true, List, Option}
 use Rattle.device.specs.Layers.{Layer}
 use Rattle.plain.specs.declared.event.Event.{Event}
 use Rattle.plain.specs.declared.request.Reply.{Reply}
 use Rattle.event_machine.specs.Due.{due}
-use Rattle.event_machine.specs.Held.{MergeHeld, Moving}
+use Rattle.event_machine.specs.Held.{Moving}
 use Rattle.event_machine.specs.MergeDue.{due_all}
-use Rattle.event_machine.specs.MergeRest.{in_big_steps, IsBetween, IsMergedAtRest}
+use Rattle.event_machine.specs.MergeRest.{IsBetween}
 use Rattle.event_machine.specs.MergeStepping.{stepped_all}
-use Rattle.event_machine.specs.Rest.{IsAtRest}
 use Rattle.event_machine.specs.Settles.{settle_by}
 use Rattle.event_machine.specs.Stepping.{stepped}
-use Rattle.settled.specs.Merges.{Merged, Replied}
-use Rattle.settled.specs.Pieces.{Answered}
+use Rattle.settled.specs.Merges.{Merged}
 use Rattle.volume.specs.Volumed.{Volumed, is_loud_in_all}
-use Rattle.volume.specs.Moved.{device_of, held_of, moving_of}
+use Rattle.volume.specs.Moved.{moving_of}
 use Rattle.volume.specs.Telling.{merged_in}
 
 -- the machine gets there by some events, each chosen so, and each doing this
@@ -41,21 +39,7 @@ IsRun contents layers before after old new = IsRunBy due stepped contents layers
 abbrev pub IsRunAll : {B : Type 0} → (B → List ℕ) → (B → List Layer) → Option Reply → Option Reply → Volumed B → Volumed B → Type 0
 IsRunAll contents layers before after old new = IsRunBy due_all stepped_all contents layers before after old new
 
--- the volume has this answer's devices and snapshots, the reply is the answer's, and it is at rest again
-pub record IsAnswered {B : Type 0} (contents : B → List ℕ) (layers : B → List Layer) (sectors : ℕ) (reply : Option Reply) (v : Volumed B) (answer : Answered) : Type 0 where
-  pub origin : device_of contents layers v.origin ≡ answer.volume.origin
-  pub snaps : map (λ s. (held_of contents layers s).snap) v.snaps ≡ answer.volume.snaps
-  pub reply_is : reply ≡ Some answer.reply
-  pub rest : IsAtRest sectors (moving_of contents layers reply v)
-
--- beside a merge: its devices, its snapshots and its merge are those of the answer too
-pub record IsReplied {B : Type 0} (contents : B → List ℕ) (layers : B → List Layer) (sectors : ℕ) (reply : Option Reply) (v : Volumed B) (answer : Replied) : Type 0 where
-  pub held : MergeHeld
-  pub is : in_big_steps held (moving_of contents layers reply v) ≡ answer.state
-  pub reply_is : reply ≡ Some answer.reply
-  pub rest : IsMergedAtRest sectors held (moving_of contents layers reply v)
-
--- nothing of the merge is under way either, and no reply was given
+-- The volume's devices, snapshots and merge are those of the answer; nothing is under way, and no reply was given.
 pub record IsMergedTo {B : Type 0} (contents : B → List ℕ) (layers : B → List Layer) (sectors : ℕ) (before after : Option Reply) (v : Volumed B) (answer : Merged) : Type 0 where
   pub is : merged_in contents layers v ≡ answer
   pub silent : after ≡ before

@@ -3,7 +3,7 @@
 use Rattle.std.specs.Prelude.{◌≡◌, ℕ, ◌+◌, ◌<◌, ◌≤◌, Bool, true, false, List, Option, Some, None, map}
 use Rattle.device.specs.Layers.{Layer}
 use Rattle.plain.specs.declared.event.Event.{Event}
-use Rattle.plain.specs.declared.event.Event.TheVariants.{MergeAreaRead, MergeCommit, MergeFlush, MergeGroup, MergeRead, MergeWrite}
+use Rattle.plain.specs.declared.event.Event.TheVariants.{MergeAreaRead, MergeCommit, MergeFlush, MergeGroup, MergeRead, MergeWrite, Publish}
 use Rattle.plain.specs.declared.event.Outcome.{Outcome}
 use Rattle.plain.specs.declared.event.Outcome.TheVariants.{Fault}
 use Rattle.plain.specs.Legal.{IsLegalStep}
@@ -38,8 +38,10 @@ pub record KeepsDevices {B : Type 0} (old new : Volumed B) : Type 0 where
   pub chunks : map (λ s. s.state.chunk) new.snaps ≡ map (λ s. s.state.chunk) old.snaps
   pub merge : new.merge ≡ old.merge
 
--- how many copies an event starts at most: one in each other snapshot, of which there are seven
+-- how many copies an event starts at most: one in each other snapshot, of which there are seven; and where a copy is
+-- published, one in its snapshot
 abbrev pub starts_by : Event → ℕ
+starts_by (Publish n) = 1
 starts_by MergeGroup = 7
 starts_by MergeWrite = 7
 starts_by event = 0
@@ -59,7 +61,7 @@ failed_by event outcome was = was
 
 -- Where no device drops writes, the plain machine takes the step that the outcome tells. Whatever the devices do, a whole
 -- number falls, the cause is counted, a request leaves only where it is answered, at most one operation is done, no
--- request is numbered, only the events of a merge that start copies number any, and no snapshot is marked for a full store.
+-- request is numbered, only the events that start copies for a merge number any, and no snapshot is marked for a full store.
 pub record IsStepped {B : Type 0} (contents : B → List ℕ) (layers : B → List Layer) (size faults done : B → ℕ) (event : Event) (outcome : Outcome) (old new : Volumed B) : Type 0 where
   pub legal : is_loud_in_all layers old ≡ true → IsLegalStep (plain_of contents layers old) event outcome (plain_of contents layers new)
   pub lower : left_in_all contents layers new < left_in_all contents layers old

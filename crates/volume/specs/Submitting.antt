@@ -24,7 +24,7 @@ use Rattle.plain.specs.Legal.{IsSubmitted, Overflows, Spoils}
 use Rattle.volume_laws.specs.Published.{IsPiece}
 use Rattle.snapshots.specs.Finding.{place_of_snap}
 use Rattle.snapshots.specs.Numbers.{count_in}
-use Rattle.snapshots.specs.Starting.{starts, overflows, overflowing, spoilt_of, unroomed}
+use Rattle.snapshots.specs.Starting.{own_of, starts, overflows, overflowing, spoilt_of, unroomed}
 use Rattle.merge.specs.Merging.{Merging}
 use Rattle.merge_beside.specs.Routing.{is_merged_at}
 use Rattle.volume.specs.Volumed.{Volumed, piece_with, plain_of, is_loud_in_all}
@@ -120,7 +120,7 @@ pub record IsAsked (sectors chunk : ℕ) (request : Request) : Type 0 where
 -- (A write of a snapshot whose own store is found full is refused, and spoils or marks that one: IsFoundFull, IsOverflown.)
 abbrev pub spoiled_by : {B : Type 0} → Kind → ℕ → Option (Merging B) → List (Kept B) → List ℕ
 spoiled_by OriginRead first merge snaps = []
-spoiled_by OriginWrite first merge snaps = if is_merged_at first merge then [] else overflowing first snaps
+spoiled_by OriginWrite first merge snaps = if is_merged_at first merge then [] else overflowing (own_of first) snaps
 spoiled_by (SnapRead number) first merge snaps = []
 spoiled_by (SnapWrite number) first merge snaps = []
 

@@ -1,12 +1,11 @@
 -- To be believed: `run`'s output, a volume's steps or its attach are said in these words.
 -- When a snapshot is taken. That a volume has to be quiet, the limits and the order of the refusals are this project's own.
-use Rattle.std.specs.Prelude.{◌≡◌, ◌⊎◌, ◌==◌, ◌||◌, not, nat_le, ℕ, Bool, List, [], ◌∷◌, length, Option, Some, None, if◌then◌else◌}
+use Rattle.std.specs.Prelude.{◌≡◌, ◌⊎◌, ◌==◌, ◌||◌, not, nat_le, ℕ, Bool, List, length, Option, Some, None, if◌then◌else◌}
 use Rattle.std.specs.Option.{is_some}
 use Rattle.sector.specs.declared.refusal.Refusal.{Refusal}
 use Rattle.sector.specs.declared.refusal.Refusal.TheVariants.{Stale, MergeInProgress, NotQuiet, TooMany, BadChunk, NoMemory}
 use Rattle.chunk.specs.Sizes.{is_chunk}
-use Rattle.snapshot.specs.Kept.{Kept}
-use Rattle.snapshot.specs.Opening.{IsOpenRefused}
+use Rattle.store.specs.Opening.{IsRefused}
 use Rattle.volume.specs.Volumed.{Volumed}
 use Rattle.volume.specs.Leaving.{is_quiet_of}
 
@@ -22,13 +21,8 @@ taking_refusal stale begun quiet count attached chunk =
 abbrev pub attach_refusal : {B : Type 0} → Bool → ℕ → Volumed B → Option Refusal
 attach_refusal stale chunk v = taking_refusal stale (is_some v.merge) (is_quiet_of v) (length v.snaps) v.attached chunk
 
--- the chunk size of the snapshots that are there
-abbrev pub wanted_of : {B : Type 0} → List (Kept B) → Option ℕ
-wanted_of [] = None
-wanted_of (s ∷ snaps) = Some s.state.chunk
-
 -- why a snapshot is not taken: for one of these reasons, or for want of memory, or as the store's load says
 abbrev pub IsNotTaken : {B : Type 0} → Bool → ℕ → ℕ → ℕ → List ℕ → Volumed B → Refusal → Type 0
 IsNotTaken stale chunk origin size bytes v refusal =
     (attach_refusal stale chunk v ≡ Some refusal)
-    ⊎ ((attach_refusal stale chunk v ≡ None) × ((refusal ≡ NoMemory) ⊎ IsOpenRefused chunk (wanted_of v.snaps) origin size bytes refusal))
+    ⊎ ((attach_refusal stale chunk v ≡ None) × ((refusal ≡ NoMemory) ⊎ IsRefused chunk origin size bytes refusal))

@@ -8,8 +8,8 @@ use Rattle.plain.specs.declared.event.Event.{Event}
 use Rattle.pending.specs.Kinds.{in_flight}
 use Rattle.pending.specs.declared.flights.Flight.{Flight}
 use Rattle.volume_laws.specs.Books.{Books}
-use Rattle.volume_laws.specs.Due.{DueSnap, due_of, is_due, left_of}
-use Rattle.volume_laws.specs.MergeDue.{DueMerge, due_with, is_due_with, left_in_merge}
+use Rattle.volume_laws.specs.Due.{DueSnap, books_of as due_books, due_of, is_due, left_of}
+use Rattle.volume_laws.specs.MergeDue.{DueMerge, due_with, is_due_with, left_in_merge, left_beside}
 use Rattle.volume_laws.specs.Shape.{SnapShape, MergeShape, Shape, plain_shown}
 use Rattle.snapshot.specs.Kept.{Kept, books_of as snap_books, due_of_kept}
 use Rattle.merge.specs.Merging.{Merging, due_of as merging_due}
@@ -58,7 +58,7 @@ abbrev pub is_loud_in_all : {B : Type 0} → (B → List Layer) → Volumed B �
 is_loud_in_all layers v = is_loud_with layers v.merge (is_loud (layers v.origin) && list_all (λ s. is_loud (layers s.device)) v.snaps)
 
 -- of snapshots and requests, and of a merge where there is one: which event is due first, whether one is due, and how much
--- the merge has left
+-- is left of the merge and of the copies that it waits for
 abbrev pub due_by : List DueSnap → List Flight → Option DueMerge → Option Event
 due_by snaps rs None = due_of snaps rs
 due_by snaps rs (Some d) = due_with snaps rs d
@@ -67,9 +67,9 @@ abbrev pub is_due_by : List DueSnap → List Flight → Option DueMerge → Even
 is_due_by snaps rs None event = is_due snaps rs event
 is_due_by snaps rs (Some d) event = is_due_with snaps rs d event
 
-abbrev pub left_by : Option DueMerge → ℕ
-left_by None = 0
-left_by (Some d) = left_in_merge d
+abbrev pub left_by : List DueSnap → Option DueMerge → ℕ
+left_by snaps None = 0
+left_by snaps (Some d) = left_in_merge d + left_beside (map due_books snaps) d
 
 -- the event that is due first
 abbrev pub next_of : {B : Type 0} → (B → List ℕ) → (B → List Layer) → Volumed B → Option Event
@@ -81,7 +81,7 @@ is_due_of contents layers v event = is_due_by (dues_of contents layers v) v.flig
 
 -- a whole number that every event lowers
 abbrev pub left_in_all : {B : Type 0} → (B → List ℕ) → (B → List Layer) → Volumed B → ℕ
-left_in_all contents layers v = left_of (dues_of contents layers v) v.flights + left_by (merge_due contents v.merge)
+left_in_all contents layers v = left_of (dues_of contents layers v) v.flights + left_by (dues_of contents layers v) (merge_due contents v.merge)
 
 abbrev pub snap_shape : {B : Type 0} → Kept B → SnapShape B
 snap_shape s = record { number = s.number; live = s.live; overflow = s.overflow; chunk = s.state.chunk; store = s.device }
@@ -103,21 +103,12 @@ shape_of contents layers v = record {
 abbrev pub plain_of : {B : Type 0} → (B → List ℕ) → (B → List Layer) → Volumed B → Plain
 plain_of contents layers v = plain_shown contents (shape_of contents layers v)
 
--- the sectors of the snapshots' chunks, and of the largest chunk where there is none
+-- the sectors of the least chunk of some snapshots, and of the largest chunk where there is none
 abbrev pub piece_of : {B : Type 0} → List (Kept B) → ℕ
 piece_of [] = 1024
-piece_of (s ∷ snaps) = s.state.chunk
+piece_of (s ∷ snaps) = min s.state.chunk (piece_of snaps)
 
--- and of the one that is being merged, which are as large as theirs
+-- and with that of the one that is being merged
 abbrev pub piece_with : {B : Type 0} → Option (Merging B) → List (Kept B) → ℕ
 piece_with None snaps = piece_of snaps
-piece_with (Some m) snaps = m.state.chunk
-
--- the least chunk of all of them, whatever sizes they have
-abbrev pub least_chunk_in : {B : Type 0} → List (Kept B) → ℕ
-least_chunk_in [] = 1024
-least_chunk_in (s ∷ snaps) = min s.state.chunk (least_chunk_in snaps)
-
-abbrev pub least_chunk : {B : Type 0} → Option (Merging B) → List (Kept B) → ℕ
-least_chunk None snaps = least_chunk_in snaps
-least_chunk (Some m) snaps = min m.state.chunk (least_chunk_in snaps)
+piece_with (Some m) snaps = min m.state.chunk (piece_of snaps)

@@ -1,6 +1,7 @@
 -- What a volume keeps true.
 use Rattle.std.specs.Prelude.{◌≡◌, ◌≢◌, ℕ, ◌+◌, ◌-◌, ◌*◌, ◌<◌, ◌≤◌, Bool, true, false, List, [], Option, None, Some, length, map, AllPairs, sum_by, if◌then◌else◌}
 use Rattle.std.specs.List.{All}
+use Rattle.chunk.specs.Sizes.{is_chunk}
 use Rattle.device.specs.Layers.{Layer}
 use Rattle.pending.specs.Due.{number_of_flight}
 use Rattle.volume_laws.specs.Whole.{Holds}
@@ -11,7 +12,7 @@ use Rattle.snapshot.specs.Kept.{Kept, books_of as snap_books}
 use Rattle.snapshots.specs.Numbers.{number_of_snap, numbers_in, count_in}
 use Rattle.merge.specs.Merging.{Merging, due_of as merging_due}
 use Rattle.merge_beside.specs.Rooms.{room_of}
-use Rattle.volume.specs.Volumed.{Volumed, books_of, piece_with}
+use Rattle.volume.specs.Volumed.{Volumed, books_of}
 
 -- numbers that were given one after another, the last of them `most`
 pub record AreNumbers (most : ℕ) (numbers : List ℕ) : Type 0 where
@@ -22,11 +23,11 @@ pub record AreNumbers (most : ℕ) (numbers : List ℕ) : Type 0 where
 abbrev pub SharesNone : {B : Type 0} → Kept B → Kept B → Type 0
 SharesNone s t = All (λ m. All (λ n. m ≢ n) (numbers_in t)) (numbers_in s)
 
--- A snapshot of the volume: it is of this origin, its chunks are as large as those of the others, and its copies have
--- their numbers from the volume.
-pub record IsAttached {B : Type 0} (copies sectors chunk : ℕ) (s : Kept B) : Type 0 where
+-- A snapshot of the volume: it is of this origin, its chunks have an allowed size, and its copies have their numbers from
+-- the volume.
+pub record IsAttached {B : Type 0} (copies sectors : ℕ) (s : Kept B) : Type 0 where
   pub origin : s.state.origin ≡ sectors
-  pub chunk_is : s.state.chunk ≡ chunk
+  pub allowed : is_chunk s.state.chunk ≡ true
   pub some : 0 < s.state.chunk
   pub numbers : AreNumbers copies (numbers_in s)
 
@@ -42,15 +43,16 @@ pub record IsCounted {B : Type 0} (s : Kept B) : Type 0 where
 abbrev pub starts_left : {B : Type 0} → Kept B → ℕ
 starts_left s = if s.live then s.state.size - s.next else 0
 
--- What a volume keeps of the snapshot that it merges: it is none of the others, and was attached once, like them; the merge
--- goes on among them, whatever writes are done, and they keep back what it will start.
+-- What a volume keeps of the snapshot that it merges: its chunks have an allowed size, it is none of the others, and was
+-- attached once, like them; the merge goes on among them, whatever writes are done, and they keep back what it will start.
 pub record IsMerged {B : Type 0} (contents : B → List ℕ) (layers : B → List Layer) (size : B → ℕ) (m : Merging B) (v : Volumed B) : Type 0 where
   pub origin : m.state.origin ≡ size v.origin
+  pub allowed : is_chunk m.state.chunk ≡ true
   pub apart : All (λ s. s.number ≢ m.number) v.snaps
   pub given : m.number ≤ v.attached
   pub few : length v.snaps ≤ 7
   pub goes : (loud : Bool) → MergeGoes (map (snap_books contents layers) v.snaps) (merging_due contents loud m)
-  pub rooms : KeepBack m.state.chunk m.pairs (map (room_of contents layers) v.snaps)
+  pub rooms : KeepBack m.state.chunk m.state.origin m.pairs (map (room_of contents layers) v.snaps)
 
 -- and where none is begun, nothing
 abbrev pub GoesOn : {B : Type 0} → (B → List ℕ) → (B → List Layer) → (B → ℕ) → Option (Merging B) → Volumed B → Type 0
@@ -62,7 +64,7 @@ pub record IsWhole {B : Type 0} (contents : B → List ℕ) (layers : B → List
   pub holds : Holds (books_of contents layers size v)
   pub waits : Waits (books_of contents layers size v)
   pub merge : GoesOn contents layers size v.merge v
-  pub snaps : All (IsAttached v.copies (size v.origin) (piece_with v.merge v.snaps)) v.snaps
+  pub snaps : All (IsAttached v.copies (size v.origin)) v.snaps
   pub counted : All IsCounted v.snaps
   pub apart : AllPairs SharesNone v.snaps
   pub numbers : AreNumbers v.attached (map number_of_snap v.snaps)

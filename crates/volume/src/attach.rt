@@ -11,7 +11,7 @@ ghost use Rattle.snapshot.specs.Opening.{shown_array};
 ghost use Rattle.snapshot.specs.Kept.{Kept};
 ghost use Rattle.snapshot.specs.StopsOpening.{StopsOpening, StopsRefused};
 ghost use Rattle.volume.specs.Volumed.{Volumed, plain_of, is_loud_in_all};
-ghost use Rattle.volume.specs.Taking.{attach_refusal, wanted_of, IsNotTaken};
+ghost use Rattle.volume.specs.Taking.{attach_refusal, IsNotTaken};
 ghost use Rattle.volume.specs.Attached.{store_of, volume_in, IsAttachedAs, IsGained};
 ghost use Rattle.volume.specs.Leaving.{is_quiet_of};
 ghost use Rattle.volume.specs.Stopping.{StopsAround};
@@ -47,16 +47,6 @@ impl<B: Block> Volume<B> {
             None
         } else {
             Some(Refusal::BadChunk)
-        }
-    }
-
-    /// The chunk size of the snapshots that are there.
-    fn wanted(&self) -> Option<u32>
-        ensures { result ≡ wanted_of self.now.snaps }
-    {
-        match self.snaps.as_slice() {
-            [] => None,
-            [first, ..] => Some(first.chunk()),
         }
     }
 
@@ -102,16 +92,10 @@ impl<B: Block> Volume<B> {
             Err(_) => return Err((Refusal::NoMemory, store)),
         }
         let number = self.attached + 1;
-        match open_snapshot(
-            alloc,
-            number,
-            store,
-            self.origin.sectors(),
-            chunk,
-            overflow,
-            self.wanted(),
-        ) {
+        match open_snapshot(alloc, number, store, self.origin.sectors(), chunk, overflow) {
             Ok(snap) => {
+                // A look: that its chunks have an allowed size is known from here on.
+                let _ = snap.chunk();
                 self.snaps.push_reserved(snap);
                 self.attached = number;
                 self.look_at_stores();

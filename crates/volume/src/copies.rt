@@ -12,7 +12,7 @@ ghost use Rattle.volume.specs.Exact.{IsExact};
 
 use crate::Volume;
 use device::{Block, Io};
-use merge_beside::route_again;
+use merge_beside::{route_again, save_next_pair};
 use pending::{Flight, Stage, refuse};
 use plain::{CopyId, NotDue, Outcome, SnapId};
 use snapshot::Snapshot;
@@ -127,7 +127,9 @@ impl<B: Block> Volume<B> {
     }
 
     /// Publishes a committed copy: its mark is taken away, its snapshot's held writes of the chunk go to its place, and
-    /// held origin writes are routed again.
+    /// held origin writes are routed again. Where a merge has a group, the copy that it waits for next is started: a
+    /// snapshot copies the chunks that a merged chunk touches one after the other. One whose store is full is spoiled, and
+    /// its requests are refused.
     pub(crate) fn publish(&mut self, number: CopyId) -> Result<Outcome, NotDue>
         ensures step { IfOk result (λ outcome. IsStepped B.contents B.layers B.size B.fault_count B.done_count (Publish number) outcome self.old self.new) }
         ensures exact { IfOk result (λ outcome. IsExact B.contents B.layers (Publish number) outcome self.old self.new) }
@@ -140,6 +142,12 @@ impl<B: Block> Volume<B> {
                 snap.publish(index);
                 route_placed(snap, &mut self.flights);
                 route_again(&self.snaps, &self.merge, &mut self.flights);
+                self.copies = save_next_pair(
+                    &self.merge,
+                    &mut self.snaps,
+                    &mut self.flights,
+                    self.copies,
+                );
                 Ok(Outcome::Done)
             }
             None => Err(NotDue),

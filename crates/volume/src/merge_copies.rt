@@ -1,4 +1,4 @@
-// The events of a merge that start the copies of the chunk that is copied next, each a call of its own.
+// The events of a merge that start the copies that its next chunk waits for, each a call of its own.
 ghost use Rattle.std.specs.Prelude.{◌≡◌, IfOk, OnErr, is_ok};
 ghost use Rattle.plain.specs.declared.event.Event.TheVariants.{MergeGroup, MergeWrite};
 ghost use Rattle.volume.specs.Volumed.{is_due_of};
@@ -8,11 +8,12 @@ ghost use Rattle.volume.specs.Exact.{IsExact};
 use crate::Volume;
 use device::{Block, Io};
 use merge_beside::{route_again, save_waiting};
+use pending::sectors_of;
 use plain::{NotDue, Outcome};
-use snapshots::is_clear;
+use snapshots::is_clear_over;
 
 impl<B: Block> Volume<B> {
-    /// Forms the next group of the merge, and starts the copies of the chunk that is copied first in the other snapshots.
+    /// Forms the next group of the merge, and starts in each other snapshot the copy that the group's first chunk waits for.
     /// Those whose stores are full are spoiled, and their requests refused.
     pub(crate) fn merge_group(&mut self) -> Result<Outcome, NotDue>
         ensures step { IfOk result (λ outcome. IsStepped B.contents B.layers B.size B.fault_count B.done_count MergeGroup outcome self.old self.new) }
@@ -35,8 +36,9 @@ impl<B: Block> Volume<B> {
         }
     }
 
-    /// Writes the chunk in the merge's buffer to the origin disk, and starts the copies of the chunk that is copied next, if
-    /// one waits. Where the write fails, the merge stops, and held origin writes are routed again.
+    /// Writes the chunk in the merge's buffer to the origin disk, where each other snapshot has published all of its chunks
+    /// that this one touches, and starts the copies that the next chunk waits for, if one waits. Where the write fails, the
+    /// merge stops, and held origin writes are routed again.
     pub(crate) fn merge_write(&mut self) -> Result<Outcome, NotDue>
         ensures step { IfOk result (λ outcome. IsStepped B.contents B.layers B.size B.fault_count B.done_count MergeWrite outcome self.old self.new) }
         ensures exact { IfOk result (λ outcome. IsExact B.contents B.layers MergeWrite outcome self.old self.new) }
@@ -49,7 +51,8 @@ impl<B: Block> Volume<B> {
                 let Some(pair) = merge.full() else {
                     return Err(NotDue);
                 };
-                if !is_clear(&self.snaps, merge.chunk() as u64 * pair.old) {
+                let count = sectors_of(merge.chunk(), merge.sectors(), pair.old);
+                if !is_clear_over(&self.snaps, merge.chunk() as u64 * pair.old, count) {
                     return Err(NotDue);
                 }
                 match merge.write_chunk(&mut self.origin) {

@@ -46,7 +46,7 @@ impl<B: Block> Volume<B> {
             return Err(Refusal::NoMemory);
         };
         let count = self.snaps[k].len();
-        match keep_back_all(alloc, self.snaps.as_mut_slice(), number, count) {
+        match keep_back_all(alloc, self.snaps.as_mut_slice(), number, count, chunk) {
             Ok(()) => {}
             Err(refusal) => return Err(refusal),
         }

@@ -9,7 +9,7 @@ ghost use Rattle.snapshot.specs.Kept.{Kept};
 ghost use Rattle.volume.specs.Volumed.{piece_with};
 ghost use Rattle.snapshots.specs.Numbers.{count_in};
 ghost use Rattle.snapshots.specs.Finding.{place_of_snap};
-ghost use Rattle.snapshots.specs.Starting.{HasRoomFor, IsSavedIn, lacks, overflows, starts};
+ghost use Rattle.snapshots.specs.Starting.{HasRoomFor, IsSavedIn, lacks, overflows, own_of, starts};
 ghost use Rattle.volume.specs.Submitting.{dev_refusal, shut_at, IsAsked, IsAcceptedAs, SameButRoom, IsFoundFull, IsOverflown};
 
 use crate::Volume;
@@ -144,8 +144,8 @@ fn save_or_mark<B: Block>(
     requires few { copies + 1 < 2 ^ 64 }
     requires lacking { lacks first snap.old ≡ true }
     requires writable { did_overflow snap.old.overflow ≡ false }
-    ensures ok { IfOk result (λ given. (given ≢ copies) × IsSavedIn B.contents B.layers first snap.old snap.new copies given flights.old flights.new) }
-    ensures err { IfErr result (λ e. ((e ≡ Invalid) × (snap.old.overflow ≡ Never) × IsSavedIn B.contents B.layers first snap.old snap.new copies copies flights.old flights.new) ⊎ ((e ≡ Overflow) × (snap.old.overflow ≡ May) × (overflows first snap.old ≡ true) × (snap.new ≡ record snap.old { overflow = Did }) × (flights.new ≡ flights.old))) }
+    ensures ok { IfOk result (λ given. (given ≢ copies) × IsSavedIn B.contents B.layers (own_of first snap.old) snap.old snap.new copies given flights.old flights.new) }
+    ensures err { IfErr result (λ e. ((e ≡ Invalid) × (snap.old.overflow ≡ Never) × IsSavedIn B.contents B.layers (own_of first snap.old) snap.old snap.new copies copies flights.old flights.new) ⊎ ((e ≡ Overflow) × (snap.old.overflow ≡ May) × (overflows first snap.old ≡ true) × (snap.new ≡ record snap.old { overflow = Did }) × (flights.new ≡ flights.old))) }
 {
     if snap.is_full() && snap.overflow() == Overflowing::May {
         snap.mark();

@@ -13,7 +13,7 @@ ghost use Rattle.settled.specs.MergeShown.{IsMerging};
 ghost use Rattle.snapshot.specs.Kept.{Kept};
 ghost use Rattle.snapshots.specs.Finding.{place_of_snap};
 ghost use Rattle.snapshots.specs.Numbers.{number_of_snap};
-ghost use Rattle.volume.specs.Asking.{HasNone, HoldsOf, is_finished_in, merging_number, merging_usage};
+ghost use Rattle.volume.specs.Asking.{HasNone, HoldsOf, is_finished_in, merging_chunk_of, merging_number, merging_usage};
 ghost use Rattle.volume.specs.Leaving.{IsStillOn, has_group_in, is_done_of, is_quiet_of, usage_of};
 ghost use Rattle.volume.specs.Moved.{moving_of};
 ghost use Rattle.volume.specs.Stepping.{has_failed};
@@ -66,6 +66,17 @@ impl<B: Block> Volume<B> {
                 let _ = merge.chunk();
                 Some(merge.number())
             }
+            None => None,
+        }
+    }
+
+    /// The sectors of a chunk of the snapshot that is being merged, if one is.
+    pub fn merging_chunk(&self) -> Option<u32>
+        ensures value { result ≡ merging_chunk_of self.now.merge }
+        ensures allowed { IfSome result (λ chunk. is_chunk chunk ≡ true) }
+    {
+        match &self.merge {
+            Some(merge) => Some(merge.chunk()),
             None => None,
         }
     }

@@ -13,7 +13,7 @@ ghost use Rattle.volume_laws.specs.Waits.{IsQuiet};
 ghost use Rattle.volume.specs.Asking.{IsMergeStill};
 ghost use Rattle.volume.specs.EventKinds.{is_of_merge};
 ghost use Rattle.volume.specs.Leaving.{has_group_in, is_quiet_of};
-ghost use Rattle.volume.specs.Volumed.{books_of, least_chunk, next_of, piece_with};
+ghost use Rattle.volume.specs.Volumed.{books_of, next_of, piece_of, piece_with};
 
 use device::Block;
 use merge::Merge;
@@ -59,6 +59,19 @@ impl<B: Block> Model for Volume<B> {
     ghost invariant = { λ v. IsWhole B.contents B.layers B.size (record { origin = v.origin; snaps = v.snaps.items; merge = v.merge; flights = v.flights.items; requests = v.requests; copies = v.copies; attached = v.attached }) };
 }
 
+/// The sectors of the least chunk of some snapshots, or of the largest chunk where there is none.
+fn least_chunk<B: Block>(snaps: &[Snapshot<B>]) -> u32
+    ensures is { result ≡ piece_of snaps.now }
+    ensures each { All (λ s. is_chunk s.state.chunk ≡ true) snaps.now }
+    ensures allowed { is_chunk result ≡ true }
+{
+    let mut least = LARGEST_PIECE;
+    for snap in snaps {
+        least = least.min(snap.chunk());
+    }
+    least
+}
+
 impl<B: Block> Volume<B> {
     /// A volume over an origin disk, without snapshots and requests. Where the room for both is refused, the disk is given
     /// back.
@@ -98,20 +111,17 @@ impl<B: Block> Volume<B> {
         self.snaps.len()
     }
 
-    /// The sectors of a piece: of the least chunk of the snapshots, the one that is being merged among them, or of the largest
-    /// chunk where there is none. A request lies inside one piece.
+    /// The sectors of a piece: of the least chunk of the snapshots, spoiled ones and the one that is being merged among them,
+    /// or of the largest chunk where there is none. A request lies inside one piece, and so inside one chunk of each.
     pub fn piece(&self) -> u32
         ensures piece { result ≡ piece_with self.now.merge self.now.snaps }
-        ensures least { result ≡ least_chunk self.now.merge self.now.snaps }
-        ensures same { All (λ s. s.state.chunk ≡ result) self.now.snaps }
+        ensures within { All (λ s. (is_chunk s.state.chunk ≡ true) × (result ≤ s.state.chunk)) self.now.snaps }
         ensures allowed { is_chunk result ≡ true }
     {
-        if let Some(merge) = &self.merge {
-            return merge.chunk();
-        }
-        match self.snaps.as_slice() {
-            [] => LARGEST_PIECE,
-            [first, ..] => first.chunk(),
+        let least = least_chunk(self.snaps.as_slice());
+        match &self.merge {
+            Some(merge) => merge.chunk().min(least),
+            None => least,
         }
     }
 

@@ -118,7 +118,7 @@ published_test ps ms c h =
     placed (Some n) is = ap is_some is
 
 -- a commit publishes nothing
-not_published : (ps : List Pair) (ms : List Mark) (cs : List ChunkCopy) (c : ℕ) → is_published ps ms c ≡ false → is_published (ps ++ map pair_of cs) (ms ++ map mark_of cs) c ≡ false
+pub not_published : (ps : List Pair) (ms : List Mark) (cs : List ChunkCopy) (c : ℕ) → is_published ps ms c ≡ false → is_published (ps ++ map pair_of cs) (ms ++ map mark_of cs) c ≡ false
 not_published ps ms cs c e = elim (cases_Bool (is_published (ps ++ map pair_of cs) (ms ++ map mark_of cs) c)) [
   | inr fails ↦ fails
   | inl here ↦ absurd (false≢true (sym e ∙ published_test ps ms c (before (published_true (ps ++ map pair_of cs) (ms ++ map mark_of cs) c here))))

@@ -31,6 +31,7 @@ pub mod Left
 pub mod Waiting
 pub mod Placing
 pub mod Keeping
+pub mod Nexts
 pub mod WaitingAgain
 pub mod PlaceWrites
 pub mod MergeEvents
@@ -50,6 +51,7 @@ pub mod AcceptedAlone
 pub mod MergeRooms
 pub mod MergeRoomEvents
 pub mod MergeRoomSteps
+pub mod MergeBeside
 pub mod Beside
 pub mod MergeStarts
 pub mod MergeRoomStarts

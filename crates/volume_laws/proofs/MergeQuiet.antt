@@ -1,11 +1,13 @@
 -- Where no event is due, of the volume and of its merge, it is quiet: and the merge has failed, or is finished.
-use Rattle.std.proofs.Common.{◌≡◌, ◌⊎◌, inl, inr, ℕ, ◌+◌, ◌*◌, ◌/◌, Bool, true, false, List, [], ◌∷◌, ◌++◌, Some, None, length, map, refl, sym, ◌∙◌, ap, subst, arith, nat_eq}
-use Rattle.std.specs.Prelude.{◌&&◌, not, nat_lt}
+use Rattle.std.proofs.Common.{◌≡◌, ◌⊎◌, inl, inr, ℕ, ◌+◌, ◌*◌, Bool, true, false, List, [], ◌∷◌, ◌++◌, Some, None, length, map, refl, sym, ◌∙◌, ap, subst, arith, nat_eq}
+use Rattle.std.specs.Prelude.{◌&&◌, ◌||◌, not, nat_lt}
+use Rattle.std.specs.Option.{is_some}
 use Rattle.std.specs.List.{All, list_any, list_all}
 use Rattle.std.proofs.lemmas.Bool.{cases_Bool, false≢true, ltb-false}
 use Rattle.std.proofs.lemmas.List.Elements.{All-head, All-map, All-weaker}
 use Rattle.std.proofs.lemmas.List.Folds.{list_any_none}
 use Rattle.sector.specs.declared.pair.Pair.{Pair}
+use Rattle.pending.specs.Copies.{count_of}
 use Rattle.pending.specs.Kinds.{kind_of}
 use Rattle.pending.specs.Due.{is_issuable}
 use Rattle.pending.specs.declared.flights.Flight.{Flight}
@@ -13,14 +15,15 @@ use Rattle.pending.specs.declared.flights.Kind.{Kind}
 use Rattle.pending.specs.declared.flights.Kind.TheVariants.{OriginRead, OriginWrite, SnapRead, SnapWrite}
 use Rattle.pending.specs.declared.flights.Route.TheVariants.{Held}
 use Rattle.volume_laws.specs.Books.{SnapBooks, MergeBooks, Books, group_of}
-use Rattle.volume_laws.specs.Published.{chunk_of, is_saved, is_clear}
+use Rattle.volume_laws.specs.Published.{chunk_of, unpublished_in, next_over, is_saved_over, is_clear_over}
 use Rattle.volume_laws.specs.Again.{has_chunk}
 use Rattle.volume_laws.specs.Due.{DueSnap, books_of}
 use Rattle.volume_laws.specs.Waits.{IsSaving, Waits, is_grouped, IsDone}
 use Rattle.volume_laws.specs.MergeDue.{DueMerge, is_none, has_group, is_finished, last_of, goes_to, writes_to, is_writing, is_using, is_readable, is_writable, is_copied, can_group, can_read_area, due_with}
 use Rattle.volume_laws.specs.MergeWaits.{next_pairs, next_in, IsSavedSoon, MergeGoes, IsQuietMerge}
 use Rattle.volume_laws.proofs.Due.{nothing_due}
-use Rattle.volume_laws.proofs.Quiet.{all_done, done_saved, fails_any, all_tried, none_left, unrouted}
+use Rattle.volume_laws.proofs.Nexts.{next_published}
+use Rattle.volume_laws.proofs.Quiet.{all_done, done_chunk, fails_any, all_tried, none_left, unrouted}
 use Rattle.volume_laws.proofs.MergeDue.{IsMergeIdle, no_merge_due, nothing_due_with}
 
 pub none_is : {A : Type 0} (xs : List A) → is_none xs ≡ true → xs ≡ []
@@ -52,11 +55,21 @@ none_writing place rs idle = list_any_none (is_writing place) rs (All-weaker (λ
     (λ f held. ap (writes_to place (kind_of f.request)) (unrouted f.route held) ∙ held_writes place (kind_of f.request)) rs idle)
 
 -- with nothing left of any snapshot, what is being saved is clear
-soon_clear : (snaps : List SnapBooks) (chunk : ℕ) (q : Pair) → All IsDone snaps → IsSavedSoon chunk snaps q → is_clear snaps (chunk * q.old) ≡ true
-soon_clear snaps chunk q done soon = elim (cases_Bool (list_all (is_saved (chunk * q.old)) snaps)) [
+done_over : (first count : ℕ) (s : SnapBooks) → IsDone s → (s.live ≡ true → IsSaving (next_over first count s) s) → is_saved_over first count s ≡ false → ⊥
+done_over first count s done saving e = at s.live refl
+  where
+    at : (b : Bool) → s.live ≡ b → ⊥
+    at false dead = false≢true (sym e ∙ ap (λ b. not b || not (is_some (unpublished_in first count s))) dead)
+    at true live =
+        let none = next_published first count s (done_chunk s (next_over first count s) done (saving live)) in
+        false≢true (sym e ∙ ap (λ b. not b || not (is_some (unpublished_in first count s))) live ∙ ap (λ o. not (is_some o)) none)
+
+pub soon_clear : (snaps : List SnapBooks) (chunk sectors : ℕ) (q : Pair) → All IsDone snaps → IsSavedSoon chunk sectors snaps q → is_clear_over snaps (chunk * q.old) (count_of chunk sectors q.old) ≡ true
+soon_clear snaps chunk sectors q done soon = elim (cases_Bool (list_all (is_saved_over (chunk * q.old) (count_of chunk sectors q.old)) snaps)) [
   | inl here ↦ rw (here, all_tried snaps done) refl
-  | inr unsaved ↦ (let (k, s, within, is, fails) = fails_any (is_saved (chunk * q.old)) snaps unsaved in
-      absurd (done_saved s (chunk * q.old) (subst IsDone is (done k s within)) (subst (λ (x : SnapBooks). x.live ≡ true → IsSaving (chunk * q.old / x.chunk) x) is (soon k s within)) fails))
+  | inr unsaved ↦ (let (k, s, within, is, fails) = fails_any (is_saved_over (chunk * q.old) (count_of chunk sectors q.old)) snaps unsaved in
+      absurd (done_over (chunk * q.old) (count_of chunk sectors q.old) s (subst IsDone is (done k s within))
+      (subst (λ (x : SnapBooks). x.live ≡ true → IsSaving (next_over (chunk * q.old) (count_of chunk sectors q.old) x) x) is (soon k s within)) fails))
 ]
 
 -- the lists of a merge that has nothing due, one after another
@@ -64,9 +77,9 @@ no_released : (rs : List Flight) (released : List Pair) → All (λ f. is_issuab
 no_released rs [] idle e = refl
 no_released rs (q ∷ qs) idle e = absurd (false≢true (sym e ∙ rw (none_using (q ∷ qs) rs idle) refl))
 
-no_reading : (snaps : List SnapBooks) (chunk : ℕ) (reading : List Pair) → All IsDone snaps → ((q : Pair) (pairs : List Pair) → reading ≡ q ∷ pairs → IsSavedSoon chunk snaps q) → is_writable snaps chunk reading ≡ false → reading ≡ []
-no_reading snaps chunk [] done soon e = refl
-no_reading snaps chunk (q ∷ qs) done soon e = absurd (false≢true (sym e ∙ soon_clear snaps chunk q done (soon q qs refl)))
+no_reading : (snaps : List SnapBooks) (chunk sectors : ℕ) (reading : List Pair) → All IsDone snaps → ((q : Pair) (pairs : List Pair) → reading ≡ q ∷ pairs → IsSavedSoon chunk sectors snaps q) → is_writable snaps chunk sectors reading ≡ false → reading ≡ []
+no_reading snaps chunk sectors [] done soon e = refl
+no_reading snaps chunk sectors (q ∷ qs) done soon e = absurd (false≢true (sym e ∙ soon_clear snaps chunk sectors q done (soon q qs refl)))
 
 last_some : (q : Pair) (qs : List Pair) → (p : Pair) × (last_of (q ∷ qs) ≡ Some p)
 last_some q [] = (q, refl)
@@ -98,8 +111,8 @@ idle_group : (snaps : List SnapBooks) (rs : List Flight) (d : DueMerge) → All 
 idle_group snaps rs d idle done goes e =
     let m : MergeBooks = d.books in
     let released : m.released ≡ [] = no_released rs d.books.released idle e.released in
-    let reading : m.reading ≡ [] = no_reading snaps d.books.chunk d.books.reading done
-    (λ q pairs full. next_full d.books q pairs (IsSavedSoon d.books.chunk snaps) full goes.next) e.written in
+    let reading : m.reading ≡ [] = no_reading snaps d.books.chunk d.books.sectors d.books.reading done
+    (λ q pairs full. next_full d.books q pairs (IsSavedSoon d.books.chunk d.books.sectors snaps) full goes.next) e.written in
     let waiting : m.waiting ≡ [] = no_waiting rs d.books.waiting idle (ap (λ x. is_none x && is_readable rs (last_of d.books.waiting)) (sym reading) ∙ e.read) in
     ungrouped m waiting reading (no_copied m d.flushed waiting reading e.flushed e.committed) released
 

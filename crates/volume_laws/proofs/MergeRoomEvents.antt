@@ -14,22 +14,26 @@ use Rattle.pending.specs.declared.flights.Flight.{Flight}
 use Rattle.volume_laws.specs.Books.{SnapBooks}
 use Rattle.volume_laws.specs.Held.{LiveHolds}
 use Rattle.volume_laws.specs.Steps.{ReadsCopy, WritesCopy, ZeroesArea, Commits, Unmarks, StartsCopy, WritesPlace, Overflows, SpoilsSnap, TriesMark, CopyGoesOn, mark_of}
+use Rattle.volume_laws.specs.Touched.{touched_by}
 use Rattle.volume_laws.specs.MergeRooms.{RoomSnap, IsCopyNumbered, IsMarkNumbered, IsMerging, KeepsBack, KeepBack, SameRoom, CommitsRoom, PublishesRoom, is_among, unpublished}
 use Rattle.volume_laws.proofs.Lists.{Any-remove, All-remove, All-from_list_any}
 use Rattle.volume_laws.proofs.Pairs.{some_ne_none}
 use Rattle.volume_laws.proofs.Keeping.{placed_behind, placed_more, named_by, any_set, any_more, any_after, any_split}
-use Rattle.volume_laws.proofs.MergeSaved.{KeepsSaved, copy_read_saved, copy_write_saved, zero_saved, start_saved, commit_saved, unmark_saved, place_saved, dead_saved}
-use Rattle.volume_laws.proofs.Overflowing.{overflow_saved}
-use Rattle.volume_laws.proofs.MergeRooms.{KeepsRoom, room_kept}
+use Rattle.volume_laws.proofs.MergeSaved.{KeepsSaved, KeepsNext, copy_read_next, copy_write_next, zero_next, start_next, commit_saved, commit_next, unmark_saved, place_next, dead_saved, dead_next}
+use Rattle.volume_laws.proofs.Overflowing.{overflow_next}
+use Rattle.volume_laws.proofs.MergeRooms.{KeepsSpace, KeepsRoom, room_kept}
 
 -- an event that leaves what is kept back, and each copy and mark with its number
-same_room : (s s' : RoomSnap) → SameRoom s s' → KeepsSaved s.books s'.books → ((n c : ℕ) → IsCopyNumbered n c s.books → IsCopyNumbered n c s'.books) → ((n c : ℕ) → IsMarkNumbered n c s.books → IsMarkNumbered n c s'.books) → KeepsRoom s s'
-same_room s s' same saved copies marks = record {
-  saved = saved;
-  kept_back = λ _. omega (arith, same.kept_back);
-  merging = λ _ n is. sym same.merging ∙ is;
-  mine = λ _ n c _ mine. still n c mine;
-  spare = λ _ none was _. same.spare ∙ was (sym same.merging ∙ none);
+same_room : (s s' : RoomSnap) → SameRoom s s' → KeepsNext s.books s'.books → ((n c : ℕ) → IsCopyNumbered n c s.books → IsCopyNumbered n c s'.books) → ((n c : ℕ) → IsMarkNumbered n c s.books → IsMarkNumbered n c s'.books) → KeepsRoom s s'
+same_room s s' same next copies marks = record {
+  space = record {
+    saved = next.saved;
+    kept_back = λ _. omega (arith, same.kept_back);
+    merging = λ _ n is. sym same.merging ∙ is;
+    mine = λ _ n c _ mine. still n c mine;
+    spare = λ _ none was _. same.spare ∙ was (sym same.merging ∙ none);
+  };
+  next = next;
 }
   where
     still : (n c : ℕ) → IsMerging n c s → IsMerging n c s'
@@ -48,25 +52,25 @@ on_copies k p q s s' e number n c any = subst (Any (λ (x : ChunkCopy). (x.numbe
     (any_set (λ (x : ChunkCopy). (x.number ≡ n) × (x.pair.old ≡ c)) s.copies k p q e.within e.was (λ is. (number ∙ is.0, ap (λ (x : Pair). x.old) e.pair ∙ is.1)) any)
 
 pub read_room : (o : List ℕ) (k : ℕ) (p q : ChunkCopy) (s s' : RoomSnap) → ReadsCopy o k p q s.books s'.books → q.number ≡ p.number → SameRoom s s' → KeepsRoom s s'
-read_room o k p q s s' e number same = same_room s s' same (copy_read_saved o k p q s.books s'.books e) (on_copies k p q s.books s'.books e.copy number) (same_marks s.books s'.books e.store.pairs e.marks)
+read_room o k p q s s' e number same = same_room s s' same (copy_read_next o k p q s.books s'.books e) (on_copies k p q s.books s'.books e.copy number) (same_marks s.books s'.books e.store.pairs e.marks)
 
 pub write_room : (k : ℕ) (p q : ChunkCopy) (s s' : RoomSnap) → WritesCopy k p q s.books s'.books → q.number ≡ p.number → SameRoom s s' → KeepsRoom s s'
-write_room k p q s s' e number same = same_room s s' same (copy_write_saved k p q s.books s'.books e) (on_copies k p q s.books s'.books e.copy number) (same_marks s.books s'.books e.pairs e.marks)
+write_room k p q s s' e number same = same_room s s' same (copy_write_next k p q s.books s'.books e) (on_copies k p q s.books s'.books e.copy number) (same_marks s.books s'.books e.pairs e.marks)
 
 pub zero_room : (a : ℕ) (s s' : RoomSnap) → ZeroesArea a s.books s'.books → SameRoom s s' → KeepsRoom s s'
-zero_room a s s' e same = same_room s s' same (zero_saved a s.books s'.books e) (same_copies s.books s'.books e.copies) (same_marks s.books s'.books e.pairs e.marks)
+zero_room a s s' e same = same_room s s' same (zero_next a s.books s'.books e) (same_copies s.books s'.books e.copies) (same_marks s.books s'.books e.pairs e.marks)
 
 pub place_room : (c place off : ℕ) (bytes : List ℕ) (s s' : RoomSnap) → WritesPlace c place off bytes s.books s'.books → SameRoom s s' → KeepsRoom s s'
-place_room c place off bytes s s' e same = same_room s s' same (place_saved c place off bytes s.books s'.books e) (same_copies s.books s'.books e.copies) (same_marks s.books s'.books e.pairs e.marks)
+place_room c place off bytes s s' e same = same_room s s' same (place_next c place off bytes s.books s'.books e) (same_copies s.books s'.books e.copies) (same_marks s.books s'.books e.pairs e.marks)
 
 -- its store overflowed
 pub overflow_room : (s s' : RoomSnap) → Overflows s.books s'.books → SameRoom s s' → KeepsRoom s s'
-overflow_room s s' e same = same_room s s' same (overflow_saved s.books s'.books e) (same_copies s.books s'.books (ap (λ (x : SnapBooks). x.copies) e.becomes))
+overflow_room s s' e same = same_room s s' same (overflow_next s.books s'.books e) (same_copies s.books s'.books (ap (λ (x : SnapBooks). x.copies) e.becomes))
     (same_marks s.books s'.books (ap (λ (x : SnapBooks). x.pairs) e.becomes) (ap (λ (x : SnapBooks). x.marks) e.becomes))
 
 -- a request starts a copy
 pub start_room : (p : ChunkCopy) (s s' : RoomSnap) → StartsCopy p s.books s'.books → SameRoom s s' → KeepsRoom s s'
-start_room p s s' e same = same_room s s' same (start_saved p s.books s'.books e)
+start_room p s s' e same = same_room s s' same (start_next p s.books s'.books e)
     (λ n c any. subst (Any (λ (x : ChunkCopy). (x.number ≡ n) × (x.pair.old ≡ c))) (sym e.copies) (any_more (λ (x : ChunkCopy). (x.number ≡ n) × (x.pair.old ≡ c)) s.books.copies (p ∷ []) any))
     (same_marks s.books s'.books e.pairs e.marks)
 
@@ -93,11 +97,14 @@ or_right false b e = e
 -- WriteArea
 pub commit_room : (o : List ℕ) (rs : List Flight) (count a : ℕ) (s s' : RoomSnap) → LiveHolds o rs s.books → Commits count a s.books s'.books → CommitsRoom count s s' → KeepsRoom s s'
 commit_room o rs count a s s' h e room = record {
-  saved = saved;
-  kept_back = λ _. omega (arith, room.kept_back);
-  merging = λ _ n is. sym room.merging ∙ is;
-  mine = λ _ n c is mine. still n c (sym room.merging ∙ is) mine;
-  spare = λ _ none was _. kept (was (sym room.merging ∙ none));
+  space = record {
+    saved = saved;
+    kept_back = λ _. omega (arith, room.kept_back);
+    merging = λ _ n is. sym room.merging ∙ is;
+    mine = λ _ n c is mine. still n c (sym room.merging ∙ is) mine;
+    spare = λ _ none was _. kept (was (sym room.merging ∙ none));
+  };
+  next = commit_next o rs count a s.books s'.books h e;
 }
   where
     saved : KeepsSaved s.books s'.books
@@ -155,7 +162,7 @@ unpublished_none k (Some j) is = elim (cases_Bool (nat_eq j k)) [
   | inr other ↦ absurd (some_ne_none j (ap (λ b. if b then None else Some j) (sym other) ∙ is))
 ]
 
-pub publish_room : (k : ℕ) (m : Mark) (s s' : RoomSnap) → Unmarks k m s.books s'.books → PublishesRoom m s s' → All (λ p. p.number ≢ m.number) s.books.copies → KeepsRoom s s'
+pub publish_room : (k : ℕ) (m : Mark) (s s' : RoomSnap) → Unmarks k m s.books s'.books → PublishesRoom m s s' → All (λ p. p.number ≢ m.number) s.books.copies → KeepsSpace s s'
 publish_room k m s s' e room apart = record {
   saved = unmark_saved k m s.books s'.books e;
   kept_back = λ _. omega (arith, room.kept_back);
@@ -186,11 +193,14 @@ publish_room k m s s' e room apart = record {
 -- a spoiled snapshot keeps nothing back
 dead_room : (s s' : RoomSnap) → s'.books.live ≡ false → KeepsRoom s s'
 dead_room s s' dead = record {
-  saved = dead_saved s.books s'.books dead;
-  kept_back = λ live. absurd (false≢true (sym dead ∙ live));
-  merging = λ live. absurd (false≢true (sym dead ∙ live));
-  mine = λ live. absurd (false≢true (sym dead ∙ live));
-  spare = λ live. absurd (false≢true (sym dead ∙ live));
+  space = record {
+    saved = dead_saved s.books s'.books dead;
+    kept_back = λ live. absurd (false≢true (sym dead ∙ live));
+    merging = λ live. absurd (false≢true (sym dead ∙ live));
+    mine = λ live. absurd (false≢true (sym dead ∙ live));
+    spare = λ live. absurd (false≢true (sym dead ∙ live));
+  };
+  next = dead_next s.books s'.books dead;
 }
 
 pub spoil_room : (s s' : RoomSnap) → SpoilsSnap s.books s'.books → KeepsRoom s s'
@@ -200,12 +210,15 @@ pub tried_room : (s s' : RoomSnap) → TriesMark s.books s'.books → KeepsRoom 
 tried_room s s' e = dead_room s s' e.live
 
 -- of all snapshots: one changes, or is detached
-pub rooms_changed : (chunk : ℕ) (pairs : List Pair) (snaps : List RoomSnap) (k : ℕ) (s s' : RoomSnap) → k < length snaps → s ≡ get_or snaps k s → KeepsRoom s s' → KeepBack chunk pairs snaps → KeepBack chunk pairs (set snaps k s')
-rooms_changed chunk pairs snaps k s s' within is keeps h =
-    All-set (λ x. x.books.live ≡ true → KeepsBack chunk pairs x) snaps k s' (room_kept chunk pairs s s' keeps (subst (λ (x : RoomSnap). x.books.live ≡ true → KeepsBack chunk pairs x) (sym is) (h k s within))) h
+pub rooms_changed : (chunk sectors : ℕ) (pairs : List Pair) (snaps : List RoomSnap) (k : ℕ) (s s' : RoomSnap) → k < length snaps → s ≡ get_or snaps k s → KeepsSpace s s' → KeepBack chunk sectors pairs snaps → KeepBack chunk sectors pairs (set snaps k s')
+rooms_changed chunk sectors pairs snaps k s s' within is keeps h =
+    let was : s.books.live ≡ true → KeepsBack (touched_by s.books.chunk chunk sectors pairs) s =
+    subst (λ (x : RoomSnap). x.books.live ≡ true → KeepsBack (touched_by x.books.chunk chunk sectors pairs) x) (sym is) (h k s within) in
+    All-set (λ x. x.books.live ≡ true → KeepsBack (touched_by x.books.chunk chunk sectors pairs) x) snaps k s'
+    (λ live. subst (λ n. KeepsBack (touched_by n chunk sectors pairs) s') (sym (keeps.saved.chunk live)) (room_kept (touched_by s.books.chunk chunk sectors pairs) s s' keeps was live)) h
 
-pub rooms_set : (chunk : ℕ) (pairs : List Pair) (snaps : List RoomSnap) (k : ℕ) (s' : RoomSnap) → KeepsBack chunk pairs s' → KeepBack chunk pairs snaps → KeepBack chunk pairs (set snaps k s')
-rooms_set chunk pairs snaps k s' here h = All-set (λ x. x.books.live ≡ true → KeepsBack chunk pairs x) snaps k s' (λ _. here) h
+pub rooms_set : (chunk sectors : ℕ) (pairs : List Pair) (snaps : List RoomSnap) (k : ℕ) (s' : RoomSnap) → KeepsBack (touched_by s'.books.chunk chunk sectors pairs) s' → KeepBack chunk sectors pairs snaps → KeepBack chunk sectors pairs (set snaps k s')
+rooms_set chunk sectors pairs snaps k s' here h = All-set (λ x. x.books.live ≡ true → KeepsBack (touched_by x.books.chunk chunk sectors pairs) x) snaps k s' (λ _. here) h
 
-pub rooms_detached : (chunk : ℕ) (pairs : List Pair) (snaps : List RoomSnap) (k : ℕ) → KeepBack chunk pairs snaps → KeepBack chunk pairs (remove snaps k)
-rooms_detached chunk pairs snaps k h = All-remove (λ x. x.books.live ≡ true → KeepsBack chunk pairs x) snaps k h
+pub rooms_detached : (chunk sectors : ℕ) (pairs : List Pair) (snaps : List RoomSnap) (k : ℕ) → KeepBack chunk sectors pairs snaps → KeepBack chunk sectors pairs (remove snaps k)
+rooms_detached chunk sectors pairs snaps k h = All-remove (λ x. x.books.live ≡ true → KeepsBack (touched_by x.books.chunk chunk sectors pairs) x) snaps k h

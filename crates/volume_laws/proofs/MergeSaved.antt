@@ -1,9 +1,8 @@
 -- What a merge keeps of itself and of the other snapshots, over each event.
-use Rattle.std.proofs.Common.{◌≡◌, ◌≢◌, inl, inr, ℕ, ◌+◌, ◌*◌, ◌/◌, ◌<◌, ◌≤◌, Bool, true, false, List, [], ◌∷◌, ◌++◌, Some, length, get_or, set, map, take, refl, sym, ◌∙◌, ap, subst, arith, append_assoc, append-nil, length-append}
+use Rattle.std.proofs.Common.{◌≡◌, ◌≢◌, inl, inr, ℕ, ◌+◌, ◌*◌, ◌/◌, ◌<◌, Bool, true, false, List, [], ◌∷◌, ◌++◌, Some, None, length, get_or, set, map, take, refl, sym, ◌∙◌, ap, subst, arith, append_assoc, append-nil, length-append}
 use Rattle.std.specs.List.{All, remove}
 use Rattle.std.specs.Prelude.{Any}
-use Rattle.std.proofs.Math.Nat.{mul-div_cancel_left}
-use Rattle.std.proofs.lemmas.Bool.{cases_eq, false≢true}
+use Rattle.std.proofs.lemmas.Bool.{cases_Bool, cases_eq, false≢true}
 use Rattle.std.proofs.lemmas.List.{take-map, get_or-append-add, get_or_default, get_or-set_same, get_or-set_other, length-set}
 use Rattle.std.proofs.lemmas.List.Elements.{All-set, All-weaker, All-cons, All-nil}
 use Rattle.sector.specs.declared.pair.Pair.{Pair}
@@ -13,18 +12,19 @@ use Rattle.pending.specs.declared.copies.ChunkCopy.{ChunkCopy}
 use Rattle.pending.specs.declared.copies.Mark.{Mark}
 use Rattle.pending.specs.declared.flights.Flight.{Flight}
 use Rattle.volume_laws.specs.Books.{SnapBooks, MergeBooks, Books, group_of}
-use Rattle.volume_laws.specs.Published.{IsPublished, IsSaved, IsSavedOver}
+use Rattle.volume_laws.specs.Published.{IsPublished, is_published, IsSaved, IsSavedOver, next_over}
 use Rattle.volume_laws.specs.Held.{LiveHolds}
 use Rattle.volume_laws.specs.Steps.{IsSame, ReadsCopy, WritesCopy, ZeroesArea, Commits, Unmarks, StartsCopy, WritesPlace, SpoilsSnap, TriesMark, ChangesSnap, SpoilsOne, mark_of}
 use Rattle.volume_laws.specs.Waits.{IsSaving}
-use Rattle.volume_laws.specs.MergeDue.{DueMerge, last_of}
-use Rattle.volume_laws.specs.MergeWaits.{next_pairs, next_in, HaveChunk, IsSavedSoon, IsSavedIn, MergeSteady, MergeGoes}
+use Rattle.volume_laws.specs.MergeDue.{DueMerge, last_of, next_pair}
+use Rattle.volume_laws.specs.MergeWaits.{next_pairs, next_in, IsSavedSoon, IsSavedIn, IsStaged, MergeSteady, MergeGoes}
 use Rattle.volume_laws.specs.MergeSteps.{FormsGroup, ReadsBack, WritesBack, FlushesBack, CommitsGroup, ReleasesGroup, ReadsArea, FailsMerge, Resumes, WritesStore, without_group}
 use Rattle.volume_laws.proofs.Lists.{All-remove}
 use Rattle.volume_laws.proofs.Committing.{published_more, fresh_marks}
 use Rattle.volume_laws.proofs.Waiting.{KeepsWaiting}
-use Rattle.volume_laws.proofs.Keeping.{copy_read_keeps, copy_write_keeps, zero_keeps, start_keeps, commit_keeps}
-use Rattle.volume_laws.proofs.IssuingWrites.{saved_over}
+use Rattle.volume_laws.proofs.Clear.{published_true}
+use Rattle.volume_laws.proofs.Keeping.{copy_read_keeps, copy_write_keeps, zero_keeps, start_keeps, commit_keeps, published_test, not_published}
+use Rattle.volume_laws.proofs.Nexts.{next_same}
 use Rattle.volume_laws.proofs.MergeEvents.{IsUngrouped}
 use Rattle.volume_laws.proofs.MergeLeft.{no_group}
 
@@ -41,8 +41,24 @@ saved_still first s s' keeps h live = subst (λ n. IsPublished s'.pairs s'.marks
 over_still : (first count : ℕ) (s s' : SnapBooks) → KeepsSaved s s' → IsSavedOver first count s → IsSavedOver first count s'
 over_still first count s s' keeps h i lt = saved_still (first + i) s s' keeps (h i lt)
 
-saving_still : (first : ℕ) (s s' : SnapBooks) → KeepsSaved s s' → (s.live ≡ true → IsSaving (first / s.chunk) s) → s'.live ≡ true → IsSaving (first / s'.chunk) s'
-saving_still first s s' keeps h live = subst (λ n. IsSaving (first / n) s') (sym (keeps.chunk live)) (keeps.saving live (first / s.chunk) (h (keeps.live live)))
+-- And what each but a publication keeps: just the same chunks are published, so the one that comes next is the same.
+pub record KeepsNext (s s' : SnapBooks) : Type 0 where
+  pub saved : KeepsSaved s s'
+  pub same : s'.live ≡ true → (c : ℕ) → is_published s'.pairs s'.marks c ≡ is_published s.pairs s.marks c
+
+pub next_still : (first count : ℕ) (s s' : SnapBooks) → KeepsNext s s' → s'.live ≡ true → next_over first count s' ≡ next_over first count s
+next_still first count s s' keeps live = next_same first count s s' (keeps.saved.chunk live) (keeps.same live)
+
+saving_still : (first count : ℕ) (s s' : SnapBooks) → KeepsNext s s' → (s.live ≡ true → IsSaving (next_over first count s) s) → s'.live ≡ true → IsSaving (next_over first count s') s'
+saving_still first count s s' keeps h live =
+    subst (λ c. IsSaving c s') (sym (next_still first count s s' keeps live)) (keeps.saved.saving live (next_over first count s) (h (keeps.saved.live live)))
+
+-- a merge that goes on is steady, and one that is steady goes on where the copies of its next chunk are started
+pub goes_steady : (snaps : List SnapBooks) (d : DueMerge) → MergeGoes snaps d → MergeSteady snaps d
+goes_steady snaps d h = record { staged = h.staged; ending = h.ending; area = h.area; saved = h.saved }
+
+pub steady_goes : (snaps : List SnapBooks) (d : DueMerge) → MergeSteady snaps d → All (IsSavedSoon d.books.chunk d.books.sectors snaps) (next_in d.books) → MergeGoes snaps d
+steady_goes snaps d h soon = record { staged = h.staged; ending = h.ending; area = h.area; next = soon; saved = h.saved }
 
 -- of all snapshots, where one changes
 module _ (snaps : List SnapBooks) (k : ℕ) (s s' : SnapBooks) (within : k < length snaps) (is : s ≡ get_or snaps k s) (keeps : KeepsSaved s s') where
@@ -54,18 +70,26 @@ module _ (snaps : List SnapBooks) (k : ℕ) (s s' : SnapBooks) (within : k < len
       All-set (IsSavedOver (chunk * q.old) (count_of chunk sectors q.old)) snaps k s'
       (over_still (chunk * q.old) (count_of chunk sectors q.old) s s' keeps (subst (IsSavedOver (chunk * q.old) (count_of chunk sectors q.old)) (sym is) (h k s within))) h
 
-  pub saved_soon : (chunk : ℕ) (q : Pair) → IsSavedSoon chunk snaps q → IsSavedSoon chunk (set snaps k s') q
-  saved_soon chunk q h = All-set (λ v. v.live ≡ true → IsSaving (chunk * q.old / v.chunk) v) snaps k s'
-      (saving_still (chunk * q.old) s s' keeps (subst (λ (v : SnapBooks). v.live ≡ true → IsSaving (chunk * q.old / v.chunk) v) (sym is) (h k s within))) h
-
-  pub goes_changed : (d : DueMerge) → MergeGoes snaps d → MergeGoes (set snaps k s') d
-  goes_changed d h = record {
+  -- a publication leaves the merge steady
+  pub steady_changed : (d : DueMerge) → MergeSteady snaps d → MergeSteady (set snaps k s') d
+  steady_changed d h = record {
     staged = h.staged;
     ending = h.ending;
     area = h.area;
-    next = All-weaker (IsSavedSoon d.books.chunk snaps) (IsSavedSoon d.books.chunk (set snaps k s')) (saved_soon d.books.chunk) (next_in d.books) h.next;
     saved = All-weaker (IsSavedIn d.books.chunk d.books.sectors snaps) (IsSavedIn d.books.chunk d.books.sectors (set snaps k s')) (saved_in d.books.chunk d.books.sectors) (d.books.copied ++ d.books.released) h.saved;
   }
+
+-- and each other event lets it go on
+module _ (snaps : List SnapBooks) (k : ℕ) (s s' : SnapBooks) (within : k < length snaps) (is : s ≡ get_or snaps k s) (keeps : KeepsNext s s') where
+  pub saved_soon : (chunk sectors : ℕ) (q : Pair) → IsSavedSoon chunk sectors snaps q → IsSavedSoon chunk sectors (set snaps k s') q
+  saved_soon chunk sectors q h =
+      All-set (λ v. v.live ≡ true → IsSaving (next_over (chunk * q.old) (count_of chunk sectors q.old) v) v) snaps k s'
+      (saving_still (chunk * q.old) (count_of chunk sectors q.old) s s' keeps
+      (subst (λ (v : SnapBooks). v.live ≡ true → IsSaving (next_over (chunk * q.old) (count_of chunk sectors q.old) v) v) (sym is) (h k s within))) h
+
+  pub goes_changed : (d : DueMerge) → MergeGoes snaps d → MergeGoes (set snaps k s') d
+  goes_changed d h = steady_goes (set snaps k s') d (steady_changed snaps k s s' within is keeps.saved d (goes_steady snaps d h))
+      (All-weaker (IsSavedSoon d.books.chunk d.books.sectors snaps) (IsSavedSoon d.books.chunk d.books.sectors (set snaps k s')) (saved_soon d.books.chunk d.books.sectors) (next_in d.books) h.next)
 
 -- an event that keeps what waits, and what is published
 keeps_too : (s s' : SnapBooks) → KeepsWaiting s s' → ((c : ℕ) → IsPublished s.pairs s.marks c → IsPublished s'.pairs s'.marks c) → KeepsSaved s s'
@@ -79,17 +103,33 @@ keeps_too s s' keeps published = record {
 same_published : (s s' : SnapBooks) → s'.pairs ≡ s.pairs → s'.marks ≡ s.marks → (c : ℕ) → IsPublished s.pairs s.marks c → IsPublished s'.pairs s'.marks c
 same_published s s' pairs marks c h = subst (λ x. IsPublished x s'.marks c) (sym pairs) (subst (λ x. IsPublished s.pairs x c) (sym marks) h)
 
+-- where the pairs and the marks stay, what comes next does
+pub next_by : (s s' : SnapBooks) → KeepsSaved s s' → s'.pairs ≡ s.pairs → s'.marks ≡ s.marks → KeepsNext s s'
+next_by s s' saved pairs marks = record { saved = saved; same = λ _ c. ap (λ x. is_published x s'.marks c) pairs ∙ ap (λ x. is_published s.pairs x c) marks }
+
 pub copy_read_saved : (o : List ℕ) (k : ℕ) (p q : ChunkCopy) (v w : SnapBooks) → ReadsCopy o k p q v w → KeepsSaved v w
 copy_read_saved o k p q v w e = keeps_too v w (copy_read_keeps o k p q v w e) (same_published v w e.store.pairs e.marks)
+
+pub copy_read_next : (o : List ℕ) (k : ℕ) (p q : ChunkCopy) (v w : SnapBooks) → ReadsCopy o k p q v w → KeepsNext v w
+copy_read_next o k p q v w e = next_by v w (copy_read_saved o k p q v w e) e.store.pairs e.marks
 
 pub copy_write_saved : (k : ℕ) (p q : ChunkCopy) (v w : SnapBooks) → WritesCopy k p q v w → KeepsSaved v w
 copy_write_saved k p q v w e = keeps_too v w (copy_write_keeps k p q v w e) (same_published v w e.pairs e.marks)
 
+pub copy_write_next : (k : ℕ) (p q : ChunkCopy) (v w : SnapBooks) → WritesCopy k p q v w → KeepsNext v w
+copy_write_next k p q v w e = next_by v w (copy_write_saved k p q v w e) e.pairs e.marks
+
 pub zero_saved : (a : ℕ) (v w : SnapBooks) → ZeroesArea a v w → KeepsSaved v w
 zero_saved a v w e = keeps_too v w (zero_keeps a v w e) (same_published v w e.pairs e.marks)
 
+pub zero_next : (a : ℕ) (v w : SnapBooks) → ZeroesArea a v w → KeepsNext v w
+zero_next a v w e = next_by v w (zero_saved a v w e) e.pairs e.marks
+
 pub start_saved : (p : ChunkCopy) (v w : SnapBooks) → StartsCopy p v w → KeepsSaved v w
 start_saved p v w e = keeps_too v w (start_keeps p v w e) (same_published v w e.pairs e.marks)
+
+pub start_next : (p : ChunkCopy) (v w : SnapBooks) → StartsCopy p v w → KeepsNext v w
+start_next p v w e = next_by v w (start_saved p v w e) e.pairs e.marks
 
 pub commit_saved : (o : List ℕ) (rs : List Flight) (count a : ℕ) (v w : SnapBooks) → LiveHolds o rs v → Commits count a v w → KeepsSaved v w
 commit_saved o rs count a v w h e =
@@ -99,6 +139,16 @@ commit_saved o rs count a v w h e =
     keeps_too v w (commit_keeps o rs count a v w h e) (λ c old.
     subst (λ x. IsPublished x w.marks c) (sym pairs) (subst (λ x. IsPublished (v.pairs ++ map pair_of (take count v.copies)) x c) (sym e.marks)
     (published_more v.pairs (map pair_of (take count v.copies)) v.marks (map mark_of (take count v.copies)) c (fresh_marks o rs count a v w h e) old)))
+
+pub commit_next : (o : List ℕ) (rs : List Flight) (count a : ℕ) (v w : SnapBooks) → LiveHolds o rs v → Commits count a v w → KeepsNext v w
+commit_next o rs count a v w h e = record {
+  saved = commit_saved o rs count a v w h e;
+  same = λ live c. elim (cases_Bool (is_published v.pairs v.marks c)) [
+    | inl here ↦ published_test w.pairs w.marks c ((commit_saved o rs count a v w h e).published live c (published_true v.pairs v.marks c here)) ∙ sym here
+    | inr none ↦ ap (λ x. is_published x w.marks c) (e.pairs ∙ ap (λ x. v.pairs ++ x) (ap (take count) h.agree ∙ take-map pair_of count v.copies))
+        ∙ ap (λ x. is_published (v.pairs ++ map pair_of (take count v.copies)) x c) e.marks ∙ not_published v.pairs v.marks (take count v.copies) c none ∙ sym none
+  ];
+}
 
 -- an event that leaves the pairs and the copies, and no mark more
 keeps_pairs : (s s' : SnapBooks) → IsSame s s' → s'.pairs ≡ s.pairs → s'.copies ≡ s.copies → ((c : ℕ) → All (λ (m : Mark). m.chunk ≢ c) s.marks → All (λ (m : Mark). m.chunk ≢ c) s'.marks) → KeepsSaved s s'
@@ -119,6 +169,9 @@ unmark_saved k m v w e = keeps_pairs v w e.same e.store.pairs e.copies (λ c all
 pub place_saved : (c place off : ℕ) (bytes : List ℕ) (v w : SnapBooks) → WritesPlace c place off bytes v w → KeepsSaved v w
 place_saved c place off bytes v w e = keeps_pairs v w e.same e.pairs e.copies (λ n all. subst (All (λ (m : Mark). m.chunk ≢ n)) (sym e.marks) all)
 
+pub place_next : (c place off : ℕ) (bytes : List ℕ) (v w : SnapBooks) → WritesPlace c place off bytes v w → KeepsNext v w
+place_next c place off bytes v w e = next_by v w (place_saved c place off bytes v w e) e.pairs e.marks
+
 -- a spoiled snapshot is asked for nothing
 pub dead_saved : (s s' : SnapBooks) → s'.live ≡ false → KeepsSaved s s'
 dead_saved s s' dead = record {
@@ -127,6 +180,9 @@ dead_saved s s' dead = record {
   saving = λ live. absurd (false≢true (sym dead ∙ live));
   published = λ live. absurd (false≢true (sym dead ∙ live));
 }
+
+pub dead_next : (s s' : SnapBooks) → s'.live ≡ false → KeepsNext s s'
+dead_next s s' dead = record { saved = dead_saved s s' dead; same = λ live. absurd (false≢true (sym dead ∙ live)) }
 
 pub spoil_saved : (v w : SnapBooks) → SpoilsSnap v w → KeepsSaved v w
 spoil_saved v w e = dead_saved v w e.live
@@ -152,25 +208,6 @@ pub record KeepsAll (snaps snaps' : List SnapBooks) : Type 0 where
 
 pub all_saved_in : (snaps snaps' : List SnapBooks) (chunk sectors : ℕ) (q : Pair) → KeepsAll snaps snaps' → IsSavedIn chunk sectors snaps q → IsSavedIn chunk sectors snaps' q
 all_saved_in snaps snaps' chunk sectors q keeps h k d lt = over_still (chunk * q.old) (count_of chunk sectors q.old) (get_or snaps k d) (get_or snaps' k d) (keeps.each k d (omega (arith, lt, keeps.len))) (h k d (omega (arith, lt, keeps.len)))
-
-pub all_saved_soon : (snaps snaps' : List SnapBooks) (chunk : ℕ) (q : Pair) → KeepsAll snaps snaps' → IsSavedSoon chunk snaps q → IsSavedSoon chunk snaps' q
-all_saved_soon snaps snaps' chunk q keeps h k d lt = saving_still (chunk * q.old) (get_or snaps k d) (get_or snaps' k d) (keeps.each k d (omega (arith, lt, keeps.len))) (h k d (omega (arith, lt, keeps.len)))
-
-pub goes_all : (snaps snaps' : List SnapBooks) (d : DueMerge) → KeepsAll snaps snaps' → MergeGoes snaps d → MergeGoes snaps' d
-goes_all snaps snaps' d keeps h = record {
-  staged = h.staged;
-  ending = h.ending;
-  area = h.area;
-  next = All-weaker (IsSavedSoon d.books.chunk snaps) (IsSavedSoon d.books.chunk snaps') (λ q. all_saved_soon snaps snaps' d.books.chunk q keeps) (next_in d.books) h.next;
-  saved = All-weaker (IsSavedIn d.books.chunk d.books.sectors snaps) (IsSavedIn d.books.chunk d.books.sectors snaps') (λ q. all_saved_in snaps snaps' d.books.chunk d.books.sectors q keeps) (d.books.copied ++ d.books.released) h.saved;
-}
-
--- a merge that goes on is steady, and one that is steady goes on where the copies of its next chunk are started
-pub goes_steady : (snaps : List SnapBooks) (d : DueMerge) → MergeGoes snaps d → MergeSteady snaps d
-goes_steady snaps d h = record { staged = h.staged; ending = h.ending; area = h.area; saved = h.saved }
-
-pub steady_goes : (snaps : List SnapBooks) (d : DueMerge) → MergeSteady snaps d → All (IsSavedSoon d.books.chunk snaps) (next_in d.books) → MergeGoes snaps d
-steady_goes snaps d h soon = record { staged = h.staged; ending = h.ending; area = h.area; next = soon; saved = h.saved }
 
 pub steady_all : (snaps snaps' : List SnapBooks) (d : DueMerge) → KeepsAll snaps snaps' → MergeSteady snaps d → MergeSteady snaps' d
 steady_all snaps snaps' d keeps h = record {
@@ -208,17 +245,14 @@ keeps_changed k s s' v w e keeps = subst (KeepsAll v.snaps) (sym e.snaps) (keeps
 pub keeps_spoiled : (k : ℕ) (s s' : SnapBooks) (v w : Books) → SpoilsOne k s s' v w → KeepsAll v.snaps w.snaps
 keeps_spoiled k s s' v w e = subst (KeepsAll v.snaps) (sym e.snaps) (keeps_all_set v.snaps k s s' e.within e.was (dead_saved s s' e.spoils.live))
 
--- chunks stay of one size
-pub keeps_chunk : (snaps snaps' : List SnapBooks) (chunk : ℕ) → KeepsAll snaps snaps' → HaveChunk chunk snaps → HaveChunk chunk snaps'
-keeps_chunk snaps snaps' chunk keeps h k d lt live = (let one = keeps.each k d (omega (arith, lt, keeps.len)) in one.chunk live ∙ h k d (omega (arith, lt, keeps.len)) (one.live live))
-
 -- a snapshot is detached
 pub goes_detached : (snaps : List SnapBooks) (k : ℕ) (d : DueMerge) → MergeGoes snaps d → MergeGoes (remove snaps k) d
 goes_detached snaps k d h = record {
   staged = h.staged;
   ending = h.ending;
   area = h.area;
-  next = All-weaker (IsSavedSoon d.books.chunk snaps) (IsSavedSoon d.books.chunk (remove snaps k)) (λ q. All-remove (λ s. s.live ≡ true → IsSaving (d.books.chunk * q.old / s.chunk) s) snaps k) (next_in d.books) h.next;
+  next = All-weaker (IsSavedSoon d.books.chunk d.books.sectors snaps) (IsSavedSoon d.books.chunk d.books.sectors (remove snaps k))
+      (λ q. All-remove (λ s. s.live ≡ true → IsSaving (next_over (d.books.chunk * q.old) (count_of d.books.chunk d.books.sectors q.old) s) s) snaps k) (next_in d.books) h.next;
   saved = All-weaker (IsSavedIn d.books.chunk d.books.sectors snaps) (IsSavedIn d.books.chunk d.books.sectors (remove snaps k)) (λ q. All-remove (IsSavedOver (d.books.chunk * q.old) (count_of d.books.chunk d.books.sectors q.old)) snaps k) (d.books.copied ++ d.books.released) h.saved;
 }
 
@@ -245,7 +279,7 @@ goes_alone snaps m failed flushed filled current none area = record {
     sym (append-nil m.pairs) ∙ sym (ap (λ x. m.pairs ++ (x ++ (m.reading ++ m.copied))) none.waiting ∙ ap (λ x. m.pairs ++ (x ++ m.copied)) none.reading ∙ ap (λ x. m.pairs ++ x) none.copied),
   );
   area = area;
-  next = subst (All (IsSavedSoon m.chunk snaps)) (sym (ap (λ x. next_pairs x (last_of m.waiting)) none.reading ∙ ap (λ x. next_pairs [] (last_of x)) none.waiting)) (All-nil (IsSavedSoon m.chunk snaps));
+  next = subst (All (IsSavedSoon m.chunk m.sectors snaps)) (sym (ap (λ x. next_pairs x (last_of m.waiting)) none.reading ∙ ap (λ x. next_pairs [] (last_of x)) none.waiting)) (All-nil (IsSavedSoon m.chunk m.sectors snaps));
   saved = subst (All (IsSavedIn m.chunk m.sectors snaps)) (sym (ap (λ x. x ++ m.released) none.copied ∙ none.released)) (All-nil (IsSavedIn m.chunk m.sectors snaps));
 }
   where
@@ -267,7 +301,7 @@ last_pushed (p ∷ []) q = refl
 last_pushed (p ∷ r ∷ rest) q = last_pushed (r ∷ rest) q
 
 -- The merge's own events. MergeGroup, before the copies of its last chunk are started in the snapshots that lack it.
-pub steady_grouped : (snaps : List SnapBooks) (kept group : List Pair) (d d' : DueMerge) → FormsGroup kept group d d' → MergeGoes snaps d → MergeSteady snaps d'
+pub steady_grouped : (snaps : List SnapBooks) (kept group : List Pair) (d d' : DueMerge) → FormsGroup kept group d d' → MergeSteady snaps d → MergeSteady snaps d'
 steady_grouped snaps kept group d d' e h =
     let none = no_group d.books e.none in
     subst (λ m. MergeSteady snaps (record d' { books = m })) (sym e.books) (record {
@@ -286,9 +320,9 @@ steady_grouped snaps kept group d d' e h =
     })
 
 -- and after it
-pub goes_grouped : (snaps : List SnapBooks) (kept group : List Pair) (d d' : DueMerge) → FormsGroup kept group d d' → MergeGoes snaps d → All (IsSavedSoon d.books.chunk snaps) (next_in d'.books) → MergeGoes snaps d'
+pub goes_grouped : (snaps : List SnapBooks) (kept group : List Pair) (d d' : DueMerge) → FormsGroup kept group d d' → MergeSteady snaps d → All (IsSavedSoon d.books.chunk d.books.sectors snaps) (next_in d'.books) → MergeGoes snaps d'
 goes_grouped snaps kept group d d' e h soon = steady_goes snaps d' (steady_grouped snaps kept group d d' e h)
-    (subst (λ n. All (IsSavedSoon n snaps) (next_in d'.books)) (sym (ap (λ (m : MergeBooks). m.chunk) e.books)) soon)
+    (subst (λ (m : MergeBooks). All (IsSavedSoon m.chunk m.sectors snaps) (next_in d'.books)) (sym e.books) soon)
 
 -- MergeRead
 pub goes_read : (snaps : List SnapBooks) (rest : List Pair) (q : Pair) (bytes : List ℕ) (d d' : DueMerge) → ReadsBack rest q bytes d d' → MergeGoes snaps d → MergeGoes snaps d'
@@ -309,7 +343,7 @@ goes_read snaps rest q bytes d d' e h =
             ∙ ap (λ x. h.ending.0 ++ x) (append_assoc rest (q ∷ []) d.books.copied),
       );
       area = h.area ∙ ap (λ n. n * (32 * d.books.chunk) + d.filled) (sym e.current) ∙ ap (λ n. d'.current * (32 * d.books.chunk) + n) (sym e.filled);
-      next = subst (All (IsSavedSoon d.books.chunk snaps)) (ap (λ x. next_pairs x (last_of d.books.waiting)) e.empty ∙ ap (λ x. next_pairs [] (last_of x)) e.last ∙ ap (next_pairs []) (last_pushed rest q)) h.next;
+      next = subst (All (IsSavedSoon d.books.chunk d.books.sectors snaps)) (ap (λ x. next_pairs x (last_of d.books.waiting)) e.empty ∙ ap (λ x. next_pairs [] (last_of x)) e.last ∙ ap (next_pairs []) (last_pushed rest q)) h.next;
       saved = h.saved;
     })
   where
@@ -317,7 +351,7 @@ goes_read snaps rest q bytes d d' e h =
     waits some = omega (arith, ap length (h.staged.over some), ap length e.last, length-append rest (q ∷ []))
 
 -- MergeWrite: each live snapshot has published the chunk; before the copies of the next one are started
-pub steady_written : (snaps : List SnapBooks) (q : Pair) (d d' : DueMerge) → WritesBack q d d' → MergeGoes snaps d → IsSavedIn d.books.chunk d.books.sectors snaps q → MergeSteady snaps d'
+pub steady_written : (snaps : List SnapBooks) (q : Pair) (d d' : DueMerge) → WritesBack q d d' → MergeSteady snaps d → IsSavedIn d.books.chunk d.books.sectors snaps q → MergeSteady snaps d'
 steady_written snaps q d d' e h published =
     subst (λ m. MergeSteady snaps (record d' { books = m })) (sym e.books) (record {
       staged = record {
@@ -338,9 +372,9 @@ steady_written snaps q d d' e h published =
     full some = omega (arith, ap length (h.staged.out some), ap length e.full)
 
 -- and after it
-pub goes_written : (snaps : List SnapBooks) (q : Pair) (d d' : DueMerge) → WritesBack q d d' → MergeGoes snaps d → IsSavedIn d.books.chunk d.books.sectors snaps q → All (IsSavedSoon d.books.chunk snaps) (next_in d'.books) → MergeGoes snaps d'
+pub goes_written : (snaps : List SnapBooks) (q : Pair) (d d' : DueMerge) → WritesBack q d d' → MergeSteady snaps d → IsSavedIn d.books.chunk d.books.sectors snaps q → All (IsSavedSoon d.books.chunk d.books.sectors snaps) (next_in d'.books) → MergeGoes snaps d'
 goes_written snaps q d d' e h published soon = steady_goes snaps d' (steady_written snaps q d d' e h published)
-    (subst (λ n. All (IsSavedSoon n snaps) (next_in d'.books)) (sym (ap (λ (m : MergeBooks). m.chunk) e.books)) soon)
+    (subst (λ (m : MergeBooks). All (IsSavedSoon m.chunk m.sectors snaps) (next_in d'.books)) (sym e.books) soon)
 
 -- MergeFlush
 pub goes_flushed : (snaps : List SnapBooks) (d d' : DueMerge) → FlushesBack d d' → MergeGoes snaps d → MergeGoes snaps d'
@@ -436,21 +470,19 @@ goes_stored snaps store d d' e h =
       saved = h.saved;
     })
 
--- Where all live snapshots have chunks of one size, a merge's chunk is one of theirs.
-same_chunk : (chunk c n : ℕ) → 0 < chunk → n ≡ chunk → chunk * c / n ≡ c
-same_chunk chunk c n some same = ap (λ x. chunk * c / x) same ∙ mul-div_cancel_left c some
+-- the pair that is copied next, and the list of it
+pub next_some : (d : DueMerge) → IsStaged d → (q : Pair) → next_pair d.books.reading d.books.waiting ≡ Some q → next_in d.books ≡ q ∷ []
+next_some d h q e = at d.books.reading refl
+  where
+    at : (reading : List Pair) → d.books.reading ≡ reading → next_in d.books ≡ q ∷ []
+    at [] is = ap (λ x. next_pairs x (last_of d.books.waiting)) is ∙ ap (next_pairs []) (sym (ap (λ x. next_pair x d.books.waiting) is) ∙ e)
+    at (p ∷ []) is = (let one : Some p ≡ Some q = sym (ap (λ x. next_pair x d.books.waiting) is) ∙ e in let same : p ≡ q = cc in
+        ap (λ x. next_pairs x (last_of d.books.waiting)) is ∙ ap (λ x. x ∷ []) same)
+    at (p ∷ r ∷ rest) is = absurd (omega (arith, ap length is, h.one))
 
--- and it lies inside one chunk of each, so that chunk is all that it touches
-pub pieces_of : (chunk sectors : ℕ) (snaps : List SnapBooks) (q : Pair) → 0 < chunk → HaveChunk chunk snaps
-    → All (λ s. s.live ≡ true → chunk * q.old + count_of chunk sectors q.old ≤ s.chunk * (chunk * q.old / s.chunk) + s.chunk) snaps
-pieces_of chunk sectors snaps q some same k d lt live =
-    let n : ℕ = (get_or snaps k d).chunk in
-    let is : (get_or snaps k d).chunk ≡ chunk = same k d lt live in
-    let at : chunk * q.old / (get_or snaps k d).chunk ≡ q.old = same_chunk chunk q.old (get_or snaps k d).chunk some is in
-    let first : (get_or snaps k d).chunk * (chunk * q.old / (get_or snaps k d).chunk) ≡ chunk * q.old = ap (λ x. (get_or snaps k d).chunk * x) at ∙ ap (λ x. x * q.old) is in
-    let few : count_of chunk sectors q.old ≤ chunk = omega arith in
-    omega (arith, is, first, few)
-
-pub saved_everywhere : (chunk sectors : ℕ) (snaps : List SnapBooks) (q : Pair) → All (λ s. s.live ≡ true → 0 < s.chunk) snaps → All (λ s. s.live ≡ true → chunk * q.old + count_of chunk sectors q.old ≤ s.chunk * (chunk * q.old / s.chunk) + s.chunk) snaps → All (IsSaved (chunk * q.old)) snaps
-    → IsSavedIn chunk sectors snaps q
-saved_everywhere chunk sectors snaps q some pieces published k d lt = saved_over (get_or snaps k d) (chunk * q.old) (count_of chunk sectors q.old) (some k d lt) (pieces k d lt) (published k d lt)
+pub next_none : (m : MergeBooks) → next_pair m.reading m.waiting ≡ None → next_in m ≡ []
+next_none m e = at m.reading refl
+  where
+    at : (reading : List Pair) → m.reading ≡ reading → next_in m ≡ []
+    at [] is = ap (λ x. next_pairs x (last_of m.waiting)) is ∙ ap (next_pairs []) (sym (ap (λ x. next_pair x m.waiting) is) ∙ e)
+    at (p ∷ rest) is = (let no_pair : Some p ≡ None = sym (ap (λ x. next_pair x m.waiting) is) ∙ e in absurd (cc))

@@ -1,12 +1,13 @@
 -- What the test of each event of a merge says.
-use Rattle.std.proofs.Common.{◌≡◌, ◌≢◌, inl, inr, ℕ, ◌+◌, ◌-◌, ◌*◌, ◌<◌, ◌≤◌, Bool, true, false, List, [], ◌∷◌, ◌++◌, Option, Some, None, length, refl, sym, ◌∙◌, ap, arith, nat_eq, length-append, eq-eqb}
+use Rattle.std.proofs.Common.{◌≡◌, ◌≢◌, inl, inr, ℕ, ◌+◌, ◌-◌, ◌*◌, ◌<◌, ◌≤◌, Bool, true, false, List, [], ◌∷◌, ◌++◌, Option, Some, None, length, get_or, refl, sym, ◌∙◌, ap, arith, nat_eq, length-append, eq-eqb}
 use Rattle.std.specs.Prelude.{◌&&◌, not, nat_lt}
-use Rattle.std.specs.List.{All, list_any}
+use Rattle.std.specs.List.{All, list_any, list_all}
 use Rattle.std.proofs.lemmas.Bool.{cases_Bool, false≢true, ltb-true, eqb-true}
-use Rattle.std.proofs.lemmas.List.Elements.{All-weaker}
+use Rattle.std.proofs.lemmas.List.Elements.{All-weaker, All-nil, All-cons}
 use Rattle.sector.specs.declared.pair.Pair.{Pair}
 use Rattle.plain.specs.declared.event.Event.{Event}
 use Rattle.plain.specs.declared.event.Event.TheVariants.{Issue, CopyRead, CopyWrite, ZeroNext, WriteArea, Publish, WriteInvalid, MergeGroup, MergeAreaRead, MergeRead, MergeWrite, MergeFlush, MergeCommit, MergeRelease}
+use Rattle.pending.specs.Copies.{count_of}
 use Rattle.pending.specs.Kinds.{kind_of}
 use Rattle.pending.specs.declared.flights.Flight.{Flight}
 use Rattle.pending.specs.declared.flights.Kind.{Kind}
@@ -14,11 +15,11 @@ use Rattle.pending.specs.declared.flights.Kind.TheVariants.{OriginRead, OriginWr
 use Rattle.pending.specs.declared.flights.Route.{Route}
 use Rattle.pending.specs.declared.flights.Route.TheVariants.{Store}
 use Rattle.volume_laws.specs.Books.{SnapBooks, MergeBooks, group_of}
-use Rattle.volume_laws.specs.Published.{IsSaved, is_clear}
+use Rattle.volume_laws.specs.Published.{IsSavedOver, is_saved_over, is_clear_over}
 use Rattle.volume_laws.specs.MergeDue.{DueMerge, is_none, has_group, last_of, goes_to, writes_to, is_writing, is_using, is_readable, can_read, is_writable, can_write, is_copied, can_flush, can_commit_group, can_release, can_group, can_read_area, is_finished, is_merge_due, left_in_merge}
-use Rattle.volume_laws.specs.MergeWaits.{IsStaged, MergeGoes}
+use Rattle.volume_laws.specs.MergeWaits.{IsSavedIn, IsStaged, MergeGoes}
 use Rattle.volume_laws.proofs.Lists.{All-from_list_any}
-use Rattle.volume_laws.proofs.Clear.{clear_saved}
+use Rattle.volume_laws.proofs.Nexts.{over_saved}
 use Rattle.volume_laws.proofs.MergeEvents.{NoWriteTo, GoesElsewhere}
 use Rattle.volume_laws.proofs.MergeLeft.{no_group, some_pairs, some_group, some_area, some_kept}
 use Rattle.volume_laws.proofs.MergeQuiet.{none_is}
@@ -103,19 +104,29 @@ read_test rs m e =
       },
     )
 
--- MergeWrite
+-- where all snapshots pass a test, each does
+each_passes : (test : SnapBooks → Bool) (snaps : List SnapBooks) → list_all test snaps ≡ true → All (λ s. test s ≡ true) snaps
+each_passes test [] e = All-nil (λ s. test s ≡ true)
+each_passes test (s ∷ snaps) e = (let both = and_true (test s) (list_all test snaps) e in All-cons (λ x. test x ≡ true) s snaps both.0 (each_passes test snaps both.1))
+
+clear_over : (snaps : List SnapBooks) (first count : ℕ) → is_clear_over snaps first count ≡ true → All (λ s. s.live ≡ true → 0 < s.chunk) snaps → All (IsSavedOver first count) snaps
+clear_over snaps first count e some k d lt =
+    let all = each_passes (is_saved_over first count) snaps (and_true (list_all (is_saved_over first count) snaps) (not (list_any (λ s. s.untried) snaps)) e).0 in
+    over_saved first count (get_or snaps k d) (some k d lt) (all k d lt)
+
+-- MergeWrite: each live snapshot has published all chunks that the buffered one touches
 pub record MayWrite (snaps : List SnapBooks) (q : Pair) (m : MergeBooks) : Type 0 where
   pub full : m.reading ≡ q ∷ []
-  pub clear : is_clear snaps (m.chunk * q.old) ≡ true
-  pub published : All (IsSaved (m.chunk * q.old)) snaps
+  pub clear : is_clear_over snaps (m.chunk * q.old) (count_of m.chunk m.sectors q.old) ≡ true
+  pub published : All (λ s. s.live ≡ true → 0 < s.chunk) snaps → IsSavedIn m.chunk m.sectors snaps q
 
 pub write_test : (snaps : List SnapBooks) (d : DueMerge) → IsStaged d → can_write snaps d.books ≡ true → (q : Pair) × MayWrite snaps q d.books
 write_test snaps d h e = at d.books.reading refl
   where
     at : (reading : List Pair) → d.books.reading ≡ reading → (q : Pair) × MayWrite snaps q d.books
-    at [] is = absurd (false≢true (sym (ap (is_writable snaps d.books.chunk) is) ∙ e))
-    at (q ∷ []) is = (let clear : is_clear snaps (d.books.chunk * q.old) ≡ true = sym (ap (is_writable snaps d.books.chunk) is) ∙ e in
-        (q, record { full = is; clear = clear; published = clear_saved snaps (d.books.chunk * q.old) clear }))
+    at [] is = absurd (false≢true (sym (ap (is_writable snaps d.books.chunk d.books.sectors) is) ∙ e))
+    at (q ∷ []) is = (let clear : is_clear_over snaps (d.books.chunk * q.old) (count_of d.books.chunk d.books.sectors q.old) ≡ true = sym (ap (is_writable snaps d.books.chunk d.books.sectors) is) ∙ e in
+        (q, record { full = is; clear = clear; published = clear_over snaps (d.books.chunk * q.old) (count_of d.books.chunk d.books.sectors q.old) clear }))
     at (q ∷ r ∷ rest) is = absurd (omega (arith, ap length is, h.one))
 
 -- MergeFlush, and MergeCommit

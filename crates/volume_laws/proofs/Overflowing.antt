@@ -15,7 +15,7 @@ use Rattle.volume_laws.proofs.Entries.{saved_at, overflow_at, marked_at}
 use Rattle.volume_laws.proofs.WholeOne.{shown, one_holds, snap_holds, live_snap}
 use Rattle.volume_laws.proofs.Composing.{loud_one}
 use Rattle.volume_laws.proofs.Waiting.{KeepsWaiting, waits_changed}
-use Rattle.volume_laws.proofs.MergeSaved.{KeepsSaved}
+use Rattle.volume_laws.proofs.MergeSaved.{KeepsSaved, KeepsNext, next_by}
 
 -- a snapshot that holds is marked
 marked_holds : (v : Books) (s : SnapBooks) → s.live ≡ true → LiveHolds v.origin v.requests s → SnapHolds v.origin v.requests (record s { overflow = Did })
@@ -50,6 +50,9 @@ overflow_saved s s' o = subst (KeepsSaved s) (sym o.becomes) (record {
   saving = λ _ c e. e;
   published = λ _ c e. e;
 })
+
+pub overflow_next : (s s' : SnapBooks) → Overflows s s' → KeepsNext s s'
+overflow_next s s' o = next_by s s' (overflow_saved s s' o) (ap (λ (x : SnapBooks). x.pairs) o.becomes) (ap (λ (x : SnapBooks). x.marks) o.becomes)
 
 module _ (k : ℕ) (s s' : SnapBooks) (v w : Books) (e : ChangesSnap k s s' v w) (o : Overflows s s') where
   -- the volume holds again, and the plain machine is marked, whatever its devices did

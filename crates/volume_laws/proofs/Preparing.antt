@@ -1,9 +1,10 @@
 -- Copies are started for a request, and snapshots whose stores are full are spoiled, one after the other.
-use Rattle.std.proofs.Common.{◌*◌, ◌/◌, ◌≡◌, inl, inr, ℕ, ◌+◌, ◌<◌, true, List, [], ◌∷◌, ◌++◌, length, get_or, set, map, refl, sym, ◌∙◌, ap, subst, arith, length-append}
+use Rattle.std.proofs.Common.{◌*◌, ◌≡◌, inl, inr, ℕ, ◌+◌, ◌<◌, true, List, [], ◌∷◌, ◌++◌, length, get_or, set, map, refl, sym, ◌∙◌, ap, subst, arith, length-append}
 use Rattle.std.specs.Prelude.{Any}
 use Rattle.std.proofs.lemmas.Bool.{cases_eq}
 use Rattle.std.proofs.lemmas.List.{get_or-set_same, get_or-set_other, get_or_default, get_or-append-add, append-nil}
 use Rattle.plain.specs.Legal.{Spoils}
+use Rattle.pending.specs.Copies.{count_of}
 use Rattle.pending.specs.Kinds.{in_flight}
 use Rattle.pending.specs.declared.copies.ChunkCopy.{ChunkCopy}
 use Rattle.volume_laws.specs.Books.{SnapBooks, Books}
@@ -19,7 +20,7 @@ use Rattle.volume_laws.proofs.Waiting.{waits_changed}
 use Rattle.volume_laws.proofs.WaitingAgain.{waits_spoiled}
 use Rattle.volume_laws.proofs.Keeping.{start_keeps}
 use Rattle.volume_laws.specs.Accepting.{IsPrepared, AreSaving, AreSavingAt}
-use Rattle.volume_laws.specs.Published.{chunk_of}
+use Rattle.volume_laws.specs.Published.{chunk_of, next_over}
 use Rattle.volume_laws.specs.MergeWaits.{IsSavedSoon}
 use Rattle.pending.specs.declared.flights.Flight.{Flight}
 use Rattle.sector.specs.declared.pair.Pair.{Pair}
@@ -91,33 +92,33 @@ saving_set c k s s' snaps h within here = record {
   ];
 }
 
--- the same, of each snapshot's own chunk at a sector
-pub saving_none_at : (first : ℕ) (snaps : List SnapBooks) → AreSavingAt first 0 snaps
-saving_none_at first snaps = record { each = λ j d lt. absurd (omega (arith, lt)) }
+-- the same, of the chunk that is wanted of each
+pub saving_none_at : (at : SnapBooks → ℕ) (snaps : List SnapBooks) → AreSavingAt at 0 snaps
+saving_none_at at snaps = record { each = λ j d lt. absurd (omega (arith, lt)) }
 
-pub saving_here_at : (first k : ℕ) (s : SnapBooks) (snaps : List SnapBooks) → AreSavingAt first k snaps → k < length snaps → s ≡ get_or snaps k s → (s.live ≡ true → IsSaving (first / s.chunk) s) → AreSavingAt first (k + 1) snaps
-saving_here_at first k s snaps h within is here = record {
+pub saving_here_at : (at : SnapBooks → ℕ) (k : ℕ) (s : SnapBooks) (snaps : List SnapBooks) → AreSavingAt at k snaps → k < length snaps → s ≡ get_or snaps k s → (s.live ≡ true → IsSaving (at s) s) → AreSavingAt at (k + 1) snaps
+saving_here_at at k s snaps h within is here = record {
   each = λ j d lt live. elim (cases_eq j k) [
-    | inl same ↦ (let at : s ≡ get_or snaps j d = is ∙ ap (λ i. get_or snaps i s) (sym same) ∙ get_or_default snaps j s d (omega (arith, within, same)) in
-        subst (λ (x : SnapBooks). x.live ≡ true → IsSaving (first / x.chunk) x) at here live)
+    | inl same ↦ (let one : s ≡ get_or snaps j d = is ∙ ap (λ i. get_or snaps i s) (sym same) ∙ get_or_default snaps j s d (omega (arith, within, same)) in
+        subst (λ (x : SnapBooks). x.live ≡ true → IsSaving (at x) x) one here live)
     | inr other ↦ h.each j d (omega (arith, lt, other)) live
   ];
 }
 
-pub saving_set_at : (first k : ℕ) (s' : SnapBooks) (snaps : List SnapBooks) → AreSavingAt first k snaps → k < length snaps → (s'.live ≡ true → IsSaving (first / s'.chunk) s') → AreSavingAt first (k + 1) (set snaps k s')
-saving_set_at first k s' snaps h within here = record {
+pub saving_set_at : (at : SnapBooks → ℕ) (k : ℕ) (s' : SnapBooks) (snaps : List SnapBooks) → AreSavingAt at k snaps → k < length snaps → (s'.live ≡ true → IsSaving (at s') s') → AreSavingAt at (k + 1) (set snaps k s')
+saving_set_at at k s' snaps h within here = record {
   each = λ j d lt. elim (cases_eq j k) [
-    | inl same ↦ subst (λ (x : SnapBooks). x.live ≡ true → IsSaving (first / x.chunk) x) (sym (ap (λ i. get_or (set snaps k s') i d) same ∙ get_or-set_same snaps k s' d within)) here
-    | inr other ↦ subst (λ (x : SnapBooks). x.live ≡ true → IsSaving (first / x.chunk) x) (sym (get_or-set_other snaps k j s' d other)) (h.each j d (omega (arith, lt, other)))
+    | inl same ↦ subst (λ (x : SnapBooks). x.live ≡ true → IsSaving (at x) x) (sym (ap (λ i. get_or (set snaps k s') i d) same ∙ get_or-set_same snaps k s' d within)) here
+    | inr other ↦ subst (λ (x : SnapBooks). x.live ≡ true → IsSaving (at x) x) (sym (get_or-set_other snaps k j s' d other)) (h.each j d (omega (arith, lt, other)))
   ];
 }
 
--- of all snapshots: they are saving the chunk of a request, or of a pair
-pub saving_asked : (f : Flight) (snaps : List SnapBooks) → AreSavingAt f.request.range.first (length snaps) snaps → All (λ s. s.live ≡ true → IsSaving (chunk_of s.chunk f) s) snaps
+-- of all snapshots: they are saving the chunk of a request, or the next one of a pair
+pub saving_asked : (f : Flight) (snaps : List SnapBooks) → AreSavingAt (λ s. chunk_of s.chunk f) (length snaps) snaps → All (λ s. s.live ≡ true → IsSaving (chunk_of s.chunk f) s) snaps
 saving_asked f snaps h k d lt = h.each k d lt
 
-pub saving_soon : (chunk : ℕ) (snaps : List SnapBooks) (q : Pair) → AreSavingAt (chunk * q.old) (length snaps) snaps → IsSavedSoon chunk snaps q
-saving_soon chunk snaps q h k d lt = h.each k d lt
+pub saving_soon : (chunk sectors : ℕ) (snaps : List SnapBooks) (q : Pair) → AreSavingAt (next_over (chunk * q.old) (count_of chunk sectors q.old)) (length snaps) snaps → IsSavedSoon chunk sectors snaps q
+saving_soon chunk sectors snaps q h k d lt = h.each k d lt
 
 -- a copy that was started is under way
 pub saving_started : (c : ℕ) (p : ChunkCopy) (s s' : SnapBooks) → StartsCopy p s s' → p.pair.old ≡ c → IsSaving c s'

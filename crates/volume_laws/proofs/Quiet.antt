@@ -87,25 +87,21 @@ pub and_false : (a b : Bool) → (a && b) ≡ false → (a ≡ false) ⊎ (b ≡
 and_false true b e = inr e
 and_false false b e = inl refl
 
--- a snapshot with nothing left is saved, where it is saving
+-- a snapshot with nothing left has published what it is saving
+pub done_chunk : (s : SnapBooks) (c : ℕ) → IsDone s → IsSaving c s → is_published s.pairs s.marks c ≡ true
+done_chunk s c done (inl named) = rw (placed (place_of s.pairs c) refl named, ap (list_any (λ m. nat_eq m.chunk c)) done.marks) refl
+  where
+    placed : (r : Option ℕ) → place_of s.pairs c ≡ r → place_of s.pairs c ≢ None → is_some (place_of s.pairs c) ≡ true
+    placed None is named = absurd (named is)
+    placed (Some n) is named = ap is_some is
+done_chunk s c done (inr (k, p, within, is, same)) = absurd (omega (arith, within, ap length done.copies))
+
+-- and is saved, where it is saving
 pub done_saved : (s : SnapBooks) (first : ℕ) → IsDone s → (s.live ≡ true → IsSaving (first / s.chunk) s) → is_saved first s ≡ false → ⊥
 done_saved s first done saving e = at s.live refl
   where
-    c : ℕ
-    c = first / s.chunk
-
-    unmarked : list_any (λ m. nat_eq m.chunk (first / s.chunk)) s.marks ≡ false
-    unmarked = ap (list_any (λ m. nat_eq m.chunk (first / s.chunk))) done.marks
-
-    placed : (r : Option ℕ) → place_of s.pairs (first / s.chunk) ≡ r → place_of s.pairs (first / s.chunk) ≢ None → is_some (place_of s.pairs (first / s.chunk)) ≡ true
-    placed None is named = absurd (named is)
-    placed (Some n) is named = ap is_some is
-
     published : s.live ≡ true → is_published s.pairs s.marks (first / s.chunk) ≡ true
-    published live = elim (saving live) [
-      | inl named ↦ rw (placed (place_of s.pairs (first / s.chunk)) refl named, unmarked) refl
-      | inr (k, p, within, is, same) ↦ absurd (omega (arith, within, ap length done.copies))
-    ]
+    published live = done_chunk s (first / s.chunk) done (saving live)
 
     at : (b : Bool) → s.live ≡ b → ⊥
     at true live = false≢true (sym e ∙ (rw live (published live)))

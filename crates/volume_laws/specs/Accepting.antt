@@ -1,6 +1,6 @@
 -- What accepting a request does to a volume: copies are started, snapshots whose stores are full are spoiled, and then the
 -- request is in flight. This project's own.
-use Rattle.std.specs.Prelude.{◌≡◌, ◌≢◌, ℕ, ◌/◌, ◌<◌, true, List, Option, Some, map, slice_index_or}
+use Rattle.std.specs.Prelude.{◌≡◌, ◌≢◌, ℕ, ◌<◌, true, List, Option, Some, map, slice_index_or}
 use Rattle.std.specs.List.{All}
 use Rattle.plain.specs.declared.request.Request.{Request}
 use Rattle.plain.specs.Legal.{Spoils, IsSubmitted}
@@ -44,6 +44,6 @@ IsNumberedApart merge snaps = (m : MergeBooks) → merge ≡ Some m → All (λ 
 pub record AreSaving (c i : ℕ) (snaps : List SnapBooks) : Type 0 where
   pub each : (j : ℕ) (d : SnapBooks) → j < i → (slice_index_or snaps j d).live ≡ true → IsSaving c (slice_index_or snaps j d)
 
--- each of the first snapshots that is live has its chunk of the origin's sector `first`, or a copy of it is under way
-pub record AreSavingAt (first i : ℕ) (snaps : List SnapBooks) : Type 0 where
-  pub each : (j : ℕ) (d : SnapBooks) → j < i → (slice_index_or snaps j d).live ≡ true → IsSaving (first / (slice_index_or snaps j d).chunk) (slice_index_or snaps j d)
+-- each of the first snapshots that is live has the chunk that is wanted of it, or a copy of it is under way
+pub record AreSavingAt (at : SnapBooks → ℕ) (i : ℕ) (snaps : List SnapBooks) : Type 0 where
+  pub each : (j : ℕ) (d : SnapBooks) → j < i → (slice_index_or snaps j d).live ≡ true → IsSaving (at (slice_index_or snaps j d)) (slice_index_or snaps j d)

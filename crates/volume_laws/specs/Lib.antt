@@ -1,5 +1,6 @@
 pub mod Books
 pub mod Published
+pub mod Touched
 pub mod Held
 pub mod Merging
 pub mod Whole

@@ -1,11 +1,12 @@
 -- To be believed: `run`'s output, a volume's steps or its attach are said in these words.
 -- Which event of a merge is due, and a whole number that each of them lowers. The order is this project's own: events of
 -- snapshots and requests come before those of a merge, and of these what ends a group comes first.
-use Rattle.std.specs.Prelude.{◌==◌, ◌&&◌, ◌||◌, not, ℕ, ◌+◌, ◌*◌, ◌-◌, Bool, true, false, List, [], ◌∷◌, length, map, nat_lt, Option, Some, None, if◌then◌else◌}
+use Rattle.std.specs.Prelude.{◌==◌, ◌&&◌, ◌||◌, not, ℕ, ◌+◌, ◌*◌, ◌-◌, Bool, true, false, List, [], ◌∷◌, length, map, nat_lt, Option, Some, None, count_by, sum_by, if◌then◌else◌}
 use Rattle.std.specs.List.{list_any}
 use Rattle.sector.specs.declared.pair.Pair.{Pair}
 use Rattle.plain.specs.declared.event.Event.{Event}
 use Rattle.plain.specs.declared.event.Event.TheVariants.{MergeGroup, MergeAreaRead, MergeRead, MergeWrite, MergeFlush, MergeCommit, MergeRelease}
+use Rattle.pending.specs.Copies.{count_of}
 use Rattle.pending.specs.Kinds.{kind_of}
 use Rattle.pending.specs.declared.flights.Flight.{Flight}
 use Rattle.pending.specs.declared.flights.Kind.{Kind}
@@ -14,7 +15,8 @@ use Rattle.pending.specs.declared.flights.Route.{Route}
 use Rattle.pending.specs.declared.flights.Route.TheVariants.{Held, Origin, Store, Refused}
 use Rattle.pending.specs.declared.copies.Stage.TheVariants.{Waiting}
 use Rattle.volume_laws.specs.Books.{SnapBooks, MergeBooks, group_of}
-use Rattle.volume_laws.specs.Published.{is_clear}
+use Rattle.volume_laws.specs.Published.{is_clear_over}
+use Rattle.volume_laws.specs.Touched.{lacks_chunk, touched_by}
 use Rattle.volume_laws.specs.Due.{DueSnap, books_of, due_of, is_due, steps_at, left_of}
 
 -- A merge. failed: one of its own operations was answered by a fault, and it was not resumed. flushed: all chunks of the
@@ -43,6 +45,11 @@ abbrev pub last_of : List Pair → Option Pair
 last_of [] = None
 last_of (q ∷ []) = Some q
 last_of (q ∷ p ∷ pairs) = last_of (p ∷ pairs)
+
+-- the pair whose chunk is copied next: the one in the buffer, or the last that waits
+abbrev pub next_pair : List Pair → List Pair → Option Pair
+next_pair [] waiting = last_of waiting
+next_pair (q ∷ reading) waiting = Some q
 
 -- whether an origin request goes to a place on the store, and whether it is a write
 abbrev pub goes_to : ℕ → Kind → Route → Bool
@@ -84,13 +91,14 @@ is_readable rs (Some q) = not (list_any (is_writing q.new) rs)
 abbrev pub can_read : List Flight → MergeBooks → Bool
 can_read rs m = is_none m.reading && is_readable rs (last_of m.waiting)
 
--- MergeWrite: a chunk is in the buffer, each live snapshot has published it, and no invalid mark is untried
-abbrev pub is_writable : List SnapBooks → ℕ → List Pair → Bool
-is_writable snaps chunk [] = false
-is_writable snaps chunk (q ∷ pairs) = is_clear snaps (chunk * q.old)
+-- MergeWrite: a chunk is in the buffer, each live snapshot has published all chunks that it touches, on an origin of so many
+-- sectors, and no invalid mark is untried
+abbrev pub is_writable : List SnapBooks → ℕ → ℕ → List Pair → Bool
+is_writable snaps chunk sectors [] = false
+is_writable snaps chunk sectors (q ∷ pairs) = is_clear_over snaps (chunk * q.old) (count_of chunk sectors q.old)
 
 abbrev pub can_write : List SnapBooks → MergeBooks → Bool
-can_write snaps m = is_writable snaps m.chunk m.reading
+can_write snaps m = is_writable snaps m.chunk m.sectors m.reading
 
 -- MergeFlush: all chunks are copied, and the origin was not flushed since. MergeCommit: it was.
 abbrev pub is_copied : MergeBooks → Bool
@@ -131,27 +139,30 @@ is_merge_due snaps rs d MergeAreaRead = can_read_area d
 is_merge_due snaps rs d MergeGroup = can_group d
 is_merge_due snaps rs d event = false
 
--- how many events a copy that is started needs, and how many copies are started for a pair at most: one in each other
--- snapshot
+-- how many events a copy that is started needs
 abbrev pub per_copy : ℕ
 per_copy = steps_at Waiting
 
-abbrev pub copies_of_a_pair : ℕ
-copies_of_a_pair = 7
-
-abbrev pub per_pair : ℕ
-per_pair = per_copy * copies_of_a_pair
-
--- A whole number that every event of a merge lowers. A pair that is in no group weighs more than what the forming of its
--- group starts; and so does a pair whose chunk is in the buffer, since its write starts the copies of the next.
+-- a whole number that every event of a merge lowers, but for what the copies need that it starts
 abbrev pub kept_count : MergeBooks → ℕ
 kept_count m = length m.pairs - (length m.waiting + length m.reading + length m.copied)
 
 abbrev pub weight_of : MergeBooks → ℕ
-weight_of m = (2 * per_pair + 10) * kept_count m + (per_pair + 8) * length m.waiting + (per_pair + 6) * length m.reading + 4 * length m.copied + 2 * length m.released
+weight_of m = 10 * kept_count m + 8 * length m.waiting + 6 * length m.reading + 4 * length m.copied + 2 * length m.released
 
 abbrev pub left_in_merge : DueMerge → ℕ
 left_in_merge d = if d.failed then 0 else weight_of d.books + (if d.flushed then 0 else 1) + 2 * d.current
+
+-- How many chunks a live snapshot lacks of those that the pairs of a merge touch: what the copies need that the merge is to
+-- start is left as well. So the start of one leaves no more than before.
+abbrev pub lacking_of : ℕ → ℕ → List Pair → SnapBooks → ℕ
+lacking_of chunk sectors pairs s = if s.live then count_by (λ c. lacks_chunk c s) (touched_by s.chunk chunk sectors pairs) else 0
+
+abbrev pub lacking_in : MergeBooks → SnapBooks → ℕ
+lacking_in m s = lacking_of m.chunk m.sectors m.pairs s
+
+abbrev pub left_beside : List SnapBooks → DueMerge → ℕ
+left_beside snaps d = if d.failed then 0 else per_copy * sum_by (lacking_in d.books) snaps
 
 -- Of a whole volume: what is due of its snapshots and requests, and then of its merge.
 abbrev pub due_or : Option Event → Option Event → Option Event
@@ -165,4 +176,4 @@ abbrev pub is_due_with : List DueSnap → List Flight → DueMerge → Event →
 is_due_with snaps rs d event = is_due snaps rs event || is_merge_due (map books_of snaps) rs d event
 
 abbrev pub left_with : List DueSnap → List Flight → DueMerge → ℕ
-left_with snaps rs d = left_of snaps rs + left_in_merge d
+left_with snaps rs d = left_of snaps rs + left_in_merge d + left_beside (map books_of snaps) d

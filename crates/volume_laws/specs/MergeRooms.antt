@@ -1,15 +1,17 @@
--- What each other live snapshot keeps back for a merge, so that no event of the merge needs memory: nodes for the pairs
--- that it lacks, and the buffer of one chunk, which comes back when the copy is committed. A merge has at most one copy
--- under way in a snapshot, and starts the next when that one is published. This project's own.
-use Rattle.std.specs.Prelude.{◌≡◌, ◌≢◌, ◌==◌, ◌⊎◌, ◌&&◌, ◌||◌, not, ℕ, ◌+◌, ◌*◌, ◌/◌, ◌<◌, ◌≤◌, Bool, true, false, List, ◌∷◌, ◌++◌, length, take, Option, Some, None, Any, count_by, slice_index_or, if◌then◌else◌}
+-- What each other live snapshot keeps back for a merge, so that no event of the merge needs memory: nodes for the chunks
+-- that it lacks of those that the merge's pairs touch, and the buffer of one chunk, which comes back when the copy is
+-- committed. A merge has at most one copy under way in a snapshot, and starts the next when that one is published. This
+-- project's own.
+use Rattle.std.specs.Prelude.{◌≡◌, ◌≢◌, ◌==◌, ◌⊎◌, ◌||◌, ℕ, ◌+◌, ◌<◌, ◌≤◌, Bool, true, false, List, ◌∷◌, ◌++◌, length, take, Option, Some, None, Any, count_by, slice_index_or, if◌then◌else◌}
 use Rattle.std.specs.List.{All, list_any}
-use Rattle.std.specs.Option.{is_some}
 use Rattle.sector.specs.declared.pair.Pair.{Pair}
 use Rattle.model.specs.Picture.{place_of}
+use Rattle.pending.specs.Copies.{count_of}
 use Rattle.pending.specs.declared.copies.ChunkCopy.{ChunkCopy}
 use Rattle.pending.specs.declared.copies.Mark.{Mark}
 use Rattle.volume_laws.specs.Books.{SnapBooks}
-use Rattle.volume_laws.specs.Published.{IsSaved}
+use Rattle.volume_laws.specs.Touched.{lacks_chunk, touched_by}
+use Rattle.volume_laws.specs.MergeWaits.{IsSavedIn}
 use Rattle.volume_laws.specs.Steps.{StartsCopy}
 use Rattle.volume_laws.specs.Waits.{IsSaving}
 
@@ -24,17 +26,6 @@ pub record RoomSnap : Type 0 where
 abbrev pub room_books : RoomSnap → SnapBooks
 room_books s = s.books
 
--- the chunk of a snapshot where a merged pair's chunk begins, in chunks of so many sectors
-abbrev pub chunk_under : ℕ → SnapBooks → Pair → ℕ
-chunk_under chunk s q = chunk * q.old / s.chunk
-
--- it has neither the chunk nor a copy of it under way
-abbrev pub lacks_chunk : ℕ → SnapBooks → Bool
-lacks_chunk c s = not (is_some (place_of s.pairs c)) && not (list_any (λ p. p.pair.old == c) s.copies)
-
-abbrev pub lacks_pair : ℕ → SnapBooks → Pair → Bool
-lacks_pair chunk s q = lacks_chunk (chunk_under chunk s q) s
-
 -- the copy of this number is of the chunk, and so is the mark
 abbrev pub IsCopyNumbered : ℕ → ℕ → SnapBooks → Type 0
 IsCopyNumbered n c s = Any (λ p. (p.number ≡ n) × (p.pair.old ≡ c)) s.copies
@@ -46,30 +37,31 @@ IsMarkNumbered n c s = (place_of s.pairs c ≢ None) × Any (λ m. (m.number ≡
 abbrev pub IsMerging : ℕ → ℕ → RoomSnap → Type 0
 IsMerging n c s = IsCopyNumbered n c s.books ⊎ ((s.spare ≡ true) × IsMarkNumbered n c s.books)
 
--- That copy is of the chunk of one of the merge's pairs, and each later pair is saved, or a copy of it is under way.
-pub record MergesPair (chunk : ℕ) (pairs : List Pair) (n : ℕ) (s : RoomSnap) : Type 0 where
-  pub pair : Pair
+-- That copy is of one of the chunks that the merge wants, and each that stands behind it is saved, or a copy of it is under
+-- way.
+pub record MergesChunk (chunks : List ℕ) (n : ℕ) (s : RoomSnap) : Type 0 where
   pub index : ℕ
-  pub within : index < length pairs
-  pub was : pair ≡ slice_index_or pairs index pair
-  pub mine : IsMerging n (chunk_under chunk s.books pair) s
-  pub later : (j : ℕ) (d : Pair) → index < j → j < length pairs → IsSaving (chunk_under chunk s.books (slice_index_or pairs j d)) s.books
+  pub within : index < length chunks
+  pub mine : IsMerging n (slice_index_or chunks index 0) s
+  pub later : (j : ℕ) → index < j → j < length chunks → IsSaving (slice_index_or chunks j 0) s.books
 
--- what a live snapshot keeps back for the pairs of a merge
-pub record KeepsBack (chunk : ℕ) (pairs : List Pair) (s : RoomSnap) : Type 0 where
-  pub nodes : count_by (lacks_pair chunk s.books) pairs ≤ s.kept_back
+-- what a live snapshot keeps back for the chunks that a merge wants
+pub record KeepsBack (chunks : List ℕ) (s : RoomSnap) : Type 0 where
+  pub nodes : count_by (λ c. lacks_chunk c s.books) chunks ≤ s.kept_back
   pub spare : s.merging ≡ None → s.spare ≡ true
-  pub merging : (n : ℕ) → s.merging ≡ Some n → MergesPair chunk pairs n s
+  pub merging : (n : ℕ) → s.merging ≡ Some n → MergesChunk chunks n s
 
-abbrev pub KeepBack : ℕ → List Pair → List RoomSnap → Type 0
-KeepBack chunk pairs snaps = All (λ s. s.books.live ≡ true → KeepsBack chunk pairs s) snaps
+-- for the pairs of a merge, whose chunks have so many sectors, on an origin of so many
+abbrev pub KeepBack : ℕ → ℕ → List Pair → List RoomSnap → Type 0
+KeepBack chunk sectors pairs snaps = All (λ s. s.books.live ≡ true → KeepsBack (touched_by s.books.chunk chunk sectors pairs) s) snaps
 
--- The pair that the merge takes up next: the live snapshots have published their chunks of all later ones.
-pub record ComesNext (chunk : ℕ) (pairs : List Pair) (snaps : List SnapBooks) (q : Pair) : Type 0 where
+-- The pair that the merge takes up next: the live snapshots have published all chunks that later ones touch.
+pub record ComesNext (chunk sectors : ℕ) (pairs : List Pair) (snaps : List SnapBooks) (q : Pair) : Type 0 where
   pub front : List Pair
   pub back : List Pair
   pub ends : pairs ≡ front ++ q ∷ back
-  pub saved : All (λ r. All (IsSaved (chunk * r.old)) snaps) back
+  pub some : 0 < count_of chunk sectors q.old
+  pub saved : All (IsSavedIn chunk sectors snaps) back
 
 -- a copy for the merge can be started without memory
 pub record CanMerge (s : RoomSnap) : Type 0 where

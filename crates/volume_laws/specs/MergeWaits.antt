@@ -1,10 +1,10 @@
 -- Why a merge goes on: what it keeps of its group, of the other snapshots, and of its place in the areas.
-use Rattle.std.specs.Prelude.{◌≡◌, ◌≢◌, ℕ, ◌+◌, ◌*◌, ◌/◌, ◌≤◌, true, List, [], ◌∷◌, ◌++◌, length, Option, Some, None}
+use Rattle.std.specs.Prelude.{◌≡◌, ◌≢◌, ℕ, ◌+◌, ◌*◌, ◌≤◌, true, List, [], ◌∷◌, ◌++◌, length, Option, Some, None}
 use Rattle.std.specs.List.{All}
 use Rattle.sector.specs.declared.pair.Pair.{Pair}
 use Rattle.pending.specs.Copies.{count_of}
 use Rattle.volume_laws.specs.Books.{SnapBooks, MergeBooks, Books, group_of}
-use Rattle.volume_laws.specs.Published.{IsSavedOver}
+use Rattle.volume_laws.specs.Published.{IsSavedOver, next_over}
 use Rattle.volume_laws.specs.MergeDue.{DueMerge, last_of}
 use Rattle.volume_laws.specs.Waits.{IsSaving, IsQuiet}
 
@@ -17,17 +17,14 @@ next_pairs [] (Some q) = q ∷ []
 abbrev pub next_in : MergeBooks → List Pair
 next_in m = next_pairs m.reading (last_of m.waiting)
 
--- each live snapshot has the chunk of a pair, or a copy of it is under way
-abbrev pub IsSavedSoon : ℕ → List SnapBooks → Pair → Type 0
-IsSavedSoon chunk snaps q = All (λ s. s.live ≡ true → IsSaving (chunk * q.old / s.chunk) s) snaps
+-- in each live snapshot a copy of the first chunk is under way that it has not published, of those that the chunk of a pair
+-- touches on an origin of so many sectors; or it has published all of them
+abbrev pub IsSavedSoon : ℕ → ℕ → List SnapBooks → Pair → Type 0
+IsSavedSoon chunk sectors snaps q = All (λ s. s.live ≡ true → IsSaving (next_over (chunk * q.old) (count_of chunk sectors q.old) s) s) snaps
 
 -- each live snapshot has published each chunk that it touches, on an origin of so many sectors
 abbrev pub IsSavedIn : ℕ → ℕ → List SnapBooks → Pair → Type 0
 IsSavedIn chunk sectors snaps q = All (IsSavedOver (chunk * q.old) (count_of chunk sectors q.old)) snaps
-
--- the live snapshots have chunks of so many sectors
-abbrev pub HaveChunk : ℕ → List SnapBooks → Type 0
-HaveChunk chunk snaps = All (λ s. s.live ≡ true → s.chunk ≡ chunk) snaps
 
 -- the stages of a group: at most one chunk is in the buffer; what is flushed is copied; what is released is committed
 pub record IsStaged (d : DueMerge) : Type 0 where
@@ -51,7 +48,7 @@ pub record MergeGoes (snaps : List SnapBooks) (d : DueMerge) : Type 0 where
   pub staged : IsStaged d
   pub ending : (kept : List Pair) × (d.books.pairs ≡ kept ++ (d.books.waiting ++ (d.books.reading ++ d.books.copied)))
   pub area : length d.books.pairs ≡ d.current * (32 * d.books.chunk) + d.filled
-  pub next : All (IsSavedSoon d.books.chunk snaps) (next_in d.books)
+  pub next : All (IsSavedSoon d.books.chunk d.books.sectors snaps) (next_in d.books)
   pub saved : All (IsSavedIn d.books.chunk d.books.sectors snaps) (d.books.copied ++ d.books.released)
 
 -- a volume with a merge is quiet where no request is in flight, nothing is left of any snapshot, and no group is formed

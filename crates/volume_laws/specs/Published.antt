@@ -1,12 +1,14 @@
 -- To be believed: `run`'s output, a volume's steps or its attach are said in these words.
 -- When a snapshot has a chunk of its own: from the publication on, its reads go to the store, and origin writes need not
 -- wait for it. This project's own; the kernel's admin-guide page on snapshots has one step for all of it.
-use Rattle.std.specs.Prelude.{◌≡◌, ◌≢◌, ◌==◌, ◌⊎◌, ◌&&◌, ◌||◌, not, ℕ, ◌+◌, ◌*◌, ◌/◌, ◌<◌, ◌≤◌, Bool, true, List, None, Any}
+use Rattle.std.specs.Prelude.{◌≡◌, ◌≢◌, ◌==◌, ◌⊎◌, ◌&&◌, ◌||◌, not, ℕ, ◌+◌, ◌*◌, ◌/◌, ◌<◌, ◌≤◌, Bool, true, List, Option, None, Any}
 use Rattle.std.specs.List.{All, list_any, list_all}
-use Rattle.std.specs.Option.{is_some}
+use Rattle.std.specs.Option.{is_some, unwrap_or}
 use Rattle.sector.specs.declared.pair.Pair.{Pair}
 use Rattle.sector.specs.declared.range.Range.{Range}
 use Rattle.model.specs.Picture.{place_of}
+use Rattle.chunk.specs.Pieces.{chunks_over}
+use Rattle.pending.specs.Due.{first_by}
 use Rattle.pending.specs.declared.copies.Mark.{Mark}
 use Rattle.pending.specs.declared.flights.Flight.{Flight}
 use Rattle.volume_laws.specs.Books.{SnapBooks}
@@ -46,3 +48,20 @@ is_saved first v = not v.live || is_published v.pairs v.marks (first / v.chunk)
 -- An origin write may go to the origin disk: each live snapshot has published the chunk, and no invalid mark is untried.
 abbrev pub is_clear : List SnapBooks → ℕ → Bool
 is_clear snaps first = list_all (is_saved first) snaps && not (list_any (λ v. v.untried) snaps)
+
+-- the first chunk that a snapshot has not published, of those that so many sectors touch from this one on
+abbrev pub unpublished_in : ℕ → ℕ → SnapBooks → Option ℕ
+unpublished_in first count v = first_by (λ c. not (is_published v.pairs v.marks c)) (λ c. c) (chunks_over v.chunk first count)
+
+-- and the one that these sectors begin in, where all are published
+abbrev pub next_over : ℕ → ℕ → SnapBooks → ℕ
+next_over first count v = unwrap_or (unpublished_in first count v) (first / v.chunk)
+
+-- each chunk that touches these sectors is published in a snapshot, if that is live
+abbrev pub is_saved_over : ℕ → ℕ → SnapBooks → Bool
+is_saved_over first count v = not v.live || not (is_some (unpublished_in first count v))
+
+-- A merged chunk of so many sectors may be written to the origin disk: each live snapshot has published all that it touches,
+-- and no invalid mark is untried.
+abbrev pub is_clear_over : List SnapBooks → ℕ → ℕ → Bool
+is_clear_over snaps first count = list_all (is_saved_over first count) snaps && not (list_any (λ v. v.untried) snaps)

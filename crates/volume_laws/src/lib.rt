@@ -2,6 +2,7 @@
 //! carry it over each event: every event leaves the plain machine as it is, spoils the snapshots that it names, or is the
 //! one plain step that its reply tells. So does accepting a request, whose copies are started first (`specs/Accepting`,
 //! `proofs/Accepted`), with a merge or without one; and a write that overflows the store of a snapshot marks that one alone
-//! (`proofs/Overflowing`). `specs/MergeRooms` says what the other snapshots keep back so that a
-//! merge's events need no memory. It stands on `sector`, `model`, `plain` and `pending`, and has no code that runs.
+//! (`proofs/Overflowing`). `specs/Touched` says which chunks of the other snapshots a merge waits for, and `specs/MergeRooms`
+//! what they keep back so that its events need no memory. It stands on `sector`, `model`, `chunk`, `plain` and `pending`, and
+//! has no code that runs.
 #![tactic(auto)]

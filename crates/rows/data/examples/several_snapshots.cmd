@@ -27,9 +27,15 @@ read vol 9 1
 status monday
 status tuesday
 
-# All snapshots of one origin have one chunk size. What is refused leaves the store as it was.
-create wednesday 0 128 snapshot base third P 2
-save third 0 2
+# Each may have a chunk size of its own, here one of 4 sectors. Sector 33 is saved by all three: one sector each by Monday's and
+# Tuesday's, and the four of its chunk by Wednesday's.
+create wednesday 0 128 snapshot base third P 4
+write vol 33 512*cc
+status monday
+status tuesday
+status wednesday
+read wednesday 32 4
+remove wednesday
 
 # An origin with snapshots stays, and a snapshot that goes changes no other.
 remove vol

@@ -14,9 +14,9 @@ returns-in-Err-clause-same g c =
 pub loop-snap-preserved : goal.loop-snap-preserved
 loop-snap-preserved g c =
     rw (c.in-Ok.ensures.ok, ← c.snap-item.is) (
-      map_over_more (kept_for c.args.number c.args.count) c.args.snaps.now c.loop-snap.snaps c.loop-snap.snap-index c.snap-item.result c.loop-snap-test.true c.loop-snap.invariant.0 c.snap-item.is,
-      map-set_same (unkept {B = g.row.B.Denot}) c.loop-snap.snaps c.loop-snap.snap-index (kept_for c.args.number c.args.count c.snap-item.result) c.snap-item.result
-          (kept_unkept c.args.number c.args.count c.snap-item.result ∙ ap (unkept {B = g.row.B.Denot}) c.snap-item.is)
+      map_over_more (kept_for c.args.number c.args.count c.args.chunk) c.args.snaps.now c.loop-snap.snaps c.loop-snap.snap-index c.snap-item.result c.loop-snap-test.true c.loop-snap.invariant.0 c.snap-item.is,
+      map-set_same (unkept {B = g.row.B.Denot}) c.loop-snap.snaps c.loop-snap.snap-index (kept_for c.args.number c.args.count c.args.chunk c.snap-item.result) c.snap-item.result
+          (kept_unkept c.args.number c.args.count c.args.chunk c.snap-item.result ∙ ap (unkept {B = g.row.B.Denot}) c.snap-item.is)
           ∙ c.loop-snap.invariant.1,
     )
 

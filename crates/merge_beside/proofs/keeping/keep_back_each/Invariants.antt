@@ -5,4 +5,4 @@ use Rattle.merge_beside.proofs.keeping.keep_back_each.Given as goal
 
 abbrev pub invariant-loop-snap : goal.invariant-loop-snap
 invariant-loop-snap g l =
-    (l.snaps ≡ map (kept_for l.number l.count) (take l.snap-index l.fn.snaps) ++ drop l.snap-index l.fn.snaps) × (map unkept l.snaps ≡ map unkept l.fn.snaps)
+    (l.snaps ≡ map (kept_for l.number l.count l.chunk) (take l.snap-index l.fn.snaps) ++ drop l.snap-index l.fn.snaps) × (map unkept l.snaps ≡ map unkept l.fn.snaps)

@@ -1,30 +1,32 @@
--- The copy of the snapshot's own chunk is started.
-use Rattle.std.proofs.Common.{◌+◌, ◌*◌, ℕ, sym, ap, subst, arith}
-use Rattle.snapshot.specs.Calls.{StartsMerging, started}
-use Rattle.snapshots.proofs.Starts.{own_begins}
-use Rattle.merge_beside.proofs.NextStarts.{saved_started, not_given}
+-- The first chunk that is not published begins inside the origin.
+use Rattle.std.proofs.Common.{◌∙◌, ◌*◌, ◌<◌, sym, ap, subst, arith}
+use Rattle.std.specs.Prelude.{not}
+use Rattle.std.specs.Option.{is_some}
+use Rattle.chunk.proofs.Limits.{is_chunk-some}
+use Rattle.volume_laws.specs.Published.{is_published}
+use Rattle.snapshots.specs.Starting.{next_chunk_of}
+use Rattle.merge_beside.specs.Starting.{KeepsRoomFor, IsNextSavedIn}
+use Rattle.merge_beside.proofs.NextStarts.{next_begins, saved_busy}
 use Rattle.merge_beside.proofs.saving_next.save_next_in.Goals as goal
 
-pub start_merging-requires-clause-kept : goal.start_merging-requires-clause-kept
-start_merging-requires-clause-kept g c = c.requires.room.some (sym c.if-not-is_lacking.ensures)
+pub returns-then-is_some : goal.returns-then-is_some
+returns-then-is_some g c = record {
+  saved = saved_busy g.B.Block.contents g.B.Block.layers (next_chunk_of c.args.first c.args.count c.args.snap.now) c.args.snap.now c.args.copies c.args.copies c.args.flights.now c.requires.room
+      (sym (ap is_some c.merging.ensures.is) ∙ sym c.is_some.ensures ∙ c.if-is_some.true);
+}
 
-pub start_merging-requires-clause-spare : goal.start_merging-requires-clause-spare
-start_merging-requires-clause-spare g c = c.requires.room.spare (sym c.if-not-is_lacking.ensures)
+pub save_chunk-requires-clause-begins : goal.save_chunk-requires-clause-begins
+save_chunk-requires-clause-begins g c =
+    let s = c.args.snap.now in
+    let some = subst (λ n. 0 < n) c.chunk.ensures.is (is_chunk-some c.chunk.result c.chunk.ensures.allowed) in
+    let low = next_begins (λ n. not (is_published s.pairs s.marks n)) s.state.chunk c.args.first c.args.count some c.requires.some in
+    let at = ap (λ n. s.state.chunk * n) c.next_chunk-chunk.ensures in
+    omega (arith, low, at, c.requires.begins)
 
-pub start_merging-requires-clause-alone : goal.start_merging-requires-clause-alone
-start_merging-requires-clause-alone g c = c.requires.room.idle (sym c.if-not-is_lacking.ensures)
+pub save_chunk-requires-clause-room : goal.save_chunk-requires-clause-room
+save_chunk-requires-clause-room g c = subst (λ n. KeepsRoomFor n c.args.copies c.args.snap.now) (sym c.next_chunk-chunk.ensures) c.requires.room
 
-pub start_merging-requires-clause-own : goal.start_merging-requires-clause-own
-start_merging-requires-clause-own g c = not_given c.args.copies c.args.snap.now.copies c.requires.room.given
-
-pub start_merging-requires-clause-begins : goal.start_merging-requires-clause-begins
-start_merging-requires-clause-begins g c =
-    let low = own_begins c.args.snap.now.state.chunk c.args.first in
-    let is = ap (λ (n : ℕ). c.args.snap.now.state.chunk * n) c.own_chunk-chunk.ensures in
-    omega (arith, low, is, c.requires.begins)
-
-pub returns-then-start_merging : goal.returns-then-start_merging
-returns-then-start_merging g c = let (buffer, at) = c.if-start_merging.ensures.started in record {
-  saved = saved_started g.B.Block.contents g.B.Block.layers c.args.first c.args.snap.now c.start_merging.new.self c.args.copies c.args.flights.now buffer (sym c.if-not-is_lacking.ensures) c.if-start_merging.ensures.place
-      (subst (λ (n : ℕ). StartsMerging g.B.Block.contents g.B.Block.layers (started (c.args.copies + 1) n c.args.snap.now.next buffer) c.args.snap.now c.start_merging.new.self) c.own_chunk-chunk.ensures at);
+pub returns : goal.returns
+returns g c = record {
+  saved = subst (λ n. IsNextSavedIn g.B.Block.contents g.B.Block.layers n c.args.snap.now c.save_chunk.new.snap c.args.copies c.save_chunk.result c.args.flights.now c.save_chunk.new.flights) c.next_chunk-chunk.ensures c.save_chunk.ensures.saved;
 }

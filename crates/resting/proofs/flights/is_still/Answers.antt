@@ -16,5 +16,5 @@ pub returns-clause-ordered : goal.returns-clause-ordered
 returns-clause-ordered g c = λ quiet loud.
     let v = c.args.volume.now in
     let all = sym (loud_same g.B.Block.contents g.B.Block.layers v) ∙ loud in
-    ordered_by g.B.Block.contents g.B.Block.layers g.B.Block.size v c.is_quiet.ensures.numbers (chunks_by v c.piece.result c.piece.ensures.piece c.piece.ensures.same c.piece.ensures.allowed)
+    ordered_by g.B.Block.contents g.B.Block.layers g.B.Block.size v c.is_quiet.ensures.numbers (chunks_by v c.piece.result c.piece.ensures.piece c.piece.ensures.within c.piece.ensures.allowed)
     (c.is_quiet.ensures.between quiet all None) (c.is_quiet.ensures.under quiet all None)

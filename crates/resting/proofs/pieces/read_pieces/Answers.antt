@@ -54,7 +54,7 @@ read_piece-requires-clause-between g c = c.loop-piece.invariant.place.so.between
 pub read_piece-requires-clause-can : goal.read_piece-requires-clause-can
 read_piece-requires-clause-can g c =
     let is = first_piece _ _ _ _ _ _ _ c.loop-piece.invariant.place.stands c.in-Some.ensures.steps in
-    let chunk = chunks_by c.args.volume.now c.piece.result c.piece.ensures.piece c.piece.ensures.same c.piece.ensures.allowed in
+    let chunk = chunks_by c.args.volume.now c.piece.result c.piece.ensures.piece c.piece.ensures.within c.piece.ensures.allowed in
     goes_can g.B.Block.contents g.B.Block.layers g.B.Block.size c.args.dev Read c.args.range c.in-Some.piece c.loop-piece.invariant.place.from
     c.args.volume.now c.loop-piece.volume c.requires.can c.loop-piece.invariant.place.so chunk.1 chunk.0 is tt
 
@@ -86,10 +86,9 @@ loop-piece-preserved g c =
 
 pub returns-in-Err-clause-refused : goal.returns-in-Err-clause-refused
 returns-in-Err-clause-refused g c =
-    let chunk = chunks_by c.args.volume.now c.piece.result c.piece.ensures.piece c.piece.ensures.same c.piece.ensures.allowed in
     got_refused g.B.Block.contents g.B.Block.layers g.B.Block.size c.args.dev c.args.range (piece_with c.args.volume.now.merge c.args.volume.now.snaps) c.loop-piece.out.items c.loop-piece.out.items c.loop-piece.piece-iterator c.next.new.self c.in-Some.piece
     c.args.volume.now c.loop-piece.volume c.read_piece.new.volume c.loop-piece.invariant.did c.in-Some.ensures.steps c.loop-piece.invariant.place.so.settled c.in-Err.refusal
-    c.requires.can.there (chunk_least g.B.Block.contents g.B.Block.layers c.args.volume.now chunk.1 chunk.0) c.in-Err.ensures.refused
+    c.requires.can.there (chunk_least g.B.Block.contents g.B.Block.layers c.args.volume.now) c.in-Err.ensures.refused
 
 pub returns-in-Err-clause-settled : goal.returns-in-Err-clause-settled
 returns-in-Err-clause-settled g c = λ settled. c.in-Err.ensures.settled (c.loop-piece.invariant.place.so.settled settled)
@@ -113,9 +112,8 @@ returns-clause-between g c = c.loop-piece.invariant.place.so.between
 
 pub returns-clause-done : goal.returns-clause-done
 returns-clause-done g c =
-    let chunk = chunks_by c.args.volume.now c.piece.result c.piece.ensures.piece c.piece.ensures.same c.piece.ensures.allowed in
     λ loud. got_all g.B.Block.contents g.B.Block.layers g.B.Block.size c.args.dev c.args.range (piece_with c.args.volume.now.merge c.args.volume.now.snaps) c.loop-piece.out.items c.loop-piece.out.items c.loop-piece.piece-iterator c.loop-piece.piece-iterator c.args.range
-    c.args.volume.now c.loop-piece.volume c.loop-piece.volume c.loop-piece.invariant.did c.in-None.ensures.steps.0 (chunk_least g.B.Block.contents g.B.Block.layers c.args.volume.now chunk.1 chunk.0) loud
+    c.args.volume.now c.loop-piece.volume c.loop-piece.volume c.loop-piece.invariant.did c.in-None.ensures.steps.0 (chunk_least g.B.Block.contents g.B.Block.layers c.args.volume.now) loud
     ∙ ap (λ bs. answer (merged_of g.B.Block.contents g.B.Block.layers (rested_of c.loop-piece.volume)) (Data bs)) (sym c.from_vec.ensures)
 
 pub returns-clause-settled : goal.returns-clause-settled
@@ -131,19 +129,19 @@ returns-clause-requests g c =
 
 pub returns-clause-shows : goal.returns-clause-shows
 returns-clause-shows g c = λ settled.
-    let chunk = chunks_by c.args.volume.now c.piece.result c.piece.ensures.piece c.piece.ensures.same c.piece.ensures.allowed in
+    let chunk = chunks_by c.args.volume.now c.piece.result c.piece.ensures.piece c.piece.ensures.within c.piece.ensures.allowed in
     let loud = loud_in_all g.B.Block.contents g.B.Block.layers g.B.Block.size c.args.volume.now settled in
     let quiet = c.is_quiet.ensures.value ∙ c.requires.between.quiet in
-    plain_read g.B.Block.contents g.B.Block.layers g.B.Block.size c.args.dev c.args.range c.args.volume.now c.loop-piece.volume (is_chunk-some (piece_with c.args.volume.now.merge c.args.volume.now.snaps) chunk.1) c.requires.can.some c.requires.can.inside chunk.0
-    (chunk_least g.B.Block.contents g.B.Block.layers c.args.volume.now chunk.1 chunk.0) (c.is_quiet.ensures.between quiet loud None) (c.is_quiet.ensures.under quiet loud None) c.from_vec.result (returns-clause-done g c) settled
+    plain_read g.B.Block.contents g.B.Block.layers g.B.Block.size c.args.dev c.args.range c.args.volume.now c.loop-piece.volume chunk.1 c.requires.can.some c.requires.can.inside chunk.0
+    (chunk_least g.B.Block.contents g.B.Block.layers c.args.volume.now) (c.is_quiet.ensures.between quiet loud None) (c.is_quiet.ensures.under quiet loud None) c.from_vec.result (returns-clause-done g c) settled
 
 pub returns-in-Err-clause-loses : goal.returns-in-Err-clause-loses
 returns-in-Err-clause-loses g c = λ settled.
-    let chunk = chunks_by c.args.volume.now c.piece.result c.piece.ensures.piece c.piece.ensures.same c.piece.ensures.allowed in
+    let chunk = chunks_by c.args.volume.now c.piece.result c.piece.ensures.piece c.piece.ensures.within c.piece.ensures.allowed in
     let loud = loud_in_all g.B.Block.contents g.B.Block.layers g.B.Block.size c.args.volume.now settled in
     let quiet = c.is_quiet.ensures.value ∙ c.requires.between.quiet in
-    plain_read_refused g.B.Block.contents g.B.Block.layers g.B.Block.size c.args.dev c.args.range c.args.volume.now c.read_piece.new.volume (is_chunk-some (piece_with c.args.volume.now.merge c.args.volume.now.snaps) chunk.1) c.requires.can.some c.requires.can.inside chunk.0
-    (chunk_least g.B.Block.contents g.B.Block.layers c.args.volume.now chunk.1 chunk.0) (c.is_quiet.ensures.between quiet loud None) (c.is_quiet.ensures.under quiet loud None) c.in-Err.refusal (returns-in-Err-clause-refused g c) settled
+    plain_read_refused g.B.Block.contents g.B.Block.layers g.B.Block.size c.args.dev c.args.range c.args.volume.now c.read_piece.new.volume chunk.1 c.requires.can.some c.requires.can.inside chunk.0
+    (chunk_least g.B.Block.contents g.B.Block.layers c.args.volume.now) (c.is_quiet.ensures.between quiet loud None) (c.is_quiet.ensures.under quiet loud None) c.in-Err.refusal (returns-in-Err-clause-refused g c) settled
 
 pub returns-in_default-clause-loses : goal.returns-in_default-clause-loses
 returns-in_default-clause-loses g c = λ settled. (tt, refl)

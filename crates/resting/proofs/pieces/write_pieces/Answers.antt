@@ -50,18 +50,17 @@ pub write_piece-requires-clause-can : goal.write_piece-requires-clause-can
 write_piece-requires-clause-can g c =
     let is = first_piece _ _ _ _ _ _ _ c.loop-piece.invariant.stands c.in-Some.ensures.steps in
     let bytes = is.bytes in
-    let chunk = chunks_by c.args.volume.now c.piece.result c.piece.ensures.piece c.piece.ensures.same c.piece.ensures.allowed in
+    let chunk = chunks_by c.args.volume.now c.piece.result c.piece.ensures.piece c.piece.ensures.within c.piece.ensures.allowed in
     goes_can g.B.Block.contents g.B.Block.layers g.B.Block.size c.args.dev (Write (take (c.loop-piece.from + c.in-Some.piece.count * 512 - c.loop-piece.from) (drop c.loop-piece.from c.args.bytes.now))) c.args.range c.in-Some.piece c.loop-piece.from
     c.args.volume.now c.loop-piece.volume c.requires.can c.loop-piece.invariant.so chunk.1 chunk.0 is
     (part_fits c.loop-piece.from c.in-Some.piece.count c.args.range.count c.args.bytes.now c.requires.room (omega arith))
 
 pub returns-in-Err-clause-refused : goal.returns-in-Err-clause-refused
 returns-in-Err-clause-refused g c =
-    let chunk = chunks_by c.args.volume.now c.piece.result c.piece.ensures.piece c.piece.ensures.same c.piece.ensures.allowed in
     wrote_refused g.B.Block.contents g.B.Block.layers g.B.Block.size c.args.dev c.args.range (piece_with c.args.volume.now.merge c.args.volume.now.snaps) c.args.bytes.now c.loop-piece.from c.loop-piece.piece-iterator c.next.new.self c.in-Some.piece
     c.args.volume.now c.loop-piece.volume c.write_piece.new.volume c.loop-piece.invariant.did c.in-Some.ensures.steps c.loop-piece.invariant.so.settled
     (take (c.loop-piece.from + c.in-Some.piece.count * 512 - c.loop-piece.from) (drop c.loop-piece.from c.args.bytes.now)) c.in-Err.refusal (part_is c.loop-piece.from c.in-Some.piece.count c.args.bytes.now)
-    c.requires.can.there (chunk_least g.B.Block.contents g.B.Block.layers c.args.volume.now chunk.1 chunk.0) c.in-Err.ensures.refused
+    c.requires.can.there (chunk_least g.B.Block.contents g.B.Block.layers c.args.volume.now) c.in-Err.ensures.refused
 
 pub returns-in-Err-clause-settled : goal.returns-in-Err-clause-settled
 returns-in-Err-clause-settled g c = λ settled. c.in-Err.ensures.settled (c.loop-piece.invariant.so.settled settled)
@@ -99,9 +98,8 @@ returns-clause-between g c = c.loop-piece.invariant.so.between
 
 pub returns-clause-done : goal.returns-clause-done
 returns-clause-done g c =
-    let chunk = chunks_by c.args.volume.now c.piece.result c.piece.ensures.piece c.piece.ensures.same c.piece.ensures.allowed in
     wrote_all g.B.Block.contents g.B.Block.layers g.B.Block.size c.args.dev c.args.range (piece_with c.args.volume.now.merge c.args.volume.now.snaps) c.args.bytes.now c.loop-piece.from c.loop-piece.piece-iterator c.loop-piece.piece-iterator c.args.range
-    c.args.volume.now c.loop-piece.volume c.loop-piece.volume c.loop-piece.invariant.did c.in-None.ensures.steps.0 (chunk_least g.B.Block.contents g.B.Block.layers c.args.volume.now chunk.1 chunk.0)
+    c.args.volume.now c.loop-piece.volume c.loop-piece.volume c.loop-piece.invariant.did c.in-None.ensures.steps.0 (chunk_least g.B.Block.contents g.B.Block.layers c.args.volume.now)
 
 pub returns-clause-settled : goal.returns-clause-settled
 returns-clause-settled g c = c.loop-piece.invariant.so.settled
@@ -116,18 +114,18 @@ returns-clause-requests g c =
 
 pub returns-clause-shows : goal.returns-clause-shows
 returns-clause-shows g c = λ settled.
-    let chunk = chunks_by c.args.volume.now c.piece.result c.piece.ensures.piece c.piece.ensures.same c.piece.ensures.allowed in
+    let chunk = chunks_by c.args.volume.now c.piece.result c.piece.ensures.piece c.piece.ensures.within c.piece.ensures.allowed in
     let loud = loud_in_all g.B.Block.contents g.B.Block.layers g.B.Block.size c.args.volume.now settled in
     let quiet = c.is_quiet.ensures.value ∙ c.requires.between.quiet in
     let size = piece_with c.args.volume.now.merge c.args.volume.now.snaps in
-    plain_write g.B.Block.contents g.B.Block.layers g.B.Block.size c.args.dev c.args.range size c.args.bytes.now c.args.volume.now c.loop-piece.volume (is_chunk-some size chunk.1) c.requires.can.some c.requires.can.inside c.requires.room chunk.0
-    (chunk_least g.B.Block.contents g.B.Block.layers c.args.volume.now chunk.1 chunk.0) refl (c.is_quiet.ensures.between quiet loud None) (c.is_quiet.ensures.under quiet loud None) (returns-clause-done g c) settled
+    plain_write g.B.Block.contents g.B.Block.layers g.B.Block.size c.args.dev c.args.range size c.args.bytes.now c.args.volume.now c.loop-piece.volume chunk.1 c.requires.can.some c.requires.can.inside c.requires.room chunk.0
+    (chunk_least g.B.Block.contents g.B.Block.layers c.args.volume.now) refl (c.is_quiet.ensures.between quiet loud None) (c.is_quiet.ensures.under quiet loud None) (returns-clause-done g c) settled
 
 pub returns-in-Err-clause-loses : goal.returns-in-Err-clause-loses
 returns-in-Err-clause-loses g c = λ settled.
-    let chunk = chunks_by c.args.volume.now c.piece.result c.piece.ensures.piece c.piece.ensures.same c.piece.ensures.allowed in
+    let chunk = chunks_by c.args.volume.now c.piece.result c.piece.ensures.piece c.piece.ensures.within c.piece.ensures.allowed in
     let loud = loud_in_all g.B.Block.contents g.B.Block.layers g.B.Block.size c.args.volume.now settled in
     let quiet = c.is_quiet.ensures.value ∙ c.requires.between.quiet in
     let size = piece_with c.args.volume.now.merge c.args.volume.now.snaps in
-    plain_write_lost g.B.Block.contents g.B.Block.layers g.B.Block.size c.args.dev c.args.range size c.args.bytes.now c.args.volume.now c.write_piece.new.volume (is_chunk-some size chunk.1) c.requires.can.some c.requires.can.inside c.requires.room chunk.0
-    (chunk_least g.B.Block.contents g.B.Block.layers c.args.volume.now chunk.1 chunk.0) refl (c.is_quiet.ensures.between quiet loud None) (c.is_quiet.ensures.under quiet loud None) c.in-Err.refusal (returns-in-Err-clause-refused g c) settled
+    plain_write_lost g.B.Block.contents g.B.Block.layers g.B.Block.size c.args.dev c.args.range size c.args.bytes.now c.args.volume.now c.write_piece.new.volume chunk.1 c.requires.can.some c.requires.can.inside c.requires.room chunk.0
+    (chunk_least g.B.Block.contents g.B.Block.layers c.args.volume.now) refl (c.is_quiet.ensures.between quiet loud None) (c.is_quiet.ensures.under quiet loud None) c.in-Err.refusal (returns-in-Err-clause-refused g c) settled

@@ -1,5 +1,5 @@
 -- What a stop leaves, by the stops of each write.
-use Rattle.std.proofs.Common.{◌≡◌, ◌∙◌, List, ap, sym, subst, true, false, IsTrue}
+use Rattle.std.proofs.Common.{◌≡◌, ◌∙◌, ap, sym, subst, true, false, IsTrue}
 use Rattle.device.specs.Layers.{is_loud}
 use Rattle.store.specs.Held.{committed}
 use Rattle.store.specs.Loading.{is_left, after_write}

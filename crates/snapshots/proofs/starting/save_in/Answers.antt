@@ -1,6 +1,7 @@
 -- The copy of the snapshot's own chunk is started.
 use Rattle.std.proofs.Common.{◌+◌, ◌*◌, ℕ, sym, ap, subst, arith}
 use Rattle.snapshot.specs.Calls.{StartsAt, started}
+use Rattle.snapshots.specs.Starting.{own_of}
 use Rattle.snapshots.proofs.Starts.{saved_started, own_begins}
 use Rattle.snapshots.proofs.starting.save_in.Goals as goal
 
@@ -12,6 +13,6 @@ start-requires-clause-begins g c =
 
 pub returns-then-start : goal.returns-then-start
 returns-then-start g c = record {
-  saved = saved_started g.B.Block.contents g.B.Block.layers c.args.first c.args.snap.now c.start.new.self c.args.copies c.args.flights.now c.args.room (sym c.if-not-is_lacking.ensures) c.if-start.ensures.place
+  saved = saved_started g.B.Block.contents g.B.Block.layers (own_of c.args.first c.args.snap.now) c.args.snap.now c.start.new.self c.args.copies c.args.flights.now c.args.room (sym c.if-not-is_lacking.ensures) c.if-start.ensures.place
       (subst (λ (n : ℕ). StartsAt g.B.Block.contents g.B.Block.layers (started (c.args.copies + 1) n c.args.snap.now.next c.args.room) c.args.snap.now c.start.new.self) c.own_chunk-chunk.ensures c.if-start.ensures.started);
 }

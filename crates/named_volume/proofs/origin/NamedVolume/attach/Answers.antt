@@ -3,6 +3,7 @@ use Rattle.std.specs.Prelude.{◌&&◌, Option, is_some}
 use Rattle.device.specs.Layers.{is_loud}
 use Rattle.named.specs.Stacks.{device_of}
 use Rattle.named.specs.State.{Stacked}
+use Rattle.layers.specs.Stack.{stack_contents, stack_size}
 use Rattle.layers.specs.declared.stack.Stack.{Stack}
 use Rattle.served.specs.Refusals.{is_starved}
 use Rattle.merge.specs.Merging.{Merging}
@@ -33,7 +34,7 @@ returns-in-Err-attach-clause-err c =
     rw (← c.self.view_is) (λ other sound quiet loud. elim c.in-Err-attach.ensures.refused [
       | inl starved ↦ absurd (no_both (is_starved c.in-Err-attach.refusal) starved.0 other)
       | inr why ↦
-          unmet c.args.chunk _ _ _ c.into_parts-names.result.0.items c.into_parts-names.result.1 c.into_parts-names.result.2 c.in-Err-attach.store c.args.stack c.of_parts.result c.self.inside.volume.events c.in-Err-attach.refusal
+          unmet c.args.chunk (stack_size c.self.inside.volume.origin) _ (stack_contents c.into_parts-names.result.1) c.into_parts-names.result.0.items c.into_parts-names.result.1 c.into_parts-names.result.2 c.in-Err-attach.store c.args.stack c.of_parts.result c.self.inside.volume.events c.in-Err-attach.refusal
           why c.in-Err-attach.ensures.unread c.into_parts-names.ensures c.of_parts.ensures c.args.name c.args.overflow _
           (begun_too _ c.self.inside.volume c.self.invariant.begun ∙ c.self.invariant.begun) c.in-Err-attach.ensures.stale
           (λ fresh. c.in-Err-attach.ensures.back other fresh (c.look.ensures quiet (c.self.invariant.loud sound)) (subst (λ (s : Stacked). is_loud s.device.layers ≡ true) c.into_parts-names.ensures loud))
@@ -49,6 +50,6 @@ returns-in-Err-attach-clause-busy c =
     rw (← c.self.view_is) (λ busy. elim c.in-Err-attach.ensures.refused [
       | inl starved ↦ (inl starved.0, rw c.into_parts-names.ensures (rw c.of_parts.ensures (rw starved.1 refl)))
       | inr why ↦
-          busy_back c.args.chunk _ _ _ c.into_parts-names.result.0.items c.into_parts-names.result.1 c.into_parts-names.result.2 c.in-Err-attach.store c.args.stack c.of_parts.result c.self.inside.volume.events c.in-Err-attach.refusal
+          busy_back c.args.chunk (stack_size c.self.inside.volume.origin) _ (stack_contents c.into_parts-names.result.1) c.into_parts-names.result.0.items c.into_parts-names.result.1 c.into_parts-names.result.2 c.in-Err-attach.store c.args.stack c.of_parts.result c.self.inside.volume.events c.in-Err-attach.refusal
           why c.in-Err-attach.ensures.unread c.into_parts-names.ensures c.of_parts.ensures _ (begun_too _ c.self.inside.volume c.self.invariant.begun ∙ c.self.invariant.begun) busy
     ])

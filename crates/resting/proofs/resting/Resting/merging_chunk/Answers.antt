@@ -1,7 +1,9 @@
--- Pieces are as large as the chunks of the snapshot that is being merged.
-use Rattle.resting.proofs.Begun.{piece_merging}
+-- A merge tells the size of its own chunks.
+use Rattle.resting.proofs.Begun.{chunk_merging, chunk_of_none}
 use Rattle.resting.proofs.resting.Resting.merging_chunk.Goals as goal
 
-pub returns-in-Some-clause-some : goal.returns-in-Some-clause-some
-returns-in-Some-clause-some g c =
-    rw (← c.self.view_is) (piece_merging c.self.inside.volume.merge c.in-Some.field-0 c.piece.result c.self.inside.volume.snaps c.in-Some.ensures.value c.piece.ensures.piece)
+pub returns-clause-some : goal.returns-clause-some
+returns-clause-some g c = rw (← c.self.view_is) (chunk_merging c.self.inside.volume.merge c.merging_chunk.result c.merging_chunk.ensures)
+
+pub returns-clause-none : goal.returns-clause-none
+returns-clause-none g c = rw (← c.self.view_is) (chunk_of_none c.self.inside.volume.merge c.merging_chunk.result c.merging_chunk.ensures)

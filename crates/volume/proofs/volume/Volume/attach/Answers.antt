@@ -1,7 +1,6 @@
 -- The snapshot that was opened is the last one.
 use Rattle.std.proofs.Common.{◌≡◌, ◌*◌, ◌+◌, ◌<◌, ◌≤◌, ℕ, List, [], ◌∷◌, ◌++◌, length, inl, inr, get_or, refl, sym, ◌∙◌, ap, subst, arith, true, false}
-use Rattle.std.specs.Prelude.{Option, Some, None}
-use Rattle.std.specs.List.{All}
+use Rattle.std.specs.Prelude.{Some, None}
 use Rattle.std.specs.Option.{is_some}
 use Rattle.plain.specs.Plain.{overflow_of}
 use Rattle.volume_laws.specs.Steps.{IsNewSnap}
@@ -11,21 +10,22 @@ use Rattle.std.proofs.Math.Seq.{get_or-append_seam}
 use Rattle.stop_laws.proofs.Torn.{torn_still}
 use Rattle.snapshot.specs.Kept.{Kept, books_of as snap_books}
 use Rattle.snapshot.specs.StopsOpening.{StopsOpening}
-use Rattle.snapshot.specs.Opening.{IsWanted, IsOpenRefused, shown_array}
+use Rattle.store.specs.Opening.{IsRefused}
+use Rattle.snapshot.specs.Opening.{shown_array}
 use Rattle.snapshot.proofs.Openings.{opened_origin}
 use Rattle.volume.specs.Volumed.{Volumed}
 use Rattle.snapshots.specs.Numbers.{numbers_in}
-use Rattle.volume.specs.Whole.{IsAttached, IsCounted}
+use Rattle.volume.specs.Whole.{IsCounted}
 use Rattle.volume.specs.Leaving.{is_quiet_of}
-use Rattle.volume.specs.Taking.{wanted_of, attach_refusal}
+use Rattle.volume.specs.Taking.{attach_refusal}
 use Rattle.volume.proofs.Quieted.{quiet_flights}
-use Rattle.volume.proofs.Attaches.{attach_fresh, taking_none, none_begun, piece_alone, whole_taken, plain_taken_as}
+use Rattle.volume.proofs.Attaches.{attach_fresh, taking_none, none_begun, whole_taken, plain_taken_as}
+use Rattle.chunk.specs.Sizes.{is_chunk}
 use Rattle.chunk.proofs.Limits.{is_chunk-some}
-use Rattle.snapshot.specs.Attaching.{AreSized}
 use Rattle.settled.specs.Attaching.{open_store, done}
 use Rattle.volume.specs.Moved.{device_of}
 use Rattle.volume.specs.Attached.{store_of, volume_in}
-use Rattle.volume.proofs.AttachedAs.{number_left, refused_before, admitted, count_in, sized, resting, attached_is, back_is, unzeroed_of, size_opened, loud_taken_as}
+use Rattle.volume.proofs.AttachedAs.{number_left, refused_before, admitted, count_in, resting, attached_is, back_is, unzeroed_of, size_opened, loud_taken_as}
 use Rattle.volume.proofs.volume.Volume.attach.Goals as goal
 
 pub push_reserved-requires : goal.push_reserved-requires
@@ -47,11 +47,11 @@ invariant_of-self-in-Ok-open_snapshot g c =
     let origin : s.state.origin ≡ g.B.Block.size v.origin = ap (λ (x : Kept g.row.B.Denot). x.state.origin) o.fields ∙ opened_origin c.args.chunk c.sectors.result (g.B.Block.size c.args.store.device) (g.B.Block.contents c.args.store.device) o.loaded s.pairs o.opened ∙ c.sectors.ensures in
     let sized : s.state.size ≡ g.B.Block.size c.args.store.device = size_opened g.B.Block.contents g.B.Block.layers (v.attached + 1) c.args.chunk c.sectors.result (g.B.Block.size c.args.store.device) c.args.overflow c.args.store.device s o in
     let small : s.state.size ≤ 16777216 = omega (arith, sized, g.met.B.Block.small c.args.store.device) in
-    let wanted : IsWanted (wanted_of v.snaps) s.state.chunk = subst (λ (w : Option ℕ). IsWanted w s.state.chunk) (c.wanted.ensures ∙ ap wanted_of c.reserve.ensures.items) c.in-Ok-open_snapshot.ensures.wanted in
+    let allowed : is_chunk s.state.chunk ≡ true = subst (λ n. is_chunk n ≡ true) c.chunk.ensures.is c.chunk.ensures.allowed in
     let idle : numbers_in s ≡ [] = ap (λ (x : Kept g.row.B.Denot). numbers_in x) o.fields in
     let copies : s.copies ≡ [] = ap (λ (x : Kept g.row.B.Denot). x.copies) o.fields in
     let counts : IsCounted s = record { some = new.text.some; count = c.in-Ok-open_snapshot.ensures.counted; fits = λ _. c.in-Ok-open_snapshot.ensures.unfilled; idle = λ _. copies } in
-    rw (c.push_reserved.ensures.items, c.reserve.ensures.items) (whole_taken g.B.Block.contents g.B.Block.layers g.B.Block.size v s none alone c.self.invariant number new room small origin wanted idle counts)
+    rw (c.push_reserved.ensures.items, c.reserve.ensures.items) (whole_taken g.B.Block.contents g.B.Block.layers g.B.Block.size v s none alone c.self.invariant number new room small origin allowed idle counts)
 
 pub returns-in-Ok-open_snapshot-clause-taken : goal.returns-in-Ok-open_snapshot-clause-taken
 returns-in-Ok-open_snapshot-clause-taken g c = λ _ loud.
@@ -74,8 +74,7 @@ returns-in-Err-open_snapshot-clause-refused g c =
     inr (
       sym c.in-None.ensures,
       inr
-          (subst (λ (n : ℕ). IsOpenRefused c.args.chunk (wanted_of c.args.self.now.snaps) n (g.B.Block.size c.args.store.device) (g.B.Block.contents c.args.store.device) c.in-Err-open_snapshot.refused.0) sectors
-          (subst (λ (w : Option ℕ). IsOpenRefused c.args.chunk w c.sectors.result (g.B.Block.size c.args.store.device) (g.B.Block.contents c.args.store.device) c.in-Err-open_snapshot.refused.0) (c.wanted.ensures ∙ ap wanted_of c.reserve.ensures.items ∙ ap (λ (x : Volumed g.row.B.Denot). wanted_of x.snaps) c.self.view_is) c.in-Err-open_snapshot.ensures.refused)),
+          (subst (λ (n : ℕ). IsRefused c.args.chunk n (g.B.Block.size c.args.store.device) (g.B.Block.contents c.args.store.device) c.in-Err-open_snapshot.refused.0) sectors c.in-Err-open_snapshot.ensures.refused),
     )
 
 pub returns-in-Ok-open_snapshot-clause-gained : goal.returns-in-Ok-open_snapshot-clause-gained
@@ -114,16 +113,13 @@ returns-in-Ok-open_snapshot-clause-exact g c = λ _ loud.
     let goes = admitted c.args.store.stale (is_some v.merge) (is_quiet_of v) (length v.snaps) v.attached c.args.chunk (overflow_of c.args.overflow) (store_of g.B.Block.contents g.B.Block.layers c.args.store) (volume_in g.B.Block.contents g.B.Block.layers v) few refl (count_in g.B.Block.contents g.B.Block.layers v) none in
     let size : c.sectors.result ≡ g.B.Block.size v.origin = c.sectors.ensures in
     let sectors = g.B.Block.size v.origin in
-    let wanted : c.wanted.result ≡ wanted_of v.snaps = c.wanted.ensures ∙ ap wanted_of c.reserve.ensures.items in
-    let snaps = (volume_in g.B.Block.contents g.B.Block.layers v).snaps in
-    let fits : AreSized c.wanted.result (volume_in g.B.Block.contents g.B.Block.layers v).snaps = subst (λ (w : Option ℕ). AreSized w (volume_in g.B.Block.contents g.B.Block.layers v).snaps) (sym wanted) (sized g.B.Block.contents g.B.Block.layers v.copies (g.B.Block.size v.origin) v.snaps (subst (λ (n : ℕ). All (IsAttached v.copies (g.B.Block.size v.origin) n) v.snaps) (piece_alone v.merge v.snaps alone) c.self.invariant.snaps)) in
-    let opens : open_store (volume_in g.B.Block.contents g.B.Block.layers v).snaps (g.B.Block.size v.origin) c.args.chunk (device_of g.B.Block.contents g.B.Block.layers c.args.store.device) ≡ done s.state.chunk (device_of g.B.Block.contents g.B.Block.layers s.device) =
-    ap (λ n. open_store (volume_in g.B.Block.contents g.B.Block.layers v).snaps n c.args.chunk (device_of g.B.Block.contents g.B.Block.layers c.args.store.device)) (sym size) ∙ e.exact loud (volume_in g.B.Block.contents g.B.Block.layers v).snaps fits in
+    let opens : open_store (g.B.Block.size v.origin) c.args.chunk (device_of g.B.Block.contents g.B.Block.layers c.args.store.device) ≡ done s.state.chunk (device_of g.B.Block.contents g.B.Block.layers s.device) =
+    ap (λ n. open_store n c.args.chunk (device_of g.B.Block.contents g.B.Block.layers c.args.store.device)) (sym size) ∙ e.exact loud in
     let number : s.number ≡ v.attached + 1 = ap (λ (x : Kept g.row.B.Denot). x.number) o.fields in
     let new : IsNewSnap (g.B.Block.contents v.origin) (snap_books g.B.Block.contents g.B.Block.layers s) = e.new (g.B.Block.contents v.origin) (g.met.B.Block.whole v.origin ∙ ap (λ n. 512 * n) (sym c.sectors.ensures)) in
     let pushed = c.push_reserved.ensures.items ∙ ap (λ (x : List (Kept g.row.B.Denot)). x ++ s ∷ []) c.reserve.ensures.items in
     let unzeroed : s.state.zeroed ≡ false = unzeroed_of g.B.Block.contents g.B.Block.layers (v.attached + 1) c.args.chunk c.sectors.result (g.B.Block.size c.args.store.device) c.args.overflow c.args.store.device s o in
-    let here = resting g.B.Block.contents g.B.Block.layers (g.B.Block.size v.origin) (g.B.Block.size c.args.store.device) c.args.chunk (g.B.Block.contents v.origin) (device_of g.B.Block.contents g.B.Block.layers c.args.store.device) (volume_in g.B.Block.contents g.B.Block.layers v).snaps s
+    let here = resting g.B.Block.contents g.B.Block.layers (g.B.Block.size v.origin) (g.B.Block.size c.args.store.device) c.args.chunk (g.B.Block.contents v.origin) (device_of g.B.Block.contents g.B.Block.layers c.args.store.device) s
     (g.met.B.Block.small v.origin) (g.met.B.Block.small c.args.store.device) (is_chunk-some c.args.chunk goes.0) (g.met.B.Block.whole c.args.store.device) opens (e.loud ∙ loud) new o.next unzeroed in
     rw (← c.self.view_is) (attached_is g.B.Block.contents g.B.Block.layers v (v.attached + 1) (g.B.Block.size v.origin) c.args.chunk c.args.overflow c.args.store s c.push_reserved.new.self.items (g.met.B.Block.whole v.origin) goes.2 opens number
     (ap (λ (x : Kept g.row.B.Denot). x.live) o.fields) (ap (λ (x : Kept g.row.B.Denot). x.overflow) o.fields) (ap (λ (x : Kept g.row.B.Denot). x.stale) o.fields) here pushed)
@@ -137,9 +133,7 @@ returns-in-Err-open_snapshot-clause-back g c = λ some _ quiet _ loud.
     let alone : v.merge ≡ None = none_begun v.merge taken.2 in
     let few : c.self.inside.attached ≤ 4294967295 = omega (arith, c.self.ranges) in
     let goes = admitted c.args.store.stale (is_some v.merge) (is_quiet_of v) (length v.snaps) v.attached c.args.chunk (overflow_of c.args.overflow) (store_of g.B.Block.contents g.B.Block.layers c.args.store) (volume_in g.B.Block.contents g.B.Block.layers v) few refl (count_in g.B.Block.contents g.B.Block.layers v) none in
-    let wanted : c.wanted.result ≡ wanted_of v.snaps = c.wanted.ensures ∙ ap wanted_of c.reserve.ensures.items in
-    let fits : AreSized c.wanted.result (volume_in g.B.Block.contents g.B.Block.layers v).snaps = subst (λ (w : Option ℕ). AreSized w (volume_in g.B.Block.contents g.B.Block.layers v).snaps) (sym wanted) (sized g.B.Block.contents g.B.Block.layers v.copies (g.B.Block.size v.origin) v.snaps (subst (λ (n : ℕ). All (IsAttached v.copies (g.B.Block.size v.origin) n) v.snaps) (piece_alone v.merge v.snaps alone) c.self.invariant.snaps)) in
-    let opens = e.given_back some loud (volume_in g.B.Block.contents g.B.Block.layers v).snaps fits in
+    let opens = e.given_back some loud in
     rw (← c.self.view_is) (back_is g.B.Block.contents g.B.Block.layers v (v.attached + 1) c.sectors.result c.args.chunk c.args.overflow c.args.store c.in-Err-open_snapshot.refused.1 c.in-Err-open_snapshot.refused.0 (g.met.B.Block.whole v.origin ∙ ap (λ n. 512 * n) (sym c.sectors.ensures)) goes.2 opens (e.stale ∙ goes.1))
 
 pub returns-in-Some-clause-back : goal.returns-in-Some-clause-back

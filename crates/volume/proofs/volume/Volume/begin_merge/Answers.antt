@@ -78,10 +78,10 @@ into_store-requires-clause-live g c =
     let admitted : begin_refusal c.args.number v ≡ None = ap (begin_refusal c.args.number) c.self.view_is ∙ c.in-Ok.ensures.ok.0 in
     let place : Some c.in-Ok.k ≡ place_of_snap c.args.number v.snaps = c.in-Ok.ensures.ok.1 ∙ ap (λ (x : Volumed g.row.B.Denot). place_of_snap c.args.number x.snaps) (sym c.self.view_is) in
     let after = back c.self.inside.snaps.len c.keep_back_all.new.snaps c.self.inside.snaps.items (c.keep_back_all.auto.snaps ∙ c.as_mut_slice.ensures.len) in
-    let kept : c.keep_back_all.new.snaps ≡ map (kept_for c.args.number c.len-count.result) v.snaps = c.in-Ok-keep_back_all.ensures.ok ∙ ap (map (kept_for c.args.number c.len-count.result)) c.as_mut_slice.ensures.value in
+    let kept : c.keep_back_all.new.snaps ≡ map (kept_for c.args.number c.len-count.result c.chunk-chunk.result) v.snaps = c.in-Ok-keep_back_all.ensures.ok ∙ ap (map (kept_for c.args.number c.len-count.result c.chunk-chunk.result)) c.as_mut_slice.ensures.value in
     let s : Kept g.row.B.Denot = c.remove-snap.result in
     let is : s ≡ get_or c.keep_back_all.new.snaps c.in-Ok.k s = c.remove-snap.ensures.value ∙ ap (λ (xs : List (Kept g.row.B.Denot)). get_or xs c.in-Ok.k s) after in
-    live_now v c.args.number c.in-Ok.k admitted place c.len-count.result c.keep_back_all.new.snaps kept s is
+    live_now v c.args.number c.in-Ok.k admitted place c.len-count.result c.chunk-chunk.result c.keep_back_all.new.snaps kept s is
 
 pub into_store-requires-clause-copied : goal.into_store-requires-clause-copied
 into_store-requires-clause-copied g c =
@@ -89,10 +89,10 @@ into_store-requires-clause-copied g c =
     let admitted : begin_refusal c.args.number v ≡ None = ap (begin_refusal c.args.number) c.self.view_is ∙ c.in-Ok.ensures.ok.0 in
     let place : Some c.in-Ok.k ≡ place_of_snap c.args.number v.snaps = c.in-Ok.ensures.ok.1 ∙ ap (λ (x : Volumed g.row.B.Denot). place_of_snap c.args.number x.snaps) (sym c.self.view_is) in
     let after = back c.self.inside.snaps.len c.keep_back_all.new.snaps c.self.inside.snaps.items (c.keep_back_all.auto.snaps ∙ c.as_mut_slice.ensures.len) in
-    let kept : c.keep_back_all.new.snaps ≡ map (kept_for c.args.number c.len-count.result) v.snaps = c.in-Ok-keep_back_all.ensures.ok ∙ ap (map (kept_for c.args.number c.len-count.result)) c.as_mut_slice.ensures.value in
+    let kept : c.keep_back_all.new.snaps ≡ map (kept_for c.args.number c.len-count.result c.chunk-chunk.result) v.snaps = c.in-Ok-keep_back_all.ensures.ok ∙ ap (map (kept_for c.args.number c.len-count.result c.chunk-chunk.result)) c.as_mut_slice.ensures.value in
     let s : Kept g.row.B.Denot = c.remove-snap.result in
     let is : s ≡ get_or c.keep_back_all.new.snaps c.in-Ok.k s = c.remove-snap.ensures.value ∙ ap (λ (xs : List (Kept g.row.B.Denot)). get_or xs c.in-Ok.k s) after in
-    idle_now v c.args.number c.in-Ok.k admitted place c.len-count.result c.keep_back_all.new.snaps kept s is
+    idle_now v c.args.number c.in-Ok.k admitted place c.len-count.result c.chunk-chunk.result c.keep_back_all.new.snaps kept s is
 
 pub into_store-requires-clause-published : goal.into_store-requires-clause-published
 into_store-requires-clause-published g c =
@@ -100,10 +100,10 @@ into_store-requires-clause-published g c =
     let admitted : begin_refusal c.args.number v ≡ None = ap (begin_refusal c.args.number) c.self.view_is ∙ c.in-Ok.ensures.ok.0 in
     let place : Some c.in-Ok.k ≡ place_of_snap c.args.number v.snaps = c.in-Ok.ensures.ok.1 ∙ ap (λ (x : Volumed g.row.B.Denot). place_of_snap c.args.number x.snaps) (sym c.self.view_is) in
     let after = back c.self.inside.snaps.len c.keep_back_all.new.snaps c.self.inside.snaps.items (c.keep_back_all.auto.snaps ∙ c.as_mut_slice.ensures.len) in
-    let kept : c.keep_back_all.new.snaps ≡ map (kept_for c.args.number c.len-count.result) v.snaps = c.in-Ok-keep_back_all.ensures.ok ∙ ap (map (kept_for c.args.number c.len-count.result)) c.as_mut_slice.ensures.value in
+    let kept : c.keep_back_all.new.snaps ≡ map (kept_for c.args.number c.len-count.result c.chunk-chunk.result) v.snaps = c.in-Ok-keep_back_all.ensures.ok ∙ ap (map (kept_for c.args.number c.len-count.result c.chunk-chunk.result)) c.as_mut_slice.ensures.value in
     let s : Kept g.row.B.Denot = c.remove-snap.result in
     let is : s ≡ get_or c.keep_back_all.new.snaps c.in-Ok.k s = c.remove-snap.ensures.value ∙ ap (λ (xs : List (Kept g.row.B.Denot)). get_or xs c.in-Ok.k s) after in
-    unmarked_now v c.args.number c.in-Ok.k admitted place c.len-count.result c.keep_back_all.new.snaps kept s is
+    unmarked_now v c.args.number c.in-Ok.k admitted place c.len-count.result c.chunk-chunk.result c.keep_back_all.new.snaps kept s is
 
 pub begin-begun-requires-clause-room : goal.begin-begun-requires-clause-room
 begin-begun-requires-clause-room g c =
@@ -111,13 +111,13 @@ begin-begun-requires-clause-room g c =
     let admitted : begin_refusal c.args.number v ≡ None = ap (begin_refusal c.args.number) c.self.view_is ∙ c.in-Ok.ensures.ok.0 in
     let place : Some c.in-Ok.k ≡ place_of_snap c.args.number v.snaps = c.in-Ok.ensures.ok.1 ∙ ap (λ (x : Volumed g.row.B.Denot). place_of_snap c.args.number x.snaps) (sym c.self.view_is) in
     let after = back c.self.inside.snaps.len c.keep_back_all.new.snaps c.self.inside.snaps.items (c.keep_back_all.auto.snaps ∙ c.as_mut_slice.ensures.len) in
-    let kept : c.keep_back_all.new.snaps ≡ map (kept_for c.args.number c.len-count.result) v.snaps = c.in-Ok-keep_back_all.ensures.ok ∙ ap (map (kept_for c.args.number c.len-count.result)) c.as_mut_slice.ensures.value in
+    let kept : c.keep_back_all.new.snaps ≡ map (kept_for c.args.number c.len-count.result c.chunk-chunk.result) v.snaps = c.in-Ok-keep_back_all.ensures.ok ∙ ap (map (kept_for c.args.number c.len-count.result c.chunk-chunk.result)) c.as_mut_slice.ensures.value in
     let s : Kept g.row.B.Denot = c.remove-snap.result in
     let is : s ≡ get_or c.keep_back_all.new.snaps c.in-Ok.k s = c.remove-snap.ensures.value ∙ ap (λ (xs : List (Kept g.row.B.Denot)). get_or xs c.in-Ok.k s) after in
     let lt = within v c.args.number c.in-Ok.k admitted place in
     let at : c.index.result.now ≡ get_or v.snaps c.in-Ok.k s = c.index.ensures ∙ get_or_default v.snaps c.in-Ok.k c.index.result.now s lt in
     let sized : length c.in-Ok-vec.buffer.items ≡ 512 * s.state.chunk =
-    sym c.in-Ok-vec.buffer.ok.0 ∙ c.in-Ok-vec.ensures.len ∙ ap (λ n. 512 * n) (c.chunk-chunk.ensures.is ∙ ap (λ (t : Kept g.row.B.Denot). t.state.chunk) at ∙ sym (chunk_now v c.args.number c.in-Ok.k admitted place c.len-count.result c.keep_back_all.new.snaps kept s is)) in
+    sym c.in-Ok-vec.buffer.ok.0 ∙ c.in-Ok-vec.ensures.len ∙ ap (λ n. 512 * n) (c.chunk-chunk.ensures.is ∙ ap (λ (t : Kept g.row.B.Denot). t.state.chunk) at ∙ sym (chunk_now v c.args.number c.in-Ok.k admitted place c.len-count.result c.chunk-chunk.result c.keep_back_all.new.snaps kept s is)) in
     sized ∙ ap (λ (t : State). 512 * t.chunk) (sym c.into_store.ensures.state)
 
 pub invariant_of-self-2 : goal.invariant_of-self-2
@@ -126,19 +126,20 @@ invariant_of-self-2 g c =
     let admitted : begin_refusal c.args.number v ≡ None = ap (begin_refusal c.args.number) c.self.view_is ∙ c.in-Ok.ensures.ok.0 in
     let place : Some c.in-Ok.k ≡ place_of_snap c.args.number v.snaps = c.in-Ok.ensures.ok.1 ∙ ap (λ (x : Volumed g.row.B.Denot). place_of_snap c.args.number x.snaps) (sym c.self.view_is) in
     let after = back c.self.inside.snaps.len c.keep_back_all.new.snaps c.self.inside.snaps.items (c.keep_back_all.auto.snaps ∙ c.as_mut_slice.ensures.len) in
-    let kept : c.keep_back_all.new.snaps ≡ map (kept_for c.args.number c.len-count.result) v.snaps = c.in-Ok-keep_back_all.ensures.ok ∙ ap (map (kept_for c.args.number c.len-count.result)) c.as_mut_slice.ensures.value in
+    let kept : c.keep_back_all.new.snaps ≡ map (kept_for c.args.number c.len-count.result c.chunk-chunk.result) v.snaps = c.in-Ok-keep_back_all.ensures.ok ∙ ap (map (kept_for c.args.number c.len-count.result c.chunk-chunk.result)) c.as_mut_slice.ensures.value in
     let s : Kept g.row.B.Denot = c.remove-snap.result in
     let is : s ≡ get_or c.keep_back_all.new.snaps c.in-Ok.k s = c.remove-snap.ensures.value ∙ ap (λ (xs : List (Kept g.row.B.Denot)). get_or xs c.in-Ok.k s) after in
     let lt = within v c.args.number c.in-Ok.k admitted place in
     let at : c.index.result.now ≡ get_or v.snaps c.in-Ok.k s = c.index.ensures ∙ get_or_default v.snaps c.in-Ok.k c.index.result.now s lt in
     let sized : length c.in-Ok-vec.buffer.items ≡ 512 * s.state.chunk =
-    sym c.in-Ok-vec.buffer.ok.0 ∙ c.in-Ok-vec.ensures.len ∙ ap (λ n. 512 * n) (c.chunk-chunk.ensures.is ∙ ap (λ (t : Kept g.row.B.Denot). t.state.chunk) at ∙ sym (chunk_now v c.args.number c.in-Ok.k admitted place c.len-count.result c.keep_back_all.new.snaps kept s is)) in
+    sym c.in-Ok-vec.buffer.ok.0 ∙ c.in-Ok-vec.ensures.len ∙ ap (λ n. 512 * n) (c.chunk-chunk.ensures.is ∙ ap (λ (t : Kept g.row.B.Denot). t.state.chunk) at ∙ sym (chunk_now v c.args.number c.in-Ok.k admitted place c.len-count.result c.chunk-chunk.result c.keep_back_all.new.snaps kept s is)) in
     let counts : c.len-count.result ≡ length (get_or v.snaps c.in-Ok.k s).pairs = c.len-count.ensures ∙ ap (λ (t : Kept g.row.B.Denot). length t.pairs) (c.index-2.ensures ∙ get_or_default v.snaps c.in-Ok.k c.index-2.result.now s lt) in
-    let mine = number_now v c.args.number c.in-Ok.k admitted place c.len-count.result c.keep_back_all.new.snaps kept s is in
+    let chunks : c.chunk-chunk.result ≡ (get_or v.snaps c.in-Ok.k s).state.chunk = c.chunk-chunk.ensures.is ∙ ap (λ (t : Kept g.row.B.Denot). t.state.chunk) at in
+    let mine = number_now v c.args.number c.in-Ok.k admitted place c.len-count.result c.chunk-chunk.result c.keep_back_all.new.snaps kept s is in
     let e = c.into_store.ensures in
     let made = c.replace.ensures.after ∙ ap Some (c.begin-begun.ensures.begun ∙ made_from s c.args.number c.into_store.result.device c.into_store.result.state c.into_store.result.places.next (committed c.into_store.result.exceptions) c.in-Ok-vec.buffer.items mine e.device e.state e.next e.pairs) in
     let left = c.remove-snap.ensures.items ∙ ap (λ (xs : List (Kept g.row.B.Denot)). remove xs c.in-Ok.k) after in
-    rw (left, made) (whole_after v c.args.number c.in-Ok.k admitted place c.len-count.result c.keep_back_all.new.snaps kept s is g.B.Block.contents g.B.Block.layers g.B.Block.size c.self.invariant c.in-Ok-vec.buffer.items sized counts)
+    rw (left, made) (whole_after v c.args.number c.in-Ok.k admitted place c.len-count.result c.chunk-chunk.result c.keep_back_all.new.snaps kept s is g.B.Block.contents g.B.Block.layers g.B.Block.size c.self.invariant c.in-Ok-vec.buffer.items sized counts chunks)
 
 pub returns-clause-begun : goal.returns-clause-begun
 returns-clause-begun g c =
@@ -146,19 +147,20 @@ returns-clause-begun g c =
     let admitted : begin_refusal c.args.number v ≡ None = ap (begin_refusal c.args.number) c.self.view_is ∙ c.in-Ok.ensures.ok.0 in
     let place : Some c.in-Ok.k ≡ place_of_snap c.args.number v.snaps = c.in-Ok.ensures.ok.1 ∙ ap (λ (x : Volumed g.row.B.Denot). place_of_snap c.args.number x.snaps) (sym c.self.view_is) in
     let after = back c.self.inside.snaps.len c.keep_back_all.new.snaps c.self.inside.snaps.items (c.keep_back_all.auto.snaps ∙ c.as_mut_slice.ensures.len) in
-    let kept : c.keep_back_all.new.snaps ≡ map (kept_for c.args.number c.len-count.result) v.snaps = c.in-Ok-keep_back_all.ensures.ok ∙ ap (map (kept_for c.args.number c.len-count.result)) c.as_mut_slice.ensures.value in
+    let kept : c.keep_back_all.new.snaps ≡ map (kept_for c.args.number c.len-count.result c.chunk-chunk.result) v.snaps = c.in-Ok-keep_back_all.ensures.ok ∙ ap (map (kept_for c.args.number c.len-count.result c.chunk-chunk.result)) c.as_mut_slice.ensures.value in
     let s : Kept g.row.B.Denot = c.remove-snap.result in
     let is : s ≡ get_or c.keep_back_all.new.snaps c.in-Ok.k s = c.remove-snap.ensures.value ∙ ap (λ (xs : List (Kept g.row.B.Denot)). get_or xs c.in-Ok.k s) after in
     let lt = within v c.args.number c.in-Ok.k admitted place in
     let at : c.index.result.now ≡ get_or v.snaps c.in-Ok.k s = c.index.ensures ∙ get_or_default v.snaps c.in-Ok.k c.index.result.now s lt in
     let sized : length c.in-Ok-vec.buffer.items ≡ 512 * s.state.chunk =
-    sym c.in-Ok-vec.buffer.ok.0 ∙ c.in-Ok-vec.ensures.len ∙ ap (λ n. 512 * n) (c.chunk-chunk.ensures.is ∙ ap (λ (t : Kept g.row.B.Denot). t.state.chunk) at ∙ sym (chunk_now v c.args.number c.in-Ok.k admitted place c.len-count.result c.keep_back_all.new.snaps kept s is)) in
+    sym c.in-Ok-vec.buffer.ok.0 ∙ c.in-Ok-vec.ensures.len ∙ ap (λ n. 512 * n) (c.chunk-chunk.ensures.is ∙ ap (λ (t : Kept g.row.B.Denot). t.state.chunk) at ∙ sym (chunk_now v c.args.number c.in-Ok.k admitted place c.len-count.result c.chunk-chunk.result c.keep_back_all.new.snaps kept s is)) in
     let counts : c.len-count.result ≡ length (get_or v.snaps c.in-Ok.k s).pairs = c.len-count.ensures ∙ ap (λ (t : Kept g.row.B.Denot). length t.pairs) (c.index-2.ensures ∙ get_or_default v.snaps c.in-Ok.k c.index-2.result.now s lt) in
-    let mine = number_now v c.args.number c.in-Ok.k admitted place c.len-count.result c.keep_back_all.new.snaps kept s is in
+    let chunks : c.chunk-chunk.result ≡ (get_or v.snaps c.in-Ok.k s).state.chunk = c.chunk-chunk.ensures.is ∙ ap (λ (t : Kept g.row.B.Denot). t.state.chunk) at in
+    let mine = number_now v c.args.number c.in-Ok.k admitted place c.len-count.result c.chunk-chunk.result c.keep_back_all.new.snaps kept s is in
     let e = c.into_store.ensures in
     let made = c.replace.ensures.after ∙ ap Some (c.begin-begun.ensures.begun ∙ made_from s c.args.number c.into_store.result.device c.into_store.result.state c.into_store.result.places.next (committed c.into_store.result.exceptions) c.in-Ok-vec.buffer.items mine e.device e.state e.next e.pairs) in
     let left = c.remove-snap.ensures.items ∙ ap (λ (xs : List (Kept g.row.B.Denot)). remove xs c.in-Ok.k) after in
-    rw (← c.self.view_is, left, made) (is_begun v c.args.number c.in-Ok.k admitted place c.len-count.result c.keep_back_all.new.snaps kept s is g.B.Block.contents g.B.Block.layers g.B.Block.size c.self.invariant c.in-Ok-vec.buffer.items sized counts)
+    rw (← c.self.view_is, left, made) (is_begun v c.args.number c.in-Ok.k admitted place c.len-count.result c.chunk-chunk.result c.keep_back_all.new.snaps kept s is g.B.Block.contents g.B.Block.layers g.B.Block.size c.self.invariant c.in-Ok-vec.buffer.items sized counts chunks)
 
 pub returns-clause-legal : goal.returns-clause-legal
 returns-clause-legal g c =
@@ -166,19 +168,20 @@ returns-clause-legal g c =
     let admitted : begin_refusal c.args.number v ≡ None = ap (begin_refusal c.args.number) c.self.view_is ∙ c.in-Ok.ensures.ok.0 in
     let place : Some c.in-Ok.k ≡ place_of_snap c.args.number v.snaps = c.in-Ok.ensures.ok.1 ∙ ap (λ (x : Volumed g.row.B.Denot). place_of_snap c.args.number x.snaps) (sym c.self.view_is) in
     let after = back c.self.inside.snaps.len c.keep_back_all.new.snaps c.self.inside.snaps.items (c.keep_back_all.auto.snaps ∙ c.as_mut_slice.ensures.len) in
-    let kept : c.keep_back_all.new.snaps ≡ map (kept_for c.args.number c.len-count.result) v.snaps = c.in-Ok-keep_back_all.ensures.ok ∙ ap (map (kept_for c.args.number c.len-count.result)) c.as_mut_slice.ensures.value in
+    let kept : c.keep_back_all.new.snaps ≡ map (kept_for c.args.number c.len-count.result c.chunk-chunk.result) v.snaps = c.in-Ok-keep_back_all.ensures.ok ∙ ap (map (kept_for c.args.number c.len-count.result c.chunk-chunk.result)) c.as_mut_slice.ensures.value in
     let s : Kept g.row.B.Denot = c.remove-snap.result in
     let is : s ≡ get_or c.keep_back_all.new.snaps c.in-Ok.k s = c.remove-snap.ensures.value ∙ ap (λ (xs : List (Kept g.row.B.Denot)). get_or xs c.in-Ok.k s) after in
     let lt = within v c.args.number c.in-Ok.k admitted place in
     let at : c.index.result.now ≡ get_or v.snaps c.in-Ok.k s = c.index.ensures ∙ get_or_default v.snaps c.in-Ok.k c.index.result.now s lt in
     let sized : length c.in-Ok-vec.buffer.items ≡ 512 * s.state.chunk =
-    sym c.in-Ok-vec.buffer.ok.0 ∙ c.in-Ok-vec.ensures.len ∙ ap (λ n. 512 * n) (c.chunk-chunk.ensures.is ∙ ap (λ (t : Kept g.row.B.Denot). t.state.chunk) at ∙ sym (chunk_now v c.args.number c.in-Ok.k admitted place c.len-count.result c.keep_back_all.new.snaps kept s is)) in
+    sym c.in-Ok-vec.buffer.ok.0 ∙ c.in-Ok-vec.ensures.len ∙ ap (λ n. 512 * n) (c.chunk-chunk.ensures.is ∙ ap (λ (t : Kept g.row.B.Denot). t.state.chunk) at ∙ sym (chunk_now v c.args.number c.in-Ok.k admitted place c.len-count.result c.chunk-chunk.result c.keep_back_all.new.snaps kept s is)) in
     let counts : c.len-count.result ≡ length (get_or v.snaps c.in-Ok.k s).pairs = c.len-count.ensures ∙ ap (λ (t : Kept g.row.B.Denot). length t.pairs) (c.index-2.ensures ∙ get_or_default v.snaps c.in-Ok.k c.index-2.result.now s lt) in
-    let mine = number_now v c.args.number c.in-Ok.k admitted place c.len-count.result c.keep_back_all.new.snaps kept s is in
+    let chunks : c.chunk-chunk.result ≡ (get_or v.snaps c.in-Ok.k s).state.chunk = c.chunk-chunk.ensures.is ∙ ap (λ (t : Kept g.row.B.Denot). t.state.chunk) at in
+    let mine = number_now v c.args.number c.in-Ok.k admitted place c.len-count.result c.chunk-chunk.result c.keep_back_all.new.snaps kept s is in
     let e = c.into_store.ensures in
     let made = c.replace.ensures.after ∙ ap Some (c.begin-begun.ensures.begun ∙ made_from s c.args.number c.into_store.result.device c.into_store.result.state c.into_store.result.places.next (committed c.into_store.result.exceptions) c.in-Ok-vec.buffer.items mine e.device e.state e.next e.pairs) in
     let left = c.remove-snap.ensures.items ∙ ap (λ (xs : List (Kept g.row.B.Denot)). remove xs c.in-Ok.k) after in
-    λ _. rw (← c.self.view_is, left, made) (plain_after v c.args.number c.in-Ok.k admitted place c.len-count.result c.keep_back_all.new.snaps kept s is g.B.Block.contents g.B.Block.layers g.B.Block.size c.self.invariant c.in-Ok-vec.buffer.items sized counts)
+    λ _. rw (← c.self.view_is, left, made) (plain_after v c.args.number c.in-Ok.k admitted place c.len-count.result c.chunk-chunk.result c.keep_back_all.new.snaps kept s is g.B.Block.contents g.B.Block.layers g.B.Block.size c.self.invariant c.in-Ok-vec.buffer.items sized counts chunks)
 
 pub returns-clause-exact : goal.returns-clause-exact
 returns-clause-exact g c =
@@ -186,19 +189,20 @@ returns-clause-exact g c =
     let admitted : begin_refusal c.args.number v ≡ None = ap (begin_refusal c.args.number) c.self.view_is ∙ c.in-Ok.ensures.ok.0 in
     let place : Some c.in-Ok.k ≡ place_of_snap c.args.number v.snaps = c.in-Ok.ensures.ok.1 ∙ ap (λ (x : Volumed g.row.B.Denot). place_of_snap c.args.number x.snaps) (sym c.self.view_is) in
     let after = back c.self.inside.snaps.len c.keep_back_all.new.snaps c.self.inside.snaps.items (c.keep_back_all.auto.snaps ∙ c.as_mut_slice.ensures.len) in
-    let kept : c.keep_back_all.new.snaps ≡ map (kept_for c.args.number c.len-count.result) v.snaps = c.in-Ok-keep_back_all.ensures.ok ∙ ap (map (kept_for c.args.number c.len-count.result)) c.as_mut_slice.ensures.value in
+    let kept : c.keep_back_all.new.snaps ≡ map (kept_for c.args.number c.len-count.result c.chunk-chunk.result) v.snaps = c.in-Ok-keep_back_all.ensures.ok ∙ ap (map (kept_for c.args.number c.len-count.result c.chunk-chunk.result)) c.as_mut_slice.ensures.value in
     let s : Kept g.row.B.Denot = c.remove-snap.result in
     let is : s ≡ get_or c.keep_back_all.new.snaps c.in-Ok.k s = c.remove-snap.ensures.value ∙ ap (λ (xs : List (Kept g.row.B.Denot)). get_or xs c.in-Ok.k s) after in
     let lt = within v c.args.number c.in-Ok.k admitted place in
     let at : c.index.result.now ≡ get_or v.snaps c.in-Ok.k s = c.index.ensures ∙ get_or_default v.snaps c.in-Ok.k c.index.result.now s lt in
     let sized : length c.in-Ok-vec.buffer.items ≡ 512 * s.state.chunk =
-    sym c.in-Ok-vec.buffer.ok.0 ∙ c.in-Ok-vec.ensures.len ∙ ap (λ n. 512 * n) (c.chunk-chunk.ensures.is ∙ ap (λ (t : Kept g.row.B.Denot). t.state.chunk) at ∙ sym (chunk_now v c.args.number c.in-Ok.k admitted place c.len-count.result c.keep_back_all.new.snaps kept s is)) in
+    sym c.in-Ok-vec.buffer.ok.0 ∙ c.in-Ok-vec.ensures.len ∙ ap (λ n. 512 * n) (c.chunk-chunk.ensures.is ∙ ap (λ (t : Kept g.row.B.Denot). t.state.chunk) at ∙ sym (chunk_now v c.args.number c.in-Ok.k admitted place c.len-count.result c.chunk-chunk.result c.keep_back_all.new.snaps kept s is)) in
     let counts : c.len-count.result ≡ length (get_or v.snaps c.in-Ok.k s).pairs = c.len-count.ensures ∙ ap (λ (t : Kept g.row.B.Denot). length t.pairs) (c.index-2.ensures ∙ get_or_default v.snaps c.in-Ok.k c.index-2.result.now s lt) in
-    let mine = number_now v c.args.number c.in-Ok.k admitted place c.len-count.result c.keep_back_all.new.snaps kept s is in
+    let chunks : c.chunk-chunk.result ≡ (get_or v.snaps c.in-Ok.k s).state.chunk = c.chunk-chunk.ensures.is ∙ ap (λ (t : Kept g.row.B.Denot). t.state.chunk) at in
+    let mine = number_now v c.args.number c.in-Ok.k admitted place c.len-count.result c.chunk-chunk.result c.keep_back_all.new.snaps kept s is in
     let e = c.into_store.ensures in
     let made = c.replace.ensures.after ∙ ap Some (c.begin-begun.ensures.begun ∙ made_from s c.args.number c.into_store.result.device c.into_store.result.state c.into_store.result.places.next (committed c.into_store.result.exceptions) c.in-Ok-vec.buffer.items mine e.device e.state e.next e.pairs) in
     let left = c.remove-snap.ensures.items ∙ ap (λ (xs : List (Kept g.row.B.Denot)). remove xs c.in-Ok.k) after in
-    λ replied. rw (← c.self.view_is, left, made) (exact_after v c.args.number c.in-Ok.k admitted place c.len-count.result c.keep_back_all.new.snaps kept s is g.B.Block.contents g.B.Block.layers g.B.Block.size c.self.invariant c.in-Ok-vec.buffer.items sized counts replied)
+    λ replied. rw (← c.self.view_is, left, made) (exact_after v c.args.number c.in-Ok.k admitted place c.len-count.result c.chunk-chunk.result c.keep_back_all.new.snaps kept s is g.B.Block.contents g.B.Block.layers g.B.Block.size c.self.invariant c.in-Ok-vec.buffer.items sized counts chunks replied)
 
 pub returns-clause-loud : goal.returns-clause-loud
 returns-clause-loud g c =
@@ -206,16 +210,17 @@ returns-clause-loud g c =
     let admitted : begin_refusal c.args.number v ≡ None = ap (begin_refusal c.args.number) c.self.view_is ∙ c.in-Ok.ensures.ok.0 in
     let place : Some c.in-Ok.k ≡ place_of_snap c.args.number v.snaps = c.in-Ok.ensures.ok.1 ∙ ap (λ (x : Volumed g.row.B.Denot). place_of_snap c.args.number x.snaps) (sym c.self.view_is) in
     let after = back c.self.inside.snaps.len c.keep_back_all.new.snaps c.self.inside.snaps.items (c.keep_back_all.auto.snaps ∙ c.as_mut_slice.ensures.len) in
-    let kept : c.keep_back_all.new.snaps ≡ map (kept_for c.args.number c.len-count.result) v.snaps = c.in-Ok-keep_back_all.ensures.ok ∙ ap (map (kept_for c.args.number c.len-count.result)) c.as_mut_slice.ensures.value in
+    let kept : c.keep_back_all.new.snaps ≡ map (kept_for c.args.number c.len-count.result c.chunk-chunk.result) v.snaps = c.in-Ok-keep_back_all.ensures.ok ∙ ap (map (kept_for c.args.number c.len-count.result c.chunk-chunk.result)) c.as_mut_slice.ensures.value in
     let s : Kept g.row.B.Denot = c.remove-snap.result in
     let is : s ≡ get_or c.keep_back_all.new.snaps c.in-Ok.k s = c.remove-snap.ensures.value ∙ ap (λ (xs : List (Kept g.row.B.Denot)). get_or xs c.in-Ok.k s) after in
     let lt = within v c.args.number c.in-Ok.k admitted place in
     let at : c.index.result.now ≡ get_or v.snaps c.in-Ok.k s = c.index.ensures ∙ get_or_default v.snaps c.in-Ok.k c.index.result.now s lt in
     let sized : length c.in-Ok-vec.buffer.items ≡ 512 * s.state.chunk =
-    sym c.in-Ok-vec.buffer.ok.0 ∙ c.in-Ok-vec.ensures.len ∙ ap (λ n. 512 * n) (c.chunk-chunk.ensures.is ∙ ap (λ (t : Kept g.row.B.Denot). t.state.chunk) at ∙ sym (chunk_now v c.args.number c.in-Ok.k admitted place c.len-count.result c.keep_back_all.new.snaps kept s is)) in
+    sym c.in-Ok-vec.buffer.ok.0 ∙ c.in-Ok-vec.ensures.len ∙ ap (λ n. 512 * n) (c.chunk-chunk.ensures.is ∙ ap (λ (t : Kept g.row.B.Denot). t.state.chunk) at ∙ sym (chunk_now v c.args.number c.in-Ok.k admitted place c.len-count.result c.chunk-chunk.result c.keep_back_all.new.snaps kept s is)) in
     let counts : c.len-count.result ≡ length (get_or v.snaps c.in-Ok.k s).pairs = c.len-count.ensures ∙ ap (λ (t : Kept g.row.B.Denot). length t.pairs) (c.index-2.ensures ∙ get_or_default v.snaps c.in-Ok.k c.index-2.result.now s lt) in
-    let mine = number_now v c.args.number c.in-Ok.k admitted place c.len-count.result c.keep_back_all.new.snaps kept s is in
+    let chunks : c.chunk-chunk.result ≡ (get_or v.snaps c.in-Ok.k s).state.chunk = c.chunk-chunk.ensures.is ∙ ap (λ (t : Kept g.row.B.Denot). t.state.chunk) at in
+    let mine = number_now v c.args.number c.in-Ok.k admitted place c.len-count.result c.chunk-chunk.result c.keep_back_all.new.snaps kept s is in
     let e = c.into_store.ensures in
     let made = c.replace.ensures.after ∙ ap Some (c.begin-begun.ensures.begun ∙ made_from s c.args.number c.into_store.result.device c.into_store.result.state c.into_store.result.places.next (committed c.into_store.result.exceptions) c.in-Ok-vec.buffer.items mine e.device e.state e.next e.pairs) in
     let left = c.remove-snap.ensures.items ∙ ap (λ (xs : List (Kept g.row.B.Denot)). remove xs c.in-Ok.k) after in
-    rw (← c.self.view_is, left, made) (loud_after v c.args.number c.in-Ok.k admitted place c.len-count.result c.keep_back_all.new.snaps kept s is g.B.Block.contents g.B.Block.layers g.B.Block.size c.self.invariant c.in-Ok-vec.buffer.items sized counts)
+    rw (← c.self.view_is, left, made) (loud_after v c.args.number c.in-Ok.k admitted place c.len-count.result c.chunk-chunk.result c.keep_back_all.new.snaps kept s is g.B.Block.contents g.B.Block.layers g.B.Block.size c.self.invariant c.in-Ok-vec.buffer.items sized counts chunks)

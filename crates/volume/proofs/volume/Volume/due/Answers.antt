@@ -1,28 +1,24 @@
 -- What is found first is due first, and where nothing is, the volume is quiet.
-use Rattle.std.proofs.Common.{◌≡◌, ◌<◌, true, false, None, Some, refl, sym, ap, map, ◌∙◌, subst}
-use Rattle.std.specs.List.{All}
+use Rattle.std.proofs.Common.{◌≡◌, true, false, None, Some, refl, sym, ap, map, ◌∙◌, subst}
 use Rattle.std.proofs.lemmas.Bool.{false≢true}
 use Rattle.std.specs.Prelude.{IfNone, IfSome, Option}
 use Rattle.plain.specs.declared.event.Event.{Event}
 use Rattle.volume_laws.specs.Due.{due_of}
 use Rattle.volume_laws.specs.MergeDue.{has_group, merge_due as due_of_merge}
-use Rattle.snapshot.specs.Kept.{Kept, due_of_kept, books_of as snap_books}
+use Rattle.snapshot.specs.Kept.{due_of_kept, books_of as snap_books}
 use Rattle.merge.specs.Due.{has_group_of}
 use Rattle.merge.specs.Merging.{Merging, due_of as merging_due, books_of as merging_books}
 use Rattle.volume.specs.Volumed.{Volumed, dues_of, next_of}
-use Rattle.volume.proofs.MergeDue.{next_first, next_merge, next_none, due_all_is, full_begins, quiet_alone, quiet_merging}
+use Rattle.volume.proofs.MergeDue.{next_first, next_merge, next_none, due_all_is, full_starts, quiet_alone, quiet_merging}
 use Rattle.volume.specs.EventKinds.{is_of_merge}
 use Rattle.volume.specs.Leaving.{has_group_in, is_quiet_of}
 use Rattle.volume.proofs.OwnKinds.{due_own, quiet_unmerged}
 use Rattle.volume.proofs.volume.Volume.due.Goals as goal
 
-pub merge_due-requires-clause-some : goal.merge_due-requires-clause-some
-merge_due-requires-clause-some g c = subst (All (λ (s : Kept g.row.B.Denot). 0 < s.state.chunk)) (sym c.deref-in-Some-merge.ensures.value) (λ k d lt. (c.self.invariant.counted k d lt).some)
-
-pub merge_due-requires-clause-begins : goal.merge_due-requires-clause-begins
-merge_due-requires-clause-begins g c = λ q full.
+pub merge_due-requires : goal.merge_due-requires
+merge_due-requires g c =
     let v : Volumed g.row.B.Denot = record { origin = c.self.inside.origin; snaps = c.self.inside.snaps.items; merge = c.self.inside.merge; flights = c.self.inside.flights.items; requests = c.self.inside.requests; copies = c.self.inside.copies; attached = c.self.inside.attached } in
-    full_begins g.B.Block.contents g.B.Block.layers g.B.Block.size v c.self.invariant (g.met.B.Block.small v.origin) c.in-Some-merge.merge q c.in-Some-merge.is full
+    record { begins = λ q full. full_starts g.B.Block.contents g.B.Block.layers g.B.Block.size v c.self.invariant c.in-Some-merge.merge q c.in-Some-merge.is full }
 
 pub returns-in-Some-clause-event : goal.returns-in-Some-clause-event
 returns-in-Some-clause-event g c =

@@ -22,7 +22,7 @@ pub save_waiting-self-inside-requires-clause-room : goal.save_waiting-self-insid
 save_waiting-self-inside-requires-clause-room g c =
     let v : Volumed g.row.B.Denot = record { origin = c.self.inside.origin; snaps = c.self.inside.snaps.items; merge = c.self.inside.merge; flights = c.self.inside.flights.items; requests = c.self.inside.requests; copies = c.self.inside.copies; attached = c.self.inside.attached } in
     let (first, count, i, same) = c.form_group.ensures.fields in
-    formed_can_save g.B.Block.contents g.B.Block.layers g.B.Block.size v c.self.invariant c.in-Some.merge c.in-Some.is c.form_group.new.self first count same c.form_group.ensures.step (g.met.B.Block.small v.origin)
+    formed_can_save g.B.Block.contents g.B.Block.layers g.B.Block.size v c.self.invariant c.in-Some.merge c.in-Some.is c.form_group.new.self first count same c.form_group.ensures.step
 
 pub invariant_of-self-in-Some : goal.invariant_of-self-in-Some
 invariant_of-self-in-Some g c =

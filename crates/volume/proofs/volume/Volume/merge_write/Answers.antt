@@ -3,6 +3,7 @@ use Rattle.std.proofs.Common.{◌≡◌, ◌<◌, ◌*◌, ℕ, length, map, ref
 use Rattle.std.specs.List.{All}
 use Rattle.device.specs.Layers.{is_loud}
 use Rattle.plain.specs.declared.event.Event.TheVariants.{MergeWrite}
+use Rattle.pending.specs.Copies.{count_of}
 use Rattle.volume_laws.specs.Again.{again_of}
 use Rattle.volume_laws.specs.MergeDue.{can_write}
 use Rattle.volume_laws.specs.Published.{is_clear}
@@ -16,46 +17,62 @@ use Rattle.merge_beside.specs.Rooms.{merge_books}
 use Rattle.volume.specs.Volumed.{Volumed}
 use Rattle.volume.proofs.Chunks.{chunks_all}
 use Rattle.volume.proofs.MergeChanging.{DiskStays}
-use Rattle.volume.proofs.MergeDue.{full_begins}
+use Rattle.volume.proofs.MergeDue.{full_begins, full_starts, merged}
 use Rattle.volume.proofs.MergeOperations.{holds_merge, disk_stops, stopped_from, stops_from, due_running, due_unfinished}
 use Rattle.volume.proofs.MergeSaves.{regrouped}
-use Rattle.volume.proofs.MergeWritten.{step_from, write_due, write_tested, written_can_save, written_good, written_exact}
+use Rattle.volume.proofs.MergeWritten.{count_fits, step_from, write_due, write_tested, written_can_save, written_good, written_exact}
 use Rattle.volume.proofs.MovedWrites.{write_stopped}
 use Rattle.volume.proofs.volume.Volume.merge_write.Goals as goal
 
-pub overflow_mul-chunk : goal.overflow_mul-chunk
-overflow_mul-chunk g c =
+pub sectors_of-count-requires : goal.sectors_of-count-requires
+sectors_of-count-requires g c =
     let v : Volumed g.row.B.Denot = record { origin = c.self.inside.origin; snaps = c.self.inside.snaps.items; merge = c.self.inside.merge; flights = c.self.inside.flights.items; requests = c.self.inside.requests; copies = c.self.inside.copies; attached = c.self.inside.attached } in
     let full : full_of c.in-Some.merge.group ≡ Some c.in-Some-full.pair = sym c.in-Some-full.ensures in
     let begins = full_begins g.B.Block.contents g.B.Block.layers g.B.Block.size v c.self.invariant (g.met.B.Block.small v.origin) c.in-Some.merge c.in-Some-full.pair c.in-Some.is full in
     let is = ap (λ (n : ℕ). n * c.in-Some-full.pair.old) c.chunk.ensures.is in
     omega (arith, begins, is)
 
-pub is_clear-requires : goal.is_clear-requires
-is_clear-requires g c =
-    let v : Volumed g.row.B.Denot = record { origin = c.self.inside.origin; snaps = c.self.inside.snaps.items; merge = c.self.inside.merge; flights = c.self.inside.flights.items; requests = c.self.inside.requests; copies = c.self.inside.copies; attached = c.self.inside.attached } in
-    subst (All (λ (x : Kept _). 0 < x.state.chunk)) (sym c.deref.ensures.value) (chunks_all g.B.Block.contents g.B.Block.layers g.B.Block.size v c.self.invariant)
-
-pub returns-then-not-is_clear-clause-due : goal.returns-then-not-is_clear-clause-due
-returns-then-not-is_clear-clause-due g c =
+pub overflow_mul-chunk : goal.overflow_mul-chunk
+overflow_mul-chunk g c =
     let v : Volumed g.row.B.Denot = record { origin = c.self.inside.origin; snaps = c.self.inside.snaps.items; merge = c.self.inside.merge; flights = c.self.inside.flights.items; requests = c.self.inside.requests; copies = c.self.inside.copies; attached = c.self.inside.attached } in
     let full : full_of c.in-Some.merge.group ≡ Some c.in-Some-full.pair = sym c.in-Some-full.ensures in
-    rw (← c.self.view_is) (sym (write_due g.B.Block.contents g.B.Block.layers g.B.Block.size v c.self.invariant c.in-Some.merge c.in-Some.is ∙ write_tested g.B.Block.contents g.B.Block.layers g.B.Block.size v c.self.invariant c.in-Some.merge c.in-Some.is (c.has_group.ensures.looks true) c.in-Some-full.pair full false c.deref.result.now c.chunk.result c.deref.ensures.value c.chunk.ensures.is c.if-not-is_clear.ensures))
+    let begins = full_begins g.B.Block.contents g.B.Block.layers g.B.Block.size v c.self.invariant (g.met.B.Block.small v.origin) c.in-Some.merge c.in-Some-full.pair c.in-Some.is full in
+    let is = ap (λ (n : ℕ). n * c.in-Some-full.pair.old) c.chunk-in-Some.ensures.is in
+    omega (arith, begins, is)
+
+pub is_clear_over-requires : goal.is_clear_over-requires
+is_clear_over-requires g c =
+    let v : Volumed g.row.B.Denot = record { origin = c.self.inside.origin; snaps = c.self.inside.snaps.items; merge = c.self.inside.merge; flights = c.self.inside.flights.items; requests = c.self.inside.requests; copies = c.self.inside.copies; attached = c.self.inside.attached } in
+    let full : full_of c.in-Some.merge.group ≡ Some c.in-Some-full.pair = sym c.in-Some-full.ensures in
+    let begins = full_begins g.B.Block.contents g.B.Block.layers g.B.Block.size v c.self.invariant (g.met.B.Block.small v.origin) c.in-Some.merge c.in-Some-full.pair c.in-Some.is full in
+    let starts = full_starts g.B.Block.contents g.B.Block.layers g.B.Block.size v c.self.invariant c.in-Some.merge c.in-Some-full.pair c.in-Some.is full in
+    let origin = (merged g.B.Block.contents g.B.Block.layers g.B.Block.size v c.self.invariant c.in-Some.merge c.in-Some.is).origin in
+    let small = g.met.B.Block.small v.origin in
+    let is = ap (λ (n : ℕ). n * c.in-Some-full.pair.old) c.chunk-in-Some.ensures.is in
+    let fits = count_fits c.in-Some.merge.state.chunk c.in-Some.merge.state.origin c.in-Some-full.pair.old starts in
+    let count : c.sectors_of-count.result ≡ count_of c.in-Some.merge.state.chunk c.in-Some.merge.state.origin c.in-Some-full.pair.old = (c.sectors_of-count.ensures ∙ ap (λ n. count_of n c.sectors.result c.in-Some-full.pair.old) c.chunk.ensures.is ∙ ap (λ n. count_of c.in-Some.merge.state.chunk n c.in-Some-full.pair.old) c.sectors.ensures) in
+    omega (arith, fits, count, is, origin, small)
+
+pub returns-then-not-is_clear_over-clause-due : goal.returns-then-not-is_clear_over-clause-due
+returns-then-not-is_clear_over-clause-due g c =
+    let v : Volumed g.row.B.Denot = record { origin = c.self.inside.origin; snaps = c.self.inside.snaps.items; merge = c.self.inside.merge; flights = c.self.inside.flights.items; requests = c.self.inside.requests; copies = c.self.inside.copies; attached = c.self.inside.attached } in
+    let full : full_of c.in-Some.merge.group ≡ Some c.in-Some-full.pair = sym c.in-Some-full.ensures in
+    rw (← c.self.view_is) (sym (write_due g.B.Block.contents g.B.Block.layers g.B.Block.size v c.self.invariant c.in-Some.merge c.in-Some.is ∙ write_tested g.B.Block.contents g.B.Block.layers g.B.Block.size v c.self.invariant c.in-Some.merge c.in-Some.is (c.has_group.ensures.looks true) c.in-Some-full.pair full false c.deref.result.now c.chunk-in-Some.result c.sectors_of-count.result c.deref.ensures.value c.chunk-in-Some.ensures.is (c.sectors_of-count.ensures ∙ ap (λ n. count_of n c.sectors.result c.in-Some-full.pair.old) c.chunk.ensures.is ∙ ap (λ n. count_of c.in-Some.merge.state.chunk n c.in-Some-full.pair.old) c.sectors.ensures) c.if-not-is_clear_over.ensures))
 
 pub save_waiting-self-inside-requires-clause-room : goal.save_waiting-self-inside-requires-clause-room
 save_waiting-self-inside-requires-clause-room g c =
     let v : Volumed g.row.B.Denot = record { origin = c.self.inside.origin; snaps = c.self.inside.snaps.items; merge = c.self.inside.merge; flights = c.self.inside.flights.items; requests = c.self.inside.requests; copies = c.self.inside.copies; attached = c.self.inside.attached } in
     let full : full_of c.in-Some.merge.group ≡ Some c.in-Some-full.pair = sym c.in-Some-full.ensures in
-    let due : can_write (map (snap_books g.B.Block.contents g.B.Block.layers) v.snaps) (merging_books g.B.Block.contents true c.in-Some.merge) ≡ true = write_tested g.B.Block.contents g.B.Block.layers g.B.Block.size v c.self.invariant c.in-Some.merge c.in-Some.is (c.has_group.ensures.looks true) c.in-Some-full.pair full true c.deref.result.now c.chunk.result c.deref.ensures.value c.chunk.ensures.is c.if-not-is_clear.ensures in
+    let due : can_write (map (snap_books g.B.Block.contents g.B.Block.layers) v.snaps) (merging_books g.B.Block.contents true c.in-Some.merge) ≡ true = write_tested g.B.Block.contents g.B.Block.layers g.B.Block.size v c.self.invariant c.in-Some.merge c.in-Some.is (c.has_group.ensures.looks true) c.in-Some-full.pair full true c.deref.result.now c.chunk-in-Some.result c.sectors_of-count.result c.deref.ensures.value c.chunk-in-Some.ensures.is (c.sectors_of-count.ensures ∙ ap (λ n. count_of n c.sectors.result c.in-Some-full.pair.old) c.chunk.ensures.is ∙ ap (λ n. count_of c.in-Some.merge.state.chunk n c.in-Some-full.pair.old) c.sectors.ensures) c.if-not-is_clear_over.ensures in
     let step = step_from g.B.Block.contents (is_loud (g.B.Block.layers v.origin)) (g.B.Block.contents v.origin) (g.B.Block.contents c.write_chunk.new.origin) c.in-Some-full.pair c.in-Some.merge c.write_chunk.new.self (regrouped c.in-Some.merge (changed written_in c.in-Some.merge.group)) c.in-Ok.ensures.fields (c.in-Ok.ensures.step c.in-Some-full.pair full) in
     let disk : DiskStays g.B.Block.layers g.B.Block.size v.origin c.write_chunk.new.origin = record { sectors = c.in-Ok.ensures.size; loud = c.in-Ok.ensures.loud } in
-    written_can_save g.B.Block.contents g.B.Block.layers g.B.Block.size v c.self.invariant c.in-Some.merge c.in-Some.is c.write_chunk.new.origin disk (changed written_in c.in-Some.merge.group) c.in-Some-full.pair due step c.write_chunk.new.self c.in-Ok.ensures.fields (g.met.B.Block.small v.origin)
+    written_can_save g.B.Block.contents g.B.Block.layers g.B.Block.size v c.self.invariant c.in-Some.merge c.in-Some.is c.write_chunk.new.origin disk (changed written_in c.in-Some.merge.group) c.in-Some-full.pair due step c.write_chunk.new.self c.in-Ok.ensures.fields
 
 pub invariant_of-self-in-Ok : goal.invariant_of-self-in-Ok
 invariant_of-self-in-Ok g c =
     let v : Volumed g.row.B.Denot = record { origin = c.self.inside.origin; snaps = c.self.inside.snaps.items; merge = c.self.inside.merge; flights = c.self.inside.flights.items; requests = c.self.inside.requests; copies = c.self.inside.copies; attached = c.self.inside.attached } in
     let full : full_of c.in-Some.merge.group ≡ Some c.in-Some-full.pair = sym c.in-Some-full.ensures in
-    let due : can_write (map (snap_books g.B.Block.contents g.B.Block.layers) v.snaps) (merging_books g.B.Block.contents true c.in-Some.merge) ≡ true = write_tested g.B.Block.contents g.B.Block.layers g.B.Block.size v c.self.invariant c.in-Some.merge c.in-Some.is (c.has_group.ensures.looks true) c.in-Some-full.pair full true c.deref.result.now c.chunk.result c.deref.ensures.value c.chunk.ensures.is c.if-not-is_clear.ensures in
+    let due : can_write (map (snap_books g.B.Block.contents g.B.Block.layers) v.snaps) (merging_books g.B.Block.contents true c.in-Some.merge) ≡ true = write_tested g.B.Block.contents g.B.Block.layers g.B.Block.size v c.self.invariant c.in-Some.merge c.in-Some.is (c.has_group.ensures.looks true) c.in-Some-full.pair full true c.deref.result.now c.chunk-in-Some.result c.sectors_of-count.result c.deref.ensures.value c.chunk-in-Some.ensures.is (c.sectors_of-count.ensures ∙ ap (λ n. count_of n c.sectors.result c.in-Some-full.pair.old) c.chunk.ensures.is ∙ ap (λ n. count_of c.in-Some.merge.state.chunk n c.in-Some-full.pair.old) c.sectors.ensures) c.if-not-is_clear_over.ensures in
     let step = step_from g.B.Block.contents (is_loud (g.B.Block.layers v.origin)) (g.B.Block.contents v.origin) (g.B.Block.contents c.write_chunk.new.origin) c.in-Some-full.pair c.in-Some.merge c.write_chunk.new.self (regrouped c.in-Some.merge (changed written_in c.in-Some.merge.group)) c.in-Ok.ensures.fields (c.in-Ok.ensures.step c.in-Some-full.pair full) in
     let disk : DiskStays g.B.Block.layers g.B.Block.size v.origin c.write_chunk.new.origin = record { sectors = c.in-Ok.ensures.size; loud = c.in-Ok.ensures.loud } in
     let one = c.in-Ok.ensures.operation c.in-Some-full.pair full in
@@ -65,7 +82,7 @@ pub returns-in-Ok-clause-step : goal.returns-in-Ok-clause-step
 returns-in-Ok-clause-step g c =
     let v : Volumed g.row.B.Denot = record { origin = c.self.inside.origin; snaps = c.self.inside.snaps.items; merge = c.self.inside.merge; flights = c.self.inside.flights.items; requests = c.self.inside.requests; copies = c.self.inside.copies; attached = c.self.inside.attached } in
     let full : full_of c.in-Some.merge.group ≡ Some c.in-Some-full.pair = sym c.in-Some-full.ensures in
-    let due : can_write (map (snap_books g.B.Block.contents g.B.Block.layers) v.snaps) (merging_books g.B.Block.contents true c.in-Some.merge) ≡ true = write_tested g.B.Block.contents g.B.Block.layers g.B.Block.size v c.self.invariant c.in-Some.merge c.in-Some.is (c.has_group.ensures.looks true) c.in-Some-full.pair full true c.deref.result.now c.chunk.result c.deref.ensures.value c.chunk.ensures.is c.if-not-is_clear.ensures in
+    let due : can_write (map (snap_books g.B.Block.contents g.B.Block.layers) v.snaps) (merging_books g.B.Block.contents true c.in-Some.merge) ≡ true = write_tested g.B.Block.contents g.B.Block.layers g.B.Block.size v c.self.invariant c.in-Some.merge c.in-Some.is (c.has_group.ensures.looks true) c.in-Some-full.pair full true c.deref.result.now c.chunk-in-Some.result c.sectors_of-count.result c.deref.ensures.value c.chunk-in-Some.ensures.is (c.sectors_of-count.ensures ∙ ap (λ n. count_of n c.sectors.result c.in-Some-full.pair.old) c.chunk.ensures.is ∙ ap (λ n. count_of c.in-Some.merge.state.chunk n c.in-Some-full.pair.old) c.sectors.ensures) c.if-not-is_clear_over.ensures in
     let step = step_from g.B.Block.contents (is_loud (g.B.Block.layers v.origin)) (g.B.Block.contents v.origin) (g.B.Block.contents c.write_chunk.new.origin) c.in-Some-full.pair c.in-Some.merge c.write_chunk.new.self (regrouped c.in-Some.merge (changed written_in c.in-Some.merge.group)) c.in-Ok.ensures.fields (c.in-Ok.ensures.step c.in-Some-full.pair full) in
     let disk : DiskStays g.B.Block.layers g.B.Block.size v.origin c.write_chunk.new.origin = record { sectors = c.in-Ok.ensures.size; loud = c.in-Ok.ensures.loud } in
     let one = c.in-Ok.ensures.operation c.in-Some-full.pair full in
@@ -75,7 +92,7 @@ pub returns-in-Ok-clause-exact : goal.returns-in-Ok-clause-exact
 returns-in-Ok-clause-exact g c =
     let v : Volumed g.row.B.Denot = record { origin = c.self.inside.origin; snaps = c.self.inside.snaps.items; merge = c.self.inside.merge; flights = c.self.inside.flights.items; requests = c.self.inside.requests; copies = c.self.inside.copies; attached = c.self.inside.attached } in
     let full : full_of c.in-Some.merge.group ≡ Some c.in-Some-full.pair = sym c.in-Some-full.ensures in
-    let due : can_write (map (snap_books g.B.Block.contents g.B.Block.layers) v.snaps) (merging_books g.B.Block.contents true c.in-Some.merge) ≡ true = write_tested g.B.Block.contents g.B.Block.layers g.B.Block.size v c.self.invariant c.in-Some.merge c.in-Some.is (c.has_group.ensures.looks true) c.in-Some-full.pair full true c.deref.result.now c.chunk.result c.deref.ensures.value c.chunk.ensures.is c.if-not-is_clear.ensures in
+    let due : can_write (map (snap_books g.B.Block.contents g.B.Block.layers) v.snaps) (merging_books g.B.Block.contents true c.in-Some.merge) ≡ true = write_tested g.B.Block.contents g.B.Block.layers g.B.Block.size v c.self.invariant c.in-Some.merge c.in-Some.is (c.has_group.ensures.looks true) c.in-Some-full.pair full true c.deref.result.now c.chunk-in-Some.result c.sectors_of-count.result c.deref.ensures.value c.chunk-in-Some.ensures.is (c.sectors_of-count.ensures ∙ ap (λ n. count_of n c.sectors.result c.in-Some-full.pair.old) c.chunk.ensures.is ∙ ap (λ n. count_of c.in-Some.merge.state.chunk n c.in-Some-full.pair.old) c.sectors.ensures) c.if-not-is_clear_over.ensures in
     let step = step_from g.B.Block.contents (is_loud (g.B.Block.layers v.origin)) (g.B.Block.contents v.origin) (g.B.Block.contents c.write_chunk.new.origin) c.in-Some-full.pair c.in-Some.merge c.write_chunk.new.self (regrouped c.in-Some.merge (changed written_in c.in-Some.merge.group)) c.in-Ok.ensures.fields (c.in-Ok.ensures.step c.in-Some-full.pair full) in
     let disk : DiskStays g.B.Block.layers g.B.Block.size v.origin c.write_chunk.new.origin = record { sectors = c.in-Ok.ensures.size; loud = c.in-Ok.ensures.loud } in
     let one = c.in-Ok.ensures.operation c.in-Some-full.pair full in
@@ -85,20 +102,20 @@ pub returns-in-Ok-clause-due : goal.returns-in-Ok-clause-due
 returns-in-Ok-clause-due g c =
     let v : Volumed g.row.B.Denot = record { origin = c.self.inside.origin; snaps = c.self.inside.snaps.items; merge = c.self.inside.merge; flights = c.self.inside.flights.items; requests = c.self.inside.requests; copies = c.self.inside.copies; attached = c.self.inside.attached } in
     let full : full_of c.in-Some.merge.group ≡ Some c.in-Some-full.pair = sym c.in-Some-full.ensures in
-    rw (← c.self.view_is) (sym (write_due g.B.Block.contents g.B.Block.layers g.B.Block.size v c.self.invariant c.in-Some.merge c.in-Some.is ∙ write_tested g.B.Block.contents g.B.Block.layers g.B.Block.size v c.self.invariant c.in-Some.merge c.in-Some.is (c.has_group.ensures.looks true) c.in-Some-full.pair full true c.deref.result.now c.chunk.result c.deref.ensures.value c.chunk.ensures.is c.if-not-is_clear.ensures))
+    rw (← c.self.view_is) (sym (write_due g.B.Block.contents g.B.Block.layers g.B.Block.size v c.self.invariant c.in-Some.merge c.in-Some.is ∙ write_tested g.B.Block.contents g.B.Block.layers g.B.Block.size v c.self.invariant c.in-Some.merge c.in-Some.is (c.has_group.ensures.looks true) c.in-Some-full.pair full true c.deref.result.now c.chunk-in-Some.result c.sectors_of-count.result c.deref.ensures.value c.chunk-in-Some.ensures.is (c.sectors_of-count.ensures ∙ ap (λ n. count_of n c.sectors.result c.in-Some-full.pair.old) c.chunk.ensures.is ∙ ap (λ n. count_of c.in-Some.merge.state.chunk n c.in-Some-full.pair.old) c.sectors.ensures) c.if-not-is_clear_over.ensures))
 
 pub fail-requires-clause-running : goal.fail-requires-clause-running
 fail-requires-clause-running g c =
     let v : Volumed g.row.B.Denot = record { origin = c.self.inside.origin; snaps = c.self.inside.snaps.items; merge = c.self.inside.merge; flights = c.self.inside.flights.items; requests = c.self.inside.requests; copies = c.self.inside.copies; attached = c.self.inside.attached } in
     let full : full_of c.in-Some.merge.group ≡ Some c.in-Some-full.pair = sym c.in-Some-full.ensures in
-    let due : can_write (map (snap_books g.B.Block.contents g.B.Block.layers) v.snaps) (merging_books g.B.Block.contents true c.in-Some.merge) ≡ true = write_tested g.B.Block.contents g.B.Block.layers g.B.Block.size v c.self.invariant c.in-Some.merge c.in-Some.is (c.has_group.ensures.looks true) c.in-Some-full.pair full true c.deref.result.now c.chunk.result c.deref.ensures.value c.chunk.ensures.is c.if-not-is_clear.ensures in
+    let due : can_write (map (snap_books g.B.Block.contents g.B.Block.layers) v.snaps) (merging_books g.B.Block.contents true c.in-Some.merge) ≡ true = write_tested g.B.Block.contents g.B.Block.layers g.B.Block.size v c.self.invariant c.in-Some.merge c.in-Some.is (c.has_group.ensures.looks true) c.in-Some-full.pair full true c.deref.result.now c.chunk-in-Some.result c.sectors_of-count.result c.deref.ensures.value c.chunk-in-Some.ensures.is (c.sectors_of-count.ensures ∙ ap (λ n. count_of n c.sectors.result c.in-Some-full.pair.old) c.chunk.ensures.is ∙ ap (λ n. count_of c.in-Some.merge.state.chunk n c.in-Some-full.pair.old) c.sectors.ensures) c.if-not-is_clear_over.ensures in
     ap (λ x. x.failed) c.in-Err.ensures.kept ∙ due_running g.B.Block.contents g.B.Block.layers g.B.Block.size g.B.Block.fault_count g.B.Block.done_count v c.self.invariant c.in-Some.merge c.in-Some.is MergeWrite due
 
 pub fail-requires-clause-unfinished : goal.fail-requires-clause-unfinished
 fail-requires-clause-unfinished g c =
     let v : Volumed g.row.B.Denot = record { origin = c.self.inside.origin; snaps = c.self.inside.snaps.items; merge = c.self.inside.merge; flights = c.self.inside.flights.items; requests = c.self.inside.requests; copies = c.self.inside.copies; attached = c.self.inside.attached } in
     let full : full_of c.in-Some.merge.group ≡ Some c.in-Some-full.pair = sym c.in-Some-full.ensures in
-    let due : can_write (map (snap_books g.B.Block.contents g.B.Block.layers) v.snaps) (merging_books g.B.Block.contents true c.in-Some.merge) ≡ true = write_tested g.B.Block.contents g.B.Block.layers g.B.Block.size v c.self.invariant c.in-Some.merge c.in-Some.is (c.has_group.ensures.looks true) c.in-Some-full.pair full true c.deref.result.now c.chunk.result c.deref.ensures.value c.chunk.ensures.is c.if-not-is_clear.ensures in
+    let due : can_write (map (snap_books g.B.Block.contents g.B.Block.layers) v.snaps) (merging_books g.B.Block.contents true c.in-Some.merge) ≡ true = write_tested g.B.Block.contents g.B.Block.layers g.B.Block.size v c.self.invariant c.in-Some.merge c.in-Some.is (c.has_group.ensures.looks true) c.in-Some-full.pair full true c.deref.result.now c.chunk-in-Some.result c.sectors_of-count.result c.deref.ensures.value c.chunk-in-Some.ensures.is (c.sectors_of-count.ensures ∙ ap (λ n. count_of n c.sectors.result c.in-Some-full.pair.old) c.chunk.ensures.is ∙ ap (λ n. count_of c.in-Some.merge.state.chunk n c.in-Some-full.pair.old) c.sectors.ensures) c.if-not-is_clear_over.ensures in
     subst (λ ps. 0 < length ps) (sym (ap (λ x. x.pairs) c.in-Err.ensures.kept)) (due_unfinished g.B.Block.contents g.B.Block.layers g.B.Block.size g.B.Block.fault_count g.B.Block.done_count v c.self.invariant c.in-Some.merge c.in-Some.is MergeWrite (λ e. cc) due)
 
 pub route_again-requires : goal.route_again-requires
@@ -110,7 +127,7 @@ pub invariant_of-self-in-Err : goal.invariant_of-self-in-Err
 invariant_of-self-in-Err g c =
     let v : Volumed g.row.B.Denot = record { origin = c.self.inside.origin; snaps = c.self.inside.snaps.items; merge = c.self.inside.merge; flights = c.self.inside.flights.items; requests = c.self.inside.requests; copies = c.self.inside.copies; attached = c.self.inside.attached } in
     let full : full_of c.in-Some.merge.group ≡ Some c.in-Some-full.pair = sym c.in-Some-full.ensures in
-    let due : can_write (map (snap_books g.B.Block.contents g.B.Block.layers) v.snaps) (merging_books g.B.Block.contents true c.in-Some.merge) ≡ true = write_tested g.B.Block.contents g.B.Block.layers g.B.Block.size v c.self.invariant c.in-Some.merge c.in-Some.is (c.has_group.ensures.looks true) c.in-Some-full.pair full true c.deref.result.now c.chunk.result c.deref.ensures.value c.chunk.ensures.is c.if-not-is_clear.ensures in
+    let due : can_write (map (snap_books g.B.Block.contents g.B.Block.layers) v.snaps) (merging_books g.B.Block.contents true c.in-Some.merge) ≡ true = write_tested g.B.Block.contents g.B.Block.layers g.B.Block.size v c.self.invariant c.in-Some.merge c.in-Some.is (c.has_group.ensures.looks true) c.in-Some-full.pair full true c.deref.result.now c.chunk-in-Some.result c.sectors_of-count.result c.deref.ensures.value c.chunk-in-Some.ensures.is (c.sectors_of-count.ensures ∙ ap (λ n. count_of n c.sectors.result c.in-Some-full.pair.old) c.chunk.ensures.is ∙ ap (λ n. count_of c.in-Some.merge.state.chunk n c.in-Some-full.pair.old) c.sectors.ensures) c.if-not-is_clear_over.ensures in
     let flights = c.route_again.ensures ∙ ap (λ xs. map (again_of (merge_books g.B.Block.contents g.B.Block.layers true (Some c.fail.new.self)) (is_clear (map (snap_books g.B.Block.contents g.B.Block.layers) xs))) c.self.inside.flights.items) c.deref-in-Err.ensures.value in
     let fields = stopped_from c.in-Some.merge c.write_chunk.new.self c.fail.new.self c.fail.ensures.fields c.in-Err.ensures.kept in
     let step = stops_from g.B.Block.contents c.in-Some.merge c.write_chunk.new.self c.fail.new.self c.in-Err.ensures.kept c.fail.ensures.step in
@@ -130,7 +147,7 @@ pub returns-in-Err-clause-step : goal.returns-in-Err-clause-step
 returns-in-Err-clause-step g c =
     let v : Volumed g.row.B.Denot = record { origin = c.self.inside.origin; snaps = c.self.inside.snaps.items; merge = c.self.inside.merge; flights = c.self.inside.flights.items; requests = c.self.inside.requests; copies = c.self.inside.copies; attached = c.self.inside.attached } in
     let full : full_of c.in-Some.merge.group ≡ Some c.in-Some-full.pair = sym c.in-Some-full.ensures in
-    let due : can_write (map (snap_books g.B.Block.contents g.B.Block.layers) v.snaps) (merging_books g.B.Block.contents true c.in-Some.merge) ≡ true = write_tested g.B.Block.contents g.B.Block.layers g.B.Block.size v c.self.invariant c.in-Some.merge c.in-Some.is (c.has_group.ensures.looks true) c.in-Some-full.pair full true c.deref.result.now c.chunk.result c.deref.ensures.value c.chunk.ensures.is c.if-not-is_clear.ensures in
+    let due : can_write (map (snap_books g.B.Block.contents g.B.Block.layers) v.snaps) (merging_books g.B.Block.contents true c.in-Some.merge) ≡ true = write_tested g.B.Block.contents g.B.Block.layers g.B.Block.size v c.self.invariant c.in-Some.merge c.in-Some.is (c.has_group.ensures.looks true) c.in-Some-full.pair full true c.deref.result.now c.chunk-in-Some.result c.sectors_of-count.result c.deref.ensures.value c.chunk-in-Some.ensures.is (c.sectors_of-count.ensures ∙ ap (λ n. count_of n c.sectors.result c.in-Some-full.pair.old) c.chunk.ensures.is ∙ ap (λ n. count_of c.in-Some.merge.state.chunk n c.in-Some-full.pair.old) c.sectors.ensures) c.if-not-is_clear_over.ensures in
     let flights = c.route_again.ensures ∙ ap (λ xs. map (again_of (merge_books g.B.Block.contents g.B.Block.layers true (Some c.fail.new.self)) (is_clear (map (snap_books g.B.Block.contents g.B.Block.layers) xs))) c.self.inside.flights.items) c.deref-in-Err.ensures.value in
     let fields = stopped_from c.in-Some.merge c.write_chunk.new.self c.fail.new.self c.fail.ensures.fields c.in-Err.ensures.kept in
     let step = stops_from g.B.Block.contents c.in-Some.merge c.write_chunk.new.self c.fail.new.self c.in-Err.ensures.kept c.fail.ensures.step in
@@ -150,7 +167,7 @@ pub returns-in-Err-clause-exact : goal.returns-in-Err-clause-exact
 returns-in-Err-clause-exact g c =
     let v : Volumed g.row.B.Denot = record { origin = c.self.inside.origin; snaps = c.self.inside.snaps.items; merge = c.self.inside.merge; flights = c.self.inside.flights.items; requests = c.self.inside.requests; copies = c.self.inside.copies; attached = c.self.inside.attached } in
     let full : full_of c.in-Some.merge.group ≡ Some c.in-Some-full.pair = sym c.in-Some-full.ensures in
-    let due : can_write (map (snap_books g.B.Block.contents g.B.Block.layers) v.snaps) (merging_books g.B.Block.contents true c.in-Some.merge) ≡ true = write_tested g.B.Block.contents g.B.Block.layers g.B.Block.size v c.self.invariant c.in-Some.merge c.in-Some.is (c.has_group.ensures.looks true) c.in-Some-full.pair full true c.deref.result.now c.chunk.result c.deref.ensures.value c.chunk.ensures.is c.if-not-is_clear.ensures in
+    let due : can_write (map (snap_books g.B.Block.contents g.B.Block.layers) v.snaps) (merging_books g.B.Block.contents true c.in-Some.merge) ≡ true = write_tested g.B.Block.contents g.B.Block.layers g.B.Block.size v c.self.invariant c.in-Some.merge c.in-Some.is (c.has_group.ensures.looks true) c.in-Some-full.pair full true c.deref.result.now c.chunk-in-Some.result c.sectors_of-count.result c.deref.ensures.value c.chunk-in-Some.ensures.is (c.sectors_of-count.ensures ∙ ap (λ n. count_of n c.sectors.result c.in-Some-full.pair.old) c.chunk.ensures.is ∙ ap (λ n. count_of c.in-Some.merge.state.chunk n c.in-Some-full.pair.old) c.sectors.ensures) c.if-not-is_clear_over.ensures in
     let flights = c.route_again.ensures ∙ ap (λ xs. map (again_of (merge_books g.B.Block.contents g.B.Block.layers true (Some c.fail.new.self)) (is_clear (map (snap_books g.B.Block.contents g.B.Block.layers) xs))) c.self.inside.flights.items) c.deref-in-Err.ensures.value in
     let fields = stopped_from c.in-Some.merge c.write_chunk.new.self c.fail.new.self c.fail.ensures.fields c.in-Err.ensures.kept in
     let step = stops_from g.B.Block.contents c.in-Some.merge c.write_chunk.new.self c.fail.new.self c.in-Err.ensures.kept c.fail.ensures.step in
@@ -162,4 +179,4 @@ pub returns-in-Err-clause-due : goal.returns-in-Err-clause-due
 returns-in-Err-clause-due g c =
     let v : Volumed g.row.B.Denot = record { origin = c.self.inside.origin; snaps = c.self.inside.snaps.items; merge = c.self.inside.merge; flights = c.self.inside.flights.items; requests = c.self.inside.requests; copies = c.self.inside.copies; attached = c.self.inside.attached } in
     let full : full_of c.in-Some.merge.group ≡ Some c.in-Some-full.pair = sym c.in-Some-full.ensures in
-    rw (← c.self.view_is) (sym (write_due g.B.Block.contents g.B.Block.layers g.B.Block.size v c.self.invariant c.in-Some.merge c.in-Some.is ∙ write_tested g.B.Block.contents g.B.Block.layers g.B.Block.size v c.self.invariant c.in-Some.merge c.in-Some.is (c.has_group.ensures.looks true) c.in-Some-full.pair full true c.deref.result.now c.chunk.result c.deref.ensures.value c.chunk.ensures.is c.if-not-is_clear.ensures))
+    rw (← c.self.view_is) (sym (write_due g.B.Block.contents g.B.Block.layers g.B.Block.size v c.self.invariant c.in-Some.merge c.in-Some.is ∙ write_tested g.B.Block.contents g.B.Block.layers g.B.Block.size v c.self.invariant c.in-Some.merge c.in-Some.is (c.has_group.ensures.looks true) c.in-Some-full.pair full true c.deref.result.now c.chunk-in-Some.result c.sectors_of-count.result c.deref.ensures.value c.chunk-in-Some.ensures.is (c.sectors_of-count.ensures ∙ ap (λ n. count_of n c.sectors.result c.in-Some-full.pair.old) c.chunk.ensures.is ∙ ap (λ n. count_of c.in-Some.merge.state.chunk n c.in-Some-full.pair.old) c.sectors.ensures) c.if-not-is_clear_over.ensures))

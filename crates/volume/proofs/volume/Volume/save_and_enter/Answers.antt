@@ -11,7 +11,7 @@ use Rattle.snapshot.specs.Kept.{Kept, books_of as snap_books}
 use Rattle.merge_beside.specs.Routing.{is_merged_at}
 use Rattle.volume.specs.Volumed.{Volumed, piece_with}
 use Rattle.snapshots.specs.Numbers.{count_in}
-use Rattle.snapshots.specs.Starting.{unroomed, starts, AreSavedIn, HaveRooms}
+use Rattle.snapshots.specs.Starting.{unroomed, starts, AreSavedIn, HaveRooms, own_of}
 use Rattle.volume.specs.Submitting.{IsAsked, IsAcceptedAs}
 use Rattle.volume.proofs.Roomed.{whole_roomed}
 use Rattle.volume.proofs.Finishes.{back, begins_all, some_all, written_whole, written_accepted}
@@ -73,9 +73,9 @@ is_clear-requires g c =
     let gs = c.save_in_all-self-inside.new.flights in
     let after = c.save_in_all-self-inside.new.snaps in
     let flights3 = c.as_mut_slice-3.ensures.value ∙ c.reserve.ensures.items in
-    let saved : AreSavedIn g.B.Block.contents g.B.Block.layers c.args.request.range.first c.take_rooms.new.snaps c.save_in_all-self-inside.new.snaps c.self.inside.copies c.save_in_all-self-inside.result c.self.inside.flights.items c.save_in_all-self-inside.new.flights =
-    subst (λ (x : List (Kept g.row.B.Denot)). AreSavedIn g.B.Block.contents g.B.Block.layers c.args.request.range.first x c.save_in_all-self-inside.new.snaps c.self.inside.copies c.save_in_all-self-inside.result c.self.inside.flights.items c.save_in_all-self-inside.new.flights) now2
-    (subst (λ (x : List Flight). AreSavedIn g.B.Block.contents g.B.Block.layers c.args.request.range.first c.as_mut_slice-2.result.now c.save_in_all-self-inside.new.snaps c.self.inside.copies c.save_in_all-self-inside.result x c.save_in_all-self-inside.new.flights) flights3 c.save_in_all-self-inside.ensures.saved) in
+    let saved : AreSavedIn g.B.Block.contents g.B.Block.layers (own_of c.args.request.range.first) c.take_rooms.new.snaps c.save_in_all-self-inside.new.snaps c.self.inside.copies c.save_in_all-self-inside.result c.self.inside.flights.items c.save_in_all-self-inside.new.flights =
+    subst (λ (x : List (Kept g.row.B.Denot)). AreSavedIn g.B.Block.contents g.B.Block.layers (own_of c.args.request.range.first) x c.save_in_all-self-inside.new.snaps c.self.inside.copies c.save_in_all-self-inside.result c.self.inside.flights.items c.save_in_all-self-inside.new.flights) now2
+    (subst (λ (x : List Flight). AreSavedIn g.B.Block.contents g.B.Block.layers (own_of c.args.request.range.first) c.as_mut_slice-2.result.now c.save_in_all-self-inside.new.snaps c.self.inside.copies c.save_in_all-self-inside.result x c.save_in_all-self-inside.new.flights) flights3 c.save_in_all-self-inside.ensures.saved) in
     let back_snaps = back c.self.inside.snaps.len c.save_in_all-self-inside.new.snaps (take c.self.inside.snaps.len (c.take_rooms.new.snaps ++ drop (length c.take_rooms.new.snaps) c.self.inside.snaps.items)) (c.save_in_all-self-inside.auto.snaps ∙ c.as_mut_slice-2.ensures.len) in
     subst (λ (x : List (Kept g.row.B.Denot)). All (λ s. 0 < s.state.chunk) x) (sym (c.as_slice.ensures.value ∙ back_snaps))
     (some_all g.B.Block.contents g.B.Block.layers g.B.Block.size v c.self.invariant c.take_rooms.new.snaps same c.args.request.range.first c.save_in_all-self-inside.new.snaps c.self.inside.copies c.save_in_all-self-inside.result c.self.inside.flights.items c.save_in_all-self-inside.new.flights saved)
@@ -91,14 +91,14 @@ invariant_of-self-2 g c =
     let gs = c.save_in_all-self-inside.new.flights in
     let after = c.save_in_all-self-inside.new.snaps in
     let flights3 = c.as_mut_slice-3.ensures.value ∙ c.reserve.ensures.items in
-    let saved : AreSavedIn g.B.Block.contents g.B.Block.layers c.args.request.range.first c.take_rooms.new.snaps c.save_in_all-self-inside.new.snaps c.self.inside.copies c.save_in_all-self-inside.result c.self.inside.flights.items c.save_in_all-self-inside.new.flights =
-    subst (λ (x : List (Kept g.row.B.Denot)). AreSavedIn g.B.Block.contents g.B.Block.layers c.args.request.range.first x c.save_in_all-self-inside.new.snaps c.self.inside.copies c.save_in_all-self-inside.result c.self.inside.flights.items c.save_in_all-self-inside.new.flights) now2
-    (subst (λ (x : List Flight). AreSavedIn g.B.Block.contents g.B.Block.layers c.args.request.range.first c.as_mut_slice-2.result.now c.save_in_all-self-inside.new.snaps c.self.inside.copies c.save_in_all-self-inside.result x c.save_in_all-self-inside.new.flights) flights3 c.save_in_all-self-inside.ensures.saved) in
+    let saved : AreSavedIn g.B.Block.contents g.B.Block.layers (own_of c.args.request.range.first) c.take_rooms.new.snaps c.save_in_all-self-inside.new.snaps c.self.inside.copies c.save_in_all-self-inside.result c.self.inside.flights.items c.save_in_all-self-inside.new.flights =
+    subst (λ (x : List (Kept g.row.B.Denot)). AreSavedIn g.B.Block.contents g.B.Block.layers (own_of c.args.request.range.first) x c.save_in_all-self-inside.new.snaps c.self.inside.copies c.save_in_all-self-inside.result c.self.inside.flights.items c.save_in_all-self-inside.new.flights) now2
+    (subst (λ (x : List Flight). AreSavedIn g.B.Block.contents g.B.Block.layers (own_of c.args.request.range.first) c.as_mut_slice-2.result.now c.save_in_all-self-inside.new.snaps c.self.inside.copies c.save_in_all-self-inside.result x c.save_in_all-self-inside.new.flights) flights3 c.save_in_all-self-inside.ensures.saved) in
     let back_snaps = back c.self.inside.snaps.len c.save_in_all-self-inside.new.snaps (take c.self.inside.snaps.len (c.take_rooms.new.snaps ++ drop (length c.take_rooms.new.snaps) c.self.inside.snaps.items)) (c.save_in_all-self-inside.auto.snaps ∙ c.as_mut_slice-2.ensures.len) in
     let back_flights = back c.reserve.new.self.len c.save_in_all-self-inside.new.flights c.reserve.new.self.items (c.save_in_all-self-inside.auto.flights ∙ c.as_mut_slice-3.ensures.len) in
     let f : Flight = record c.in-Ok-new.flight { route = c.write_route-flight.result } in
     let request_is = c.in-Ok-new.ensures.request in
-    let saved_f = subst (λ (r : Request). AreSavedIn g.B.Block.contents g.B.Block.layers r.range.first c.take_rooms.new.snaps c.save_in_all-self-inside.new.snaps c.self.inside.copies c.save_in_all-self-inside.result c.self.inside.flights.items c.save_in_all-self-inside.new.flights) (sym request_is) saved in
+    let saved_f = subst (λ (r : Request). AreSavedIn g.B.Block.contents g.B.Block.layers (own_of r.range.first) c.take_rooms.new.snaps c.save_in_all-self-inside.new.snaps c.self.inside.copies c.save_in_all-self-inside.result c.self.inside.flights.items c.save_in_all-self-inside.new.flights) (sym request_is) saved in
     let few_v : sum_by count_in c.self.inside.snaps.items + count_by (starts c.args.request.range.first) c.self.inside.snaps.items ≤ 256 =
     subst (λ (x : Volumed g.row.B.Denot). sum_by count_in x.snaps + count_by (starts c.args.request.range.first) x.snaps ≤ 256) (sym c.self.view_is) c.requires.few in
     let few_f = subst (λ (r : Request). sum_by count_in c.self.inside.snaps.items + count_by (starts r.range.first) c.self.inside.snaps.items ≤ 256) (sym request_is) few_v in
@@ -124,14 +124,14 @@ returns-clause-ok g c =
     let gs = c.save_in_all-self-inside.new.flights in
     let after = c.save_in_all-self-inside.new.snaps in
     let flights3 = c.as_mut_slice-3.ensures.value ∙ c.reserve.ensures.items in
-    let saved : AreSavedIn g.B.Block.contents g.B.Block.layers c.args.request.range.first c.take_rooms.new.snaps c.save_in_all-self-inside.new.snaps c.self.inside.copies c.save_in_all-self-inside.result c.self.inside.flights.items c.save_in_all-self-inside.new.flights =
-    subst (λ (x : List (Kept g.row.B.Denot)). AreSavedIn g.B.Block.contents g.B.Block.layers c.args.request.range.first x c.save_in_all-self-inside.new.snaps c.self.inside.copies c.save_in_all-self-inside.result c.self.inside.flights.items c.save_in_all-self-inside.new.flights) now2
-    (subst (λ (x : List Flight). AreSavedIn g.B.Block.contents g.B.Block.layers c.args.request.range.first c.as_mut_slice-2.result.now c.save_in_all-self-inside.new.snaps c.self.inside.copies c.save_in_all-self-inside.result x c.save_in_all-self-inside.new.flights) flights3 c.save_in_all-self-inside.ensures.saved) in
+    let saved : AreSavedIn g.B.Block.contents g.B.Block.layers (own_of c.args.request.range.first) c.take_rooms.new.snaps c.save_in_all-self-inside.new.snaps c.self.inside.copies c.save_in_all-self-inside.result c.self.inside.flights.items c.save_in_all-self-inside.new.flights =
+    subst (λ (x : List (Kept g.row.B.Denot)). AreSavedIn g.B.Block.contents g.B.Block.layers (own_of c.args.request.range.first) x c.save_in_all-self-inside.new.snaps c.self.inside.copies c.save_in_all-self-inside.result c.self.inside.flights.items c.save_in_all-self-inside.new.flights) now2
+    (subst (λ (x : List Flight). AreSavedIn g.B.Block.contents g.B.Block.layers (own_of c.args.request.range.first) c.as_mut_slice-2.result.now c.save_in_all-self-inside.new.snaps c.self.inside.copies c.save_in_all-self-inside.result x c.save_in_all-self-inside.new.flights) flights3 c.save_in_all-self-inside.ensures.saved) in
     let back_snaps = back c.self.inside.snaps.len c.save_in_all-self-inside.new.snaps (take c.self.inside.snaps.len (c.take_rooms.new.snaps ++ drop (length c.take_rooms.new.snaps) c.self.inside.snaps.items)) (c.save_in_all-self-inside.auto.snaps ∙ c.as_mut_slice-2.ensures.len) in
     let back_flights = back c.reserve.new.self.len c.save_in_all-self-inside.new.flights c.reserve.new.self.items (c.save_in_all-self-inside.auto.flights ∙ c.as_mut_slice-3.ensures.len) in
     let f : Flight = record c.in-Ok-new.flight { route = c.write_route-flight.result } in
     let request_is = c.in-Ok-new.ensures.request in
-    let saved_f = subst (λ (r : Request). AreSavedIn g.B.Block.contents g.B.Block.layers r.range.first c.take_rooms.new.snaps c.save_in_all-self-inside.new.snaps c.self.inside.copies c.save_in_all-self-inside.result c.self.inside.flights.items c.save_in_all-self-inside.new.flights) (sym request_is) saved in
+    let saved_f = subst (λ (r : Request). AreSavedIn g.B.Block.contents g.B.Block.layers (own_of r.range.first) c.take_rooms.new.snaps c.save_in_all-self-inside.new.snaps c.self.inside.copies c.save_in_all-self-inside.result c.self.inside.flights.items c.save_in_all-self-inside.new.flights) (sym request_is) saved in
     let few_v : sum_by count_in c.self.inside.snaps.items + count_by (starts c.args.request.range.first) c.self.inside.snaps.items ≤ 256 =
     subst (λ (x : Volumed g.row.B.Denot). sum_by count_in x.snaps + count_by (starts c.args.request.range.first) x.snaps ≤ 256) (sym c.self.view_is) c.requires.few in
     let few_f = subst (λ (r : Request). sum_by count_in c.self.inside.snaps.items + count_by (starts r.range.first) c.self.inside.snaps.items ≤ 256) (sym request_is) few_v in

@@ -8,7 +8,7 @@ use Rattle.volume.specs.Volumed.{Volumed, piece_with}
 use Rattle.snapshots.specs.Numbers.{count_in}
 use Rattle.snapshots.specs.Finding.{place_of_snap}
 use Rattle.snapshots.proofs.Finds.{position_within}
-use Rattle.snapshots.specs.Starting.{lacks, starts, HasRoomFor, IsSavedIn}
+use Rattle.snapshots.specs.Starting.{lacks, own_of, starts, HasRoomFor, IsSavedIn}
 use Rattle.plain.specs.Plain.{did_overflow}
 use Rattle.volume.specs.Submitting.{dev_refusal, shut_at, IsAsked, IsAcceptedAs}
 use Rattle.volume.proofs.Finishes.{back, begins_all}
@@ -198,9 +198,9 @@ invariant_of-self-2 g c =
     let gs = c.save_or_mark.new.flights in
     let t = c.save_or_mark.new.snap in
     let m = c.in-Ok-save_or_mark.given in
-    let saved : IsSavedIn g.B.Block.contents g.B.Block.layers c.args.request.range.first c.take_room.new.snap t c.self.inside.copies m c.self.inside.flights.items gs =
-    subst (λ (x : Kept g.row.B.Denot). IsSavedIn g.B.Block.contents g.B.Block.layers c.args.request.range.first x t c.self.inside.copies m c.self.inside.flights.items gs) now2
-    (subst (λ (x : List Flight). IsSavedIn g.B.Block.contents g.B.Block.layers c.args.request.range.first c.index_mut-2.result.now t c.self.inside.copies m x gs) slice c.in-Ok-save_or_mark.ensures.ok.1) in
+    let saved : IsSavedIn g.B.Block.contents g.B.Block.layers (own_of c.args.request.range.first c.take_room.new.snap) c.take_room.new.snap t c.self.inside.copies m c.self.inside.flights.items gs =
+    subst (λ (x : Kept g.row.B.Denot). IsSavedIn g.B.Block.contents g.B.Block.layers (own_of c.args.request.range.first x) x t c.self.inside.copies m c.self.inside.flights.items gs) now2
+    (subst (λ (x : List Flight). IsSavedIn g.B.Block.contents g.B.Block.layers (own_of c.args.request.range.first c.index_mut-2.result.now) c.index_mut-2.result.now t c.self.inside.copies m x gs) slice c.in-Ok-save_or_mark.ensures.ok.1) in
     let back_flights = back c.reserve.new.self.len gs c.reserve.new.self.items (c.save_or_mark.auto.flights ∙ c.as_mut_slice.ensures.len) in
     let writable : shut_at c.self.inside.snaps.items (place_of_snap c.args.id c.self.inside.snaps.items) ≡ None = ap (λ (x : Volumed g.row.B.Denot). shut_at x.snaps (place_of_snap c.args.id x.snaps)) c.self.view_is ∙ c.requires.writable in
     let did : did_overflow s.overflow ≡ false = ap (λ (x : Kept g.row.B.Denot). did_overflow x.overflow) named.is ∙ found_open c.self.inside.snaps.items c.args.id c.args.k s writable place in
@@ -228,9 +228,9 @@ returns-clause-ok g c =
     let gs = c.save_or_mark.new.flights in
     let t = c.save_or_mark.new.snap in
     let m = c.in-Ok-save_or_mark.given in
-    let saved : IsSavedIn g.B.Block.contents g.B.Block.layers c.args.request.range.first c.take_room.new.snap t c.self.inside.copies m c.self.inside.flights.items gs =
-    subst (λ (x : Kept g.row.B.Denot). IsSavedIn g.B.Block.contents g.B.Block.layers c.args.request.range.first x t c.self.inside.copies m c.self.inside.flights.items gs) now2
-    (subst (λ (x : List Flight). IsSavedIn g.B.Block.contents g.B.Block.layers c.args.request.range.first c.index_mut-2.result.now t c.self.inside.copies m x gs) slice c.in-Ok-save_or_mark.ensures.ok.1) in
+    let saved : IsSavedIn g.B.Block.contents g.B.Block.layers (own_of c.args.request.range.first c.take_room.new.snap) c.take_room.new.snap t c.self.inside.copies m c.self.inside.flights.items gs =
+    subst (λ (x : Kept g.row.B.Denot). IsSavedIn g.B.Block.contents g.B.Block.layers (own_of c.args.request.range.first x) x t c.self.inside.copies m c.self.inside.flights.items gs) now2
+    (subst (λ (x : List Flight). IsSavedIn g.B.Block.contents g.B.Block.layers (own_of c.args.request.range.first c.index_mut-2.result.now) c.index_mut-2.result.now t c.self.inside.copies m x gs) slice c.in-Ok-save_or_mark.ensures.ok.1) in
     let back_flights = back c.reserve.new.self.len gs c.reserve.new.self.items (c.save_or_mark.auto.flights ∙ c.as_mut_slice.ensures.len) in
     let writable : shut_at c.self.inside.snaps.items (place_of_snap c.args.id c.self.inside.snaps.items) ≡ None = ap (λ (x : Volumed g.row.B.Denot). shut_at x.snaps (place_of_snap c.args.id x.snaps)) c.self.view_is ∙ c.requires.writable in
     let did : did_overflow s.overflow ≡ false = ap (λ (x : Kept g.row.B.Denot). did_overflow x.overflow) named.is ∙ found_open c.self.inside.snaps.items c.args.id c.args.k s writable place in

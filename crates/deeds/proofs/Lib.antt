@@ -1,0 +1,2 @@
+pub mod Plains
+pub mod Lives

@@ -1,0 +1,14 @@
+//! All that may be done to a volume, as one list: requests, events, time, messages, snapshots that are taken and taken away, and
+//! merges from their beginning to their end. `live` does such a list, and its contract says in one place what the volume
+//! promises: at every deed the devices' own bytes stand for the plain machine of saved arrays, which takes the step that the
+//! answer tells, with its cause; and where a merge begins of a snapshot over a fresh store that nobody wrote, the origin shows
+//! what it showed when that snapshot was taken.
+//!
+//! It stands on `volume`, whose contracts it joins, and adds nothing to what a volume does.
+#![tactic(auto)]
+
+mod deed;
+mod living;
+
+pub use deed::{Deed, Done};
+pub use living::live;

@@ -1,0 +1,66 @@
+-- Snapshots that were taken and that no request wrote since, with the array that each showed when it was taken; and that the
+-- merge of one of them makes the origin show just that. Over a fresh store that is what the origin showed then, so its merge
+-- undoes all that was written to the origin since. This project's own.
+use Rattle.std.specs.Prelude.{◌≡◌, ◌==◌, ℕ, Bool, true, false, List, [], ◌∷◌, if◌then◌else◌}
+use Rattle.plain.specs.declared.request.Reply.{Reply}
+use Rattle.plain.specs.declared.request.Reply.TheVariants.{Data, Written, Refused}
+use Rattle.plain.specs.Unwritten.{writes}
+use Rattle.journal.specs.declared.entry.Entry.{Entry}
+use Rattle.journal.specs.declared.entry.Entry.TheVariants.{Answered, Spoiled, Overflowed, Attached, Detached, Begun, Finished}
+use Rattle.journal.specs.Replay.{Saves, after}
+
+-- a snapshot that was taken, and what it showed then
+pub record Taken : Type 0 where
+  pub number : ℕ
+  pub array : List ℕ
+
+-- whether a request that was answered so has written something
+abbrev pub wrote : Reply → Bool → Bool
+wrote Written asked = asked
+wrote (Data bytes) asked = false
+wrote (Refused failure) asked = false
+
+-- whether an entry writes the snapshot of a number, or takes it from the others
+abbrev pub ends : Entry → ℕ → Bool
+ends (Answered a) number = wrote a.reply (writes number a.request.dev a.request.op)
+ends (Spoiled n) number = false
+ends (Overflowed n) number = false
+ends (Attached n array overflow) number = n == number
+ends (Detached n) number = n == number
+ends (Begun n) number = n == number
+ends Finished number = false
+
+-- those of which an entry does neither
+abbrev pub still : Entry → List Taken → List Taken
+still e [] = []
+still e (t ∷ taken) = if ends e t.number then still e taken else t ∷ still e taken
+
+-- those after an entry
+abbrev pub noted : Entry → List Taken → List Taken
+noted (Attached n array overflow) taken = record { number = n; array = array } ∷ still (Attached n array overflow) taken
+noted (Answered a) taken = still (Answered a) taken
+noted (Spoiled n) taken = taken
+noted (Overflowed n) taken = taken
+noted (Detached n) taken = still (Detached n) taken
+noted (Begun n) taken = still (Begun n) taken
+noted Finished taken = taken
+
+-- the origin shows what the snapshot of a number showed when it was taken, if it is one of these
+abbrev pub ShowsTaken : ℕ → List ℕ → List Taken → Type 0
+ShowsTaken n origin [] = Unit {0}
+ShowsTaken n origin (t ∷ taken) = (t.number ≡ n → origin ≡ t.array) × ShowsTaken n origin taken
+
+-- what holds right after an entry: one by which a merge begins gives the origin its old array back
+abbrev pub IsUndone : List Taken → Entry → Saves → Type 0
+IsUndone taken (Answered a) s = Unit {0}
+IsUndone taken (Spoiled n) s = Unit {0}
+IsUndone taken (Overflowed n) s = Unit {0}
+IsUndone taken (Attached n array overflow) s = Unit {0}
+IsUndone taken (Detached n) s = Unit {0}
+IsUndone taken (Begun n) s = ShowsTaken n s.origin taken
+IsUndone taken Finished s = Unit {0}
+
+-- after each of these entries
+abbrev pub AllUndone : List Taken → Saves → List Entry → Type 0
+AllUndone taken s [] = Unit {0}
+AllUndone taken s (e ∷ es) = IsUndone taken e (after s e) × AllUndone (noted e taken) (after s e) es

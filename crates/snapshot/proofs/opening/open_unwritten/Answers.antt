@@ -1,0 +1,26 @@
+-- A store is opened as its reads say.
+use Rattle.store.specs.Held.{committed}
+use Rattle.store.proofs.FirstReads.{ended_reads}
+use Rattle.snapshot.proofs.Openings.{opened_by}
+use Rattle.snapshot.proofs.Tries.{back_by, goes_by}
+use Rattle.snapshot.proofs.opening.open_unwritten.Goals as goal
+
+pub returns-in-Err-clause-back : goal.returns-in-Err-clause-back
+returns-in-Err-clause-back g c = λ some.
+    let e = c.in-Err.ensures in
+    back_by c.args.chunk c.args.sectors (g.B.Block.size c.args.device) (g.B.Block.contents c.args.device) (g.B.Block.contents c.in-Err.refused.1) (g.B.Block.layers c.args.device) (g.B.Block.layers c.in-Err.refused.1) c.in-Err.refused.0
+    (g.met.B.Block.whole c.args.device) e.contents some e.refused e.layers
+
+pub returns-in-Err-clause-starved : goal.returns-in-Err-clause-starved
+returns-in-Err-clause-starved g c = λ memory.
+    ended_reads c.args.chunk (g.B.Block.size c.args.device) (g.B.Block.contents c.args.device) c.in-Err.refused.0 (g.B.Block.layers c.args.device) (g.B.Block.layers c.in-Err.refused.1) c.in-Err.ensures.layers
+
+pub returns-in-Ok-clause-exact : goal.returns-in-Ok-clause-exact
+returns-in-Ok-clause-exact g c =
+    let bytes = g.B.Block.contents c.args.device in
+    let size = g.B.Block.size c.args.device in
+    let s = c.in-Ok.store.state in
+    let ps = committed c.in-Ok.store.exceptions in
+    let is = opened_by c.in-Ok.field-0-1 c.args.chunk c.args.sectors size bytes s ps c.in-Ok.ensures.opened in
+    goes_by c.args.chunk c.args.sectors size bytes (g.B.Block.contents c.in-Ok.store.device) (g.B.Block.layers c.args.device) (g.B.Block.layers c.in-Ok.store.device) s ps
+    (g.met.B.Block.whole c.args.device) c.in-Ok.ensures.contents c.in-Ok.ensures.layers is
